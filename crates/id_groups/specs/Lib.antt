@@ -1,0 +1,4 @@
+pub mod Lists
+pub mod Name
+pub mod Id
+pub mod Span

@@ -1,0 +1,16 @@
+#![tactic(auto)]
+
+//! Names of commits, the two groups of their ids, and how both are printed.
+
+mod id;
+mod laws;
+mod name;
+mod span;
+
+pub use id::{Group, Id};
+pub use laws::{names_decided, names_spelled, one_filtering, printed};
+pub use name::{Name, NameRef};
+pub use span::IdSpan;
+
+#[cfg(test)]
+mod tests;
