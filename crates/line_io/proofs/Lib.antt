@@ -1,0 +1,4 @@
+pub mod LinesLemmas
+pub mod HeldLemmas
+pub mod FillLemmas
+pub mod NextLemmas

@@ -1,0 +1,5 @@
+pub mod Lines
+pub mod Reading
+pub mod Next
+pub mod Steps
+pub mod Memory
