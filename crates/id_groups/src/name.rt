@@ -27,6 +27,17 @@ impl Model for Name {
     ghost inverse = { λ bytes. record { bytes = bytes } };
 }
 
+/// The name of 20 zero bytes, which fills the places of a fixed list that hold no name yet.
+impl Default for Name {
+    ghost use Rattle.std.specs.Prelude.{◌≡◌, replicate};
+
+    ghost is_default = { λ name. name ≡ replicate 20 0 };
+
+    fn default() -> Name {
+        Name { bytes: [0; 20] }
+    }
+}
+
 impl Name {
     /// The name of these bytes.
     pub fn from_bytes(bytes: [u8; 20]) -> Name

@@ -1,0 +1,10 @@
+use Rattle.std.proofs.Common.{ℕ, ◌<◌, ◌≡◌, Some}
+use Rattle.std.specs.Prelude.{slice_get}
+use Rattle.id_groups.specs.Lists.{IsIn}
+use Rattle.id_groups.specs.Name.{Name}
+use Rattle.commit_graph.specs.World.{names_of}
+use Rattle.commit_graph.proofs.world.may_follow.Given as goal
+
+-- the parents so far are among the names
+abbrev pub invariant-loop-parent : goal.invariant-loop-parent
+invariant-loop-parent l = (k : ℕ) (parent : Name) → k < l.parent-index → slice_get l.parent-items k ≡ Some parent → IsIn parent (names_of l.before)
