@@ -1,0 +1,6 @@
+pub mod Deciding
+pub mod Worlds
+pub mod Renamings
+pub mod Marks
+pub mod Reading
+pub mod OneSpelling

@@ -1,0 +1,7 @@
+pub mod Expr
+pub mod Meaning
+pub mod Spelling
+pub mod Computed
+pub mod Built
+pub mod Tree
+pub mod Whole

@@ -1,0 +1,10 @@
+-- The expression that a tree of the program is.
+use Rattle.id_groups.specs.Name.{Name}
+use Rattle.set_query.specs.declared.tree.Tree.{Tree, One, Named, Of'}
+use Rattle.set_query.specs.Expr as exprs
+use Rattle.set_query.specs.Expr.{Expr}
+
+abbrev pub tree_in : Tree → Expr Name
+tree_in (One name) = exprs.One name
+tree_in (Named word) = exprs.Named word
+tree_in (Of' call place set) = exprs.Of call (tree_in set)

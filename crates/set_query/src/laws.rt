@@ -1,0 +1,33 @@
+//! Laws of the definitions.
+
+ghost use Rattle.std.specs.Prelude.{◌≡◌, ℕ, List, length, map};
+ghost use Rattle.id_groups.specs.Lists.{AreAllIn};
+ghost use Rattle.id_groups.specs.Name.{Name, same_name};
+ghost use Rattle.commit_graph.specs.Graph.{Graph, graph_of};
+ghost use Rattle.commit_graph.specs.Renaming.{IsRenaming, IsClosed};
+ghost use Rattle.commit_graph.specs.World.{World, IsWorld, rows_of};
+ghost use Rattle.set_query.specs.Computed.{answer_of};
+ghost use Rattle.set_query.specs.Expr.{Expr, commits_in, renamed};
+ghost use Rattle.set_query.specs.Meaning.{IsAnswer};
+ghost use Rattle.set_query.specs.Spelling.{SpellsExpr};
+
+/// An expression has one answer.
+pub fn one_answer()
+    ensures { (g : Graph Name) (e : Expr Name) (a b : List Name) → IsAnswer g e a → IsAnswer g e b → a ≡ b }
+{}
+
+/// The answer of an expression over a world is the one that is computed.
+pub fn answers_computed()
+    ensures { (w : World Name) (e : Expr Name) → IsWorld w → AreAllIn (commits_in e) (graph_of same_name w).down → IsAnswer (graph_of same_name w) e (answer_of same_name (graph_of same_name w) (length (rows_of w)) e) }
+{}
+
+/// An expression has the same answer under other names, as by the ids of a table.
+pub fn answers_renamed()
+    ensures { (f : ℕ → Name) (g : Graph ℕ) (h : Graph Name) (e : Expr ℕ) (ids : List ℕ) → IsRenaming f g h → IsClosed g → IsClosed h
+        → AreAllIn (commits_in e) g.down → IsAnswer g e ids → IsAnswer h (renamed f e) (map f ids) }
+{}
+
+/// A text spells at most one expression.
+pub fn one_expression()
+    ensures { (text : List ℕ) (a b : Expr Name) → SpellsExpr text a → SpellsExpr text b → a ≡ b }
+{}

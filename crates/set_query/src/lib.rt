@@ -1,0 +1,18 @@
+#![tactic(auto)]
+
+//! Expressions over sets of commits: their trees, spelling and meaning, and the parser.
+
+mod expr;
+mod laws;
+mod parse;
+mod tree;
+mod words;
+
+pub use expr::Expr;
+pub use laws::{answers_computed, answers_renamed, one_answer, one_expression};
+pub use parse::ExprFault;
+pub use tree::Tree;
+pub use words::{Call, PairCall, Word};
+
+#[cfg(test)]
+mod tests;
