@@ -1,0 +1,13 @@
+#![tactic(auto)]
+
+//! The answer of an expression over plain rows: a plain, slow program that goes over the rows as the definition speaks of
+//! them, and so what faster ways are compared with.
+
+mod evaluation;
+mod members;
+mod places;
+
+pub use evaluation::answer;
+
+#[cfg(test)]
+mod tests;

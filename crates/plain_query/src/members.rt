@@ -1,0 +1,71 @@
+//! Sets of commits, as lists of their names.
+
+ghost use Rattle.std.specs.Prelude.{◌≡◌, ◌⊎◌, ◌↔◌, [], IsTrue, OnOk};
+ghost use Rattle.id_groups.specs.Lists.{IsIn};
+ghost use Rattle.id_groups.specs.Name.{Name as NameBytes};
+
+use id_groups::Name;
+use std::alloc::{AllocError, Global};
+use std::marker::Model;
+
+/// The names of a set's commits, each once.
+#[derive(Drop)]
+pub(crate) struct Members {
+    names: Vec<Name>,
+}
+
+impl Model for Members {
+    ghost use Rattle.std.specs.Prelude.{List};
+    ghost use Rattle.id_groups.specs.Lists.{AreDistinct};
+    ghost use Rattle.id_groups.specs.Name.{Name as NameBytes};
+
+    ghost Value = { List NameBytes };
+
+    ghost view = { λ members. members.names.items };
+
+    ghost invariant = { λ members. AreDistinct members.names.items };
+}
+
+impl Members {
+    /// The set without commits. It takes no memory.
+    pub(crate) fn none(alloc: Global) -> Members
+        ensures { result ≡ [] }
+    {
+        Members {
+            names: Vec::new(alloc),
+        }
+    }
+
+    /// Whether the commit of this name is a member.
+    pub(crate) fn has(&self, name: &Name) -> bool
+        ensures { IsTrue result ↔ IsIn name.now self.now }
+    {
+        for held in &self.names {
+            if held.is(name) {
+                return true;
+            }
+        }
+        false
+    }
+
+    /// Makes the commit of this name a member, if it isn't one. `AllocError` only for want of memory.
+    pub(crate) fn add(&mut self, name: &Name) -> Result<(), AllocError>
+        ensures { OnOk result ((x : NameBytes) → IsIn x self.new ↔ (IsIn x self.old ⊎ (x ≡ name.now))) }
+    {
+        if self.has(name) {
+            return Ok(());
+        }
+        self.names.push(*name)?;
+        Ok(())
+    }
+
+    /// Makes the commits of these names members. `AllocError` only for want of memory.
+    pub(crate) fn add_all(&mut self, names: &[Name]) -> Result<(), AllocError>
+        ensures { OnOk result ((x : NameBytes) → IsIn x self.new ↔ (IsIn x self.old ⊎ IsIn x names.now)) }
+    {
+        for name in names {
+            self.add(name)?;
+        }
+        Ok(())
+    }
+}
