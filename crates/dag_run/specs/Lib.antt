@@ -1,0 +1,15 @@
+pub mod Limits
+pub mod State
+pub mod Verb
+pub mod Replies
+pub mod Tests
+pub mod Step
+pub mod Grammar
+pub mod Meant
+pub mod Sending
+pub mod Lines
+pub mod Verdict
+pub mod Run
+pub mod Stops
+pub mod Ends
+pub mod Words
