@@ -1,0 +1,9 @@
+pub mod Below
+pub mod Counts
+pub mod Joins
+pub mod MemberLemmas
+pub mod OneForm
+pub mod Order
+pub mod Overlaps
+pub mod Points
+pub mod Upper

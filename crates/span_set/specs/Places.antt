@@ -1,0 +1,29 @@
+-- What a search for a place in a list of spans finds on either side of it.
+use Rattle.std.specs.Prelude.{ℕ, ◌<◌, ◌≤◌, List, [], ◌∷◌, ⊤}
+use Rattle.id_groups.specs.declared.span.IdSpan.{IdSpan}
+use Rattle.span_set.specs.Members.{IsBelow}
+
+-- t lies below each span
+abbrev pub AreAbove : IdSpan → List IdSpan → Type 0
+AreAbove t [] = ⊤
+AreAbove t (s ∷ rest) = IsBelow t s × AreAbove t rest
+
+-- t lies below no span
+abbrev pub AreNotAbove : IdSpan → List IdSpan → Type 0
+AreNotAbove t [] = ⊤
+AreNotAbove t (s ∷ rest) = (IsBelow t s → ⊥) × AreNotAbove t rest
+
+-- no span lies below s
+abbrev pub AreNotBelow : IdSpan → List IdSpan → Type 0
+AreNotBelow s [] = ⊤
+AreNotBelow s (t ∷ rest) = (IsBelow t s → ⊥) × AreNotBelow s rest
+
+-- each span begins above the id
+abbrev pub BeginAbove : ℕ → List IdSpan → Type 0
+BeginAbove id [] = ⊤
+BeginAbove id (s ∷ rest) = (id < s.low) × BeginAbove id rest
+
+-- each span begins at the id or below it
+abbrev pub BeginWithin : ℕ → List IdSpan → Type 0
+BeginWithin id [] = ⊤
+BeginWithin id (s ∷ rest) = (s.low ≤ id) × BeginWithin id rest

@@ -1,0 +1,16 @@
+//! Sets of ids, held as spans.
+
+#![tactic(auto)]
+
+mod algebra;
+mod ids_down;
+mod laws;
+mod search;
+mod set;
+
+pub use ids_down::IdsDown;
+pub use laws::{each_once, one_form};
+pub use set::IdSet;
+
+#[cfg(test)]
+mod tests;

@@ -1,0 +1,80 @@
+//! Places in a list of spans that descends.
+
+ghost use Rattle.std.specs.Prelude.{◌≡◌, ℕ, ◌<◌, ◌≤◌, ◌^◌, ◌↔◌, IsTrue, length, take, drop};
+ghost use Rattle.id_groups.specs.declared.span.IdSpan.{IdSpan as PlainSpan};
+ghost use Rattle.id_groups.specs.Span.{IsSpan};
+ghost use Rattle.span_set.specs.Members.{IsBelow, IsCanonical, AreBelow};
+ghost use Rattle.span_set.specs.Places.{AreAbove, AreNotAbove, AreNotBelow, BeginAbove, BeginWithin};
+
+use id_groups::{Id, IdSpan};
+
+/// The first id of the second group, below which no span of that group begins.
+const FIRST_OTHER: u64 = 1 << 56;
+
+/// The id with this number.
+pub(crate) fn id_of(number: u64) -> Id
+    requires { number < 2 ^ 57 }
+    ensures { result ≡ number }
+{
+    if number < FIRST_OTHER {
+        Id::master(number)
+    } else {
+        Id::other(number - FIRST_OTHER)
+    }
+}
+
+/// The number below which the spans end that lie below `span` and would not join it.
+fn gap_below(span: &IdSpan) -> u64
+    ensures { (t : PlainSpan) → t.high < result ↔ IsBelow t span.now }
+{
+    let low = span.low.number();
+    if low == FIRST_OTHER || low == 0 {
+        low
+    } else {
+        low - 1
+    }
+}
+
+/// How many spans lie above `span` or join it.
+pub(crate) fn count_not_below(spans: &[IdSpan], span: &IdSpan) -> usize
+    requires { IsCanonical spans.now }
+    ensures within { result ≤ length spans.now }
+    ensures not_below { AreNotBelow span.now (take result spans.now) }
+    ensures below { AreBelow span.now (drop result spans.now) }
+{
+    let gap = gap_below(span);
+    let len = spans.len();
+    if len == 0 || gap <= spans[len - 1].high.number() {
+        return len;
+    }
+    spans.partition_point(|held| gap <= held.high.number())
+}
+
+/// How many spans lie above `span` without joining it, of which there are at most `to`.
+/// It goes upwards from `to`, over spans that the insert then joins to one.
+pub(crate) fn count_above(spans: &[IdSpan], span: &IdSpan, to: usize) -> usize
+    requires canonical { IsCanonical spans.now }
+    requires span { IsSpan span.now }
+    requires within { to ≤ length spans.now }
+    requires below { AreBelow span.now (drop to spans.now) }
+    ensures within { result ≤ to }
+    ensures above { AreAbove span.now (take result spans.now) }
+    ensures not_above { AreNotAbove span.now (drop result spans.now) }
+{
+    let mut from = to;
+    'joined: while from > 0 && gap_below(&spans[from - 1]) <= span.high.number() {
+        from -= 1;
+    }
+    from
+}
+
+/// How many spans begin above the id.
+pub(crate) fn count_begin_above(spans: &[IdSpan], id: Id) -> usize
+    requires { IsCanonical spans.now }
+    ensures within { result ≤ length spans.now }
+    ensures above { BeginAbove id (take result spans.now) }
+    ensures rest { BeginWithin id (drop result spans.now) }
+{
+    let number = id.number();
+    spans.partition_point(|held| number < held.low.number())
+}
