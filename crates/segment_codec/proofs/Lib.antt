@@ -1,0 +1,6 @@
+pub mod Fronts
+pub mod Numbers
+pub mod Groups
+pub mod Lists
+pub mod Orders
+pub mod Records

@@ -1,0 +1,88 @@
+//! What stands before the parents of a record.
+
+ghost use Rattle.std.specs.Prelude.{◌≡◌, ◌≤◌, ◌<◌, ◌^◌, IfSome};
+ghost use Rattle.segment_codec.specs.Reading.{Gives, fixed_at, is_head, head_at, most_parents};
+
+use crate::number::read_number;
+use crate::segment::FIRST_OTHER;
+
+/// The highest level of segments.
+const TOP_LEVEL: u8 = 7;
+
+/// The most parents of a flat segment.
+const FLAT_PARENTS: u64 = 8;
+
+/// The most parents of a segment of a higher level.
+const MOST_PARENTS: u64 = 1 << 24;
+
+/// Ids stay below this number.
+const ID_END: u64 = 1 << 57;
+
+/// What a record says before its parents.
+#[derive(Clone, Copy)]
+pub struct Head {
+    pub low: u64,
+    pub high: u64,
+    pub level: u8,
+    pub count: u64,
+}
+
+/// A number of eight bytes, and the rest.
+#[tactic(auto, unfolding(crate::specs::Reading::fixed_at))]
+fn read_fixed(bytes: &[u8]) -> Option<(u64, &[u8])>
+    ensures { Gives (λ r. (r.0, r.1.now)) result (fixed_at bytes.now) }
+{
+    if bytes.len() < 8 {
+        return None;
+    }
+    let (front, rest) = bytes.split_at(8);
+    let number = u64::from_be_bytes([
+        front[0], front[1], front[2], front[3], front[4], front[5], front[6], front[7],
+    ]);
+    Some((number, rest))
+}
+
+fn most_parents_of(level: u8) -> u64
+    ensures { result ≡ most_parents level }
+{
+    if level == 0 {
+        FLAT_PARENTS
+    } else {
+        MOST_PARENTS
+    }
+}
+
+fn is_valid_head(flags: u8, level: u8, high: u64, span: u64, count: u64) -> bool
+    ensures { result ≡ is_head flags level high span count }
+{
+    level <= TOP_LEVEL
+        && high < ID_END
+        && span <= high
+        && (high < FIRST_OTHER || FIRST_OTHER <= high - span)
+        && count <= most_parents_of(level)
+        && flags == if count == 0 { 1 } else { 0 }
+}
+
+/// What stands before the parents, and the rest.
+#[tactic(auto, unfolding(crate::specs::Reading::head_at))]
+pub fn read_head(bytes: &[u8]) -> Option<(Head, &[u8])>
+    ensures exact { Gives (λ r. (r.0, r.1.now)) result (head_at bytes.now) }
+    ensures order { IfSome result (λ r. (r.0.low ≤ r.0.high) × (r.0.high < 2 ^ 57)) }
+{
+    let [flags, level, rest @ ..] = bytes else {
+        return None;
+    };
+    let (high, rest) = read_fixed(rest)?;
+    let (span, rest) = read_number(rest)?;
+    let (count, rest) = read_number(rest)?;
+    if !is_valid_head(*flags, *level, high, span, count) {
+        return None;
+    }
+    let head = Head {
+        low: high - span,
+        high,
+        level: *level,
+        count,
+    };
+    Some((head, rest))
+}

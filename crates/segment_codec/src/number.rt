@@ -1,0 +1,54 @@
+//! Numbers of variable length: seven bits a byte, the lowest first. Only the shortest form is a spelling.
+
+ghost use Rattle.std.specs.Prelude.{◌≡◌, ◌+◌, ◌*◌, ◌<◌, ◌^◌, ◌++◌, ◌≤◌, MatchOption, OnOk, OnErr};
+ghost use Rattle.segment_codec.specs.Number.{number_bytes};
+ghost use Rattle.segment_codec.specs.Record.{HasFront};
+ghost use Rattle.segment_codec.specs.Reading.{Gives, number_at};
+
+use std::alloc::AllocError;
+
+/// The bits of a byte that say there are more bytes.
+const MORE: u8 = 128;
+
+/// The value with a group of seven bits put in front; `None` where it doesn't fit 64 bits.
+fn with_group(value: u64, unit: u64, group: u64) -> Option<u64>
+    ensures { MatchOption result (2 ^ 64 ≤ value + unit * group) (λ sum. (sum ≡ value + unit * group) × (sum < 2 ^ 64)) }
+{
+    value.checked_add(unit.checked_mul(group)?)
+}
+
+/// The number in front, and the rest; `None` where no number's spelling stands in front.
+pub fn read_number(bytes: &[u8]) -> Option<(u64, &[u8])>
+    ensures { Gives (λ r. (r.0, r.1.now)) result (number_at bytes.now) }
+{
+    let mut value = 0u64;
+    let mut unit = 1u64;
+    let mut rest = bytes;
+    'groups: while let Some((first, others)) = rest.split_first() {
+        value = with_group(value, unit, u64::from(*first % MORE))?;
+        if *first < MORE {
+            return if *first == 0 && unit > 1 {
+                None
+            } else {
+                Some((value, others))
+            };
+        }
+        unit = unit.checked_mul(128)?;
+        rest = others;
+    }
+    None
+}
+
+/// Appends the number. A refusal may leave a part of it at the end.
+pub fn write_number(out: &mut Vec<u8>, number: u64) -> Result<(), AllocError>
+    ensures ok { OnOk result (out.new.items ≡ out.old.items ++ number_bytes number) }
+    ensures err { OnErr result (HasFront out.old.items out.new.items) }
+{
+    let mut rest = number;
+    'groups: while rest >= 128 {
+        out.push((rest % 128) as u8 + MORE)?;
+        rest /= 128;
+    }
+    out.push(rest as u8)?;
+    Ok(())
+}

@@ -1,0 +1,91 @@
+//! What a lent record says.
+
+ghost use Rattle.std.specs.Prelude.{◌≡◌, ◌≤◌, ◌<◌, ◌^◌, length, List, ℕ};
+ghost use Rattle.std.specs.Iterator.{YieldsFirst, item_count};
+ghost use Rattle.id_groups.specs.Id.{is_master_id, id_end};
+ghost use Rattle.segment_codec.specs.Record.{IsSegment};
+ghost use Rattle.segment_codec.specs.Lent.{segment_of, parents_left};
+
+use crate::lent::{Parents, SegmentRef};
+use crate::number::read_number;
+use id_groups::Id;
+
+/// The first id of the group of others.
+pub const FIRST_OTHER: u64 = 1 << 56;
+
+/// The id of this number.
+pub fn id_of(number: u64) -> Id
+    requires { number < 2 ^ 57 }
+    ensures { result ≡ number }
+{
+    if number < FIRST_OTHER {
+        Id::master(number)
+    } else {
+        Id::other(number - FIRST_OTHER)
+    }
+}
+
+impl<'a> SegmentRef<'a> {
+    /// The lowest id.
+    pub fn low(&self) -> Id
+        ensures { result ≡ (segment_of self.now).low }
+    {
+        id_of(self.low)
+    }
+
+    /// The highest id.
+    pub fn high(&self) -> Id
+        ensures { result ≡ (segment_of self.now).high }
+    {
+        id_of(self.high)
+    }
+
+    /// The level: 0 is a flat segment.
+    pub fn level(&self) -> u8
+        ensures { result ≡ (segment_of self.now).level }
+    {
+        self.level
+    }
+
+    /// The parents of the lowest id, in their order.
+    pub fn parents(&self) -> Parents<'a>
+        ensures { parents_left result ≡ (segment_of self.now).parents }
+    {
+        Parents { rest: self.parents }
+    }
+
+    /// The same segment with this highest id, which is of its group and at least its lowest.
+    pub fn ending_at(self, high: Id) -> SegmentRef<'a>
+        requires group { is_master_id (segment_of self).low ≡ is_master_id high }
+        requires above { (segment_of self).low ≤ high }
+        ensures same { segment_of result ≡ record (segment_of self.entry) { high = high } }
+        ensures segment { IsSegment (segment_of self.entry) → IsSegment (segment_of result) }
+    {
+        let SegmentRef {
+            low,
+            level,
+            parents,
+            ..
+        } = self;
+        SegmentRef {
+            low,
+            high: high.number(),
+            level,
+            parents,
+        }
+    }
+}
+
+impl<'a> Iterator for Parents<'a> {
+    type Item = Id;
+
+    ghost next_gives = { YieldsFirst parents_left };
+
+    ghost remaining = { item_count parents_left };
+
+    fn next(&mut self) -> Option<Id> {
+        let (number, rest) = read_number(self.rest)?;
+        self.rest = rest;
+        Some(id_of(number))
+    }
+}
