@@ -1,0 +1,3 @@
+pub mod Recording
+pub mod Viewing
+pub mod Covering

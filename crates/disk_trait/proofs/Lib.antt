@@ -1,0 +1,5 @@
+pub mod Loss
+pub mod Sound
+pub mod Moments
+pub mod Writes
+pub mod Telling

@@ -1,0 +1,85 @@
+#![tactic(auto)]
+
+//! A disk whose calls may fail, and which may crash at any moment: what it tells, what a crash may leave, and what
+//! each call changes of that.
+
+ghost use Rattle.std.specs.Prelude.{◌≡◌, ◌<◌, ◌≤◌, ◌++◌, ◌+◌, ◌-◌, ◌%◌, ℕ, List, [], ◌∷◌, Option, Some, IfOk, IfSome, OnOk, OnErr, length, min, take, drop};
+ghost use Rattle.outside.specs.Counts.{HasCause};
+ghost use Rattle.disk_trait.specs.Images.{Told, IsImage, IsSound, LeftAt, moment_of, last_moment, fresh_disk};
+ghost use Rattle.disk_trait.specs.Calls.{Passes, Writes, FailsToWrite, Syncs, OrRefuses, Succeeds, Goes};
+
+/// A call of the disk failed.
+#[derive(Clone, Copy, Debug, PartialEq, Eq)]
+pub struct DiskFault;
+
+/// Bytes that outlive a crash, up to what was not synced.
+///
+/// Its clock counts the calls of the other four that have begun and those that have returned. At 2^62 each of them
+/// is refused, and changes nothing.
+pub trait Disk {
+    /// What it tells, where it is honest.
+    ghost told: { Self → Option Told };
+
+    /// How many of its calls have failed.
+    ghost faults: { Self → ℕ };
+
+    /// How many bytes it has.
+    fn size(&mut self) -> Result<u64, DiskFault>
+        ensures size { IfOk result (λ n. IfSome (told self.old) (λ t. n ≡ length t.bytes)) }
+        ensures ok { OnOk result (Goes (Succeeds Passes) (told self.old) (told self.new)) }
+        ensures err { OnErr result (Goes (OrRefuses Passes) (told self.old) (told self.new)) }
+        ensures cause { HasCause (faults self.old) (faults self.new) result };
+
+    /// Fills the front of `out` with the bytes from a place on, all that there are, and answers how many.
+    fn read(&mut self, at: u64, out: &mut [u8]) -> Result<usize, DiskFault>
+        ensures bound { IfOk result (λ n. n ≤ length out.old) }
+        ensures count { IfOk result (λ n. IfSome (told self.old) (λ t. n ≡ min (length out.old) (length t.bytes - at))) }
+        ensures bytes { IfOk result (λ n. IfSome (told self.old) (λ t. out.new ≡ take n (drop at t.bytes) ++ drop n out.old)) }
+        ensures ok { OnOk result (Goes (Succeeds Passes) (told self.old) (told self.new)) }
+        ensures err { OnErr result (Goes (OrRefuses Passes) (told self.old) (told self.new)) }
+        ensures cause { HasCause (faults self.old) (faults self.new) result };
+
+    /// Writes the piece from a place on, which is at most the number of bytes. It may lengthen the disk.
+    fn write(&mut self, at: u64, piece: &[u8]) -> Result<(), DiskFault>
+        requires { IfSome (told self.old) (λ t. at ≤ length t.bytes) }
+        ensures ok { OnOk result (Goes (Succeeds (Writes at piece.now)) (told self.old) (told self.new)) }
+        ensures err { OnErr result (Goes (OrRefuses (FailsToWrite at piece.now)) (told self.old) (told self.new)) }
+        ensures cause { HasCause (faults self.old) (faults self.new) result };
+
+    /// Makes sure of all that was written.
+    fn sync(&mut self) -> Result<(), DiskFault>
+        ensures ok { OnOk result (Goes (Succeeds Syncs) (told self.old) (told self.new)) }
+        ensures err { OnErr result (Goes (OrRefuses Passes) (told self.old) (told self.new)) }
+        ensures cause { HasCause (faults self.old) (faults self.new) result };
+
+    /// The moment: how many calls have begun, and how many have returned. It is even, since none is under way.
+    fn clock(&self) -> u64
+        ensures moment { IfSome (told self.now) (λ t. result ≡ moment_of t) }
+        ensures even { result % 2 ≡ 0 }
+        ensures bound { result ≤ last_moment };
+
+    /// What a read gives is one of the lists that a crash now may leave, the moment is even, and none is past the last.
+    ghost sound: { (disk : Self) → IfSome (told disk) IsSound };
+}
+
+/// After a restart a crash leaves what is there.
+pub fn nothing_lost()
+    ensures { (bytes image : List ℕ) → IsImage (fresh_disk bytes).now image → image ≡ bytes }
+{}
+
+/// Once a sync has returned, a crash leaves what a read gives.
+pub fn synced()
+    ensures { (old new : Told) (image : List ℕ) → Syncs old new → LeftAt new (moment_of new) image → image ≡ new.bytes }
+{}
+
+/// A disk that was loaded is sound, and each call of an honest disk leaves it so.
+pub fn calls_keep_soundness()
+    ensures fresh { (bytes : List ℕ) → IsSound (fresh_disk bytes) }
+    ensures passes { (old new : Told) → IsSound old → Succeeds Passes old new → IsSound new }
+    ensures refuses { (old new : Told) → IsSound old → OrRefuses Passes old new → IsSound new }
+    ensures writes { (at : ℕ) (piece : List ℕ) (old new : Told) → IsSound old → at ≤ length old.bytes
+        → Succeeds (Writes at piece) old new → IsSound new }
+    ensures fails { (at : ℕ) (piece : List ℕ) (old new : Told) → IsSound old
+        → OrRefuses (FailsToWrite at piece) old new → IsSound new }
+    ensures syncs { (old new : Told) → IsSound old → Succeeds Syncs old new → IsSound new }
+{}
