@@ -1,0 +1,10 @@
+pub mod Shapes
+pub mod Places
+pub mod Reading
+pub mod Damage
+pub mod Scanning
+pub mod Loading
+pub mod LoadCalls
+pub mod Stages
+pub mod Commits
+pub mod Rooms

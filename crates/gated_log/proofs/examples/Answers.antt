@@ -1,0 +1,5 @@
+use Rattle.std.proofs.Common.{refl, inr, lit≤, lit<, [], ◌∷◌}
+use Rattle.gated_log.proofs.examples.Goals as goal
+
+pub returns-clause-damaged : goal.returns-clause-damaged
+returns-clause-damaged c = (lit≤ tt, [], 0 ∷ 0 ∷ 0 ∷ 0 ∷ 0 ∷ 0 ∷ 0 ∷ 5 ∷ 170 ∷ [], tt, refl, refl, inr (lit< tt))

@@ -1,0 +1,6 @@
+pub mod Log
+pub mod Held
+pub mod Holding
+pub mod Scan
+pub mod Load
+pub mod Commit

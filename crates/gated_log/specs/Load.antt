@@ -1,0 +1,57 @@
+-- What loading answers, and what it does to a disk.
+use Rattle.std.specs.Prelude.{◌≡◌, ◌<◌, ◌≤◌, ◌⊎◌, ◌+◌, ◌*◌, ℕ, List, [], ◌∷◌, ◌++◌, length, replicate, Result, Ok, Err, ⊤}
+use Rattle.disk_trait.specs.Images.{Told, IsImage, moment_of, surely}
+use Rattle.disk_trait.specs.Since.{SureSince}
+use Rattle.gated_log.specs.Log.{IsLog, IsDamaged}
+use Rattle.gated_log.specs.Held.{Held}
+use Rattle.gated_log.specs.Holding.{IsLogWithin, HasPayloads, Begins, IsOnDisk}
+use Rattle.gated_log.specs.declared.LoadLog.{LoadLog}
+use Rattle.gated_log.specs.declared.LoadLog.TheVariants.{Damaged, TooLarge, Disk, Memory}
+
+-- the log of these bytes; that of a fresh file has the one byte 0
+pub record IsLogOf (limit : ℕ) (bytes : List ℕ) (log : Held) : Type 0 where
+  pub most : log.limit ≡ limit
+  pub is_log : IsLog bytes log.payloads
+  pub begins : Begins log bytes ⊎ ((length bytes ≤ 1) × (log.payloads ≡ []) × (log.gate ≡ 0))
+
+-- by cases that exclude each other; the disk and the memory may fail at any place
+abbrev pub Loads : ℕ → List ℕ → Result Held LoadLog → Type 0
+Loads limit bytes (Ok log) = IsLogOf limit bytes log
+Loads limit bytes (Err (Damaged at)) = (length bytes ≤ limit) × IsDamaged bytes at
+Loads limit bytes (Err (TooLarge size)) = (limit < length bytes) × (size ≡ length bytes)
+Loads limit bytes (Err Memory) = length bytes ≤ limit
+Loads limit bytes (Err (Disk fault)) = ⊤
+
+-- where the file isn't fresh, a crash at each moment since leaves no list that it might not have left before
+abbrev pub KeepsImages : Told → Told → Type 0
+KeepsImages old new = 2 ≤ length old.bytes → SureSince (λ moment. IsImage old.now) old new
+
+-- where the payloads are these whatever a crash leaves, they stay so at each moment since
+abbrev pub KeepsPayloads : ℕ → List (List ℕ) → Told → Told → Type 0
+KeepsPayloads limit payloads old new = HasPayloads limit old payloads → SureSince (λ moment. IsLogWithin limit payloads) old new
+
+-- after loading: four calls for a fresh file, which has one closed gate then, and three for any other
+pub record IsLoaded (log : Held) (old new : Told) : Type 0 where
+  pub fresh : length old.bytes ≤ 1 → (moment_of new ≡ moment_of old + 8) × (new.now ≡ surely (0 ∷ []))
+  pub other : 2 ≤ length old.bytes → moment_of new ≡ moment_of old + 6
+  pub payloads : HasPayloads log.limit new log.payloads
+  pub on_disk : IsOnDisk log new
+
+-- after so many calls that change no byte
+abbrev pub after_reads : ℕ → Told → Told
+after_reads calls t = record { bytes = t.bytes; past = t.past ++ replicate (2 * calls) t.now; now = t.now }
+
+-- nothing but reads was done, at most so many
+abbrev pub OnlyReads : ℕ → Told → Told → Type 0
+OnlyReads most old new = (calls : ℕ) × (calls ≤ most) × (new ≡ after_reads calls old)
+
+-- all was sure, of a file of at most one byte
+abbrev pub IsFresh : Told → Type 0
+IsFresh t = (length t.bytes ≤ 1) × (t.now ≡ surely t.bytes)
+
+-- after the two calls that give a fresh file a closed gate
+pub record IsStarted (log : Held) (old new : Told) : Type 0 where
+  pub clock : moment_of new ≡ moment_of old + 4
+  pub closed : new.now ≡ surely (0 ∷ [])
+  pub payloads : HasPayloads log.limit new log.payloads
+  pub on_disk : IsOnDisk log new
