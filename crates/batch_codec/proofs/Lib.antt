@@ -1,0 +1,9 @@
+pub mod Turns
+pub mod Entries
+pub mod Ascending
+pub mod Records
+pub mod Pieces
+pub mod Meanings
+pub mod Payloads
+pub mod Built
+pub mod Samples

@@ -1,0 +1,279 @@
+-- The tests of a payload mean its rules.
+use Rattle.std.proofs.Common.{◌≡◌, ◌≢◌, ℕ, ◌+◌, ◌-◌, ◌^◌, ◌<◌, ◌≤◌, Bool, true, false, cond, not, ltb, leb, eqb, ◌&&◌, ◌||◌, ◌⊎◌, List, [], ◌∷◌, length, refl, sym, ap, subst, ◌∙◌, inl, inr, ⊎_elim, true≢false, arith}
+use Rattle.std.specs.Prelude.{nat_eq}
+use Rattle.std.specs.List.{AllByRecursion}
+use Rattle.std.proofs.lemmas.List.{nil_from_length}
+use Rattle.std.proofs.lemmas.Bool.{and_parts, and_from, or_cases, not-true, ltb-true, lt-ltb, leb-true, le-leb, eqb-true, eq-eqb, ne_eqb, cases_lt, cases_eq}
+use Rattle.id_groups.specs.Lists.{IsIn, is_in, AreAllIn}
+use Rattle.id_groups.proofs.Listing.{found, there}
+use Rattle.segment_codec.specs.Record.{Segment, IsSegment}
+use Rattle.batch_codec.specs.Payload.{Payload, known_ids}
+use Rattle.batch_codec.specs.Grammar.{Cover, AreFlat, StandInTurn, place_behind, HasOthersParents, IsFlush, IsClone, merge_parents}
+use Rattle.batch_codec.specs.Reading.{goes_on, are_within, may_stand, ids_ascend, are_known, knows_merge, knows_segment, knows_needed, flush_fits, clone_fits, kind_fits}
+use Rattle.batch_codec.proofs.Records.{AllStand}
+use Rattle.batch_codec.proofs.Ascending.{ascend-parts}
+
+or-left : (b c : Bool) → b ≡ true → (b || c) ≡ true
+or-left true c h = refl
+or-left false c h = absurd (true≢false (sym h))
+
+or-right : (b c : Bool) → c ≡ true → (b || c) ≡ true
+or-right true c h = refl
+or-right false c h = h
+
+-- ---- a record at its place
+
+-- the only parent is the one before the place
+goes-on-only : (place : ℕ) (parents : List ℕ) → goes_on place parents ≡ true → parents ≡ (place - 1) ∷ []
+goes-on-only place [] h = absurd (true≢false (sym h))
+goes-on-only place (p ∷ []) h = let e : p ≡ place - 1 = let s = eqb-true (p + 1) place h in omega (arith, s) in ap (λ (n : ℕ). n ∷ []) e
+goes-on-only place (p ∷ q ∷ more) h = absurd (true≢false (sym h))
+
+only-goes-on : (place : ℕ) (parents : List ℕ) → 0 < place → parents ≡ (place - 1) ∷ [] → goes_on place parents ≡ true
+only-goes-on place parents some e = ap (goes_on place) e ∙ eq-eqb (place - 1 + 1) place (omega (arith, some))
+
+record Tests (end first place : ℕ) (s : Segment) : Type 0 where
+  pub level : s.level ≡ 0
+  pub low : s.low ≡ place
+  pub apart : (eqb place first || not (goes_on place s.parents)) ≡ true
+  pub within : are_within end s.parents ≡ true
+
+tests-of : (end first place : ℕ) (s : Segment) → may_stand end first place s ≡ true → Tests end first place s
+tests-of end first place s h =
+    let a = and_parts (eqb s.level 0 && eqb s.low place && (eqb place first || not (goes_on place s.parents))) (are_within end s.parents) h in
+    let b = and_parts (eqb s.level 0 && eqb s.low place) (eqb place first || not (goes_on place s.parents)) a.0 in
+    let c = and_parts (eqb s.level 0) (eqb s.low place) b.0 in
+    record { level = eqb-true s.level 0 c.0; low = eqb-true s.low place c.1; apart = b.1; within = a.1 }
+
+below-first : (parents : List ℕ) (p low : ℕ) → AllByRecursion (λ q. q < low) parents → parents ≡ p ∷ [] → p < low
+below-first parents p low h e = (subst (AllByRecursion (λ q. q < low)) e h).0
+
+apart-means : (first place : ℕ) (s : Segment) → IsSegment s → s.low ≡ place → (eqb place first || not (goes_on place s.parents)) ≡ true → place ≢ first → s.parents ≢ (place - 1) ∷ []
+apart-means first place s seg low h other e =
+    let below = below-first s.parents (place - 1) s.low seg.below e in
+    let some : 0 < place = omega (arith, below, low) in
+    ⊎_elim (λ t. other (eqb-true place first t)) (λ t. true≢false (sym (only-goes-on place s.parents some e) ∙ not-true (goes_on place s.parents) t)) (or_cases (eqb place first) (not (goes_on place s.parents)) h)
+
+pub stand-turn : (end first place : ℕ) (ss : List Segment) → AllStand end first place ss → StandInTurn first place ss
+stand-turn end first place [] h = tt
+stand-turn end first place (s ∷ more) h =
+    let t = tests-of end first place s h.1 in (
+      record { segment = h.0; flat = t.level; low = t.low; apart = apart-means first place s h.0 t.low t.apart },
+      stand-turn end first (s.high + 1) more h.2,
+    )
+
+not-from : (b : Bool) → (b ≡ true → ⊥) → not b ≡ true
+not-from true h = absurd (h refl)
+not-from false h = refl
+
+apart-decided : (first place : ℕ) (parents : List ℕ) → (place ≢ first → parents ≢ (place - 1) ∷ []) → (eqb place first || not (goes_on place parents)) ≡ true
+apart-decided first place parents h = elim (cases_eq place first) [
+  | inl e ↦ or-left (eqb place first) (not (goes_on place parents)) (eq-eqb place first e)
+  | inr ne ↦ or-right (eqb place first) (not (goes_on place parents)) (not-from (goes_on place parents) (λ t. h ne (goes-on-only place parents t)))
+]
+
+pub turn-stand : (end first place : ℕ) (ss : List Segment) → AllByRecursion (λ (s : Segment). are_within end s.parents ≡ true) ss → StandInTurn first place ss → AllStand end first place ss
+turn-stand end first place [] w h = tt
+turn-stand end first place (s ∷ more) w h =
+    let flat = eq-eqb s.level 0 h.0.flat in
+    let low = eq-eqb s.low place h.0.low in
+    let apart = apart-decided first place s.parents h.0.apart in
+    let within = w.0 in
+    (h.0.segment, rw (flat, low, apart, within) refl, turn-stand end first (s.high + 1) more w.1 h.1)
+
+-- ---- parents
+
+within-means : (end low : ℕ) (ps : List ℕ) → are_within end ps ≡ true → AllByRecursion (λ p. p < low) ps → AllByRecursion (λ p. (p < end) ⊎ ((2 ^ 56 ≤ p) × (p < low))) ps
+within-means end low [] h b = tt
+within-means end low (p ∷ ps) h b =
+    let t = and_parts (ltb p end || leb (2 ^ 56) p) (are_within end ps) h in
+    (⊎_elim (λ e. inl (ltb-true p end e)) (λ e. inr (leb-true (2 ^ 56) p e, b.0)) (or_cases (ltb p end) (leb (2 ^ 56) p) t.0), within-means end low ps t.1 b.1)
+
+within-decided : (end low : ℕ) (ps : List ℕ) → AllByRecursion (λ p. (p < end) ⊎ ((2 ^ 56 ≤ p) × (p < low))) ps → are_within end ps ≡ true
+within-decided end low [] h = refl
+within-decided end low (p ∷ ps) h =
+    and_from (ltb p end || leb (2 ^ 56) p) (are_within end ps)
+    (⊎_elim (λ e. or-left (ltb p end) (leb (2 ^ 56) p) (lt-ltb p end e)) (λ e. or-right (ltb p end) (leb (2 ^ 56) p) (le-leb (2 ^ 56) p e.0)) h.0)
+    (within-decided end low ps h.1)
+
+within-any : (ps : List ℕ) → are_within (2 ^ 56) ps ≡ true
+within-any [] = refl
+within-any (p ∷ ps) =
+    and_from (ltb p (2 ^ 56) || leb (2 ^ 56) p) (are_within (2 ^ 56) ps)
+    (elim (cases_lt p (2 ^ 56)) [
+      | inl lt ↦ or-left (ltb p (2 ^ 56)) (leb (2 ^ 56) p) (lt-ltb p (2 ^ 56) lt)
+      | inr ge ↦ or-right (ltb p (2 ^ 56)) (leb (2 ^ 56) p) (le-leb (2 ^ 56) p ge)
+    ]) (within-any ps)
+
+pub master-within : (ss : List Segment) → AllByRecursion (λ (s : Segment). are_within (2 ^ 56) s.parents ≡ true) ss
+master-within [] = tt
+master-within (s ∷ ss) = (within-any s.parents, master-within ss)
+
+pub others-within : (end : ℕ) (ss : List Segment) → AllByRecursion (HasOthersParents end) ss → AllByRecursion (λ (s : Segment). are_within end s.parents ≡ true) ss
+others-within end [] h = tt
+others-within end (s ∷ ss) h = (within-decided end s.low s.parents h.0, others-within end ss h.1)
+
+pub stand-parents : (end first place : ℕ) (ss : List Segment) → AllStand end first place ss → AllByRecursion (HasOthersParents end) ss
+stand-parents end first place [] h = tt
+stand-parents end first place (s ∷ ss) h = (within-means end s.low s.parents (tests-of end first place s h.1).within h.0.below, stand-parents end first (s.high + 1) ss h.2)
+
+pub stand-below : (end first place : ℕ) (ss : List Segment) → AllStand end first place ss → AllByRecursion (λ (s : Segment). AllByRecursion (λ q. q < s.low) s.parents) ss
+stand-below end first place [] h = tt
+stand-below end first place (s ∷ ss) h = (h.0.below, stand-below end first (s.high + 1) ss h.2)
+
+pub cover-behind : (first end : ℕ) (ss : List Segment) → Cover first end ss → place_behind first ss ≡ end
+cover-behind first end [] h = h
+cover-behind first end (s ∷ ss) h = cover-behind (s.high + 1) end ss h.1
+
+pub cover-length : (first end : ℕ) (ss : List Segment) → AreFlat ss → Cover first end ss → first + length ss ≤ end
+cover-length first end [] f h = omega (arith, h)
+cover-length first end (s ∷ ss) f h = let up = f.0.0.ascending in let low = h.0 in omega (arith, up, low, cover-length (s.high + 1) end ss f.1 h.1)
+
+-- ---- known ids
+
+pub ascend-length : (least end : ℕ) (ids : List ℕ) → ids_ascend least end ids ≡ true → length ids ≤ end - least
+ascend-length least end [] h = omega arith
+ascend-length least end (id ∷ ids) h =
+    let p = ascend-parts least end id ids h in
+    let low = p.0 in let high = p.1 in
+    omega (arith, low, high, ascend-length (id + 1) end ids p.2)
+
+in-above : (least end : ℕ) (ids : List ℕ) (n : ℕ) → ids_ascend least end ids ≡ true → IsIn n ids → least ≤ n
+in-above least end [] n h i = absurd i
+in-above least end (id ∷ ids) n h (inl e) = let low = (ascend-parts least end id ids h).0 in omega (arith, low, e)
+in-above least end (id ∷ ids) n h (inr i) =
+    let p = ascend-parts least end id ids h in
+    let low = p.0 in
+    omega (arith, low, in-above (id + 1) end ids n p.2 i)
+
+-- as many as there are is all of them
+pub all-known : (least end : ℕ) (ids : List ℕ) → ids_ascend least end ids ≡ true → length ids ≡ end - least → (id : ℕ) → least ≤ id → id < end → IsIn id ids
+all-known least end [] h e id le lt = absurd (omega (arith, e, le, lt))
+all-known least end (x ∷ ids) h e id le lt =
+    let p = ascend-parts least end x ids h in
+    let low = p.0 in let high = p.1 in
+    let short = ascend-length (x + 1) end ids p.2 in
+    let first : x ≡ least = omega (arith, low, high, short, e) in
+    elim (cases_eq id x) [
+      | inl same ↦ inl same
+      | inr other ↦ inr (all-known (x + 1) end ids p.2 (omega (arith, e, first, high)) id (omega (arith, le, first, other)) lt)
+    ]
+
+pub known-length : (least end : ℕ) (ids : List ℕ) → ids_ascend least end ids ≡ true → ((id : ℕ) → least ≤ id → id < end → IsIn id ids) → length ids ≡ end - least
+known-length least end [] h all = elim (cases_lt least end) [
+  | inl lt ↦ absurd (all least (omega arith) lt)
+  | inr ge ↦ omega (arith, ge)
+]
+known-length least end (x ∷ ids) h all =
+    let p = ascend-parts least end x ids h in
+    let low = p.0 in let high = p.1 in
+    let first : x ≡ least = first-of (all least (omega arith) (omega (arith, low, high))) in
+    let others = known-length (x + 1) end ids p.2 (λ id le lt. later id le (all id (omega (arith, le, low)) lt)) in
+    omega (arith, others, first, high)
+  where
+    first-of : IsIn least (x ∷ ids) → x ≡ least
+    first-of (inl e) = sym e
+    first-of (inr i) =
+        let p = ascend-parts least end x ids h in
+        let low = p.0 in
+        let more = in-above (x + 1) end ids least p.2 i in absurd (omega (arith, low, more))
+
+    later : (id : ℕ) → x + 1 ≤ id → IsIn id (x ∷ ids) → IsIn id ids
+    later id le (inl e) = absurd (omega (arith, le, e))
+    later id le (inr i) = i
+
+-- ---- what a clone knows
+
+same-number : (n : ℕ) → nat_eq n n ≡ true
+same-number n = eq-eqb n n refl
+
+in-means : (n : ℕ) (ids : List ℕ) → is_in nat_eq n ids ≡ true → IsIn n ids
+in-means n ids h = found nat_eq eqb-true same-number n ids h
+
+in-decided : (n : ℕ) (ids : List ℕ) → IsIn n ids → is_in nat_eq n ids ≡ true
+in-decided n ids h = there nat_eq eqb-true same-number n ids h
+
+known-all : (ids ps : List ℕ) → are_known ids ps ≡ true → AreAllIn ps ids
+known-all ids [] h = tt
+known-all ids (p ∷ ps) h = let t = and_parts (is_in nat_eq p ids) (are_known ids ps) h in (in-means p ids t.0, known-all ids ps t.1)
+
+all-are-known : (ids ps : List ℕ) → AreAllIn ps ids → are_known ids ps ≡ true
+all-are-known ids [] h = refl
+all-are-known ids (p ∷ ps) h = and_from (is_in nat_eq p ids) (are_known ids ps) (in-decided p ids h.0) (all-are-known ids ps h.1)
+
+merge-means : (ids ps : List ℕ) → knows_merge ids ps ≡ true → AreAllIn (merge_parents ps) ids
+merge-means ids [] h = tt
+merge-means ids (p ∷ []) h = tt
+merge-means ids (p ∷ q ∷ more) h = known-all ids (p ∷ q ∷ more) h
+
+merge-decided : (ids ps : List ℕ) → AreAllIn (merge_parents ps) ids → knows_merge ids ps ≡ true
+merge-decided ids [] h = refl
+merge-decided ids (p ∷ []) h = refl
+merge-decided ids (p ∷ q ∷ more) h = all-are-known ids (p ∷ q ∷ more) h
+
+needed-means : (ids : List ℕ) (ss : List Segment) → knows_needed ids ss ≡ true → AllByRecursion (λ s. IsIn s.high ids × AreAllIn (merge_parents s.parents) ids) ss
+needed-means ids [] h = tt
+needed-means ids (s ∷ ss) h =
+    let a = and_parts (knows_segment ids s) (knows_needed ids ss) h in
+    let b = and_parts (is_in nat_eq s.high ids) (knows_merge ids s.parents) a.0 in
+    ((in-means s.high ids b.0, merge-means ids s.parents b.1), needed-means ids ss a.1)
+
+needed-decided : (ids : List ℕ) (ss : List Segment) → AllByRecursion (λ s. IsIn s.high ids × AreAllIn (merge_parents s.parents) ids) ss → knows_needed ids ss ≡ true
+needed-decided ids [] h = refl
+needed-decided ids (s ∷ ss) h =
+    and_from (knows_segment ids s) (knows_needed ids ss)
+    (and_from (is_in nat_eq s.high ids) (knows_merge ids s.parents) (in-decided s.high ids h.0.0) (merge-decided ids s.parents h.0.1)) (needed-decided ids ss h.1)
+
+-- ---- the kinds
+
+flush-means : (p : Payload) → p.kind ≡ 1 → ids_ascend p.before p.after (known_ids p) ≡ true → length (known_ids p) ≡ length p.known → flush_fits p ≡ true → IsFlush p
+flush-means p kind up len h =
+    let a = and_parts (eqb (length p.known) (p.after - p.before) && eqb (length p.heads) 0) (ltb 0 p.after || ltb 0 (length p.other_names)) h in
+    let b = and_parts (eqb (length p.known) (p.after - p.before)) (eqb (length p.heads) 0) a.0 in
+    record {
+      kind = kind;
+      all_known = all-known p.before p.after (known_ids p) up (len ∙ eqb-true (length p.known) (p.after - p.before) b.0);
+      no_heads = nil_from_length p.heads (eqb-true (length p.heads) 0 b.1);
+      something = ⊎_elim (λ e. inl (ltb-true 0 p.after e)) (λ e. inr (ltb-true 0 (length p.other_names) e)) (or_cases (ltb 0 p.after) (ltb 0 (length p.other_names)) a.1);
+    }
+
+flush-decided : (p : Payload) → ids_ascend p.before p.after (known_ids p) ≡ true → length (known_ids p) ≡ length p.known → IsFlush p → flush_fits p ≡ true
+flush-decided p up len h =
+    let known = eq-eqb (length p.known) (p.after - p.before) (sym len ∙ known-length p.before p.after (known_ids p) up h.all_known) in
+    let heads = eq-eqb (length p.heads) 0 (ap length h.no_heads) in
+    and_from (eqb (length p.known) (p.after - p.before) && eqb (length p.heads) 0) (ltb 0 p.after || ltb 0 (length p.other_names))
+    (and_from (eqb (length p.known) (p.after - p.before)) (eqb (length p.heads) 0) known heads)
+    (⊎_elim (λ lt. or-left (ltb 0 p.after) (ltb 0 (length p.other_names)) (lt-ltb 0 p.after lt)) (λ lt. or-right (ltb 0 p.after) (ltb 0 (length p.other_names)) (lt-ltb 0 (length p.other_names) lt)) h.something)
+
+clone-means : (p : Payload) → p.kind ≡ 2 → clone_fits p ≡ true → IsClone p
+clone-means p kind h =
+    let a = and_parts (eqb p.before 0 && ltb 0 p.after && eqb (length p.other_names) 0) (knows_needed (known_ids p) p.master) h in
+    let b = and_parts (eqb p.before 0 && ltb 0 p.after) (eqb (length p.other_names) 0) a.0 in
+    let c = and_parts (eqb p.before 0) (ltb 0 p.after) b.0 in
+    record { kind = kind; first = eqb-true p.before 0 c.0; something = ltb-true 0 p.after c.1; no_others = eqb-true (length p.other_names) 0 b.1; known = needed-means (known_ids p) p.master a.1 }
+
+clone-decided : (p : Payload) → IsClone p → clone_fits p ≡ true
+clone-decided p h =
+    and_from (eqb p.before 0 && ltb 0 p.after && eqb (length p.other_names) 0) (knows_needed (known_ids p) p.master)
+    (and_from (eqb p.before 0 && ltb 0 p.after) (eqb (length p.other_names) 0)
+    (and_from (eqb p.before 0) (ltb 0 p.after) (eq-eqb p.before 0 h.first) (lt-ltb 0 p.after h.something)) (eq-eqb (length p.other_names) 0 h.no_others))
+    (needed-decided (known_ids p) p.master h.known)
+
+pub kind-means : (p : Payload) → ids_ascend p.before p.after (known_ids p) ≡ true → length (known_ids p) ≡ length p.known → kind_fits p ≡ true → IsFlush p ⊎ IsClone p
+kind-means p up len h = first (eqb p.kind 1) refl h
+  where
+    second : (b : Bool) → eqb p.kind 2 ≡ b → cond b (clone_fits p) false ≡ true → IsFlush p ⊎ IsClone p
+    second true e h = inr (clone-means p (eqb-true p.kind 2 e) h)
+    second false e h = absurd (true≢false (sym h))
+
+    first : (b : Bool) → eqb p.kind 1 ≡ b → cond b (flush_fits p) (cond (eqb p.kind 2) (clone_fits p) false) ≡ true → IsFlush p ⊎ IsClone p
+    first true e h = inl (flush-means p (eqb-true p.kind 1 e) up len h)
+    first false e h = second (eqb p.kind 2) refl h
+
+pub kind-decided : (p : Payload) → ids_ascend p.before p.after (known_ids p) ≡ true → length (known_ids p) ≡ length p.known → IsFlush p ⊎ IsClone p → kind_fits p ≡ true
+kind-decided p up len (inl h) = let t = eq-eqb p.kind 1 h.kind in rw t (flush-decided p up len h)
+kind-decided p up len (inr h) =
+    let kind = h.kind in
+    let s : eqb p.kind 1 ≡ false = ne_eqb p.kind 1 (λ e. absurd (omega (arith, e, kind))) in
+    let t = eq-eqb p.kind 2 kind in
+    rw (s, t) (clone-decided p h)

@@ -1,0 +1,127 @@
+-- A payload that is read is the one that was written and is in the grammar, and what is in the grammar is read.
+use Rattle.std.proofs.Common.{◌≡◌, ℕ, ◌+◌, ◌-◌, ◌^◌, ◌<◌, ◌≤◌, Bool, true, cond, leb, eqb, ◌&&◌, List, [], ◌∷◌, length, map, get_or, Some, None, sym, ap, subst, ◌∙◌, arith, lit≤}
+use Rattle.std.specs.List.{AllByRecursion}
+use Rattle.std.proofs.lemmas.List.{length-map}
+use Rattle.std.proofs.lemmas.Bool.{and_parts, and_from, leb-true, le-leb, eqb-true, eq-eqb}
+use Rattle.id_groups.specs.Name.{IsName}
+use Rattle.segment_codec.specs.Reading.{◌>>=◌}
+use Rattle.segment_codec.proofs.Numbers.{IsBytes, bind_some, guard_some, some_is}
+use Rattle.batch_codec.specs.Payload.{Known, Payload, known_ids, payload_bytes}
+use Rattle.batch_codec.specs.Grammar.{Cover, IsPayload, place_behind}
+use Rattle.batch_codec.specs.Reading.{ids_ascend, parts_at, ends_fit, kind_fits, payload_at}
+use Rattle.batch_codec.proofs.Turns.{stand-in-turn, turn-stands}
+use Rattle.batch_codec.proofs.Entries.{FitsKnown}
+use Rattle.batch_codec.proofs.Ascending.{ascend-each, ascend-increasing, increasing-ascend}
+use Rattle.batch_codec.proofs.Pieces.{PartsFit, parts_take, Lengths, parts_again}
+use Rattle.batch_codec.proofs.Meanings.{stand-turn, turn-stand, master-within, others-within, stand-parents, stand-below, cover-behind, cover-length, ascend-length, kind-means, kind-decided}
+
+record Ends (p : Payload) : Type 0 where
+  pub master : place_behind p.before p.master ≡ p.after
+  pub few : length p.other_names ≤ 65536
+  pub others : place_behind (2 ^ 56) p.others ≡ 2 ^ 56 + length p.other_names
+
+ends-of : (p : Payload) → ends_fit p ≡ true → Ends p
+ends-of p h =
+    let a = and_parts (eqb (place_behind p.before p.master) p.after && leb (length p.other_names) 65536) (eqb (place_behind (2 ^ 56) p.others) (2 ^ 56 + length p.other_names)) h in
+    let b = and_parts (eqb (place_behind p.before p.master) p.after) (leb (length p.other_names) 65536) a.0 in
+    record { master = eqb-true (place_behind p.before p.master) p.after b.0; few = leb-true (length p.other_names) 65536 b.1; others = eqb-true (place_behind (2 ^ 56) p.others) (2 ^ 56 + length p.other_names) a.1 }
+
+ids-many : (p : Payload) → length (known_ids p) ≡ length p.known
+ids-many p = length-map p.known (λ k. k.id)
+
+-- what the tests let through is in the grammar
+sound : (p : Payload) → PartsFit p → ends_fit p ≡ true → kind_fits p ≡ true → IsPayload p
+sound p fit ends kind =
+    let e = ends-of p ends in
+    let master = turn-stands p.before p.master (stand-turn (2 ^ 56) p.before p.before p.master fit.master) in
+    let others = turn-stands (2 ^ 56) p.others (stand-turn p.after (2 ^ 56) (2 ^ 56) p.others fit.others) in
+    record {
+      counts = record { grows = fit.grows; master = fit.most; others = e.few };
+      cover = record {
+        flat_master = master.2;
+        flat_others = others.2;
+        master = subst (λ (n : ℕ). Cover p.before n p.master) e.master master.0;
+        others = subst (λ (n : ℕ). Cover (2 ^ 56) n p.others) e.others others.0;
+      };
+      parents = record { master = stand-below (2 ^ 56) p.before p.before p.master fit.master; others = stand-parents p.after (2 ^ 56) (2 ^ 56) p.others fit.others };
+      maximal = record { master = master.1; others = others.1 };
+      known = record { ascend = ascend-increasing p.before p.after (known_ids p) fit.ascend; within = ascend-each p.before p.after (known_ids p) fit.ascend };
+      by_kind = kind-means p fit.ascend (ids-many p) kind;
+      heads_fit = fit.few_heads;
+      names = fit.names;
+      head_names = fit.heads;
+      other_names = fit.other_names;
+    }
+
+pub record PayloadTaken (bytes : List ℕ) (p : Payload) : Type 0 where
+  pub whole : IsPayload p
+  pub parts : bytes ≡ payload_bytes 1 p
+
+pub payload_takes : (bytes : List ℕ) (p : Payload) → IsBytes bytes → payload_at bytes ≡ Some p → PayloadTaken bytes p
+unfolding payload_at
+payload_takes bytes p fits e =
+    let a = bind_some (parts_at bytes) (λ q. cond (ends_fit q && kind_fits q) (Some q) None) p e in
+    let g = guard_some (ends_fit a.0 && kind_fits a.0) a.0 p a.2 in
+    let t = and_parts (ends_fit a.0) (kind_fits a.0) g.0 in
+    let parts = parts_take bytes a.0 fits a.1 in
+    subst (PayloadTaken bytes) g.1 (record { whole = sound a.0 parts.fit t.0 t.1; parts = parts.parts })
+
+-- ---- and back
+
+first-within : (before : ℕ) (ids : List ℕ) (after : ℕ) → AllByRecursion (λ id. (before ≤ id) × (id < after)) ids → 0 < length ids → before ≤ get_or ids 0 0
+first-within before [] after h some = absurd (omega (arith, some))
+first-within before (id ∷ ids) after h some = h.0.0
+
+each-below : (before after : ℕ) (ids : List ℕ) → AllByRecursion (λ id. (before ≤ id) × (id < after)) ids → AllByRecursion (λ id. id < after) ids
+each-below before after [] h = tt
+each-below before after (id ∷ ids) h = (h.0.1, each-below before after ids h.1)
+
+pub known-fits : (before after : ℕ) (ks : List Known) → after ≤ 2 ^ 64 → AllByRecursion (λ id. (before ≤ id) × (id < after)) (map (λ k. k.id) ks) → AllByRecursion IsName (map (λ k. k.name) ks) → AllByRecursion FitsKnown ks
+known-fits before after [] le h g = tt
+known-fits before after (k ∷ ks) le h g = (record { id = let lt = h.0.1 in omega (arith, lt, le); name = g.0.0 }, known-fits before after ks le h.1 g.1)
+
+abbrev ascending : Payload → Type 0
+ascending p = ids_ascend p.before p.after (known_ids p) ≡ true
+
+in-order : (p : Payload) → IsPayload p → ascending p
+in-order p h = increasing-ascend p.before p.after (known_ids p) (first-within p.before (known_ids p) p.after h.known.within) (each-below p.before p.after (known_ids p) h.known.within) h.known.ascend
+
+pub known-length : (p : Payload) → IsPayload p → length p.known ≤ p.after
+known-length p h = omega (arith, ids-many p, ascend-length p.before p.after (known_ids p) (in-order p h))
+
+pub payload_again : (p : Payload) → IsPayload p → payload_at (payload_bytes 1 p) ≡ Some p
+unfolding payload_at
+payload_again p h =
+    let k : 16777216 ≤ 2 ^ 32 - 1 = lit≤ tt in
+    let j : 2 ^ 32 ≤ 2 ^ 64 = lit≤ tt in
+    let grows = h.counts.grows in let most = h.counts.master in let few = h.counts.others in
+    let up = in-order p h in
+    let fit : PartsFit p = record {
+      grows = grows;
+      most = most;
+      master = turn-stand (2 ^ 56) p.before p.before p.master (master-within p.master) (stand-in-turn p.before p.after p.master h.cover.master h.maximal.master h.cover.flat_master);
+      ascend = up;
+      names = h.names;
+      few_heads = h.heads_fit;
+      heads = h.head_names;
+      others = turn-stand p.after (2 ^ 56) (2 ^ 56) p.others (others-within p.after p.others h.parents.others) (stand-in-turn (2 ^ 56) (2 ^ 56 + length p.other_names) p.others h.cover.others h.maximal.others h.cover.flat_others);
+      other_names = h.other_names;
+    } in
+    let short : Lengths p = record {
+      master = omega (arith, k, most, cover-length p.before p.after p.master h.cover.flat_master h.cover.master);
+      known = omega (arith, k, most, ids-many p, ascend-length p.before p.after (known_ids p) up);
+      others = omega (arith, k, few, cover-length (2 ^ 56) (2 ^ 56 + length p.other_names) p.others h.cover.flat_others h.cover.others);
+      names = omega (arith, few);
+    } in
+    let read = parts_again p fit short (known-fits p.before p.after p.known (omega (arith, k, j, most)) h.known.within h.names) in
+    let ends : ends_fit p ≡ true =
+    and_from (eqb (place_behind p.before p.master) p.after && leb (length p.other_names) 65536) (eqb (place_behind (2 ^ 56) p.others) (2 ^ 56 + length p.other_names))
+    (and_from (eqb (place_behind p.before p.master) p.after) (leb (length p.other_names) 65536)
+    (eq-eqb (place_behind p.before p.master) p.after (cover-behind p.before p.after p.master h.cover.master)) (le-leb (length p.other_names) 65536 few))
+    (eq-eqb (place_behind (2 ^ 56) p.others) (2 ^ 56 + length p.other_names) (cover-behind (2 ^ 56) (2 ^ 56 + length p.other_names) p.others h.cover.others)) in
+    let kind = kind-decided p up (ids-many p) h.by_kind in
+    let test = and_from (ends_fit p) (kind_fits p) ends kind in
+    ap (λ r. r >>= λ (q : Payload). cond (ends_fit q && kind_fits q) (Some q) None) read ∙ ap (λ (b : Bool). cond b (Some p) None) test
+
+pub one-payload : (p q : Payload) → IsPayload p → IsPayload q → payload_bytes 1 p ≡ payload_bytes 1 q → p ≡ q
+one-payload p q hp hq e = some_is p q (sym (payload_again p hp) ∙ ap payload_at e ∙ payload_again q hq)

@@ -1,0 +1,112 @@
+-- A payload whose bytes are tried, and that it is in the grammar.
+use Rattle.std.proofs.Common.{◌≡◌, ℕ, zero, suc, ◌+◌, ◌^◌, ◌<◌, ◌≤◌, ◌++◌, List, [], ◌∷◌, refl, inl, inr, replicate, arith, lit≤}
+use Rattle.std.specs.List.{AllByRecursion}
+use Rattle.std.specs.List.Sorted.{IsStrictlyIncreasing}
+use Rattle.id_groups.specs.Lists.{IsIn}
+use Rattle.id_groups.specs.Name.{Name, IsName}
+use Rattle.segment_codec.specs.Record.{IsSegment}
+use Rattle.batch_codec.specs.Payload.{Payload}
+use Rattle.batch_codec.specs.Grammar.{IsPayload}
+
+abbrev pub name-to : ℕ → Name
+name-to last = replicate 19 0 ++ last ∷ []
+
+-- a flush of a segment of master ids, of two known ids, and of a record of another id
+abbrev pub made : ℕ → ℕ → ℕ → ℕ → ℕ → ℕ → ℕ → Name → Name → Name → Payload
+made low high first second other-low other-high parent a c b = record {
+  kind = 1;
+  before = 0;
+  after = 2;
+  master = record { low = low; high = high; level = 0; parents = [] } ∷ [];
+  known = record { id = first; name = a } ∷ record { id = second; name = c } ∷ [];
+  heads = [];
+  others = record { low = other-low; high = other-high; level = 0; parents = parent ∷ [] } ∷ [];
+  other_names = b ∷ [];
+}
+
+-- two master ids, and one other id above the first
+abbrev pub fork : Payload
+fork = made 0 1 0 1 (2 ^ 56) (2 ^ 56) 0 (name-to 161) (name-to 193) (name-to 177)
+
+-- a clone of a segment of master ids, of one known id and of one head
+abbrev pub cloned : ℕ → ℕ → ℕ → Name → Name → Payload
+cloned low high first name head = record {
+  kind = 2;
+  before = 0;
+  after = 10;
+  master = record { low = low; high = high; level = 0; parents = [] } ∷ [];
+  known = record { id = first; name = name } ∷ [];
+  heads = head ∷ [];
+  others = [];
+  other_names = [];
+}
+
+-- ten ids in a chain
+abbrev pub chain : Payload
+chain = cloned 0 9 9 (name-to 25) (name-to 25)
+
+all-fit : (n last : ℕ) → last < 256 → AllByRecursion (λ b. b < 256) (replicate n 0 ++ last ∷ [])
+all-fit zero last h = (h, tt)
+all-fit (suc n) last h = (lit≤ tt, all-fit n last h)
+
+is-name : (last : ℕ) → last < 256 → IsName (name-to last)
+is-name last h = (refl, all-fit 19 last h)
+
+both : (id : ℕ) → id < 2 → IsIn id (0 ∷ 1 ∷ [])
+both zero h = inl refl
+both (suc zero) h = inr (inl refl)
+both (suc (suc id)) h = absurd (omega (arith, h))
+
+climb : IsStrictlyIncreasing (0 ∷ 1 ∷ [])
+climb zero h = lit≤ tt
+climb (suc k) h = absurd (omega (arith, h))
+
+pair-is : IsSegment (record { low = 0; high = 1; level = 0; parents = [] })
+pair-is = record { ascending = lit≤ tt; one_group = refl; valid = lit≤ tt; level = lit≤ tt; below = tt; distinct = tt; level_parents = lit≤ tt }
+
+alone : IsStrictlyIncreasing (9 ∷ [])
+alone k h = absurd (omega (arith, h))
+
+chain-segment : IsSegment (record { low = 0; high = 9; level = 0; parents = [] })
+chain-segment = record { ascending = lit≤ tt; one_group = refl; valid = lit≤ tt; level = lit≤ tt; below = tt; distinct = tt; level_parents = lit≤ tt }
+
+other-is : IsSegment (record { low = 2 ^ 56; high = 2 ^ 56; level = 0; parents = 0 ∷ [] })
+other-is = record { ascending = lit≤ tt; one_group = refl; valid = lit≤ tt; level = lit≤ tt; below = (lit≤ tt, tt); distinct = ((λ h. h), tt); level_parents = lit≤ tt }
+
+pub fork-is : IsPayload fork
+fork-is = record {
+  counts = record { grows = lit≤ tt; master = lit≤ tt; others = lit≤ tt };
+  cover = record {
+    flat_master = ((pair-is, refl), tt);
+    flat_others = ((other-is, refl), tt);
+    master = (refl, refl);
+    others = (refl, refl);
+  };
+  parents = record { master = (tt, tt); others = ((inl (lit≤ tt), tt), tt) };
+  maximal = record { master = tt; others = tt };
+  known = record { ascend = climb; within = ((lit≤ tt, lit≤ tt), ((lit≤ tt, lit≤ tt), tt)) };
+  by_kind = inl (record { kind = refl; all_known = λ id low high. both id high; no_heads = refl; something = inl (lit≤ tt) });
+  heads_fit = lit≤ tt;
+  names = (is-name 161 (lit≤ tt), (is-name 193 (lit≤ tt), tt));
+  head_names = tt;
+  other_names = (is-name 177 (lit≤ tt), tt);
+}
+
+pub chain-is : IsPayload chain
+chain-is = record {
+  counts = record { grows = lit≤ tt; master = lit≤ tt; others = lit≤ tt };
+  cover = record {
+    flat_master = ((chain-segment, refl), tt);
+    flat_others = tt;
+    master = (refl, refl);
+    others = refl;
+  };
+  parents = record { master = (tt, tt); others = tt };
+  maximal = record { master = tt; others = tt };
+  known = record { ascend = alone; within = ((lit≤ tt, lit≤ tt), tt) };
+  by_kind = inr (record { kind = refl; first = refl; something = lit≤ tt; no_others = refl; known = ((inl refl, tt), tt) });
+  heads_fit = lit≤ tt;
+  names = (is-name 25 (lit≤ tt), tt);
+  head_names = (is-name 25 (lit≤ tt), tt);
+  other_names = tt;
+}

@@ -1,0 +1,11 @@
+use Rattle.batch_codec.proofs.Turns.{stand-in-turn, turn-stands, none-broken}
+use Rattle.batch_codec.proofs.laws.sections_by_records.Goals as goal
+
+pub returns-clause-turn : goal.returns-clause-turn
+returns-clause-turn c = stand-in-turn
+
+pub returns-clause-whole : goal.returns-clause-whole
+returns-clause-whole c = turn-stands
+
+pub returns-clause-broken : goal.returns-clause-broken
+returns-clause-broken c = none-broken

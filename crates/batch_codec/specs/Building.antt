@@ -1,0 +1,49 @@
+-- A payload that is being built: the bytes of its parts so far.
+use Rattle.std.specs.Prelude.{◌≡◌, ℕ, List, [], ◌∷◌, ◌++◌, length, flat_map}
+use Rattle.std.specs.Int.{w64, to_be_bytes}
+use Rattle.id_groups.specs.Name.{Name}
+use Rattle.segment_codec.specs.Record.{Segment, segment_bytes}
+use Rattle.batch_codec.specs.Payload.{Known, Payload, known_bytes, names_bytes}
+
+pub record Building : Type 0 where
+  -- the version, the kind and the master counts
+  pub front : List ℕ
+  pub master : List ℕ
+  pub master_count : ℕ
+  pub known : List ℕ
+  pub heads : List ℕ
+  -- how many other ids there are to be
+  pub other_count : ℕ
+  pub others : List ℕ
+  pub others_count : ℕ
+  pub other_names : List ℕ
+
+-- the parts so far are those of this payload
+pub record IsBuilt (b : Building) (p : Payload) : Type 0 where
+  pub front : b.front ≡ 1 ∷ p.kind ∷ to_be_bytes w64 p.before ++ to_be_bytes w64 p.after
+  pub master : b.master ≡ flat_map segment_bytes p.master
+  pub master_count : b.master_count ≡ length p.master
+  pub known : b.known ≡ flat_map known_bytes p.known
+  pub heads : b.heads ≡ names_bytes p.heads
+  pub others : b.others ≡ flat_map segment_bytes p.others
+  pub others_count : b.others_count ≡ length p.others
+  pub other_names : b.other_names ≡ names_bytes p.other_names
+
+-- a payload without sections
+abbrev pub empty_payload : ℕ → ℕ → ℕ → Payload
+empty_payload kind before after = record { kind = kind; before = before; after = after; master = []; known = []; heads = []; others = []; other_names = [] }
+
+abbrev pub with_segment : Payload → Segment → Payload
+with_segment p s = record p { master = p.master ++ s ∷ [] }
+
+abbrev pub with_known : Payload → Known → Payload
+with_known p k = record p { known = p.known ++ k ∷ [] }
+
+abbrev pub with_head : Payload → Name → Payload
+with_head p name = record p { heads = p.heads ++ name ∷ [] }
+
+abbrev pub with_other_segment : Payload → Segment → Payload
+with_other_segment p s = record p { others = p.others ++ s ∷ [] }
+
+abbrev pub with_other_name : Payload → Name → Payload
+with_other_name p name = record p { other_names = p.other_names ++ name ∷ [] }

@@ -1,0 +1,5 @@
+pub mod Payload
+pub mod Grammar
+pub mod Reading
+pub mod Lent
+pub mod Building

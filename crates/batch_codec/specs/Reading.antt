@@ -1,0 +1,168 @@
+-- Reading a payload from left to right: a value and the bytes behind it, or nothing where none stands in front.
+use Rattle.std.specs.Prelude.{◌^◌, ℕ, zero, suc, ◌+◌, ◌-◌, ◌*◌, ◌&&◌, ◌||◌, Bool, true, false, not, List, [], ◌∷◌, length, map, take, drop, Option, Some, None, nat_lt, nat_le, nat_eq, if◌then◌else◌}
+use Rattle.std.specs.Int.{Width, w16, w32, w64, byte_len, from_be_bytes}
+use Rattle.id_groups.specs.Lists.{is_in}
+use Rattle.id_groups.specs.Name.{Name}
+use Rattle.segment_codec.specs.Record.{Segment}
+use Rattle.segment_codec.specs.Reading.{◌>>=◌, record_at}
+use Rattle.batch_codec.specs.declared.counts.Counts.{Counts}
+use Rattle.batch_codec.specs.Payload.{Known, Payload, known_ids}
+use Rattle.batch_codec.specs.Grammar.{place_behind}
+
+-- a number of so many bytes
+abbrev pub fixed_at : Width → List ℕ → Option (ℕ × List ℕ)
+fixed_at w bytes = if nat_lt (length bytes) (byte_len w) then None else Some (from_be_bytes w (take (byte_len w) bytes), drop (byte_len w) bytes)
+
+-- so many bytes
+abbrev pub piece_at : ℕ → List ℕ → Option (List ℕ × List ℕ)
+piece_at n bytes = if nat_lt (length bytes) n then None else Some (take n bytes, drop n bytes)
+
+-- so many names that stand one after another
+abbrev pub names_in : ℕ → List ℕ → List Name
+names_in zero bytes = []
+names_in (suc n) bytes = take 20 bytes ∷ names_in n (drop 20 bytes)
+
+abbrev pub known_in : List ℕ → Known
+known_in bytes = record { id = from_be_bytes w64 (take 8 bytes); name = take 20 (drop 8 bytes) }
+
+-- so many ids with their names
+abbrev pub knowns_in : ℕ → List ℕ → List Known
+knowns_in zero bytes = []
+knowns_in (suc n) bytes = known_in bytes ∷ knowns_in n (drop 28 bytes)
+
+abbrev pub ids_in : ℕ → List ℕ → List ℕ
+ids_in n bytes = map (λ k. k.id) (knowns_in n bytes)
+
+-- the ids ascend from least on, below end
+abbrev pub ids_ascend : ℕ → ℕ → List ℕ → Bool
+ids_ascend least end [] = true
+ids_ascend least end (id ∷ ids) = nat_le least id && nat_lt id end && ids_ascend (id + 1) end ids
+
+-- the first of records, and those behind it
+abbrev pub with_first : Option (Segment × List ℕ) → (List ℕ → List Segment) → List Segment
+with_first None others = []
+with_first (Some x) others = x.0 ∷ others x.1
+
+-- so many records that stand one after another
+unfoldable pub segments_in : ℕ → List ℕ → List Segment
+segments_in zero bytes = []
+segments_in (suc n) bytes = with_first (record_at bytes) (segments_in n)
+
+-- the only parent is the one before this place
+abbrev pub goes_on : ℕ → List ℕ → Bool
+goes_on place [] = false
+goes_on place (p ∷ []) = nat_eq (p + 1) place
+goes_on place (p ∷ q ∷ more) = false
+
+-- each is a master id below end, or of the other group
+abbrev pub are_within : ℕ → List ℕ → Bool
+are_within end [] = true
+are_within end (p ∷ more) = (nat_lt p end || nat_le (2 ^ 56) p) && are_within end more
+
+-- a record may come at this place of a section that begins at first and whose master parents are below end
+abbrev pub may_stand : ℕ → ℕ → ℕ → Segment → Bool
+may_stand end first place s = nat_eq s.level 0 && nat_eq s.low place && (nat_eq place first || not (goes_on place s.parents)) && are_within end s.parents
+
+-- so many records, each of which may come at its place
+unfoldable pub segments_at : ℕ → ℕ → ℕ → ℕ → List ℕ → Option (List Segment × List ℕ)
+segments_at end first place zero bytes = Some ([], bytes)
+segments_at end first place (suc count) bytes = do
+  segment ← record_at bytes
+  others ← (if may_stand end first place segment.0 then segments_at end first (segment.0.high + 1) count segment.1 else None)
+  Some (segment.0 ∷ others.0, others.1)
+
+-- the count of records, and the records
+unfoldable pub section_at : ℕ → ℕ → List ℕ → Option (List Segment × List ℕ)
+section_at end first bytes = do
+  count ← fixed_at w32 bytes
+  segments_at end first first count.0 count.1
+
+-- the names of a section
+unfoldable pub names_at : ℕ → List ℕ → Option (List Name × List ℕ)
+names_at count bytes = do
+  piece ← piece_at (20 * count) bytes
+  Some (names_in count piece.0, piece.1)
+
+-- the count of known ids, and these with their names
+unfoldable pub known_at : ℕ → ℕ → List ℕ → Option (List Known × List ℕ)
+known_at before after bytes = do
+  count ← fixed_at w32 bytes
+  piece ← piece_at (28 * count.0) count.1
+  if ids_ascend before after (ids_in count.0 piece.0) then Some (knowns_in count.0 piece.0, piece.1) else None
+
+-- the count of heads, and these
+unfoldable pub heads_at : List ℕ → Option (List Name × List ℕ)
+heads_at bytes = do
+  count ← fixed_at w16 bytes
+  names_at count.0 count.1
+
+-- the version, the kind, and the master counts
+unfoldable pub counts_at : List ℕ → Option (Counts × List ℕ)
+counts_at (version ∷ kind ∷ bytes) = do
+  before ← fixed_at w64 bytes
+  after ← fixed_at w64 before.1
+  if nat_eq version 1 && nat_le before.0 after.0 && nat_le after.0 16777216
+      then Some (record { kind = kind; before = before.0; after = after.0 }, after.1)
+      else None
+counts_at _ = None
+
+pub record Others : Type 0 where
+  pub others : List Segment
+  pub other_names : List Name
+
+-- the count of the other ids, their records and their names
+unfoldable pub others_at : ℕ → List ℕ → Option (Others × List ℕ)
+others_at after bytes = do
+  count ← fixed_at w32 bytes
+  others ← section_at after (2 ^ 56) count.1
+  names ← names_at count.0 others.1
+  Some (record { others = others.0; other_names = names.0 }, names.1)
+
+-- the sections of a payload, and nothing behind them
+unfoldable pub parts_at : List ℕ → Option Payload
+parts_at bytes = do
+  counts ← counts_at bytes
+  master ← section_at (2 ^ 56) counts.0.before counts.1
+  known ← known_at counts.0.before counts.0.after master.1
+  heads ← heads_at known.1
+  others ← others_at counts.0.after heads.1
+  if nat_eq (length others.1) 0
+      then Some (record { kind = counts.0.kind; before = counts.0.before; after = counts.0.after; master = master.0; known = known.0; heads = heads.0; others = others.0.others; other_names = others.0.other_names })
+      else None
+
+-- each stands among the known ids
+abbrev pub are_known : List ℕ → List ℕ → Bool
+are_known ids [] = true
+are_known ids (p ∷ more) = is_in nat_eq p ids && are_known ids more
+
+-- the parents are those of a row that is no merge, or are known
+abbrev pub knows_merge : List ℕ → List ℕ → Bool
+knows_merge ids (p ∷ q ∷ more) = are_known ids (p ∷ q ∷ more)
+knows_merge ids parents = true
+
+abbrev pub knows_segment : List ℕ → Segment → Bool
+knows_segment ids s = is_in nat_eq s.high ids && knows_merge ids s.parents
+
+abbrev pub knows_needed : List ℕ → List Segment → Bool
+knows_needed ids [] = true
+knows_needed ids (s ∷ more) = knows_segment ids s && knows_needed ids more
+
+-- the records end where the groups do
+abbrev pub ends_fit : Payload → Bool
+ends_fit p = nat_eq (place_behind p.before p.master) p.after && nat_le (length p.other_names) 65536
+    && nat_eq (place_behind (2 ^ 56) p.others) (2 ^ 56 + length p.other_names)
+
+abbrev pub flush_fits : Payload → Bool
+flush_fits p = nat_eq (length p.known) (p.after - p.before) && nat_eq (length p.heads) 0 && (nat_lt 0 p.after || nat_lt 0 (length p.other_names))
+
+abbrev pub clone_fits : Payload → Bool
+clone_fits p = nat_eq p.before 0 && nat_lt 0 p.after && nat_eq (length p.other_names) 0 && knows_needed (known_ids p) p.master
+
+abbrev pub kind_fits : Payload → Bool
+kind_fits p = if nat_eq p.kind 1 then flush_fits p else (if nat_eq p.kind 2 then clone_fits p else false)
+
+-- a payload
+unfoldable pub payload_at : List ℕ → Option Payload
+payload_at bytes = do
+  p ← parts_at bytes
+  if ends_fit p && kind_fits p then Some p else None

@@ -1,0 +1,103 @@
+//! A payload, read as a whole.
+
+ghost use Rattle.std.specs.Prelude.{◌≡◌, ◌≤◌, ◌+◌, ◌*◌, ◌^◌, ℕ, List, length, IfSome, MatchOption};
+ghost use Rattle.segment_codec.specs.Reading.{Gives};
+ghost use Rattle.batch_codec.specs.Payload.{Payload, payload_bytes};
+ghost use Rattle.batch_codec.specs.Grammar.{IsPayload, place_behind};
+ghost use Rattle.batch_codec.specs.Reading.{others_at, parts_at, ends_fit, payload_at};
+ghost use Rattle.batch_codec.specs.Lent.{segments_of, others_of, payload_of, HasPlaces};
+
+use crate::counts::read_counts;
+use crate::fixed::read_u32;
+use crate::lent::{BatchRef, NameSlice, SegmentSlice};
+use crate::rules::has_kind;
+use crate::section::{read_heads, read_known, read_names, read_section};
+use crate::sections::FIRST_OTHER;
+
+/// The most ids of the group of others.
+const MOST_OTHERS: u32 = 1 << 16;
+
+impl<'a> BatchRef<'a> {
+    /// The payload; `None` exactly where the bytes are no payload in the grammar.
+    pub fn read(payload: &'a [u8]) -> Option<BatchRef<'a>>
+        ensures found { IfSome result (λ b. IsPayload (payload_of b) × (payload.now ≡ payload_bytes 1 (payload_of b))) }
+        ensures only { (p : Payload) → IsPayload p → payload.now ≡ payload_bytes 1 p → MatchOption result ⊥ (λ b. payload_of b ≡ p) }
+        ensures places { IfSome result HasPlaces }
+    {
+        read_payload(payload)
+    }
+}
+
+/// The sections of the other ids, the place behind their records, and the rest.
+#[tactic(auto, unfolding(crate::specs::Reading::others_at))]
+fn read_others<'a>(
+    bytes: &'a [u8],
+    after: u64,
+    total: usize,
+) -> Option<(SegmentSlice<'a>, NameSlice<'a>, u64, &'a [u8])>
+    requires { length bytes.now ≤ total }
+    ensures exact { Gives (λ r. (others_of r.0 r.1, r.3.now)) result (others_at after bytes.now) }
+    ensures behind { IfSome result (λ r. r.2 ≡ place_behind (2 ^ 56) (segments_of r.0)) }
+    ensures size { IfSome result (λ r. length bytes.now ≡ 8 + length r.0.bytes.now + 20 * r.1.count + length r.3.now) }
+    ensures start { IfSome result (λ r. r.0.start + length r.0.bytes.now + 20 * r.1.count + length r.3.now ≡ total) }
+    ensures names { IfSome result (λ r. r.1.start + 20 * r.1.count + length r.3.now ≡ total) }
+{
+    let (count, rest) = read_u32(bytes)?;
+    let (segments, end, rest) = read_section(rest, after, FIRST_OTHER, total)?;
+    let (names, rest) = read_names(rest, count, total)?;
+    Some((segments, names, end, rest))
+}
+
+/// The payload, and the places behind its two sections of records.
+#[tactic(auto, unfolding(crate::specs::Reading::parts_at))]
+fn read_parts<'a>(payload: &'a [u8]) -> Option<(BatchRef<'a>, u64, u64)>
+    ensures exact { Gives (λ r. payload_of r.0) result (parts_at payload.now) }
+    ensures master { IfSome result (λ r. r.1 ≡ place_behind (payload_of r.0).before (payload_of r.0).master) }
+    ensures others { IfSome result (λ r. r.2 ≡ place_behind (2 ^ 56) (payload_of r.0).others) }
+    ensures counts { IfSome result (λ r. (payload_of r.0).before ≤ (payload_of r.0).after) }
+    ensures places { IfSome result (λ r. HasPlaces r.0) }
+{
+    let total = payload.len();
+    let (counts, rest) = read_counts(payload)?;
+    let (master, master_end, rest) = read_section(rest, FIRST_OTHER, counts.before, total)?;
+    let (known, rest) = read_known(rest, counts.before, counts.after, total)?;
+    let (heads, rest) = read_heads(rest, total)?;
+    let (others, other_names, others_end, rest) = read_others(rest, counts.after, total)?;
+    if !rest.is_empty() {
+        return None;
+    }
+    let batch = BatchRef {
+        kind: counts.kind,
+        before: counts.before,
+        after: counts.after,
+        master,
+        known,
+        heads,
+        others,
+        other_names,
+    };
+    Some((batch, master_end, others_end))
+}
+
+/// Whether the records end where the groups do.
+fn ends_where_groups_do(batch: &BatchRef<'_>, master_end: u64, others_end: u64) -> bool
+    requires master { master_end ≡ place_behind (payload_of batch.now).before (payload_of batch.now).master }
+    requires others { others_end ≡ place_behind (2 ^ 56) (payload_of batch.now).others }
+    ensures { result ≡ ends_fit (payload_of batch.now) }
+{
+    master_end == batch.after
+        && batch.other_names.len() <= MOST_OTHERS
+        && others_end == FIRST_OTHER + u64::from(batch.other_names.len())
+}
+
+#[tactic(auto, unfolding(crate::specs::Reading::payload_at))]
+fn read_payload<'a>(payload: &'a [u8]) -> Option<BatchRef<'a>>
+    ensures exact { Gives payload_of result (payload_at payload.now) }
+    ensures places { IfSome result HasPlaces }
+{
+    let (batch, master_end, others_end) = read_parts(payload)?;
+    if !ends_where_groups_do(&batch, master_end, others_end) || !has_kind(&batch) {
+        return None;
+    }
+    Some(batch)
+}

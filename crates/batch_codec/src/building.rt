@@ -1,0 +1,229 @@
+//! A payload that is being built, section by section.
+
+ghost use Rattle.std.specs.Prelude.{◌≡◌, ◌≤◌, ◌+◌, ◌++◌, Ok, [], ◌∷◌, length, OnOk, OnErr, IfOk};
+ghost use Rattle.std.specs.Int.{w16, w32, w64, to_be_bytes};
+ghost use Rattle.segment_codec.specs.Record.{IsSegment, HasFront, segment_bytes};
+ghost use Rattle.batch_codec.specs.Payload.{Payload, known_bytes, payload_bytes};
+ghost use Rattle.batch_codec.specs.Grammar.{IsPayload};
+ghost use Rattle.batch_codec.specs.Building.{IsBuilt, empty_payload, with_segment, with_known, with_head, with_other_segment, with_other_name};
+
+use crate::counts::VERSION;
+use id_groups::{Id, Name};
+use segment_codec::write_segment;
+use std::alloc::{AllocError, Global};
+use std::marker::Model;
+
+/// A payload that is being built. Each call adds to one section, in the order of its items; want of memory leaves all as before.
+#[derive(Drop)]
+pub struct BatchBuild {
+    front: Vec<u8>,
+    master: Vec<u8>,
+    master_count: usize,
+    known: Vec<u8>,
+    heads: Vec<u8>,
+    other_count: u32,
+    others: Vec<u8>,
+    others_count: usize,
+    other_names: Vec<u8>,
+}
+
+impl Model for BatchBuild {
+    ghost use Rattle.std.specs.Prelude.{◌≤◌, length};
+    ghost use Rattle.batch_codec.specs.Building.{Building};
+
+    ghost Value = { Building };
+
+    ghost view = { λ b. record {
+      front = b.front.items;
+      master = b.master.items;
+      master_count = b.master_count;
+      known = b.known.items;
+      heads = b.heads.items;
+      other_count = b.other_count;
+      others = b.others.items;
+      others_count = b.others_count;
+      other_names = b.other_names.items;
+    } };
+
+    ghost invariant = { λ b. (b.master_count ≤ length b.master.items) × (b.others_count ≤ length b.others.items) };
+}
+
+/// Appends the bytes of an id and a name. A refusal may leave a part of them at the end.
+fn append_parts(out: &mut Vec<u8>, id: Id, name: &Name) -> Result<(), AllocError>
+    ensures ok { OnOk result (out.new.items ≡ out.old.items ++ known_bytes (record { id = id; name = name.now })) }
+    ensures err { OnErr result (HasFront out.old.items out.new.items) }
+{
+    out.extend_from_slice(&id.number().to_be_bytes())?;
+    out.extend_from_slice(name.lend().bytes)
+}
+
+/// Appends an id and its name. Want of memory leaves `out` as it was.
+fn append_known(out: &mut Vec<u8>, id: Id, name: &Name) -> Result<(), AllocError>
+    ensures ok { OnOk result (out.new.items ≡ out.old.items ++ known_bytes (record { id = id; name = name.now })) }
+    ensures err { OnErr result (out.new.items ≡ out.old.items) }
+{
+    let len = out.len();
+    let appended = append_parts(out, id, name);
+    if appended.is_err() {
+        out.truncate(len);
+    }
+    appended
+}
+
+/// Appends a name. Want of memory leaves `out` as it was.
+fn append_name(out: &mut Vec<u8>, name: &Name) -> Result<(), AllocError>
+    ensures ok { OnOk result (out.new.items ≡ out.old.items ++ name.now) }
+    ensures err { OnErr result (out.new.items ≡ out.old.items) }
+{
+    out.extend_from_slice(name.lend().bytes)
+}
+
+/// What stands before the sections.
+fn front_of(alloc: Global, kind: u8, before: u64, after: u64) -> Result<Vec<u8>, AllocError>
+    ensures { IfOk result (λ v. v.items ≡ 1 ∷ kind ∷ to_be_bytes w64 before ++ to_be_bytes w64 after) }
+{
+    let mut front = Vec::new(alloc);
+    front.push(VERSION)?;
+    front.push(kind)?;
+    front.extend_from_slice(&before.to_be_bytes())?;
+    front.extend_from_slice(&after.to_be_bytes())?;
+    Ok(front)
+}
+
+/// Appends a flat record and counts it. Want of memory leaves both as they were.
+fn append_record(
+    out: &mut Vec<u8>,
+    count: &mut usize,
+    low: Id,
+    high: Id,
+    parents: &[Id],
+) -> Result<(), AllocError>
+    requires counted { count.old ≤ length out.old.items }
+    requires segment { IsSegment (record { low = low; high = high; level = 0; parents = parents.now }) }
+    ensures ok { OnOk result (out.new.items ≡ out.old.items ++ segment_bytes (record { low = low; high = high; level = 0; parents = parents.now })) }
+    ensures count { OnOk result (count.new ≡ count.old + 1) }
+    ensures counted { count.new ≤ length out.new.items }
+    ensures err { OnErr result ((out.new.items ≡ out.old.items) × (count.new ≡ count.old)) }
+{
+    write_segment(out, low, high, 0, parents)?;
+    *count += 1;
+    Ok(())
+}
+
+impl BatchBuild {
+    /// A payload of this kind, 1 for a flush and 2 for a clone, and with the sizes of the master group before and after.
+    pub fn new(alloc: Global, kind: u8, before: u64, after: u64) -> Result<BatchBuild, AllocError>
+        ensures { IfOk result (λ b. IsBuilt b (empty_payload kind before after)) }
+    {
+        Ok(BatchBuild {
+            front: front_of(alloc, kind, before, after)?,
+            master: Vec::new(alloc),
+            master_count: 0,
+            known: Vec::new(alloc),
+            heads: Vec::new(alloc),
+            other_count: 0,
+            others: Vec::new(alloc),
+            others_count: 0,
+            other_names: Vec::new(alloc),
+        })
+    }
+
+    /// Adds a record of master ids. The three make a flat record.
+    pub fn segment(&mut self, low: Id, high: Id, parents: &[Id]) -> Result<(), AllocError>
+        requires { IsSegment (record { low = low; high = high; level = 0; parents = parents.now }) }
+        ensures ok { OnOk result ((p : Payload) → IsBuilt self.old p → IsBuilt self.new (with_segment p (record { low = low; high = high; level = 0; parents = parents.now }))) }
+        ensures count { self.new.other_count ≡ self.old.other_count }
+        ensures err { OnErr result (self.new ≡ self.old) }
+    {
+        append_record(&mut self.master, &mut self.master_count, low, high, parents)
+    }
+
+    /// Adds a known id with its name.
+    pub fn known(&mut self, id: Id, name: &Name) -> Result<(), AllocError>
+        ensures ok { OnOk result ((p : Payload) → IsBuilt self.old p → IsBuilt self.new (with_known p (record { id = id; name = name.now }))) }
+        ensures count { self.new.other_count ≡ self.old.other_count }
+        ensures err { OnErr result (self.new ≡ self.old) }
+    {
+        append_known(&mut self.known, id, name)
+    }
+
+    /// Adds a head of the remote.
+    pub fn head(&mut self, name: &Name) -> Result<(), AllocError>
+        ensures ok { OnOk result ((p : Payload) → IsBuilt self.old p → IsBuilt self.new (with_head p name.now)) }
+        ensures count { self.new.other_count ≡ self.old.other_count }
+        ensures err { OnErr result (self.new ≡ self.old) }
+    {
+        append_name(&mut self.heads, name)
+    }
+
+    /// Says how many other ids there are to be. Takes no memory.
+    pub fn other_count(&mut self, n: u32) -> Result<(), AllocError>
+        ensures ok { result ≡ Ok tt }
+        ensures built { (p : Payload) → IsBuilt self.old p → IsBuilt self.new p }
+        ensures count { self.new.other_count ≡ n }
+    {
+        self.other_count = n;
+        Ok(())
+    }
+
+    /// Adds a record of other ids. The three make a flat record.
+    pub fn other_segment(&mut self, low: Id, high: Id, parents: &[Id]) -> Result<(), AllocError>
+        requires { IsSegment (record { low = low; high = high; level = 0; parents = parents.now }) }
+        ensures ok { OnOk result ((p : Payload) → IsBuilt self.old p → IsBuilt self.new (with_other_segment p (record { low = low; high = high; level = 0; parents = parents.now }))) }
+        ensures count { self.new.other_count ≡ self.old.other_count }
+        ensures err { OnErr result (self.new ≡ self.old) }
+    {
+        append_record(&mut self.others, &mut self.others_count, low, high, parents)
+    }
+
+    /// Adds the name of the next other id.
+    pub fn other_name(&mut self, name: &Name) -> Result<(), AllocError>
+        ensures ok { OnOk result ((p : Payload) → IsBuilt self.old p → IsBuilt self.new (with_other_name p name.now)) }
+        ensures count { self.new.other_count ≡ self.old.other_count }
+        ensures err { OnErr result (self.new ≡ self.old) }
+    {
+        append_name(&mut self.other_names, name)
+    }
+
+    /// The payload's bytes. The sections make a payload in the grammar, with as many other names as were said.
+    pub fn finish(self) -> Result<Vec<u8>, AllocError>
+        requires { (p : Payload) × IsPayload p × IsBuilt self p × (self.other_count ≡ length p.other_names) }
+        ensures { (p : Payload) → IsPayload p → IsBuilt self p → self.other_count ≡ length p.other_names → IfOk result (λ v. v.items ≡ payload_bytes 1 p) }
+    {
+        let BatchBuild {
+            front,
+            master,
+            master_count,
+            known,
+            heads,
+            other_count,
+            others,
+            others_count,
+            other_names,
+        } = self;
+        let mut out = front;
+        append_counted(&mut out, master_count as u32, &master)?;
+        append_counted(&mut out, (known.len() / 28) as u32, &known)?;
+        append_heads(&mut out, (heads.len() / 20) as u16, &heads)?;
+        out.extend_from_slice(&other_count.to_be_bytes())?;
+        append_counted(&mut out, others_count as u32, &others)?;
+        out.extend_from_slice(&other_names)?;
+        Ok(out)
+    }
+}
+
+/// Appends a count of four bytes, and the items.
+fn append_counted(out: &mut Vec<u8>, count: u32, items: &[u8]) -> Result<(), AllocError>
+    ensures { OnOk result (out.new.items ≡ out.old.items ++ (to_be_bytes w32 count ++ items.now)) }
+{
+    out.extend_from_slice(&count.to_be_bytes())?;
+    out.extend_from_slice(items)
+}
+
+/// Appends a count of two bytes, and the items.
+fn append_heads(out: &mut Vec<u8>, count: u16, items: &[u8]) -> Result<(), AllocError>
+    ensures { OnOk result (out.new.items ≡ out.old.items ++ (to_be_bytes w16 count ++ items.now)) }
+{
+    out.extend_from_slice(&count.to_be_bytes())?;
+    out.extend_from_slice(items)
+}

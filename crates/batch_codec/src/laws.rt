@@ -1,0 +1,25 @@
+//! Laws of the definitions.
+
+ghost use Rattle.std.specs.Prelude.{◌≡◌, ◌++◌, ℕ, List, length, [], ◌∷◌, take, drop, flat_map};
+ghost use Rattle.batch_codec.specs.Grammar.{AreLawful, IsPayload, Cover, AreMaximal, AreFlat, StandInTurn, IsFirstBroken, place_behind};
+ghost use Rattle.segment_codec.specs.Record.{Segment};
+ghost use Rattle.batch_codec.specs.Payload.{Payload, payload_bytes};
+
+/// The fixed parts take 36 bytes, and a payload in the grammar is the only one with its bytes.
+#[tactic(auto, unfolding(crate::specs::Payload::payload_bytes))]
+pub fn payloads_are_spelled()
+    ensures shortest { length (payload_bytes 1 (record { kind = 1; before = 0; after = 0; master = []; known = []; heads = []; others = []; other_names = [] })) ≡ 36 }
+    ensures one { (p q : Payload) → IsPayload p → IsPayload q → payload_bytes 1 p ≡ payload_bytes 1 q → p ≡ q }
+{}
+
+/// No payloads are lawful.
+pub fn nothing_is_lawful()
+    ensures { AreLawful [] [] }
+{}
+
+/// A section is right as a whole where its records may come in turn, and then no record is the first broken one.
+pub fn sections_by_records()
+    ensures turn { (first end : ℕ) (segments : List Segment) → Cover first end segments → AreMaximal segments → AreFlat segments → StandInTurn first first segments }
+    ensures whole { (first : ℕ) (segments : List Segment) → StandInTurn first first segments → Cover first (place_behind first segments) segments × AreMaximal segments × AreFlat segments }
+    ensures broken { (first place : ℕ) (segments : List Segment) (k : ℕ) → StandInTurn first place segments → IsFirstBroken first place segments k → ⊥ }
+{}

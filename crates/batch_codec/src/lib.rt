@@ -1,0 +1,20 @@
+#![tactic(auto)]
+
+//! Payloads of a log: the records, names and counts that one change of the store adds.
+
+mod batch;
+mod building;
+mod counts;
+mod fixed;
+mod laws;
+mod lent;
+mod rules;
+mod section;
+mod sections;
+
+pub use building::BatchBuild;
+pub use laws::{nothing_is_lawful, payloads_are_spelled, sections_by_records};
+pub use lent::{BatchRef, KnownRef, KnownSlice, NameSlice, SegmentSlice};
+
+#[cfg(test)]
+mod tests;

@@ -1,0 +1,188 @@
+//! Sections of a payload, read from the bytes that begin with one.
+
+ghost use Rattle.std.specs.Prelude.{◌≡◌, ◌≤◌, ◌<◌, ◌+◌, ◌*◌, ◌^◌, ◌||◌, nat_lt, nat_le, IfSome, length};
+ghost use Rattle.segment_codec.specs.Reading.{Gives};
+ghost use Rattle.segment_codec.specs.Lent.{segment_of, parents_left};
+ghost use Rattle.batch_codec.specs.Grammar.{place_behind};
+ghost use Rattle.batch_codec.specs.Reading.{goes_on, are_within, may_stand, segments_at, section_at, names_at, known_at, heads_at, ids_in, ids_ascend};
+ghost use Rattle.batch_codec.specs.Lent.{segments_of, knowns_of, names_of};
+
+use crate::fixed::{front_u64, read_piece, read_u16, read_u32};
+use crate::lent::{KnownSlice, NameSlice, SegmentSlice};
+use crate::sections::FIRST_OTHER;
+use segment_codec::{SegmentRef, read_segment};
+
+/// Whether the only parent is the id before this place.
+fn continues(segment: SegmentRef<'_>, place: u64) -> bool
+    ensures { result ≡ goes_on place (segment_of segment.entry).parents }
+{
+    let mut parents = segment.parents();
+    let Some(parent) = parents.next() else {
+        return false;
+    };
+    if parents.next().is_some() {
+        return false;
+    }
+    parent.number() + 1 == place
+}
+
+/// Whether the number is of a master id below the end, or of the other group.
+fn is_within(number: u64, end: u64) -> bool
+    ensures { result ≡ (nat_lt number end || nat_le (2 ^ 56) number) }
+{
+    number < end || FIRST_OTHER <= number
+}
+
+/// Whether each parent is a master id below the end, or of the other group.
+fn parents_are_within(segment: SegmentRef<'_>, end: u64) -> bool
+    ensures { result ≡ are_within end (segment_of segment.entry).parents }
+{
+    let mut parents = segment.parents();
+    'parents: while let Some(parent) = parents.next() {
+        if !is_within(parent.number(), end) {
+            return false;
+        }
+    }
+    true
+}
+
+/// Whether the record may come at this place of a section that begins at `first` and whose master parents are below `end`.
+fn fits(segment: SegmentRef<'_>, end: u64, first: u64, place: u64) -> bool
+    ensures { result ≡ may_stand end first place (segment_of segment.entry) }
+{
+    segment.level() == 0
+        && segment.low().number() == place
+        && (place == first || !continues(segment, place))
+        && parents_are_within(segment, end)
+}
+
+/// So many records, each of which may come at its place, the place behind them, and the rest.
+fn read_segments<'a>(
+    bytes: &'a [u8],
+    count: u32,
+    end: u64,
+    first: u64,
+    total: usize,
+) -> Option<(SegmentSlice<'a>, u64, &'a [u8])>
+    requires { length bytes.now ≤ total }
+    ensures exact { Gives (λ r. (segments_of r.0, r.2.now)) result (segments_at end first first count bytes.now) }
+    ensures behind { IfSome result (λ r. r.1 ≡ place_behind first (segments_of r.0)) }
+    ensures size { IfSome result (λ r. length bytes.now ≡ length r.0.bytes.now + length r.2.now) }
+    ensures start { IfSome result (λ r. r.0.start + length bytes.now ≡ total) }
+{
+    let mut rest = bytes;
+    let mut place = first;
+    'records: for _ in 0..count {
+        let (segment, after) = read_segment(rest)?;
+        if !fits(segment, end, first, place) {
+            return None;
+        }
+        place = segment.high().number() + 1;
+        rest = after;
+    }
+    let (records, rest) = bytes.split_at(bytes.len() - rest.len());
+    let section = SegmentSlice {
+        count,
+        bytes: records,
+        start: (total - bytes.len()) as u64,
+    };
+    Some((section, place, rest))
+}
+
+/// A section of records, the place behind them, and the rest. `total` is the length of the payload.
+#[tactic(auto, unfolding(crate::specs::Reading::section_at))]
+pub fn read_section<'a>(
+    bytes: &'a [u8],
+    end: u64,
+    first: u64,
+    total: usize,
+) -> Option<(SegmentSlice<'a>, u64, &'a [u8])>
+    requires { length bytes.now ≤ total }
+    ensures exact { Gives (λ r. (segments_of r.0, r.2.now)) result (section_at end first bytes.now) }
+    ensures behind { IfSome result (λ r. r.1 ≡ place_behind first (segments_of r.0)) }
+    ensures size { IfSome result (λ r. length bytes.now ≡ 4 + length r.0.bytes.now + length r.2.now) }
+    ensures start { IfSome result (λ r. r.0.start + length r.0.bytes.now + length r.2.now ≡ total) }
+{
+    let (count, rest) = read_u32(bytes)?;
+    read_segments(rest, count, end, first, total)
+}
+
+/// So many names, and the rest.
+#[tactic(auto, unfolding(crate::specs::Reading::names_at))]
+pub fn read_names<'a>(
+    bytes: &'a [u8],
+    count: u32,
+    total: usize,
+) -> Option<(NameSlice<'a>, &'a [u8])>
+    requires { length bytes.now ≤ total }
+    ensures exact { Gives (λ r. (names_of r.0, r.1.now)) result (names_at count bytes.now) }
+    ensures count { IfSome result (λ r. r.0.count ≡ count) }
+    ensures size { IfSome result (λ r. length bytes.now ≡ 20 * count + length r.1.now) }
+    ensures start { IfSome result (λ r. r.0.start + length bytes.now ≡ total) }
+{
+    let (names, rest) = read_piece(bytes, 20 * count as usize)?;
+    let section = NameSlice {
+        count,
+        bytes: names,
+        start: (total - bytes.len()) as u64,
+    };
+    Some((section, rest))
+}
+
+/// The section of heads, and the rest.
+#[tactic(auto, unfolding(crate::specs::Reading::heads_at))]
+pub fn read_heads<'a>(bytes: &'a [u8], total: usize) -> Option<(NameSlice<'a>, &'a [u8])>
+    requires { length bytes.now ≤ total }
+    ensures exact { Gives (λ r. (names_of r.0, r.1.now)) result (heads_at bytes.now) }
+    ensures size { IfSome result (λ r. length bytes.now ≡ 2 + 20 * r.0.count + length r.1.now) }
+    ensures start { IfSome result (λ r. r.0.start + 20 * r.0.count + length r.1.now ≡ total) }
+{
+    let (count, rest) = read_u16(bytes)?;
+    read_names(rest, u32::from(count), total)
+}
+
+/// Whether the ids ascend from `before` on, below `after`.
+fn ascend(entries: &[u8], count: u32, before: u64, after: u64) -> bool
+    requires { length entries.now ≡ 28 * count }
+    ensures { result ≡ ids_ascend before after (ids_in count entries.now) }
+{
+    let mut rest = entries;
+    let mut least = before;
+    'entries: for _ in 0..count {
+        let id = front_u64(rest);
+        if id < least || after <= id {
+            return false;
+        }
+        least = id + 1;
+        let (_, behind) = rest.split_at(28);
+        rest = behind;
+    }
+    true
+}
+
+/// The section of known ids, which ascend from `before` on, below `after`, and the rest.
+#[tactic(auto, unfolding(crate::specs::Reading::known_at))]
+pub fn read_known<'a>(
+    bytes: &'a [u8],
+    before: u64,
+    after: u64,
+    total: usize,
+) -> Option<(KnownSlice<'a>, &'a [u8])>
+    requires total { length bytes.now ≤ total }
+    requires after { after ≤ 2 ^ 57 }
+    ensures exact { Gives (λ r. (knowns_of r.0, r.1.now)) result (known_at before after bytes.now) }
+    ensures size { IfSome result (λ r. length bytes.now ≡ 4 + 28 * r.0.count + length r.1.now) }
+    ensures start { IfSome result (λ r. r.0.start + 28 * r.0.count + length r.1.now ≡ total) }
+{
+    let (count, rest) = read_u32(bytes)?;
+    let (entries, after_entries) = read_piece(rest, 28 * count as usize)?;
+    if !ascend(entries, count, before, after) {
+        return None;
+    }
+    let section = KnownSlice {
+        count,
+        bytes: entries,
+        start: (total - rest.len()) as u64,
+    };
+    Some((section, after_entries))
+}

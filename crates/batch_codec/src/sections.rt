@@ -1,0 +1,178 @@
+//! What the sections of a payload lend.
+
+ghost use Rattle.std.specs.Prelude.{◌≡◌, ◌<◌, ◌^◌, Some, length, flat_map, slice_get, slice_index};
+ghost use Rattle.segment_codec.specs.Record.{segment_bytes};
+ghost use Rattle.batch_codec.specs.Lent.{segments_of, knowns_of, ids_of, names_of, known_of, payload_of};
+
+use crate::counts::VERSION;
+use crate::fixed::{front_u64, piece};
+use crate::lent::{BatchRef, KnownRef, KnownSlice, NameSlice, SegmentSlice};
+use id_groups::{Id, NameRef};
+
+/// The first id of the group of others.
+pub const FIRST_OTHER: u64 = 1 << 56;
+
+/// The id of this number.
+fn id_of(number: u64) -> Id
+    requires { number < 2 ^ 57 }
+    ensures { result ≡ number }
+{
+    if number < FIRST_OTHER {
+        Id::master(number)
+    } else {
+        Id::other(number - FIRST_OTHER)
+    }
+}
+
+impl<'a> SegmentSlice<'a> {
+    /// How many records there are.
+    pub fn len(&self) -> u32
+        ensures { result ≡ length (segments_of self.now) }
+    {
+        self.count
+    }
+
+    /// The records, one after another.
+    pub fn bytes(&self) -> &'a [u8]
+        ensures { result.now ≡ flat_map segment_bytes (segments_of self.now) }
+    {
+        self.bytes
+    }
+
+    /// The place in the payload at which the first record stands or would stand.
+    pub fn start(&self) -> u64
+        ensures { result ≡ self.now.start }
+    {
+        self.start
+    }
+}
+
+impl<'a> KnownSlice<'a> {
+    /// How many ids there are.
+    pub fn len(&self) -> u32
+        ensures { result ≡ length (knowns_of self.now) }
+    {
+        self.count
+    }
+
+    /// The number of the id at place `i`.
+    pub(crate) fn number_at(&self, i: u32) -> u64
+        requires { i < self.now.count }
+        ensures { result ≡ slice_index (ids_of self.now) i }
+    {
+        let (_, entry) = self.bytes.split_at(28 * i as usize);
+        front_u64(entry)
+    }
+
+    /// The id at place `i`, with its name. `i` is below `len`.
+    pub fn at(&self, i: u32) -> KnownRef<'a>
+        requires { i < length (knowns_of self.now) }
+        ensures { slice_get (knowns_of self.now) i ≡ Some (known_of result) }
+    {
+        KnownRef {
+            id: id_of(self.number_at(i)),
+            name: NameRef::over(piece(self.bytes, 28 * i as usize + 8, 20)),
+        }
+    }
+
+    /// The place in the payload at which the first id stands or would stand.
+    pub fn start(&self) -> u64
+        ensures { result ≡ self.now.start }
+    {
+        self.start
+    }
+}
+
+impl<'a> NameSlice<'a> {
+    /// How many names there are.
+    pub fn len(&self) -> u32
+        ensures { result ≡ length (names_of self.now) }
+    {
+        self.count
+    }
+
+    /// The name at place `i`. `i` is below `len`.
+    pub fn at(&self, i: u32) -> NameRef<'a>
+        requires { i < length (names_of self.now) }
+        ensures { slice_get (names_of self.now) i ≡ Some result.bytes.now }
+    {
+        NameRef::over(piece(self.bytes, 20 * i as usize, 20))
+    }
+
+    /// The place in the payload at which the first name stands or would stand.
+    pub fn start(&self) -> u64
+        ensures { result ≡ self.now.start }
+    {
+        self.start
+    }
+}
+
+impl<'a> BatchRef<'a> {
+    /// The version of the payload's format.
+    pub fn version(&self) -> u8
+        ensures { result ≡ 1 }
+    {
+        VERSION
+    }
+
+    /// 1 is a flush, 2 a clone.
+    pub fn kind(&self) -> u8
+        ensures { result ≡ (payload_of self.now).kind }
+    {
+        self.kind
+    }
+
+    /// The size of the master group before.
+    pub fn before(&self) -> u64
+        ensures { result ≡ (payload_of self.now).before }
+    {
+        self.before
+    }
+
+    /// The size of the master group after.
+    pub fn after(&self) -> u64
+        ensures { result ≡ (payload_of self.now).after }
+    {
+        self.after
+    }
+
+    /// The records of the new master ids.
+    pub fn master_segments(&self) -> SegmentSlice<'a>
+        ensures segments { segments_of result ≡ (payload_of self.now).master }
+        ensures start { result.start ≡ self.now.master.start }
+    {
+        self.master
+    }
+
+    /// The new known ids.
+    pub fn known(&self) -> KnownSlice<'a>
+        ensures known { knowns_of result ≡ (payload_of self.now).known }
+        ensures start { result.start ≡ self.now.known.start }
+    {
+        self.known
+    }
+
+    /// The heads of the remote that was cloned.
+    pub fn heads(&self) -> NameSlice<'a>
+        ensures names { names_of result ≡ (payload_of self.now).heads }
+        ensures start { result.start ≡ self.now.heads.start }
+    {
+        self.heads
+    }
+
+    /// The records of all other ids.
+    pub fn other_segments(&self) -> SegmentSlice<'a>
+        ensures segments { segments_of result ≡ (payload_of self.now).others }
+        ensures start { result.start ≡ self.now.others.start }
+    {
+        self.others
+    }
+
+    /// The names of all other ids, in their order.
+    pub fn other_names(&self) -> NameSlice<'a>
+        ensures names { names_of result ≡ (payload_of self.now).other_names }
+        ensures start { result.start ≡ self.now.other_names.start }
+    {
+        self.other_names
+    }
+}
