@@ -12,7 +12,7 @@ use crate::fixed::read_u32;
 use crate::lent::{BatchRef, NameSlice, SegmentSlice};
 use crate::rules::has_kind;
 use crate::section::{read_heads, read_known, read_names, read_section};
-use crate::sections::FIRST_OTHER;
+use id_groups::FIRST_OTHER;
 
 /// The most ids of the group of others.
 const MOST_OTHERS: u32 = 1 << 16;

@@ -9,7 +9,7 @@ ghost use Rattle.batch_codec.specs.Lent.{segments_of, knowns_of, names_of};
 
 use crate::fixed::{front_u64, read_piece, read_u16, read_u32};
 use crate::lent::{KnownSlice, NameSlice, SegmentSlice};
-use crate::sections::FIRST_OTHER;
+use id_groups::FIRST_OTHER;
 use segment_codec::{SegmentRef, read_segment};
 
 /// Whether the only parent is the id before this place.

@@ -9,21 +9,6 @@ use crate::fixed::{front_u64, piece};
 use crate::lent::{BatchRef, KnownRef, KnownSlice, NameSlice, SegmentSlice};
 use id_groups::{Id, NameRef};
 
-/// The first id of the group of others.
-pub const FIRST_OTHER: u64 = 1 << 56;
-
-/// The id of this number.
-fn id_of(number: u64) -> Id
-    requires { number < 2 ^ 57 }
-    ensures { result ≡ number }
-{
-    if number < FIRST_OTHER {
-        Id::master(number)
-    } else {
-        Id::other(number - FIRST_OTHER)
-    }
-}
-
 impl<'a> SegmentSlice<'a> {
     /// How many records there are.
     pub fn len(&self) -> u32
@@ -70,7 +55,7 @@ impl<'a> KnownSlice<'a> {
         ensures { slice_get (knowns_of self.now) i ≡ Some (known_of result) }
     {
         KnownRef {
-            id: id_of(self.number_at(i)),
+            id: Id::from_number(self.number_at(i)),
             name: NameRef::over(piece(self.bytes, 28 * i as usize + 8, 20)),
         }
     }

@@ -7,8 +7,8 @@ ghost use Rattle.id_groups.specs.Id.{group_of, place_of, id_text, other_id, id_e
 use std::cmp::Ordering;
 use std::marker::Model;
 
-/// The first id of the group of others.
-const FIRST_OTHER: u64 = 1 << 56;
+/// The number of the first id of the group of others.
+pub const FIRST_OTHER: u64 = 1 << 56;
 
 /// The two groups of ids.
 #[derive(Clone, Copy, PartialEq, Eq, Debug)]
@@ -54,6 +54,14 @@ impl Id {
         Id {
             number: FIRST_OTHER + n,
         }
+    }
+
+    /// The id with this number.
+    pub fn from_number(number: u64) -> Id
+        requires { number < 2 ^ 57 }
+        ensures { result ≡ number }
+    {
+        Id { number }
     }
 
     /// The number of the id, by which ids are ordered.

@@ -47,6 +47,7 @@ fn ids_are_printed_by_group(rt: HostRuntime) -> Result<(), Fail> {
     );
     assert_eq!(rt; Id::other(7).place(), 7);
     assert_eq!(rt; Id::other(7).number(), (1 << 56) + 7);
+    assert_eq!(rt; Id::from_number((1 << 56) + 7), Id::other(7));
     assert_eq!(rt; Id::other(7).group(), Group::Others);
     assert_eq!(rt; Id::master(last).group(), Group::Master);
     assert_eq!(rt; Id::master(last).compare(Id::other(0)), Ordering::Less);

@@ -4,7 +4,7 @@ ghost use Rattle.std.specs.Prelude.{◌≡◌, ◌≤◌, ◌<◌, ◌^◌, IfSo
 ghost use Rattle.segment_codec.specs.Reading.{Gives, fixed_at, is_head, head_at, most_parents};
 
 use crate::number::read_number;
-use crate::segment::FIRST_OTHER;
+use id_groups::FIRST_OTHER;
 
 /// The highest level of segments.
 const TOP_LEVEL: u8 = 7;

@@ -10,34 +10,19 @@ use crate::lent::{Parents, SegmentRef};
 use crate::number::read_number;
 use id_groups::Id;
 
-/// The first id of the group of others.
-pub const FIRST_OTHER: u64 = 1 << 56;
-
-/// The id of this number.
-pub fn id_of(number: u64) -> Id
-    requires { number < 2 ^ 57 }
-    ensures { result ≡ number }
-{
-    if number < FIRST_OTHER {
-        Id::master(number)
-    } else {
-        Id::other(number - FIRST_OTHER)
-    }
-}
-
 impl<'a> SegmentRef<'a> {
     /// The lowest id.
     pub fn low(&self) -> Id
         ensures { result ≡ (segment_of self.now).low }
     {
-        id_of(self.low)
+        Id::from_number(self.low)
     }
 
     /// The highest id.
     pub fn high(&self) -> Id
         ensures { result ≡ (segment_of self.now).high }
     {
-        id_of(self.high)
+        Id::from_number(self.high)
     }
 
     /// The level: 0 is a flat segment.
@@ -86,6 +71,6 @@ impl<'a> Iterator for Parents<'a> {
     fn next(&mut self) -> Option<Id> {
         let (number, rest) = read_number(self.rest)?;
         self.rest = rest;
-        Some(id_of(number))
+        Some(Id::from_number(number))
     }
 }

@@ -4,9 +4,8 @@ ghost use Rattle.std.specs.Prelude.{◌≡◌, ℕ, ◌+◌, ◌-◌, ◌<◌, �
 ghost use Rattle.id_groups.specs.Span.{IsSpan, IsInSpan};
 ghost use Rattle.span_set.specs.Members.{IsMember, IsCanonical, IsBelow, ids_of, width};
 
-use crate::search::id_of;
 use crate::set::IdSet;
-use id_groups::IdSpan;
+use id_groups::{Id, IdSpan};
 use std::alloc::{AllocError, Global};
 
 /// No id is this high.
@@ -49,7 +48,7 @@ fn upper_part(span: &IdSpan, n: u64) -> IdSpan
     let low = if high - span.low.number() < n {
         span.low
     } else {
-        id_of(high - (n - 1))
+        Id::from_number(high - (n - 1))
     };
     IdSpan {
         low,
@@ -89,8 +88,8 @@ impl IdSet {
     {
         if low < end {
             return self.insert_span(IdSpan {
-                low: id_of(low),
-                high: id_of(end - 1),
+                low: Id::from_number(low),
+                high: Id::from_number(end - 1),
             });
         }
         Ok(())

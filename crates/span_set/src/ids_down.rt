@@ -3,7 +3,6 @@
 ghost use Rattle.std.specs.Prelude.{◌≡◌, ◌≤◌, ◌^◌, true};
 ghost use Rattle.span_set.specs.Members.{are_filled};
 
-use crate::search::id_of;
 use id_groups::{Id, IdSpan};
 
 /// The members of a set from the greatest down, each once.
@@ -29,7 +28,7 @@ impl<'a> Iterator for IdsDown<'a> {
     fn next(&mut self) -> Option<Id> {
         if self.low < self.end {
             self.end -= 1;
-            return Some(id_of(self.end));
+            return Some(Id::from_number(self.end));
         }
         if self.rest.is_empty() {
             return None;

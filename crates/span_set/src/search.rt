@@ -6,22 +6,7 @@ ghost use Rattle.id_groups.specs.Span.{IsSpan};
 ghost use Rattle.span_set.specs.Members.{IsBelow, IsCanonical, AreBelow};
 ghost use Rattle.span_set.specs.Places.{AreAbove, AreNotAbove, AreNotBelow, BeginAbove, BeginWithin};
 
-use id_groups::{Id, IdSpan};
-
-/// The first id of the second group, below which no span of that group begins.
-const FIRST_OTHER: u64 = 1 << 56;
-
-/// The id with this number.
-pub(crate) fn id_of(number: u64) -> Id
-    requires { number < 2 ^ 57 }
-    ensures { result ≡ number }
-{
-    if number < FIRST_OTHER {
-        Id::master(number)
-    } else {
-        Id::other(number - FIRST_OTHER)
-    }
-}
+use id_groups::{FIRST_OTHER, Id, IdSpan};
 
 /// The number below which the spans end that lie below `span` and would not join it.
 fn gap_below(span: &IdSpan) -> u64

@@ -6,7 +6,7 @@ ghost use Rattle.span_set.specs.Members.{IsMember, IsCanonical, IsGreatest, IsGr
 ghost use Rattle.span_set.specs.Down.{ids_left};
 
 use crate::ids_down::IdsDown;
-use crate::search::{count_above, count_begin_above, count_not_below, id_of};
+use crate::search::{count_above, count_begin_above, count_not_below};
 use id_groups::{Id, IdSpan};
 use std::alloc::{AllocError, Global};
 use std::marker::Model;
@@ -103,13 +103,13 @@ impl IdSet {
         if number == 0 {
             return None;
         }
-        let last = id_of(number - 1);
+        let last = Id::from_number(number - 1);
         let at = count_begin_above(&self.spans, last);
         if at == self.spans.len() {
             return None;
         }
         let high = self.spans[at].high.number();
-        Some(id_of(high.min(number - 1)))
+        Some(Id::from_number(high.min(number - 1)))
     }
 
     /// The number of members.

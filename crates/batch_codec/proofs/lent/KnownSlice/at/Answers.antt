@@ -9,8 +9,8 @@ use Rattle.batch_codec.proofs.lent.KnownSlice.at.Goals as goal
 pub number_at-requires : goal.number_at-requires
 number_at-requires c = let lt = c.requires in omega (arith, lt, knowns-length c.args.self.now.count c.args.self.now.bytes.now)
 
-pub id_of-requires : goal.id_of-requires
-id_of-requires c =
+pub from_number-requires : goal.from_number-requires
+from_number-requires c =
     let lt = c.requires in
     let small = below 0 (2 ^ 57) (ids_of c.args.self.now) c.args.i c.args.self.now.ascending (omega (arith, lt, knowns-length c.args.self.now.count c.args.self.now.bytes.now, ids-length c.args.self.now.count c.args.self.now.bytes.now)) in
     let e = c.number_at.ensures in
@@ -34,6 +34,6 @@ returns c =
     let n = c.args.self.now.count in
     let b = c.args.self.now.bytes.now in
     let lt : c.args.i < n = let short = c.requires in omega (arith, short, knowns-length n b) in
-    let id = c.id_of.ensures ∙ c.number_at.ensures ∙ id-at n c.args.i b lt in
+    let id = c.from_number.ensures ∙ c.number_at.ensures ∙ id-at n c.args.i b lt in
     let name = c.over.ensures ∙ c.piece.ensures ∙ ap (take 20) (sym (drop-drop 8 (28 * c.args.i) b)) in
     known-at n c.args.i b lt ∙ ap (λ (k : Known). Some k) (rw (id, name) refl)

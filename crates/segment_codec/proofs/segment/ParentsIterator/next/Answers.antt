@@ -12,13 +12,13 @@ invariant_of-self c =
     let next = next-some c.args.self.now.rest.now c.in_ok-number.number c.in_ok-number.rest.now c.args.self.now.spelled c.args.self.now.valid c.in_ok-number.ensures in
     record { spelled = next.spelled; valid = next.valid }
 
-pub id_of-requires : goal.id_of-requires
-id_of-requires c = (next-some c.args.self.now.rest.now c.in_ok-number.number c.in_ok-number.rest.now c.args.self.now.spelled c.args.self.now.valid c.in_ok-number.ensures).below
+pub from_number-requires : goal.from_number-requires
+from_number-requires c = (next-some c.args.self.now.rest.now c.in_ok-number.number c.in_ok-number.rest.now c.args.self.now.spelled c.args.self.now.valid c.in_ok-number.ensures).below
 
 pub returns-clause-steps : goal.returns-clause-steps
 returns-clause-steps c =
     let next = next-some c.args.self.now.rest.now c.in_ok-number.number c.in_ok-number.rest.now c.args.self.now.spelled c.args.self.now.valid c.in_ok-number.ensures in
-    rw c.id_of.ensures next.whole
+    rw c.from_number.ensures next.whole
 
 pub returns-clause-goes : goal.returns-clause-goes
 returns-clause-goes c =
