@@ -45,6 +45,23 @@ cloned low high first name head = record {
 abbrev pub chain : Payload
 chain = cloned 0 9 9 (name-to 25) (name-to 25)
 
+-- a flush of a segment of two other ids
+abbrev pub loose : ℕ → ℕ → Name → Name → Payload
+loose low high a b = record {
+  kind = 1;
+  before = 0;
+  after = 0;
+  master = [];
+  known = [];
+  heads = [];
+  others = record { low = low; high = high; level = 0; parents = [] } ∷ [];
+  other_names = a ∷ b ∷ [];
+}
+
+-- two other ids in a chain
+abbrev pub twins : Payload
+twins = loose (2 ^ 56) (2 ^ 56 + 1) (name-to 161) (name-to 177)
+
 all-fit : (n last : ℕ) → last < 256 → AllByRecursion (λ b. b < 256) (replicate n 0 ++ last ∷ [])
 all-fit zero last h = (h, tt)
 all-fit (suc n) last h = (lit≤ tt, all-fit n last h)
@@ -109,4 +126,29 @@ chain-is = record {
   names = (is-name 25 (lit≤ tt), tt);
   head_names = (is-name 25 (lit≤ tt), tt);
   other_names = tt;
+}
+
+nothing-climbs : IsStrictlyIncreasing []
+nothing-climbs k h = absurd (omega (arith, h))
+
+twins-segment : IsSegment (record { low = 2 ^ 56; high = 2 ^ 56 + 1; level = 0; parents = [] })
+twins-segment = record { ascending = lit≤ tt; one_group = refl; valid = lit≤ tt; level = lit≤ tt; below = tt; distinct = tt; level_parents = lit≤ tt }
+
+pub twins-is : IsPayload twins
+twins-is = record {
+  counts = record { grows = lit≤ tt; master = lit≤ tt; others = lit≤ tt };
+  cover = record {
+    flat_master = tt;
+    flat_others = ((twins-segment, refl), tt);
+    master = refl;
+    others = (refl, refl);
+  };
+  parents = record { master = tt; others = (tt, tt) };
+  maximal = record { master = tt; others = tt };
+  known = record { ascend = nothing-climbs; within = tt };
+  by_kind = inl (record { kind = refl; all_known = λ id low high. absurd (omega (arith, high)); no_heads = refl; something = inr (lit≤ tt) });
+  heads_fit = lit≤ tt;
+  names = tt;
+  head_names = tt;
+  other_names = (is-name 161 (lit≤ tt), (is-name 177 (lit≤ tt), tt));
 }

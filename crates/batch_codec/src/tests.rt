@@ -151,6 +151,18 @@ fn name(last: u8) -> Name
 }
 
 #[test]
+fn a_flush_of_others_is_built(rt: HostRuntime) -> Result<(), Fail> {
+    let mut build = BatchBuild::new(rt.alloc(), 1, 0, 0)?;
+    build.other_count(2)?;
+    build.other_segment(Id::other(0), Id::other(1), &[])?;
+    build.other_name(&name(0xa1))?;
+    build.other_name(&name(0xb1))?;
+    let bytes = build.finish()?;
+    assert_eq!(rt; bytes.as_slice(), CHAIN.as_slice());
+    Ok(())
+}
+
+#[test]
 fn a_flush_is_built(rt: HostRuntime) -> Result<(), Fail> {
     let mut build = BatchBuild::new(rt.alloc(), 1, 0, 2)?;
     build.segment(Id::master(0), Id::master(1), &[])?;
