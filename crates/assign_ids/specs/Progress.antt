@@ -1,0 +1,8 @@
+-- How far placing has come.
+use Rattle.std.specs.Prelude.{ℕ, List}
+
+pub record Progress : Type 0 where
+  -- what is placed, in order
+  pub numbers : List ℕ
+  -- each number that may be placed is below this one
+  pub size : ℕ
