@@ -1,0 +1,6 @@
+mod Keys
+mod Moves
+mod Reading
+mod Indexes
+mod Merging
+mod Inserting

@@ -1,0 +1,36 @@
+-- Named places, and names that stand in bytes.
+use Rattle.std.specs.Prelude.{◌≡◌, ◌≤◌, ◌-◌, ℕ, List, map, length, take, drop}
+use Rattle.std.specs.List.{AllByRecursion}
+use Rattle.id_groups.specs.Name.{Name}
+
+-- a name and the place in the log's bytes where it stands
+pub record NamedPlace : Type 0 where
+  pub place : ℕ
+  pub name : Name
+
+-- the names alone
+abbrev pub names_in : List NamedPlace → List Name
+names_in named = map (λ n. n.name) named
+
+-- the places alone
+abbrev pub places_in : List NamedPlace → List ℕ
+places_in named = map (λ n. n.place) named
+
+-- the name of 20 bytes stands in the bytes at its place
+pub record StandsAt (bytes : List ℕ) (named : NamedPlace) : Type 0 where
+  pub whole : length named.name ≡ 20
+  pub stands : take 20 (drop named.place bytes) ≡ named.name
+
+-- each name stands in the bytes at its place
+abbrev pub Stand : List ℕ → List NamedPlace → Type 0
+Stand bytes named = AllByRecursion (StandsAt bytes) named
+
+-- the same in bytes that stand, or will stand, at `at`
+pub record StandsFrom (at : ℕ) (bytes : List ℕ) (named : NamedPlace) : Type 0 where
+  pub behind : at ≤ named.place
+  pub whole : length named.name ≡ 20
+  pub stands : take 20 (drop (named.place - at) bytes) ≡ named.name
+
+-- each name stands in bytes that stand, or will stand, at `at`
+abbrev pub StandFrom : ℕ → List ℕ → List NamedPlace → Type 0
+StandFrom at bytes named = AllByRecursion (StandsFrom at bytes) named

@@ -1,0 +1,200 @@
+//! The index: its runs, look-ups and inserts.
+
+ghost use Rattle.std.specs.Prelude.{◌≡◌, ◌≤◌, ◌↔◌, ◌++◌, ℕ, List, [], ◌∷◌, length, take, drop, map, IfOk, OnOk, OnErr, Err, IsTrue};
+ghost use Rattle.std.specs.List.{AllByRecursion};
+ghost use Rattle.id_groups.specs.Lists.{AreDistinct};
+ghost use Rattle.name_index.specs.Index.{IsIndexOf, Finds};
+ghost use Rattle.name_index.specs.Runs.{AreRuns, Holds, HaveCommon, entry_of, joined};
+ghost use Rattle.name_index.specs.declared.index.IndexFault.{IndexFault as Fault};
+ghost use Rattle.name_index.specs.Named.{NamedPlace, Stand, StandFrom, names_in, places_in};
+
+use crate::entry::{Entry, Stretch, name_at};
+use crate::run::Run;
+use id_groups::NameRef;
+use std::alloc::{AllocError, AllocFailed, Global};
+use std::marker::Model;
+
+/// A last run is merged with what is added behind it, unless it is more than about so many times as long. Smaller
+/// means fewer merges, but more runs to look through.
+const GROWTH: usize = 4;
+
+/// Why names weren't inserted.
+#[derive(Clone, Copy, PartialEq, Eq, Debug)]
+pub enum IndexFault {
+    /// A name is held already, or stands twice among the new ones.
+    Double,
+    /// There was no memory.
+    Memory,
+}
+
+/// An index of names by place. Contracts see the list of its runs, and speak of it by `IsIndexOf` alone.
+#[derive(Drop)]
+pub struct NameIndex {
+    alloc: Global,
+    runs: Vec<Run>,
+}
+
+impl Model for NameIndex {
+    ghost use Rattle.std.specs.Prelude.{List};
+    ghost use Rattle.name_index.specs.declared.entry.Entry.{Entry};
+
+    ghost Value = { List (List Entry) };
+
+    ghost view = { λ index. index.runs.items };
+}
+
+impl From<AllocError> for IndexFault {
+    ghost use Rattle.std.specs.Prelude.{◌≡◌};
+    ghost use Rattle.name_index.specs.declared.index.IndexFault.TheVariants.{Memory};
+
+    ghost from_gives = { λ _ fault. fault ≡ Memory };
+
+    fn from(_refused: AllocError) -> IndexFault {
+        IndexFault::Memory
+    }
+}
+
+impl<T: Drop> From<AllocFailed<T>> for IndexFault {
+    ghost use Rattle.std.specs.Prelude.{◌≡◌};
+    ghost use Rattle.name_index.specs.declared.index.IndexFault.TheVariants.{Memory};
+
+    ghost from_gives = { λ _ fault. fault ≡ Memory };
+
+    fn from(_refused: AllocFailed<T>) -> IndexFault {
+        IndexFault::Memory
+    }
+}
+
+/// The place of the name in one of the runs.
+fn find_in(runs: &[Run], stretch: &Stretch<'_>, name: &[u8]) -> Option<u64>
+    ensures { (held : List (List NamedPlace)) → AreRuns runs.now held → AllByRecursion (StandFrom stretch.now.at stretch.now.bytes.now) held → Finds (joined held) name.now result }
+{
+    let (run, others) = runs.split_first()?;
+    match run.find(stretch, name) {
+        Some(place) => Some(place),
+        None => find_in(others, stretch, name),
+    }
+}
+
+/// Whether one of the entries has a name that one of the runs holds.
+fn has_held(runs: &[Run], old: &Stretch<'_>, entries: &[Entry], new: &Stretch<'_>) -> bool
+    ensures { (held : List (List NamedPlace)) (named : List NamedPlace) → AreRuns runs.now held → AllByRecursion (StandFrom old.now.at old.now.bytes.now) held
+        → entries.now ≡ map entry_of named → StandFrom new.now.at new.now.bytes.now named
+        → IsTrue result ↔ HaveCommon (names_in named) (names_in (joined held)) }
+{
+    let mut rest = entries;
+    'each: while let Some((entry, others)) = rest.split_first() {
+        if find_in(runs, old, name_at(new, entry.place)).is_some() {
+            return true;
+        }
+        rest = others;
+    }
+    false
+}
+
+/// How many of the first runs stay as they are, where a run of so many entries is added behind them.
+fn count_kept(runs: &[Run], added: usize) -> usize
+    ensures { result ≤ length runs.now }
+{
+    let mut kept = runs.len();
+    let mut size = added;
+    'due: while kept > 0 && runs[kept - 1].len() / GROWTH <= size {
+        kept -= 1;
+        size = size.saturating_add(runs[kept].len());
+    }
+    kept
+}
+
+/// The runs as one, the last and shortest merged first.
+fn merge_all(alloc: Global, stretch: &Stretch<'_>, runs: &[Run]) -> Result<Run, AllocError>
+    ensures { IfOk result (λ run. (held : List (List NamedPlace)) → AreRuns runs.now held → AllByRecursion (StandFrom stretch.now.at stretch.now.bytes.now) held → Holds run (joined held)) }
+{
+    match runs.split_first() {
+        None => Ok(Run::empty(alloc)),
+        Some((first, others)) => {
+            let later = merge_all(alloc, stretch, others)?;
+            let merged = Run::merge(alloc, stretch, first, stretch, &later)?;
+            Ok(merged)
+        }
+    }
+}
+
+/// The runs behind the first `kept` ones as one.
+fn merge_last(
+    alloc: Global,
+    stretch: &Stretch<'_>,
+    runs: &[Run],
+    kept: usize,
+) -> Result<Run, AllocError>
+    requires { kept ≤ length runs.now }
+    ensures { IfOk result (λ run. (held : List (List NamedPlace)) → AreRuns (drop kept runs.now) held → AllByRecursion (StandFrom stretch.now.at stretch.now.bytes.now) held → Holds run (joined held)) }
+{
+    let (_front, last) = runs.split_at(kept);
+    let merged = merge_all(alloc, stretch, last)?;
+    Ok(merged)
+}
+
+impl NameIndex {
+    /// The index of no names. It takes no memory yet, and keeps the allocator.
+    pub fn empty(alloc: Global) -> NameIndex
+        ensures { IsIndexOf result [] }
+    {
+        NameIndex {
+            alloc,
+            runs: Vec::new(alloc),
+        }
+    }
+
+    /// The place of the name, read from the bytes in which the names of the index stand; `None` exactly where it is
+    /// not held. A binary search in each run; places outside the bytes are read as no name.
+    pub fn find(&self, bytes: &[u8], name: NameRef<'_>) -> Option<u64>
+        ensures { (all : List NamedPlace) → IsIndexOf self.now all → Stand bytes.now all → Finds all name.entry.bytes.now result }
+    {
+        find_in(&self.runs, &Stretch { bytes, at: 0 }, name.bytes)
+    }
+
+    /// Puts the run in place of those behind the first `kept` ones. On want of memory all stay.
+    fn replace(&mut self, kept: usize, run: Run) -> Result<(), AllocError>
+        requires { kept ≤ length self.old }
+        ensures replaced { OnOk result (self.new ≡ take kept self.old ++ run ∷ []) }
+        ensures unchanged { OnErr result (self.new ≡ self.old) }
+    {
+        if kept == self.runs.len() {
+            self.runs.push(run)?;
+            return Ok(());
+        }
+        self.runs[kept] = run;
+        self.runs.truncate(kept + 1);
+        Ok(())
+    }
+
+    /// Adds the names that stand at these places, in bytes `added` that stand, or will stand, at `at`. The names that
+    /// are held already stand in `bytes`. `Double` comes only where the names together aren't distinct, and `Memory`
+    /// for want of memory; either leaves the index as it was.
+    pub fn insert(
+        &mut self,
+        bytes: &[u8],
+        at: u64,
+        added: &[u8],
+        places: Vec<u64>,
+    ) -> Result<(), IndexFault>
+        ensures added { (all new : List NamedPlace) → IsIndexOf self.old all → Stand bytes.now all → StandFrom at added.now new → places_in new ≡ places.items → OnOk result (IsIndexOf self.new (all ++ new)) }
+        ensures double { (all new : List NamedPlace) → IsIndexOf self.old all → Stand bytes.now all → StandFrom at added.now new → places_in new ≡ places.items → result ≡ Err Fault.Double → ¬ AreDistinct (names_in (all ++ new)) }
+        ensures unchanged { OnErr result (self.new ≡ self.old) }
+    {
+        let old = Stretch { bytes, at: 0 };
+        let new = Stretch { bytes: added, at };
+        let run = Run::of_places(self.alloc, &new, &places)?;
+        if run.has_double(&new) {
+            return Err(IndexFault::Double);
+        }
+        if has_held(&self.runs, &old, run.entries(), &new) {
+            return Err(IndexFault::Double);
+        }
+        let kept = count_kept(&self.runs, run.len());
+        let due = merge_last(self.alloc, &old, &self.runs, kept)?;
+        let merged = Run::merge(self.alloc, &old, &due, &new, &run)?;
+        self.replace(kept, merged)?;
+        Ok(())
+    }
+}
