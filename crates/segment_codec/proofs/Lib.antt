@@ -4,3 +4,5 @@ pub mod Groups
 pub mod Lists
 pub mod Orders
 pub mod Records
+pub mod Tables
+pub mod Flats

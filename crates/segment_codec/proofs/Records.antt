@@ -131,13 +131,13 @@ segment-spelled : (s : Segment) (rest : List ℕ) → segment_bytes s ++ rest �
 unfolding segment_bytes
 segment-spelled s rest = spelled-more (flags_of s.parents) s.level s.high (s.high - s.low) (length s.parents) (flat_map number_bytes s.parents) rest
 
-same-group : (low high : ℕ) → low ≤ high → (ltb high (2 ^ 56) || leb (2 ^ 56) low) ≡ true → is_master_id low ≡ is_master_id high
+pub same-group : (low high : ℕ) → low ≤ high → (ltb high (2 ^ 56) || leb (2 ^ 56) low) ≡ true → is_master_id low ≡ is_master_id high
 same-group low high le h = ⊎_elim
     (λ e. let lt = ltb-true high (2 ^ 56) e in lt-ltb low (2 ^ 56) (omega (arith, le, lt)) ∙ sym e)
     (λ e. let ge = leb-true (2 ^ 56) low e in le-ltb low (2 ^ 56) ge ∙ sym (le-ltb high (2 ^ 56) (omega (arith, le, ge))))
     (or_cases (ltb high (2 ^ 56)) (leb (2 ^ 56) low) h)
 
-group-decided : (low high : ℕ) (b : Bool) → ltb high (2 ^ 56) ≡ b → is_master_id low ≡ b → (b || leb (2 ^ 56) low) ≡ true
+pub group-decided : (low high : ℕ) (b : Bool) → ltb high (2 ^ 56) ≡ b → is_master_id low ≡ b → (b || leb (2 ^ 56) low) ≡ true
 group-decided low high true e f = refl
 group-decided low high false e f = le-leb (2 ^ 56) low (ltb-false low (2 ^ 56) f)
 

@@ -2,3 +2,5 @@ pub mod Number
 pub mod Record
 pub mod Reading
 pub mod Lent
+pub mod Table
+pub mod Flat

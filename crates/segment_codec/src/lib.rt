@@ -1,6 +1,7 @@
 #![tactic(auto)]
 
-//! Records of segments: runs of ids in which each id but the lowest has the one before it as its only parent.
+//! Records of segments: runs of ids in which each id but the lowest has the one before it as its only parent. Beside them
+//! the trait of a table of segments, with its laws.
 
 mod head;
 mod laws;
@@ -8,11 +9,15 @@ mod lent;
 mod number;
 mod reading;
 mod segment;
+mod steps;
+mod table;
 mod writing;
 
 pub use laws::{numbers_are_spelled, records_are_spelled};
 pub use lent::{Parents, SegmentRef};
 pub use reading::{read_high, read_segment};
+pub use steps::Steps;
+pub use table::{Bounds, SegmentTable};
 pub use writing::write_segment;
 
 #[cfg(test)]

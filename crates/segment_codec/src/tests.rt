@@ -1,7 +1,7 @@
 //! The bytes of numbers and records, both ways, and what is none.
 
 use crate::number::{read_number, write_number};
-use crate::{read_high, read_segment, write_segment};
+use crate::{Steps, read_high, read_segment, write_segment};
 use id_groups::Id;
 use std::test::Fail;
 
@@ -116,4 +116,14 @@ fn no_records(rt: HostRuntime) {
     assert!(rt; read_segment(&high).is_some());
     let flat: [u8; 14] = [0, 0, 0, 0, 0, 0, 0, 0, 0, 9, 0, 2, 4, 3];
     assert!(rt; read_segment(&flat).is_some());
+}
+
+#[test]
+fn look_ups_are_counted(rt: HostRuntime) -> Result<(), Fail> {
+    let mut steps = Steps::new();
+    assert_eq!(rt; steps.taken(), 0);
+    steps.tick();
+    steps.tick();
+    assert_eq!(rt; steps.taken(), 2);
+    Ok(())
 }
