@@ -1,0 +1,11 @@
+pub mod Rising
+pub mod Searching
+pub mod Batches
+pub mod Adding
+pub mod Cutting
+pub mod Standing
+pub mod Looking
+pub mod Sections
+pub mod Graphs
+pub mod Callers
+pub mod Singles

@@ -1,0 +1,52 @@
+-- What a table and a section keep of the records that were added to them.
+use Rattle.std.specs.Prelude.{◌≡◌, ◌≢◌, ◌≤◌, ◌<◌, ◌^◌, ◌+◌, ℕ, not, List, [], length, map, filter}
+use Rattle.std.specs.List.{AllByRecursion}
+use Rattle.segment_codec.specs.Record.{Segment}
+use Rattle.segment_codec.specs.Table.{Follow}
+use Rattle.segment_codec.specs.Flat.{IsFlat}
+use Rattle.flat_segments.specs.declared.entry.Entry.{Entry}
+use Rattle.flat_segments.specs.Maximal.{goes_on}
+use Rattle.flat_segments.specs.Placed.{Placed, placed, segments_of, AreRecords}
+
+pub record Kept : Type 0 where
+  pub entries : List Entry
+  -- the id behind the last one
+  pub end : ℕ
+
+-- what is kept of a segment: the place of its record, and its lowest id
+abbrev pub entry_of : Placed → Entry
+entry_of r = record { place = r.place; low = r.segment.low }
+
+-- of records, those that begin a maximal segment are kept
+abbrev pub kept_of : List Placed → List Entry
+kept_of records = map entry_of (filter (λ r. not (goes_on r.segment)) records)
+
+-- the table of these records: they are flat and have the master ids from 0 on, in turn
+pub record IsTableOf (table : Kept) (records : List Placed) : Type 0 where
+  pub flat : AllByRecursion (λ r. IsFlat r.segment) records
+  pub in_turn : Follow 0 table.end (segments_of records)
+  pub master : table.end ≤ 2 ^ 56
+  pub kept : table.entries ≡ kept_of records
+  pub few : length table.entries < 2 ^ 32
+
+-- these records may be added to the table: with those before, there are few enough
+pub record MayExtend (table : Kept) (bytes : List ℕ) : Type 0 where
+  pub before : List Placed
+  pub table_of : IsTableOf table before
+  pub segments : List Segment
+  pub records : AreRecords segments bytes
+  pub few : length before + length segments < 2 ^ 32
+
+-- the section of these records: they are flat and have the other ids from some id on, in turn
+pub record IsSectionOf (section : Kept) (records : List Placed) : Type 0 where
+  pub first : ℕ
+  pub flat : AllByRecursion (λ r. IsFlat r.segment) records
+  pub in_turn : Follow first section.end (segments_of records)
+  pub others : 2 ^ 56 ≤ first
+  pub kept : section.entries ≡ map entry_of records
+
+-- the segment may be pushed on the section
+pub record MayPush (section : Kept) (s : Segment) : Type 0 where
+  pub flat : IsFlat s
+  pub other : 2 ^ 56 ≤ s.low
+  pub begins : section.entries ≢ [] → s.low ≡ section.end

@@ -1,0 +1,7 @@
+pub mod Maximal
+pub mod Placed
+pub mod Kept
+pub mod Runs
+pub mod Views
+pub mod Joined
+pub mod Single

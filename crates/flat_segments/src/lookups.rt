@@ -1,0 +1,95 @@
+//! The look-ups of a view. None takes memory.
+
+ghost use Rattle.std.specs.Prelude.{◌≡◌, ◌<◌, length, slice_get, Some, None, MatchOption};
+ghost use Rattle.segment_codec.specs.Lent.{segment_of};
+ghost use Rattle.segment_codec.specs.Table.{segment_at};
+ghost use Rattle.flat_segments.specs.Views.{view_flats};
+
+use crate::view::FlatView;
+use id_groups::{FIRST_OTHER, Id};
+use segment_codec::{Bounds, SegmentRef, SegmentTable, Steps};
+
+impl<'a> FlatView<'a> {
+    /// The segment that has the id; `None` exactly where the id isn't in the bounds.
+    fn find(&self, id: u64) -> Option<SegmentRef<'a>>
+        ensures { MatchOption result (segment_at (view_flats self.now) id ≡ None) (λ r. segment_at (view_flats self.now) id ≡ Some (segment_of r)) }
+    {
+        if id < self.master.end {
+            return Some(self.master.find(id));
+        }
+        if id < FIRST_OTHER {
+            return None;
+        }
+        if id < self.others.end {
+            return Some(self.others.find(id));
+        }
+        if id < self.pending.end {
+            return Some(self.pending.find(id));
+        }
+        None
+    }
+
+    /// The segment at place `k`.
+    fn at(&self, k: usize) -> SegmentRef<'a>
+        requires { k < length (view_flats self.now) }
+        ensures { slice_get (view_flats self.now) k ≡ Some (segment_of result) }
+    {
+        let master = self.master.entries.len();
+        if k < master {
+            return self.master.at(k);
+        }
+        let others = self.others.entries.len();
+        if k - master < others {
+            return self.others.at(k - master);
+        }
+        self.pending.at(k - master - others)
+    }
+}
+
+impl<'a> SegmentTable for FlatView<'a> {
+    ghost use Rattle.flat_segments.specs.Views.{view_flats, view_ending, view_lawful, view_endings, view_flat_endings};
+
+    ghost flats = { λ v. view_flats v };
+
+    ghost ending_at = { λ v level id. view_ending v level id };
+
+    ghost lawful = { λ v. view_lawful v };
+
+    ghost endings = { λ v level id s e. view_endings v level id s e };
+
+    ghost flat_endings = { λ v s i. view_flat_endings v s i };
+
+    fn bounds(&self) -> Bounds {
+        Bounds {
+            master: self.master.end,
+            others: self.pending.end - FIRST_OTHER,
+        }
+    }
+
+    fn flat_count(&self) -> u32 {
+        (self.master.entries.len() + self.others.entries.len() + self.pending.entries.len()) as u32
+    }
+
+    fn flat<'b>(&'b self, id: Id, steps: &mut Steps) -> Option<SegmentRef<'b>> {
+        steps.tick();
+        self.find(id.number())
+    }
+
+    fn flat_at<'b>(&'b self, k: u32, steps: &mut Steps) -> SegmentRef<'b> {
+        steps.tick();
+        self.at(k as usize)
+    }
+
+    fn ending<'b>(&'b self, level: u8, id: Id, steps: &mut Steps) -> Option<SegmentRef<'b>> {
+        steps.tick();
+        if level > 0 {
+            return None;
+        }
+        let found = self.find(id.number())?;
+        if found.high().number() == id.number() {
+            Some(found)
+        } else {
+            None
+        }
+    }
+}

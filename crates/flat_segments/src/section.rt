@@ -1,0 +1,55 @@
+//! Segments of the other group.
+
+ghost use Rattle.std.specs.Prelude.{◌≡◌, ◌++◌, [], ◌∷◌, List, OnOk, OnErr};
+ghost use Rattle.segment_codec.specs.Lent.{segment_of};
+ghost use Rattle.flat_segments.specs.Placed.{Placed};
+ghost use Rattle.flat_segments.specs.Kept.{IsSectionOf, MayPush};
+
+use crate::entry::Entry;
+use id_groups::FIRST_OTHER;
+use segment_codec::SegmentRef;
+use std::alloc::{AllocError, Global};
+use std::marker::Model;
+
+/// Segments of the other group that follow one another, 16 bytes for each. They are kept as they are pushed: what goes
+/// on from the one before stays a segment of its own, since the commits of the graph and their parents are the same.
+/// Contracts see what is kept; which records it is the section of, `IsSectionOf` says.
+#[derive(Drop)]
+pub struct Section {
+    pub(crate) entries: Vec<Entry>,
+    pub(crate) end: u64,
+}
+
+impl Model for Section {
+    ghost use Rattle.flat_segments.specs.Kept.{Kept};
+
+    ghost Value = { Kept };
+
+    ghost view = { λ s. record { entries = s.entries.items; end = s.end } };
+}
+
+impl Section {
+    /// The section without ids. It takes no memory yet, and keeps the allocator.
+    pub fn empty(alloc: Global) -> Section
+        ensures { IsSectionOf result [] }
+    {
+        Section {
+            entries: Vec::new(alloc),
+            end: FIRST_OTHER,
+        }
+    }
+
+    /// Adds a flat segment of the other group, which begins where the section ended, and whose record stands, or will
+    /// stand, at the place `at`. The first one begins anywhere. Want of memory leaves the section as it was.
+    pub fn push(&mut self, segment: SegmentRef<'_>, at: u64) -> Result<(), AllocError>
+        requires { MayPush self.old (segment_of segment) }
+        ensures section { OnOk result ((records : List Placed) → IsSectionOf self.old records
+            → IsSectionOf self.new (records ++ record { place = at; segment = segment_of segment.entry } ∷ [])) }
+        ensures unchanged { OnErr result (self.new ≡ self.old) }
+    {
+        let low = segment.low().number();
+        self.entries.push(Entry { place: at, low })?;
+        self.end = segment.high().number() + 1;
+        Ok(())
+    }
+}
