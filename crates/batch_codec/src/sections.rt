@@ -1,6 +1,6 @@
 //! What the sections of a payload lend.
 
-ghost use Rattle.std.specs.Prelude.{◌≡◌, ◌<◌, ◌^◌, Some, length, flat_map, slice_get, slice_index};
+ghost use Rattle.std.specs.Prelude.{◌≡◌, ◌*◌, ◌<◌, ◌^◌, Some, length, flat_map, slice_get, slice_index};
 ghost use Rattle.segment_codec.specs.Record.{segment_bytes};
 ghost use Rattle.batch_codec.specs.Lent.{segments_of, knowns_of, ids_of, names_of, known_of, payload_of};
 
@@ -60,6 +60,14 @@ impl<'a> KnownSlice<'a> {
         }
     }
 
+    /// The ids and their names, one after another: eight bytes for an id, and 20 for its name.
+    pub fn bytes(&self) -> &'a [u8]
+        ensures bytes { result.now ≡ self.now.bytes.now }
+        ensures size { length result.now ≡ 28 * length (knowns_of self.now) }
+    {
+        self.bytes
+    }
+
     /// The place in the payload at which the first id stands or would stand.
     pub fn start(&self) -> u64
         ensures { result ≡ self.now.start }
@@ -82,6 +90,14 @@ impl<'a> NameSlice<'a> {
         ensures { slice_get (names_of self.now) i ≡ Some result.bytes.now }
     {
         NameRef::over(piece(self.bytes, 20 * i as usize, 20))
+    }
+
+    /// The names, one after another.
+    pub fn bytes(&self) -> &'a [u8]
+        ensures bytes { result.now ≡ self.now.bytes.now }
+        ensures size { length result.now ≡ 20 * length (names_of self.now) }
+    {
+        self.bytes
     }
 
     /// The place in the payload at which the first name stands or would stand.
