@@ -1,0 +1,9 @@
+pub mod Ids
+pub mod Lists
+pub mod Orders
+pub mod Standing
+pub mod Parts
+pub mod Answers
+pub mod Places
+pub mod More
+pub mod Meeting

@@ -1,0 +1,5 @@
+pub mod Part
+pub mod Added
+pub mod Map
+pub mod Found
+pub mod Adding

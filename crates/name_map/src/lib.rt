@@ -1,0 +1,19 @@
+#![tactic(auto)]
+
+//! The map between names and master ids of a log. It keeps places in the log's bytes, and no copied name.
+
+mod adding;
+mod fault;
+mod laws;
+mod map;
+mod part;
+mod reading;
+mod search;
+mod sizes;
+
+pub use fault::MapFault;
+pub use laws::{known_names_are_distinct, payloads_stay};
+pub use map::NameMap;
+
+#[cfg(test)]
+mod tests;
