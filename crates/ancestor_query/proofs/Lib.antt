@@ -1,0 +1,10 @@
+pub mod Graphs
+pub mod Down
+pub mod Work
+pub mod Counts
+pub mod Best
+pub mod Turns
+pub mod Single
+pub mod Firsts
+pub mod Parts
+pub mod FloorLemmas

@@ -1,0 +1,14 @@
+use Rattle.std.proofs.Common.{◌≤◌, ◌-◌, ◌^◌, min}
+use Rattle.span_set.specs.Members.{IsMember, IsCanonical}
+use Rattle.ancestor_query.proofs.Turns.{Going}
+use Rattle.ancestor_query.proofs.ancestry.ancestors.Given as goal
+
+abbrev pub invariant-visit : goal.invariant-visit
+invariant-visit g l = record {
+  going : Going (g.T.SegmentTable.flats l.table) (g.T.SegmentTable.ending_at l.table) (IsMember l.set) l.fn.steps l.frontier l.work l.answer l.steps;
+  counted : min l.fn.steps (2 ^ 64 - 1) ≤ l.steps;
+  canonical : IsCanonical l.answer;
+}
+
+abbrev pub decreases-visit : goal.decreases-visit
+decreases-visit g l = l.frontier

@@ -1,0 +1,14 @@
+use Rattle.std.proofs.Common.{◌≤◌, ◌-◌, ◌^◌, min}
+use Rattle.span_set.specs.Members.{IsMember, IsCanonical}
+use Rattle.ancestor_query.proofs.FloorLemmas.{Above}
+use Rattle.ancestor_query.proofs.floor.ancestors_above.Given as goal
+
+abbrev pub invariant-visit : goal.invariant-visit
+invariant-visit g l = record {
+  above : Above (g.T.SegmentTable.flats l.table) (IsMember l.set) l.fn.floor l.frontier l.work l.answer;
+  counted : min l.fn.steps (2 ^ 64 - 1) ≤ l.steps;
+  canonical : IsCanonical l.answer;
+}
+
+abbrev pub decreases-visit : goal.decreases-visit
+decreases-visit g l = l.frontier

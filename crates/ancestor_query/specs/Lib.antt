@@ -1,0 +1,5 @@
+pub mod Graph
+pub mod Visits
+pub mod Jumps
+pub mod Counts
+pub mod Parts

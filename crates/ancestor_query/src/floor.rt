@@ -1,0 +1,49 @@
+//! What some ids reach along parents, from a lowest id on.
+
+ghost use Rattle.std.specs.Prelude.{◌≡◌, ℕ, ◌≤◌, ◌↔◌, IfOk, ◌-◌, ◌^◌, min};
+ghost use Rattle.commit_graph.specs.Sets as sets;
+ghost use Rattle.segment_codec.specs.Table.{IsHeld};
+ghost use Rattle.span_set.specs.Members.{IsMember, IsCanonical};
+ghost use Rattle.ancestor_query.specs.Graph.{table_graph};
+
+use crate::jump::best_jump;
+use crate::work_list::{ID_END, WorkList};
+use id_groups::{Id, IdSpan};
+use segment_codec::{SegmentTable, Steps};
+use span_set::IdSet;
+use std::alloc::{AllocError, Global};
+
+/// The ids from `floor` on that some member of the set reaches along parents, the members from `floor` on among them.
+/// Each member is an id of the table. It visits no id below `floor`. `AllocError` only for want of memory.
+pub fn ancestors_above<T: SegmentTable>(
+    alloc: Global,
+    table: &T,
+    set: &IdSet,
+    floor: Id,
+    steps: &mut Steps,
+) -> Result<IdSet, AllocError>
+    requires { (x : ℕ) → IsMember set.now x → IsHeld (T.flats table.now) x }
+    ensures members { IfOk result (λ r. (x : ℕ) → IsMember r x ↔ (sets.ancestors (table_graph (T.flats table.now)) (IsMember set.now) x × (floor ≤ x))) }
+    ensures canonical { IfOk result IsCanonical }
+    ensures counted { min steps.old (2 ^ 64 - 1) ≤ steps.new }
+{
+    let least = floor.number();
+    let mut answer = IdSet::empty(alloc);
+    let mut work = WorkList::empty(alloc);
+    let mut frontier = ID_END;
+    'visit: while let Some(id) = work.next_id(set, frontier) {
+        if id.number() < least {
+            return Ok(answer);
+        }
+        let segment = best_jump(table, id, steps);
+        let low = segment.low().number();
+        let from = Id::from_number(low.max(least));
+        answer.insert_span(IdSpan {
+            low: from,
+            high: id,
+        })?;
+        work.push_all(segment.parents())?;
+        frontier = low;
+    }
+    Ok(answer)
+}
