@@ -1,16 +1,15 @@
 -- A table to which the records of a batch were added.
-use Rattle.std.proofs.Common.{◌≡◌, ℕ, zero, suc, ◌+◌, ◌-◌, ◌<◌, ◌≤◌, ◌^◌, Bool, true, false, not, List, [], ◌∷◌, ◌++◌, length, map, cond, refl, sym, subst, ap, ◌∙◌, arith}
-use Rattle.std.specs.Prelude.{⊤, filter}
+use Rattle.std.proofs.Common.{◌≡◌, ℕ, suc, ◌+◌, ◌≤◌, ◌^◌, Bool, true, false, not, List, [], ◌∷◌, ◌++◌, length, map, cond, refl, sym, subst, ap, ◌∙◌, arith}
+use Rattle.std.specs.Prelude.{filter}
 use Rattle.std.specs.List.{AllByRecursion}
 use Rattle.std.proofs.lemmas.List.{length-append, map-append}
 use Rattle.std.proofs.lemmas.List.Elements.{filter-append}
-use Rattle.segment_codec.specs.Record.{Segment, IsSegment, segment_bytes}
+use Rattle.segment_codec.specs.Record.{Segment, segment_bytes}
 use Rattle.segment_codec.specs.Table.{Follow}
 use Rattle.segment_codec.specs.Flat.{IsFlat}
 use Rattle.segment_codec.proofs.Flats.{follow-append}
-use Rattle.flat_segments.specs.declared.entry.Entry.{Entry}
 use Rattle.flat_segments.specs.Maximal.{goes_on}
-use Rattle.flat_segments.specs.Placed.{Placed, placed, segments_of, AreRecords, MayStandAt, StandInTurn, place_behind}
+use Rattle.flat_segments.specs.Placed.{Placed, placed, segments_of, AreRecords, StandInTurn, place_behind}
 use Rattle.flat_segments.specs.Kept.{Kept, entry_of, kept_of, IsTableOf, MayExtend}
 
 pub all-append : {X : Type 0} (P : X → Type 0) (xs ys : List X) → AllByRecursion P xs → AllByRecursion P ys → AllByRecursion P (xs ++ ys)

@@ -1,17 +1,17 @@
 -- Segments that are filtered and cut.
-use Rattle.std.proofs.Common.{◌≡◌, ℕ, zero, suc, ◌+◌, ◌-◌, ◌<◌, ◌≤◌, ◌^◌, Bool, true, false, not, List, [], ◌∷◌, ◌++◌, length, map, take, get_or, cond, min, refl, sym, subst, ap, ◌∙◌, arith, lit≤, le_of_suc-le-suc, suc-le-suc, zero-le, le_refl}
-use Rattle.std.specs.Prelude.{⊤, filter, nat_lt}
+use Rattle.std.proofs.Common.{◌≡◌, ℕ, zero, suc, ◌-◌, ◌<◌, ◌≤◌, ◌^◌, Bool, true, false, not, List, [], ◌∷◌, length, map, take, get_or, cond, min, refl, sym, subst, ap, ◌∙◌, arith, lit≤, le_of_suc-le-suc, suc-le-suc, zero-le, le_refl}
+use Rattle.std.specs.Prelude.{filter, nat_lt}
 use Rattle.std.specs.List.{AllByRecursion, list_all, AllWithin}
 use Rattle.std.specs.List.Sorted.{IsPartitionedBy}
-use Rattle.std.proofs.lemmas.Bool.{ltb-true, ltb-false, lt-ltb, le-ltb}
-use Rattle.id_groups.specs.Id.{id_end, is_master_id}
+use Rattle.std.proofs.lemmas.Bool.{ltb-true, ltb-false, lt-ltb}
+use Rattle.id_groups.specs.Id.{id_end}
 use Rattle.id_groups.proofs.Listing.{and_true, both_true}
 use Rattle.segment_codec.specs.Record.{Segment, IsSegment}
 use Rattle.segment_codec.specs.Table.{Follow}
 use Rattle.segment_codec.specs.Flat.{IsFlat, is_flat}
 use Rattle.segment_codec.proofs.Flats.{flat-decided}
 use Rattle.flat_segments.specs.declared.entry.Entry.{Entry}
-use Rattle.flat_segments.specs.Maximal.{is_only, goes_on, begin_of, up_to, maximal, cut}
+use Rattle.flat_segments.specs.Maximal.{is_only, goes_on, begin_of, up_to, cut}
 use Rattle.flat_segments.specs.Runs.{low_of, do_rise}
 use Rattle.flat_segments.proofs.Rising.{Rise, rise-begin}
 

@@ -1,14 +1,14 @@
 -- The ids and parents of maximal segments, and of those that are cut.
-use Rattle.std.proofs.Common.{◌≡◌, ℕ, zero, suc, ◌+◌, ◌-◌, ◌<◌, ◌≤◌, ◌^◌, ◌⊎◌, inl, inr, Bool, true, false, not, List, [], ◌∷◌, Option, Some, None, cond, min, refl, sym, subst, ap, ◌∙◌, arith, ⊎_elim, true≢false, eq-eqb}
-use Rattle.std.specs.Prelude.{filter, nat_lt, nat_eq}
+use Rattle.std.proofs.Common.{◌≡◌, ℕ, ◌+◌, ◌-◌, ◌<◌, ◌≤◌, ◌⊎◌, inl, inr, Bool, true, false, not, List, [], ◌∷◌, Some, cond, min, refl, sym, subst, ap, ◌∙◌, arith, ⊎_elim, eq-eqb}
+use Rattle.std.specs.Prelude.{filter, nat_lt}
 use Rattle.std.specs.List.{AllByRecursion}
 use Rattle.std.proofs.lemmas.Bool.{ne_eqb, eqb-true, ltb-true, ltb-false}
 use Rattle.segment_codec.specs.Record.{Segment}
-use Rattle.segment_codec.specs.Table.{IsInSegment, segment_at, parents_in, parents_at, Follow}
+use Rattle.segment_codec.specs.Table.{IsInSegment, parents_in, parents_at, Follow}
 use Rattle.segment_codec.specs.Flat.{IsFlat}
-use Rattle.segment_codec.proofs.Tables.{le_or_lt, found-head, found-behind, follow-ends}
+use Rattle.segment_codec.proofs.Tables.{le_or_lt, found-head, found-behind}
 use Rattle.flat_segments.specs.Maximal.{is_only, goes_on, begin_of, up_to, maximal, cut}
-use Rattle.flat_segments.proofs.Rising.{Rise, rise-begin, rise-follow, follow-begin, follow-rise}
+use Rattle.flat_segments.proofs.Rising.{rise-follow, follow-rise}
 use Rattle.flat_segments.proofs.Cutting.{rise-filter, maximal-begins}
 
 -- ---- what goes on

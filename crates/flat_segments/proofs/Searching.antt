@@ -1,5 +1,5 @@
 -- Entries of a run: what their records say, and the one that a search finds.
-use Rattle.std.proofs.Common.{◌≡◌, ℕ, zero, suc, ◌+◌, ◌-◌, ◌<◌, ◌≤◌, ◌⊎◌, inl, inr, Bool, true, false, ◌&&◌, List, [], ◌∷◌, ◌++◌, length, map, get_or, drop, Option, Some, None, cond, refl, sym, subst, ap, ◌∙◌, arith, ⊎_elim, le_of_suc-le-suc, suc-le-suc, zero-le, le_refl}
+use Rattle.std.proofs.Common.{◌≡◌, ℕ, zero, suc, ◌+◌, ◌-◌, ◌<◌, ◌≤◌, Bool, true, false, ◌&&◌, List, [], ◌∷◌, length, map, get_or, drop, Option, Some, None, refl, sym, subst, ap, ◌∙◌, arith, le_of_suc-le-suc, suc-le-suc, zero-le, le_refl}
 use Rattle.std.specs.Prelude.{⊤, slice_get, is_some, nat_lt, nat_le, nat_eq}
 use Rattle.std.specs.List.{list_all, AllWithin}
 use Rattle.std.specs.List.Sorted.{IsPartitionedBy}
@@ -13,7 +13,7 @@ use Rattle.segment_codec.specs.Flat.{IsFlat, is_flat}
 use Rattle.segment_codec.proofs.Flats.{flat-means}
 use Rattle.segment_codec.proofs.Tables.{follow-rising, rising-at}
 use Rattle.flat_segments.specs.declared.entry.Entry.{Entry}
-use Rattle.flat_segments.specs.Maximal.{begin_of, up_to}
+use Rattle.flat_segments.specs.Maximal.{begin_of}
 use Rattle.flat_segments.specs.Runs.{segment_read, segment_in, flats_in, is_read, low_of, do_rise, is_run}
 use Rattle.flat_segments.proofs.Rising.{Rise, rise-follow, get-in}
 

@@ -1,13 +1,11 @@
 -- The sections of the tests, joined.
-use Rattle.std.proofs.Common.{◌≡◌, ℕ, ◌+◌, ◌<◌, ◌≤◌, ◌^◌, ◌⊎◌, inl, inr, List, [], ◌∷◌, ◌++◌, length, refl, sym, subst, ap, ◌∙◌, arith, ⊎_elim}
+use Rattle.std.proofs.Common.{◌≡◌, ℕ, ◌+◌, ◌<◌, ◌≤◌, ◌^◌, ◌⊎◌, inl, inr, List, [], ◌∷◌, ◌++◌, refl, ◌∙◌, arith, ⊎_elim}
 use Rattle.std.specs.List.{AllByRecursion}
 use Rattle.segment_codec.specs.Record.{Segment, segment_bytes}
-use Rattle.segment_codec.specs.Flat.{IsFlat}
 use Rattle.flat_segments.specs.declared.view.FlatView.{FlatView}
-use Rattle.flat_segments.specs.Placed.{Placed}
-use Rattle.flat_segments.specs.Kept.{Kept, IsSectionOf, MayPush}
-use Rattle.flat_segments.specs.Views.{master_flats, master_count}
-use Rattle.flat_segments.specs.Joined.{StandAs, MayJoin}
+use Rattle.flat_segments.specs.Kept.{Kept, IsSectionOf}
+use Rattle.flat_segments.specs.Views.{master_count}
+use Rattle.flat_segments.specs.Joined.{MayJoin}
 use Rattle.flat_segments.specs.Single.{IsOne}
 use Rattle.flat_segments.proofs.Callers.{few-flats}
 

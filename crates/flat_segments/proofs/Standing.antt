@@ -1,22 +1,22 @@
 -- Runs of records that stand in bytes.
-use Rattle.std.proofs.Common.{◌≡◌, ℕ, zero, suc, ◌+◌, ◌-◌, ◌<◌, ◌≤◌, ◌^◌, ◌⊎◌, inl, inr, Bool, true, false, not, ◌&&◌, List, [], ◌∷◌, ◌++◌, length, map, take, drop, cond, min, Option, Some, None, refl, sym, subst, ap, ◌∙◌, arith, ⊎_elim, eq-eqb}
-use Rattle.std.specs.Prelude.{⊤, filter, nat_lt, nat_le, nat_eq, is_some}
+use Rattle.std.proofs.Common.{◌≡◌, ℕ, ◌+◌, ◌-◌, ◌<◌, ◌≤◌, ◌^◌, inl, Bool, true, not, ◌&&◌, List, [], ◌∷◌, ◌++◌, length, map, take, drop, Option, Some, refl, sym, subst, ap, ◌∙◌, arith, ⊎_elim, eq-eqb}
+use Rattle.std.specs.Prelude.{filter, nat_lt, nat_le, nat_eq, is_some}
 use Rattle.std.specs.List.{AllByRecursion, list_all}
 use Rattle.std.proofs.lemmas.Bool.{le-leb, lt-ltb}
 use Rattle.std.proofs.lemmas.List.{drop_all, append-nil, length-take}
 use Rattle.id_groups.specs.Lists.{IsIn}
-use Rattle.id_groups.proofs.Listing.{and_true, both_true}
+use Rattle.id_groups.proofs.Listing.{both_true}
 use Rattle.segment_codec.specs.Record.{Segment, IsSegment, segment_bytes, HasFront}
 use Rattle.segment_codec.specs.Reading.{record_at}
 use Rattle.segment_codec.specs.Table.{Follow}
 use Rattle.segment_codec.specs.Flat.{IsFlat, is_flat, is_lawful}
-use Rattle.segment_codec.proofs.Flats.{IsPlaced, Parts, lawful-decided}
+use Rattle.segment_codec.proofs.Flats.{IsPlaced, lawful-decided}
 use Rattle.segment_codec.proofs.Records.{record_again}
 use Rattle.segment_codec.proofs.Tables.{le_or_lt, all-pass, follow-within}
 use Rattle.flat_segments.specs.declared.entry.Entry.{Entry}
 use Rattle.flat_segments.specs.Maximal.{goes_on, begin_of, up_to, maximal, cut}
 use Rattle.flat_segments.specs.Placed.{Placed, segments_of, Stand}
-use Rattle.flat_segments.specs.Kept.{Kept, entry_of, kept_of, IsTableOf}
+use Rattle.flat_segments.specs.Kept.{Kept, entry_of, IsTableOf}
 use Rattle.flat_segments.specs.Runs.{segment_read, segment_in, flats_in, is_read, low_of, do_rise, is_run}
 use Rattle.flat_segments.proofs.Rising.{Rise, rise-follow, follow-rise}
 use Rattle.flat_segments.proofs.Batches.{shorter}

@@ -6,7 +6,7 @@ use Rattle.segment_codec.specs.Table.{Follow}
 use Rattle.segment_codec.specs.Flat.{IsFlat}
 use Rattle.flat_segments.specs.declared.entry.Entry.{Entry}
 use Rattle.flat_segments.specs.Maximal.{goes_on}
-use Rattle.flat_segments.specs.Placed.{Placed, placed, segments_of, AreRecords}
+use Rattle.flat_segments.specs.Placed.{Placed, segments_of, AreRecords}
 
 pub record Kept : Type 0 where
   pub entries : List Entry

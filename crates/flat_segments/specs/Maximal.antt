@@ -1,5 +1,5 @@
 -- Maximal flat segments, and what is cut of them.
-use Rattle.std.specs.Prelude.{◌-◌, ℕ, Bool, true, false, not, List, [], ◌∷◌, min, filter, nat_lt, nat_eq, if◌then◌else◌}
+use Rattle.std.specs.Prelude.{◌-◌, ℕ, Bool, false, not, List, [], ◌∷◌, min, filter, nat_lt, nat_eq, if◌then◌else◌}
 use Rattle.segment_codec.specs.Record.{Segment}
 
 -- whether the list is the one number

@@ -5,7 +5,7 @@ use Rattle.segment_codec.specs.Record.{Segment}
 use Rattle.segment_codec.specs.Reading.{record_at}
 use Rattle.segment_codec.specs.Flat.{is_flat}
 use Rattle.flat_segments.specs.declared.entry.Entry.{Entry}
-use Rattle.flat_segments.specs.Maximal.{begin_of, up_to}
+use Rattle.flat_segments.specs.Maximal.{up_to}
 
 -- the segment of what was read, or one without meaning where nothing was
 abbrev pub segment_read : Option (Segment × List ℕ) → Segment

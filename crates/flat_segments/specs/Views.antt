@@ -1,5 +1,5 @@
 -- The segments of a view.
-use Rattle.std.specs.Prelude.{◌≡◌, ◌<◌, ◌≤◌, ◌^◌, ◌+◌, ◌-◌, ◌⊎◌, ℕ, List, ◌++◌, Option, Some, length}
+use Rattle.std.specs.Prelude.{◌≡◌, ◌^◌, ◌-◌, ℕ, List, ◌++◌, Option, Some}
 use Rattle.segment_codec.specs.Record.{Segment}
 use Rattle.segment_codec.specs.Table.{IsLawful, IsEnding}
 use Rattle.segment_codec.specs.Flat.{flat_ending}

@@ -269,11 +269,11 @@ fn are_near(parents: SegmentParents<'_>) -> bool
 }
 
 /// The section of one record that begins at an id.
-fn pushed(alloc: Global, record: &[u8], low: u64) -> Result<Section, FlatFault>
+fn pushed(alloc: Global, bytes: &[u8], low: u64) -> Result<Section, FlatFault>
     requires { 2 ^ 56 ≤ low }
-    ensures { IfOk result (λ section. (s : Segment) × IsOne section record.now low s) }
+    ensures { IfOk result (λ section. (s : Segment) × IsOne section bytes.now low s) }
 {
-    let Some((segment, _)) = read_segment(record) else {
+    let Some((segment, _)) = read_segment(bytes) else {
         return Err(FlatFault::Memory);
     };
     if segment.level() != 0 || segment.low().number() != low || !are_near(segment.parents()) {

@@ -4,3 +4,4 @@ pub mod Renamings
 pub mod Marks
 pub mod Reading
 pub mod OneSpelling
+pub mod Ids

@@ -5,3 +5,4 @@ pub mod Computed
 pub mod Built
 pub mod Tree
 pub mod Whole
+pub mod Ids

@@ -8,6 +8,7 @@ ghost use Rattle.commit_graph.specs.Renaming.{IsRenaming, IsClosed};
 ghost use Rattle.commit_graph.specs.World.{World, IsWorld, rows_of};
 ghost use Rattle.set_query.specs.Computed.{answer_of};
 ghost use Rattle.set_query.specs.Expr.{Expr, commits_in, renamed};
+ghost use Rattle.set_query.specs.Ids.{with_ids};
 ghost use Rattle.set_query.specs.Meaning.{IsAnswer};
 ghost use Rattle.set_query.specs.Spelling.{SpellsExpr};
 
@@ -30,4 +31,9 @@ pub fn answers_renamed()
 /// A text spells at most one expression.
 pub fn one_expression()
     ensures { (text : List ℕ) (a b : Expr Name) → SpellsExpr text a → SpellsExpr text b → a ≡ b }
+{}
+
+/// An expression over the ids that stand for its names is the expression under other names.
+pub fn ids_for_names()
+    ensures { (f : Name → ℕ) (e : Expr Name) → with_ids e (map f (commits_in e)) ≡ renamed f e }
 {}

@@ -1,7 +1,5 @@
-use Rattle.std.proofs.Common.{◌≡◌, ◌∙◌, ◌+◌, ◌-◌, ◌<◌, ◌^◌, ℕ, length, sym, ap, arith, refl, true≢false}
-use Rattle.std.proofs.lemmas.List.{length-append}
+use Rattle.std.proofs.Common.{◌∙◌, sym, arith, refl, true≢false}
 use Rattle.segment_codec.specs.Lent.{segment_of}
-use Rattle.flat_segments.specs.declared.fault.FlatFault.{FlatFault}
 use Rattle.flat_segments.proofs.Batches.{is-broken, is-counted, goes-on, is-all, bad-number, shorter}
 use Rattle.flat_segments.proofs.record.append.Goals as goal
 

@@ -1,4 +1,4 @@
-use Rattle.std.proofs.Common.{◌≡◌, ◌∙◌, ◌-◌, sym, ap, subst, arith, refl, ℕ, List, Some}
+use Rattle.std.proofs.Common.{◌∙◌, sym, ap, arith, refl, ℕ, Some}
 use Rattle.id_groups.specs.Id.{is_master_id}
 use Rattle.segment_codec.specs.Record.{Segment}
 use Rattle.segment_codec.specs.Lent.{segment_of}

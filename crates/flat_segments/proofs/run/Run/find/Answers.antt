@@ -1,6 +1,5 @@
-use Rattle.std.proofs.Common.{rules, arith, ◌-◌, ◌+◌, ◌≡◌, sym, subst, ℕ}
-use Rattle.std.specs.Prelude.{nat_le, true, false, length}
-use Rattle.std.specs.List.{AllWithin}
+use Rattle.std.proofs.Common.{rules}
+use Rattle.std.specs.Prelude.{nat_le}
 use Rattle.std.proofs.lemmas.List.Sorted.{IsPartitionPoint-from_clause}
 use Rattle.flat_segments.specs.declared.entry.Entry.{Entry}
 use Rattle.flat_segments.proofs.Searching.{run-means, lows-parted, found-some, found-in}

@@ -1,4 +1,4 @@
-use Rattle.std.proofs.Common.{◌≡◌, ◌++◌, [], ◌∷◌, ◌∙◌, ◌+◌, subst, sym, ap, ℕ, List}
+use Rattle.std.proofs.Common.{◌++◌, [], ◌∷◌, ◌∙◌, ◌+◌, subst, sym, ap, ℕ}
 use Rattle.segment_codec.specs.Lent.{segment_of}
 use Rattle.flat_segments.specs.declared.entry.Entry.{Entry}
 use Rattle.flat_segments.specs.Placed.{Placed}
