@@ -1,0 +1,6 @@
+pub mod Sides
+pub mod OnlyVisits
+pub mod MeetVisits
+pub mod MeetTurns
+pub mod Folds
+pub mod Unreached

@@ -1,0 +1,76 @@
+use Rattle.std.proofs.Common.{◌^◌, sym, subst, arith, []}
+use Rattle.segment_codec.specs.Lent.{segment_of, parents_left}
+use Rattle.span_set.specs.Members.{IsMember, IsCanonical}
+use Rattle.ancestor_query.proofs.Best.{looked-up, found-at}
+use Rattle.common_ancestor.proofs.OnlyVisits.{OnlyVisits, only-none, only-kept, only-done, turn-held, turn-falls, turn-group, turn-visits}
+use Rattle.common_ancestor.proofs.difference.only.Goals as goal
+
+pub visit-init : goal.visit-init
+visit-init g c =
+    let flats = g.T.SegmentTable.flats c.args.table.now in
+    let A = IsMember c.args.from.now in let B = IsMember c.args.minus.now in
+    record {
+      visits = subst (λ t. OnlyVisits flats A B (2 ^ 57) c.empty-mine.result t c.empty-answer.result) (sym c.empty-theirs.ensures)
+          (subst (λ m. OnlyVisits flats A B (2 ^ 57) m [] c.empty-answer.result) (sym c.empty-mine.ensures)
+          (subst (λ z. OnlyVisits flats A B (2 ^ 57) [] [] z) (sym c.empty-answer.ensures)
+          (only-none flats (g.met.T.SegmentTable.lawful c.args.table.now) A B c.requires.from c.requires.minus)));
+      canonical = subst IsCanonical (sym c.empty-answer.ensures) tt;
+      counted = omega arith;
+      bound = omega arith;
+    }
+
+pub unwrap-segment-requires : goal.unwrap-segment-requires
+unwrap-segment-requires g c =
+    let flats = g.T.SegmentTable.flats c.args.table.now in
+    looked-up flats c.greater_with-id.result c.flat.result c.flat.ensures.found
+    (turn-held flats (g.met.T.SegmentTable.lawful c.args.table.now) (IsMember c.args.from.now) (IsMember c.args.minus.now)
+    c.visit.frontier c.visit.mine c.visit.theirs c.next_id.new.self c.next_id-reached.new.self c.visit.answer c.visit.invariant.visits
+    c.in-Some.next c.next_id-reached.result c.in-Some.ensures c.next_id-reached.ensures c.greater_with-id.result c.greater_with-id.ensures c.requires.from c.requires.minus)
+
+pub insert_from-requires : goal.insert_from-requires
+insert_from-requires g c =
+    let flats = g.T.SegmentTable.flats c.args.table.now in
+    let found = found-at flats c.greater_with-id.result c.flat.result c.unwrap-segment.result c.unwrap-segment.ensures c.flat.ensures.found in
+    turn-group flats (g.met.T.SegmentTable.lawful c.args.table.now) (IsMember c.args.from.now) (IsMember c.args.minus.now)
+    c.visit.frontier c.visit.mine c.visit.theirs c.next_id.new.self c.next_id-reached.new.self c.visit.answer c.visit.invariant.visits
+    c.in-Some.next c.next_id-reached.result c.in-Some.ensures c.next_id-reached.ensures c.greater_with-id.result c.greater_with-id.ensures
+    (segment_of c.unwrap-segment.result) found c.low-low.result c.first_above-start.result c.low-low.ensures c.first_above-start.ensures
+
+pub visit-smaller : goal.visit-smaller
+visit-smaller g c =
+    let flats = g.T.SegmentTable.flats c.args.table.now in
+    let found = found-at flats c.greater_with-id.result c.flat.result c.unwrap-segment.result c.unwrap-segment.ensures c.flat.ensures.found in
+    let lt = turn-falls flats (g.met.T.SegmentTable.lawful c.args.table.now) (IsMember c.args.from.now) (IsMember c.args.minus.now)
+    c.visit.frontier c.visit.mine c.visit.theirs c.next_id.new.self c.next_id-reached.new.self c.visit.answer c.visit.invariant.visits
+    c.in-Some.next c.next_id-reached.result c.in-Some.ensures c.next_id-reached.ensures c.greater_with-id.result c.greater_with-id.ensures
+    (segment_of c.unwrap-segment.result) found c.low-low.result c.first_above-start.result c.low-low.ensures c.first_above-start.ensures in
+    omega (arith, lt, c.number-frontier.ensures.number)
+
+pub visit-preserved : goal.visit-preserved
+visit-preserved g c =
+    let flats = g.T.SegmentTable.flats c.args.table.now in
+    let A = IsMember c.args.from.now in let B = IsMember c.args.minus.now in
+    let found = found-at flats c.greater_with-id.result c.flat.result c.unwrap-segment.result c.unwrap-segment.ensures c.flat.ensures.found in
+    let small = c.number-frontier.ensures.small in
+    record {
+      visits = subst (λ f. OnlyVisits flats A B f c.push_either.new.mine c.push_either.new.theirs c.insert_from.new.set) (sym c.number-frontier.ensures.number)
+          (turn-visits flats (g.met.T.SegmentTable.lawful c.args.table.now) A B
+          c.visit.frontier c.visit.mine c.visit.theirs c.next_id.new.self c.next_id-reached.new.self c.visit.answer c.visit.invariant.visits
+          c.in-Some.next c.next_id-reached.result c.in-Some.ensures c.next_id-reached.ensures c.greater_with-id.result c.greater_with-id.ensures
+          (segment_of c.unwrap-segment.result) found c.low-low.result c.first_above-start.result c.low-low.ensures c.first_above-start.ensures
+          (parents_left c.parents.result) c.push_either.new.mine c.push_either.new.theirs c.insert_from.new.set c.parents.ensures c.in_ok-push_either.ensures c.in_ok-insert_from.ensures.members);
+      canonical = c.insert_from.ensures.canonical c.visit.invariant.canonical;
+      counted = let tick = c.flat.ensures.tick in let before = c.visit.invariant.counted in omega arith;
+      bound = omega arith;
+    }
+
+pub returns-clause-members : goal.returns-clause-members
+returns-clause-members g c =
+    let flats = g.T.SegmentTable.flats c.args.table.now in
+    let lawful = g.met.T.SegmentTable.lawful c.args.table.now in
+    let A = IsMember c.args.from.now in let B = IsMember c.args.minus.now in
+    let next = c.in_default.ensures in
+    only-done flats lawful A B c.visit.frontier c.next_id.new.self c.visit.theirs c.visit.answer
+    (only-kept flats lawful A B c.visit.frontier c.visit.mine c.visit.theirs c.next_id.new.self c.visit.theirs c.visit.answer next.keeps
+    (record { kept = λ x i. i; lost = λ x i lt. i }) c.visit.invariant.visits)
+    next.greatest

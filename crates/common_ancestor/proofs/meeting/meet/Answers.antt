@@ -1,0 +1,66 @@
+use Rattle.std.proofs.Common.{sym, subst, arith}
+use Rattle.segment_codec.specs.Lent.{segment_of, parents_left}
+use Rattle.span_set.specs.Members.{IsMember, IsCanonical}
+use Rattle.ancestor_query.proofs.Best.{looked-up, found-at}
+use Rattle.common_ancestor.proofs.MeetVisits.{meet-done, meet-last}
+use Rattle.common_ancestor.proofs.MeetTurns.{Visiting, visiting-none, visiting-kept, turn-held, turn-falls, turn-visits}
+use Rattle.common_ancestor.proofs.meeting.meet.Goals as goal
+
+pub visit-init : goal.visit-init
+visit-init g c = record {
+  visits = visiting-none (g.T.SegmentTable.flats c.args.table.now) (g.met.T.SegmentTable.lawful c.args.table.now) (IsMember c.args.left.now) (IsMember c.args.right.now)
+      c.requires.left c.requires.right c.empty-waiting.result c.empty-last.result c.empty-waiting.ensures.left c.empty-waiting.ensures.right c.empty-waiting.ensures.both c.empty-last.ensures;
+  canonical = subst IsCanonical (sym c.empty-last.ensures) tt;
+  counted = omega arith;
+  bound = omega arith;
+}
+
+pub unwrap-segment-requires : goal.unwrap-segment-requires
+unwrap-segment-requires g c =
+    let flats = g.T.SegmentTable.flats c.args.table.now in
+    looked-up flats c.greatest.result c.flat.result c.flat.ensures.found
+    (turn-held flats (g.met.T.SegmentTable.lawful c.args.table.now) (IsMember c.args.left.now) (IsMember c.args.right.now)
+    c.visit.frontier c.visit.waiting c.next.new.self c.visit.last c.visit.invariant.visits c.in-Some.ensures.drops
+    c.in-Some.next c.in-Some.ensures.next c.greatest.result c.greatest.ensures c.requires.left c.requires.right)
+
+pub visit-smaller : goal.visit-smaller
+visit-smaller g c =
+    let flats = g.T.SegmentTable.flats c.args.table.now in
+    let found = found-at flats c.greatest.result c.flat.result c.unwrap-segment.result c.unwrap-segment.ensures c.flat.ensures.found in
+    let lt = turn-falls flats (g.met.T.SegmentTable.lawful c.args.table.now) (IsMember c.args.left.now) (IsMember c.args.right.now)
+    c.visit.frontier c.visit.waiting c.next.new.self c.visit.last c.visit.invariant.visits c.in-Some.ensures.drops
+    c.in-Some.next c.in-Some.ensures.next c.greatest.result c.greatest.ensures
+    (segment_of c.unwrap-segment.result) found c.low-low.result c.low-low.ensures in
+    omega (arith, lt, c.number-frontier.ensures.number)
+
+pub visit-preserved : goal.visit-preserved
+visit-preserved g c =
+    let flats = g.T.SegmentTable.flats c.args.table.now in
+    let found = found-at flats c.greatest.result c.flat.result c.unwrap-segment.result c.unwrap-segment.ensures c.flat.ensures.found in
+    let small = c.number-frontier.ensures.small in
+    record {
+      visits = subst (λ f. Visiting flats (IsMember c.args.left.now) (IsMember c.args.right.now) f c.push_parents.new.self c.add_shared.new.last) (sym c.number-frontier.ensures.number)
+          (turn-visits flats (g.met.T.SegmentTable.lawful c.args.table.now) (IsMember c.args.left.now) (IsMember c.args.right.now)
+          c.visit.frontier c.visit.waiting c.next.new.self c.visit.last c.visit.invariant.visits c.in-Some.ensures.drops
+          c.in-Some.next c.in-Some.ensures.next c.greatest.result c.greatest.ensures
+          (segment_of c.unwrap-segment.result) found c.low-low.result c.low-low.ensures
+          (parents_left c.parents.result) c.push_parents.new.self c.add_shared.new.last c.parents.ensures c.in_ok-push_parents.ensures c.in_ok-add_shared.ensures.members);
+      canonical = c.add_shared.ensures.canonical c.visit.invariant.canonical;
+      counted = let tick = c.flat.ensures.tick in let before = c.visit.invariant.counted in omega arith;
+      bound = omega arith;
+    }
+
+pub returns-clause-reached : goal.returns-clause-reached
+returns-clause-reached g c =
+    let flats = g.T.SegmentTable.flats c.args.table.now in
+    let lawful = g.met.T.SegmentTable.lawful c.args.table.now in
+    let w = c.next.new.self in
+    meet-done flats lawful (IsMember c.args.left.now) (IsMember c.args.right.now) c.visit.frontier w.left w.right w.both c.visit.last
+    (visiting-kept flats lawful (IsMember c.args.left.now) (IsMember c.args.right.now) c.visit.frontier c.visit.waiting w c.visit.last c.visit.invariant.visits c.in_default.ensures.drops)
+    c.in_default.ensures.next
+
+pub returns-clause-last : goal.returns-clause-last
+returns-clause-last g c =
+    let w = c.visit.waiting in
+    meet-last (g.T.SegmentTable.flats c.args.table.now) (g.met.T.SegmentTable.lawful c.args.table.now) (IsMember c.args.left.now) (IsMember c.args.right.now)
+    c.visit.frontier w.left w.right w.both c.visit.last c.visit.invariant.visits

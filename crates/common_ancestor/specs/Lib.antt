@@ -1,0 +1,4 @@
+pub mod Turns
+pub mod Meets
+pub mod Waits
+pub mod Lowest

@@ -1,0 +1,103 @@
+//! What some ids reach and others don't.
+
+ghost use Rattle.std.specs.Prelude.{◌≡◌, ℕ, suc, ◌+◌, ◌-◌, ◌<◌, ◌≤◌, ◌^◌, ◌⊎◌, ◌↔◌, IfOk, OnOk, min};
+ghost use Rattle.commit_graph.specs.Sets as sets;
+ghost use Rattle.segment_codec.specs.Lent.{parents_left};
+ghost use Rattle.segment_codec.specs.Table.{IsHeld};
+ghost use Rattle.span_set.specs.Members.{IsMember, IsCanonical};
+ghost use Rattle.ancestor_query.specs.Graph.{table_graph};
+ghost use Rattle.common_ancestor.specs.Turns.{first_above, greater_with, PutsEither};
+
+use ancestor_query::{ID_END, WorkList};
+use id_groups::{Id, IdSpan};
+use segment_codec::{Parents, SegmentTable, Steps};
+use span_set::IdSet;
+use std::alloc::{AllocError, Global};
+
+/// The greater of an id and another, where there is one.
+pub(crate) fn greater_with(id: Id, other: &Option<Id>) -> Id
+    ensures { result ≡ greater_with id other.now }
+{
+    match other {
+        Some(y) => { if id < *y { *y } else { id } }
+        None => id,
+    }
+}
+
+/// The first number from `low` on that lies above the id, where there is one.
+fn first_above(low: Id, id: &Option<Id>) -> u64
+    ensures { result ≡ first_above low id.now }
+{
+    let from = low.number();
+    match id {
+        Some(y) => {
+            let after = y.number() + 1;
+            from.max(after)
+        }
+        None => from,
+    }
+}
+
+/// Adds the ids from `low` to `high`. There may be none.
+fn insert_from(set: &mut IdSet, low: u64, high: Id) -> Result<(), AllocError>
+    requires { low < 2 ^ 56 → high < 2 ^ 56 }
+    ensures members { OnOk result ((x : ℕ) → IsMember set.new x ↔ (IsMember set.old x ⊎ ((low ≤ x) × (x ≤ high)))) }
+    ensures canonical { IsCanonical set.old → IsCanonical set.new }
+{
+    if low <= high.number() {
+        return set.insert_span(IdSpan {
+            low: Id::from_number(low),
+            high,
+        });
+    }
+    Ok(())
+}
+
+/// Puts the parents on the second list where `start` lies above `low`, else on the first.
+fn push_either(
+    low: Id,
+    start: u64,
+    mine: &mut WorkList,
+    theirs: &mut WorkList,
+    parents: Parents<'_>,
+) -> Result<(), AllocError>
+    ensures { OnOk result (PutsEither low start (parents_left parents.entry) mine.old theirs.old mine.new theirs.new) }
+{
+    if low.number() < start {
+        return theirs.push_all(parents);
+    }
+    mine.push_all(parents)
+}
+
+/// The ids that some member of `from` reaches along parents and no member of `minus`. Each member of either is an id of
+/// the table. It goes down a flat segment at a time, by one look-up each, until all that `from` reaches is reached from
+/// `minus` too. It takes back nothing that `steps` counted. `AllocError` only for want of memory.
+pub fn only<T: SegmentTable>(
+    alloc: Global,
+    table: &T,
+    from: &IdSet,
+    minus: &IdSet,
+    steps: &mut Steps,
+) -> Result<IdSet, AllocError>
+    requires from { (x : ℕ) → IsMember from.now x → IsHeld (T.flats table.now) x }
+    requires minus { (x : ℕ) → IsMember minus.now x → IsHeld (T.flats table.now) x }
+    ensures members { IfOk result (λ r. (x : ℕ) → IsMember r x ↔ sets.only (table_graph (T.flats table.now)) (IsMember from.now) (IsMember minus.now) x) }
+    ensures canonical { IfOk result IsCanonical }
+    ensures counted { min steps.old (2 ^ 64 - 1) ≤ steps.new }
+{
+    let mut answer = IdSet::empty(alloc);
+    let mut mine = WorkList::empty(alloc);
+    let mut theirs = WorkList::empty(alloc);
+    let mut frontier = ID_END;
+    'visit: while let Some(next) = mine.next_id(from, frontier) {
+        let reached = theirs.next_id(minus, frontier);
+        let id = greater_with(next, &reached);
+        let segment = table.flat(id, steps).unwrap();
+        let low = segment.low();
+        let start = first_above(low, &reached);
+        insert_from(&mut answer, start, id)?;
+        push_either(low, start, &mut mine, &mut theirs, segment.parents())?;
+        frontier = low.number();
+    }
+    Ok(answer)
+}

@@ -1,0 +1,12 @@
+use Rattle.std.proofs.Common.{ℕ, ◌↔◌, length}
+use Rattle.id_groups.specs.Lists.{IsIn}
+use Rattle.segment_codec.specs.Lent.{segment_of, parents_left}
+use Rattle.span_set.specs.Members.{IsMember}
+use Rattle.range_query.specs.Parts.{HasParentIn}
+use Rattle.range_query.proofs.rising.Rising.has_parent_of.Given as goal
+
+abbrev pub invariant-parents : goal.invariant-parents
+invariant-parents l = ((p : ℕ) × IsIn p (parents_left l.rest) × IsMember l.self p) ↔ HasParentIn l.self (segment_of l.fn.segment)
+
+abbrev pub decreases-parents : goal.decreases-parents
+decreases-parents l = length (parents_left l.rest)

@@ -1,0 +1,39 @@
+-- What the ids of one segment have to do with a set.
+use Rattle.std.specs.Prelude.{◌≡◌, ℕ, ◌<◌, ◌≤◌, ◌-◌, ◌⊎◌, List, length}
+use Rattle.id_groups.specs.Lists.{IsIn}
+use Rattle.id_groups.specs.declared.span.IdSpan.{IdSpan}
+use Rattle.id_groups.specs.Span.{IsInSpan}
+use Rattle.segment_codec.specs.Record.{Segment}
+use Rattle.span_set.specs.Members.{IsMember}
+
+-- a parent of the segment's lowest id is a member
+abbrev pub HasParentIn : List IdSpan → Segment → Type 0
+HasParentIn spans s = (p : ℕ) × IsIn p s.parents × IsMember spans p
+
+-- an id of the segment above its lowest, and the id before it is a member
+abbrev pub IsMoved : List IdSpan → Segment → ℕ → Type 0
+IsMoved spans s x = (s.low < x) × (x ≤ s.high) × IsMember spans (x - 1)
+
+-- an id of the segment with a parent that is a member
+abbrev pub IsChildIn : List IdSpan → Segment → ℕ → Type 0
+IsChildIn spans s x = ((x ≡ s.low) × HasParentIn spans s) ⊎ IsMoved spans s x
+
+-- no member lies below the id
+abbrev pub StandFrom : ℕ → List IdSpan → Type 0
+StandFrom low spans = (x : ℕ) → IsMember spans x → low ≤ x
+
+-- all members lie below the id
+abbrev pub StandBelow : ℕ → List IdSpan → Type 0
+StandBelow low spans = (x : ℕ) → IsMember spans x → x < low
+
+-- the segment's lowest id, where a parent of it is in the answer so far, or a member
+abbrev pub Enters : List IdSpan → List IdSpan → Segment → ℕ → Type 0
+Enters answer spans s y = ((y ≡ s.low) × HasParentIn answer s) ⊎ IsMember spans y
+
+-- an id of the segment at or above such a one
+abbrev pub IsReachedIn : List IdSpan → List IdSpan → Segment → ℕ → Type 0
+IsReachedIn answer spans s x = (x ≤ s.high) × (y : ℕ) × Enters answer spans s y × (s.low ≤ y) × (y ≤ x)
+
+-- the segment's lowest id, where it is a merge and one of the span's ids
+abbrev pub IsMergeIn : IdSpan → Segment → ℕ → Type 0
+IsMergeIn span s x = (x ≡ s.low) × IsInSpan x span × (2 ≤ length s.parents)
