@@ -8,7 +8,7 @@ use Rattle.outside.specs.Parts.{cut_at, HasNone}
 use Rattle.outside.proofs.PartsLemmas.{cut-part, cut-rest, none-append}
 use Rattle.line_io.specs.Lines.{without_carriage_return, last_line}
 use Rattle.line_io.specs.Reading.{Reading, coming, window, is_over, lines_left, whole_left, budget}
-use Rattle.line_io.specs.Next.{IsLine, NextLine}
+use Rattle.line_io.specs.Next.{IsLine, NextLine, IsDone}
 use Rattle.line_io.specs.Steps.{EndsAt, LendsLine, LendsRest, Fills, MakesSpace, capacity}
 use Rattle.line_io.specs.declared.lines.Line.{Line}
 use Rattle.line_io.specs.declared.lines.Line.TheVariants.{Text, TooLong}
@@ -267,3 +267,19 @@ pub next-rest : (old : Reading) (before : List ℕ) (now new : Reading) (after :
     → NextLine (Ok last) old before new after
 next-rest old before now new after s last h free under ended lent e =
     subst (λ (r : Reading). NextLine (Ok last) old before r after) (sym e) (rest old before now after s last new.text h free under ended lent)
+
+-- what ended within the limit and holds nothing has no line left
+ended-empty : (room : ℕ) (text left : List ℕ) → let r : Reading = record { held = []; text = text; room = room; over = false; ended = true } in (lines_left r left ≡ []) × (is_over r left ≡ false)
+unfolding window is_over
+ended-empty room text left = (grind (arith), grind (arith))
+
+-- no last line, so the reading is done
+pub done-rest : (now new : Reading) (s : Bool) (last : Option Line) → last ≡ None → now.over ≡ false → now.ended ≡ true
+    → LendsRest last s now.held new.text → new ≡ record now { held = []; text = new.text } → IsDone new
+done-rest now new s last none under ended lent e =
+    let shape : new ≡ record { held = []; text = new.text; room = now.room; over = false; ended = true } = e ∙ rw (under, ended) refl in
+    subst (λ (r : Reading). IsDone r) (sym shape) (record {
+      ended = refl;
+      no_line = λ left. (ended-empty now.room new.text left).0;
+      within = λ left. (ended-empty now.room new.text left).1;
+    })

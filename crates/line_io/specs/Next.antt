@@ -22,6 +22,12 @@ pub record Gives (line : List ℕ) (old : Reading) (before : List ℕ) (new : Re
   pub whole : new.ended ≡ false →
       (old.ended ≡ false) × ((more : List ℕ) → whole_left old (came ++ more) ≡ line ∷ whole_left new more)
 
+-- the source came to its end and no line is left: each further call finds none, and doesn't call the source
+pub record IsDone (reading : Reading) : Type 0 where
+  pub ended : reading.ended ≡ true
+  pub no_line : (left : List ℕ) → lines_left reading left ≡ []
+  pub within : (left : List ℕ) → is_over reading left ≡ false
+
 -- the next line of what is held and left; no line; the limit; or a failed read, where no whole line was held or came
 abbrev pub NextLine : Result (Option Line) LineFault → Reading → List ℕ → Reading → List ℕ → Type 0
 NextLine (Ok (Some kind)) old before new after =

@@ -7,7 +7,7 @@ ghost use Rattle.outside.specs.Counts.{Rose, HasCause};
 ghost use Rattle.outside.specs.Parts.{HasNone};
 ghost use Rattle.outside.specs.Told.{WhereTold};
 ghost use Rattle.line_io.specs.Reading.{Reading, new_reading, window, is_over, budget};
-ghost use Rattle.line_io.specs.Next.{NextLine};
+ghost use Rattle.line_io.specs.Next.{NextLine, IsDone};
 ghost use Rattle.line_io.specs.Steps.{EndsAt, LendsLine, LendsRest, Fills, MakesSpace, turns, capacity};
 ghost use Rattle.line_io.specs.declared.lines.Line.{Line};
 
@@ -268,7 +268,8 @@ impl Lines {
     }
 
     /// Goes to the next line of the bytes that are held and of those that the source has left; `None` is the end of
-    /// the input. The source is called only while no whole line is held, and not again once it came to its end.
+    /// the input, and of each further call. The source is called only while no whole line is held, and not again once
+    /// it came to its end.
     pub fn next<S: Source>(&mut self, source: &mut S) -> Result<Option<Line>, LineFault>
         ensures line { WhereTold (S.left source.old) (S.left source.new)
             (λ before after. NextLine result self.old before self.new after) }
@@ -277,6 +278,7 @@ impl Lines {
         ensures untouched { ¬ (HasNone 10 self.old.held) → source.new ≡ source.old }
         ensures silent { self.old.ended ≡ true → source.new ≡ source.old }
         ensures no_text { result ≢ Ok (Some Line.Text) → self.new.text ≡ [] }
+        ensures done { result ≡ Ok None → IsDone self.new }
         ensures read { result ≡ Err LineFault.Read → Rose (S.faults source.old) (S.faults source.new) }
     {
         self.clear_text();

@@ -3,7 +3,7 @@ use Rattle.std.specs.Prelude.{◌||◌}
 use Rattle.std.proofs.lemmas.Result.{err_from_is_err_and}
 use Rattle.outside.specs.Parts.{HasNone}
 use Rattle.outside.proofs.ToldLemmas.{WhereTold-same, WhereTold-join, WhereTold-map, WhereTold-keeps}
-use Rattle.line_io.proofs.NextLemmas.{skips-start, next-found, next-limit, skips-space, space-free, space-same, space-budget, space-fewer, skips-fill, next-read, next-rest}
+use Rattle.line_io.proofs.NextLemmas.{skips-start, next-found, next-limit, skips-space, space-free, space-same, space-budget, space-fewer, skips-fill, next-read, next-rest, done-rest}
 use Rattle.line_io.proofs.lines.Lines.next.Goals as goal
 use Rattle.line_io.proofs.lines.Lines.next.Goals.{then-make_space, else-make_space}
 
@@ -50,6 +50,14 @@ returns-then-is_ended-clause-line g c =
     (λ before after h. next-rest c.args.self.now before c.turns.self c.take_rest.new.self after c.turns.is_skipping c.take_rest.result h
     c.in_default.ensures.found under ended lent rest)
     c.turns.invariant.told
+
+pub returns-then-is_ended-clause-done : goal.returns-then-is_ended-clause-done
+returns-then-is_ended-clause-done g c =
+    let same = c.in_default.ensures.same in
+    let under : c.turns.self.over ≡ false = rw same at (sym c.if-is_over.ensures.over) in
+    let ended : c.turns.self.ended ≡ true = rw same at (sym c.if-is_ended.ensures) in
+    λ e. done-rest c.turns.self c.take_rest.new.self c.turns.is_skipping c.take_rest.result (cc e) under ended
+    (rw same at c.take_rest.ensures.lent) (rw same at c.take_rest.ensures.rest)
 
 pub turns-preserved : goal.turns-preserved
 turns-preserved g c =
