@@ -1,13 +1,15 @@
 -- One call more in the record.
-use Rattle.std.proofs.Common.{◌≡◌, ℕ, ◌≤◌, ◌+◌, min, List, [], ◌∷◌, ◌++◌, length, refl, ◌∙◌, ap, arith, add-one, Vec}
-use Rattle.std.proofs.lemmas.List.{map-append, length-map}
-use Rattle.disk_trait.specs.Images.{Unsynced, Told, fresh_disk, moment_of}
-use Rattle.disk_trait.specs.Calls.{after_call, Passes, Writes, Syncs}
+use Rattle.std.proofs.Common.{◌≡◌, inl, inr, ℕ, ◌<◌, ◌≤◌, ◌+◌, min, List, [], ◌∷◌, ◌++◌, length, take, refl, sym, ◌∙◌, ap, subst, arith, le_refl, add-one, append_assoc, take_at, Vec}
+use Rattle.std.proofs.lemmas.List.{map-append, length-map, take_all}
+use Rattle.disk_trait.specs.Images.{Unsynced, Told, fresh_disk, moment_of, last_moment}
+use Rattle.disk_trait.specs.Calls.{after_call, overwritten, Passes, Writes, FailsToWrite, OrRefuses, Syncs}
+use Rattle.disk_trait.proofs.Sound.{whole-write}
 use Rattle.disk_trait.proofs.Moments.{moment-call}
 use Rattle.std.specs.declared.alloc.Global.{Global}
 use Rattle.disk_memory.specs.declared.call.Call.{Call}
+use Rattle.disk_memory.specs.declared.call.Kind.{Kind}
 use Rattle.disk_memory.specs.declared.call.Kind.TheVariants.{Write, Sync}
-use Rattle.disk_memory.specs.Scenes.{Scene, History, synced_scene, written_scene, after, passes, done, replayed, history_of, told_of}
+use Rattle.disk_memory.specs.Scenes.{Scene, History, synced_scene, written_scene, after, passes, done, replayed, history_of, scenes_of, Keeps, told_of}
 
 abbrev pub loaded : List ℕ → History
 loaded start = record { past = []; now = synced_scene start }
@@ -76,6 +78,31 @@ pub told-sync : (start : List ℕ) (calls later : List Call) (call : Call) → l
 told-sync start calls later call is kind =
     let h = history_of start calls call.idle in
     ap (λ l. told_of (history_of start l 0)) is ∙ ap told_of (history-push start calls call ∙ ap (λ k. done k h) kind) ∙ told-sync-of h
+
+-- a call later, each scene stays as it was
+keeps-after : (h : History) (within next : Scene) → Keeps h (after h within next)
+keeps-after h within next =
+    let split : scenes_of (after h within next) ≡ scenes_of h ++ within ∷ next ∷ [] = append_assoc h.past (h.now ∷ within ∷ []) (next ∷ []) ∙ sym (append_assoc h.past (h.now ∷ []) (within ∷ next ∷ [])) in
+    ap (take (length (scenes_of h))) split ∙ take_at (scenes_of h) (within ∷ next ∷ []) (length (scenes_of h)) refl
+
+pub keeps_same : (old new : History) → new ≡ old → Keeps old new
+keeps_same old new e = subst (Keeps old) (sym e) (take_all (length (scenes_of old)) (scenes_of old) (le_refl (length (scenes_of old))))
+
+keeps-done : (kind : Kind) (h : History) → Keeps h (done kind h)
+keeps-done (Write at piece) h = keeps-after h (written_scene (min at (length h.now.bytes)) piece.items h.now) (written_scene (min at (length h.now.bytes)) piece.items h.now)
+keeps-done Sync h = keeps-after h h.now (synced_scene h.now.bytes)
+
+pub keeps-pass : (start : List ℕ) (calls : List Call) (idle : ℕ) → Keeps (history_of start calls idle) (history_of start calls (idle + 1))
+keeps-pass start calls idle = let h = history_of start calls idle in subst (Keeps h) (sym (history-pass start calls idle)) (keeps-after h h.now h.now)
+
+pub keeps-push : (start : List ℕ) (calls later : List Call) (call : Call) → later ≡ calls ++ call ∷ [] → Keeps (history_of start calls call.idle) (history_of start later 0)
+keeps-push start calls later call is =
+    let h = history_of start calls call.idle in
+    subst (Keeps h) (sym (ap (λ l. history_of start l 0) is ∙ history-push start calls call)) (keeps-done call.kind h)
+
+-- a write of the whole range counts as one that fails
+pub fails_whole : (at : ℕ) (piece : List ℕ) (old mid new : Told) → moment_of old < last_moment → at ≤ length old.bytes → Writes at piece old mid → new ≡ mid → OrRefuses (FailsToWrite at piece) old new
+fails_whole at piece old mid new early le w e = inl (early, inr (overwritten old.bytes at piece, whole-write old.bytes at piece le, e ∙ w))
 
 -- the moment, one call later
 pub later : (t u : Told) (within next : Unsynced) (bytes : List ℕ) (clock : ℕ) → u ≡ after_call t within next bytes → moment_of t ≡ clock → moment_of u ≡ clock + 2

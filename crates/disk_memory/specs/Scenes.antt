@@ -1,5 +1,5 @@
 -- What the calls of a disk in memory made of it, moment by moment.
-use Rattle.std.specs.Prelude.{ℕ, zero, suc, min, List, [], ◌∷◌, ◌++◌, length, map, slice_index_or}
+use Rattle.std.specs.Prelude.{◌≡◌, ℕ, zero, suc, min, List, [], ◌∷◌, ◌++◌, length, take, map, slice_index_or}
 use Rattle.disk_trait.specs.Images.{Unsynced, Told, surely}
 use Rattle.disk_trait.specs.Calls.{overwritten, with_range}
 use Rattle.disk_memory.specs.declared.call.Call.{Call}
@@ -50,6 +50,14 @@ history_of start calls idle = passes idle (replayed (record { past = []; now = s
 unfoldable pub told_of : History → Told
 told_of h = record { bytes = h.now.bytes; past = map (λ scene. scene.unsynced) h.past; now = h.now.unsynced }
 
+-- the scenes at all moments up to now
+abbrev pub scenes_of : History → List Scene
+scenes_of h = h.past ++ h.now ∷ []
+
+-- what was at each moment up to the old one's stays as it was
+abbrev pub Keeps : History → History → Type 0
+Keeps old new = take (length (scenes_of old)) (scenes_of new) ≡ scenes_of old
+
 -- the scene at a moment
 abbrev pub scene_at : History → ℕ → Scene
-scene_at h moment = slice_index_or (h.past ++ h.now ∷ []) moment h.now
+scene_at h moment = slice_index_or (scenes_of h) moment h.now

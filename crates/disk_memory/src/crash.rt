@@ -40,6 +40,7 @@ impl MemoryDisk {
         ensures fresh { IfOk result (λ disk. tells disk ≡ fresh_disk (tells disk).bytes) }
         ensures fails { IfOk result (λ disk. disk.failing.fails.items ≡ []) }
         ensures stop_after { IfOk result (λ disk. disk.failing.stop_after ≡ None) }
+        ensures faults { IfOk result (λ disk. disk.faults ≡ 0) }
     {
         let image = self.image(choice)?;
         MemoryDisk::new(self.alloc, &image, &[], None)

@@ -4,7 +4,8 @@ ghost use Rattle.outside.specs.Counts.{HasCause};
 ghost use Rattle.disk_trait.specs.Images.{moment_of, last_moment};
 ghost use Rattle.disk_trait.specs.Calls.{Passes, Writes, FailsToWrite, Syncs, Succeeds, OrRefuses};
 ghost use Rattle.disk_memory.specs.Named.{IsNamed};
-ghost use Rattle.disk_memory.specs.Tells.{tells, next_number, MustFail, WritesAllOrNone};
+ghost use Rattle.disk_memory.specs.Scenes.{Keeps};
+ghost use Rattle.disk_memory.specs.Tells.{history, tells, next_number, MustFail, WritesAllOrNone};
 
 use crate::disk::MemoryDisk;
 use disk_trait::{Disk, DiskFault};
@@ -49,6 +50,8 @@ impl Disk for MemoryDisk {
         ensures err { OnErr result (OrRefuses Passes (tells self.old) (tells self.new)) }
         ensures cause { HasCause self.old.faults self.new.faults result }
         ensures exact { IsErr result ↔ MustFail self.old }
+        ensures counted { OnOk result (self.new.faults ≡ self.old.faults) }
+        ensures kept { Keeps (history self.old) (history self.new) }
         ensures failing { self.new.failing ≡ self.old.failing }
     {
         if self.clock >= LAST_MOMENT {
@@ -70,6 +73,8 @@ impl Disk for MemoryDisk {
         ensures err { OnErr result (OrRefuses Passes (tells self.old) (tells self.new)) }
         ensures cause { HasCause self.old.faults self.new.faults result }
         ensures exact { IsErr result ↔ MustFail self.old }
+        ensures counted { OnOk result (self.new.faults ≡ self.old.faults) }
+        ensures kept { Keeps (history self.old) (history self.new) }
         ensures failing { self.new.failing ≡ self.old.failing }
     {
         if self.clock >= LAST_MOMENT {
@@ -92,6 +97,8 @@ impl Disk for MemoryDisk {
         // one that is to fail counts as a write of its whole range, and one that wants memory as none
         ensures counts { OnErr result (OrRefuses (WritesAllOrNone at piece.now) (tells self.old) (tells self.new)) }
         ensures refused { OnErr result (¬ (IsNamed self.old.failing (next_number self.old)) → OrRefuses Passes (tells self.old) (tells self.new)) }
+        ensures counted { OnOk result (self.new.faults ≡ self.old.faults) }
+        ensures kept { Keeps (history self.old) (history self.new) }
         ensures failing { self.new.failing ≡ self.old.failing }
     {
         if self.clock >= LAST_MOMENT {
@@ -113,6 +120,8 @@ impl Disk for MemoryDisk {
         ensures err { OnErr result (OrRefuses Passes (tells self.old) (tells self.new)) }
         ensures cause { HasCause self.old.faults self.new.faults result }
         ensures exact { MustFail self.old → IsErr result }
+        ensures counted { OnOk result (self.new.faults ≡ self.old.faults) }
+        ensures kept { Keeps (history self.old) (history self.new) }
         ensures failing { self.new.failing ≡ self.old.failing }
     {
         if self.clock >= LAST_MOMENT {

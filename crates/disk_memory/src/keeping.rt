@@ -3,7 +3,8 @@ ghost use Rattle.std.specs.Prelude.{◌≡◌, ◌≤◌, ◌<◌, ◌+◌, ◌^
 ghost use Rattle.outside.specs.Counts.{Rose};
 ghost use Rattle.disk_trait.specs.Images.{moment_of, fresh_disk};
 ghost use Rattle.disk_trait.specs.Calls.{overwritten, Passes, Writes, Syncs};
-ghost use Rattle.disk_memory.specs.Tells.{tells};
+ghost use Rattle.disk_memory.specs.Scenes.{Keeps};
+ghost use Rattle.disk_memory.specs.Tells.{history, tells};
 
 use crate::call::{Call, Kind};
 use crate::disk::MemoryDisk;
@@ -66,8 +67,11 @@ impl MemoryDisk {
     }
 
     // One fault more.
+    #[tactic(auto, using(crate::proofs::Recording::keeps_same))]
     pub(crate) fn fault(&mut self) -> DiskFault
         ensures told { tells self.new ≡ tells self.old }
+        ensures history { history self.new ≡ history self.old }
+        ensures kept { Keeps (history self.old) (history self.new) }
         ensures failing { self.new.failing ≡ self.old.failing }
         ensures later { self.old.faults ≤ self.new.faults }
         ensures rose { Rose self.old.faults self.new.faults }
@@ -80,6 +84,7 @@ impl MemoryDisk {
     pub(crate) fn pass(&mut self)
         requires { self.old.clock < 2 ^ 62 }
         ensures told { Passes (tells self.old) (tells self.new) }
+        ensures kept { Keeps (history self.old) (history self.new) }
         ensures bytes { self.new.bytes ≡ self.old.bytes }
         ensures failing { self.new.failing ≡ self.old.failing }
         ensures faults { self.new.faults ≡ self.old.faults }
@@ -94,6 +99,8 @@ impl MemoryDisk {
         requires at { at ≤ length (tells self.old).bytes }
         ensures ok { OnOk result (Writes at piece.now (tells self.old) (tells self.new)) }
         ensures err { OnErr result (tells self.new ≡ tells self.old) }
+        ensures kept { OnOk result (Keeps (history self.old) (history self.new)) }
+        ensures history { OnErr result (history self.new ≡ history self.old) }
         ensures clock { OnErr result (self.new.clock ≡ self.old.clock) }
         ensures failing { self.new.failing ≡ self.old.failing }
         ensures faults { self.new.faults ≡ self.old.faults }
@@ -116,6 +123,8 @@ impl MemoryDisk {
         requires { self.old.clock < 2 ^ 62 }
         ensures ok { OnOk result (Syncs (tells self.old) (tells self.new)) }
         ensures err { OnErr result (tells self.new ≡ tells self.old) }
+        ensures kept { OnOk result (Keeps (history self.old) (history self.new)) }
+        ensures history { OnErr result (history self.new ≡ history self.old) }
         ensures clock { OnErr result (self.new.clock ≡ self.old.clock) }
         ensures failing { self.new.failing ≡ self.old.failing }
         ensures faults { self.new.faults ≡ self.old.faults }

@@ -3,10 +3,10 @@
 //! A disk whose calls may fail, and which may crash at any moment: what it tells, what a crash may leave, and what
 //! each call changes of that.
 
-ghost use Rattle.std.specs.Prelude.{◌≡◌, ◌<◌, ◌≤◌, ◌++◌, ◌+◌, ◌-◌, ◌%◌, ℕ, List, [], ◌∷◌, Option, Some, IfOk, IfSome, OnOk, OnErr, length, min, take, drop};
+ghost use Rattle.std.specs.Prelude.{◌≡◌, ◌<◌, ◌≤◌, ◌++◌, ◌+◌, ◌-◌, ◌%◌, ℕ, List, [], ◌∷◌, Option, Some, IfOk, IfSome, OnOk, OnErr, length, min, take, drop, slice_index};
 ghost use Rattle.outside.specs.Counts.{HasCause};
-ghost use Rattle.disk_trait.specs.Images.{Told, IsImage, IsSound, LeftAt, moment_of, last_moment, fresh_disk};
-ghost use Rattle.disk_trait.specs.Calls.{Passes, Writes, FailsToWrite, Syncs, OrRefuses, Succeeds, Goes};
+ghost use Rattle.disk_trait.specs.Images.{Told, IsImage, surely, IsSound, LeftAt, moment_of, last_moment, fresh_disk};
+ghost use Rattle.disk_trait.specs.Calls.{Passes, with_range, Writes, FailsToWrite, Syncs, OrRefuses, Succeeds, Goes};
 
 /// A call of the disk failed.
 #[derive(Clone, Copy, Debug, PartialEq, Eq)]
@@ -20,7 +20,7 @@ pub trait Disk {
     /// What it tells, where it is honest.
     ghost told: { Self → Option Told };
 
-    /// How many of its calls have failed.
+    /// A count of faults. It never falls, and rises at each call that fails, up to the last value of a counter.
     ghost faults: { Self → ℕ };
 
     /// How many bytes it has.
@@ -65,6 +65,15 @@ pub trait Disk {
 /// After a restart a crash leaves what is there.
 pub fn nothing_lost()
     ensures { (bytes image : List ℕ) → IsImage (fresh_disk bytes).now image → image ≡ bytes }
+{}
+
+/// Three bytes are sure, and three were written from place 1 on. A crash leaves the first byte, three bytes or four in
+/// all, and behind the first any bytes: the old ones, the new ones, or others.
+pub fn torn_write()
+    ensures unwritten { IsImage (with_range (surely (1 ∷ 2 ∷ 3 ∷ [])) 1 3) (1 ∷ 2 ∷ 3 ∷ []) }
+    ensures torn { IsImage (with_range (surely (1 ∷ 2 ∷ 3 ∷ [])) 1 3) (1 ∷ 7 ∷ 3 ∷ 9 ∷ []) }
+    ensures first { (image : List ℕ) → IsImage (with_range (surely (1 ∷ 2 ∷ 3 ∷ [])) 1 3) image → slice_index image 0 ≡ 1 }
+    ensures size { (image : List ℕ) → IsImage (with_range (surely (1 ∷ 2 ∷ 3 ∷ [])) 1 3) image → (3 ≤ length image) × (length image ≤ 4) }
 {}
 
 /// Once a sync has returned, a crash leaves what a read gives.

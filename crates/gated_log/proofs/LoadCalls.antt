@@ -148,7 +148,7 @@ loaded_at limit log a c d s w long within l =
       fresh = λ short. absurd (omega (arith, short, ap length s.bytes, long));
       other = λ lo. (let k = s.clock in omega (arith, clock, k));
       payloads = λ image left. (let e = same image left in (omega (arith, ap length e, within, l.most), subst (λ b. IsLog b log.payloads) (sym e) l.is_log));
-      on_disk = λ image left. subst (Begins log) (sym (same image left)) (⊎_elim (λ b. b) (λ (b : (length c.bytes ≤ 1) × (log.payloads ≡ []) × (log.gate ≡ 0)). absurd (omega (arith, b.0, long))) l.begins);
+      on_disk = λ image left. subst (Begins log) (sym (same image left)) (l.begins long);
     }
 
 pub read_done : (limit size : ℕ) (a c d : Option Told) (r : Result Held LoadLog) → Goes IsSized a c → OnOk r (Goes Passes c d) → IfSome c (λ t. size ≡ length t.bytes) → 2 ≤ size → size ≤ limit → IfSome c (λ t. Loads limit t.bytes r)
@@ -264,7 +264,8 @@ start_answers limit size None r h le least ok err = tt
 start_answers limit size (Some t) (Ok log) h le least ok err = record {
   most = ok.2;
   is_log = inl (omega (arith, h, le), ok.0);
-  begins = inr (omega (arith, h, le), ok.0, ok.1);
+  begins = λ long. absurd (omega (arith, h, le, long));
+  fresh = λ _. (ok.0, ok.1);
 }
 start_answers limit size (Some t) (Err e) h le least ok (inl memory) = subst (λ x. Loads limit t.bytes (Err x)) (sym memory) (omega (arith, h, le, least))
 start_answers limit size (Some t) (Err e) h le least ok (inr (fault, disk)) = subst (λ x. Loads limit t.bytes (Err x)) (sym disk) tt

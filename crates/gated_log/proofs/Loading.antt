@@ -1,5 +1,5 @@
 -- From bytes to a log.
-use Rattle.std.proofs.Common.{◌≡◌, inl, ℕ, ◌≤◌, ◌+◌, ◌^◌, List, [], ◌∷◌, ◌++◌, length, take, refl, sym, ◌∙◌, ap, subst, arith, length-append, append_assoc, take_at}
+use Rattle.std.proofs.Common.{◌≡◌, ℕ, ◌≤◌, ◌+◌, ◌^◌, List, [], ◌∷◌, ◌++◌, length, take, refl, sym, ◌∙◌, ap, subst, arith, length-append, append_assoc, take_at}
 use Rattle.gated_log.specs.Log.{IsLog, batches}
 use Rattle.gated_log.specs.Held.{held, IsWhole, payloads_at, gate_of}
 use Rattle.gated_log.specs.Scan.{IsClosedAt}
@@ -9,9 +9,9 @@ use Rattle.gated_log.proofs.Shapes.{is_log, is_whole}
 pub fresh_whole : (gates items : List ℕ) (limit : ℕ) → gates ≡ [] → items ≡ 0 ∷ [] → 1 ≤ limit → limit ≤ 2 ^ 32 → IsWhole gates items limit × (payloads_at gates items ≡ []) × (gate_of items ≡ 0)
 fresh_whole gates items limit none is least most = is_whole gates items limit [] 0 none is tt (omega arith) (let l = ap length is in omega (arith, l, least)) most
 
-pub loaded : (bytes d gates items : List ℕ) (limit room end : ℕ) → IsClosedAt d gates end → d ≡ bytes → items ≡ take (end + 1) bytes → length bytes ≤ limit → limit ≤ 2 ^ 32
+pub loaded : (bytes d gates items : List ℕ) (limit room end : ℕ) → IsClosedAt d gates end → d ≡ bytes → items ≡ take (end + 1) bytes → 2 ≤ length bytes → length bytes ≤ limit → limit ≤ 2 ^ 32
     → IsWhole gates items limit × IsLogOf limit bytes (held gates items limit room)
-loaded bytes d gates items limit room end c same is fits most =
+loaded bytes d gates items limit room end c same is long fits most =
     let front = batches c.payloads in
     let whole : bytes ≡ front ++ c.gate ∷ c.behind = sym same ∙ c.whole in
     let split : bytes ≡ (front ++ c.gate ∷ []) ++ c.behind = whole ∙ sym (append_assoc front (c.gate ∷ []) c.behind) in
@@ -22,6 +22,7 @@ loaded bytes d gates items limit room end c same is fits most =
       record {
         most = refl;
         is_log = subst (λ l. IsLog bytes l) (sym w.1) (is_log bytes c.payloads c.gate c.behind c.lengths c.closed whole);
-        begins = inl (fits, c.behind, split ∙ ap (λ l. l ++ c.behind) (sym items_are ∙ w.0.whole));
+        begins = λ _. (fits, c.behind, split ∙ ap (λ l. l ++ c.behind) (sym items_are ∙ w.0.whole));
+        fresh = λ short. absurd (omega (arith, short, long));
       },
     )

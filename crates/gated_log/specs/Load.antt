@@ -1,5 +1,5 @@
 -- What loading answers, and what it does to a disk.
-use Rattle.std.specs.Prelude.{◌≡◌, ◌<◌, ◌≤◌, ◌⊎◌, ◌+◌, ◌*◌, ℕ, List, [], ◌∷◌, ◌++◌, length, replicate, Result, Ok, Err, ⊤}
+use Rattle.std.specs.Prelude.{◌≡◌, ◌<◌, ◌≤◌, ◌+◌, ◌*◌, ℕ, List, [], ◌∷◌, ◌++◌, length, replicate, Result, Ok, Err, ⊤}
 use Rattle.disk_trait.specs.Images.{Told, IsImage, moment_of, surely}
 use Rattle.disk_trait.specs.Since.{SureSince}
 use Rattle.gated_log.specs.Log.{IsLog, IsDamaged}
@@ -8,11 +8,12 @@ use Rattle.gated_log.specs.Holding.{IsLogWithin, HasPayloads, Begins, IsOnDisk}
 use Rattle.gated_log.specs.declared.LoadLog.{LoadLog}
 use Rattle.gated_log.specs.declared.LoadLog.TheVariants.{Damaged, TooLarge, Disk, Memory}
 
--- the log of these bytes; that of a fresh file has the one byte 0
+-- the log of these bytes; that of a fresh file has the one byte 0, whatever byte the file has
 pub record IsLogOf (limit : ℕ) (bytes : List ℕ) (log : Held) : Type 0 where
   pub most : log.limit ≡ limit
   pub is_log : IsLog bytes log.payloads
-  pub begins : Begins log bytes ⊎ ((length bytes ≤ 1) × (log.payloads ≡ []) × (log.gate ≡ 0))
+  pub begins : 2 ≤ length bytes → Begins log bytes
+  pub fresh : length bytes ≤ 1 → (log.payloads ≡ []) × (log.gate ≡ 0)
 
 -- by cases that exclude each other; the disk and the memory may fail at any place
 abbrev pub Loads : ℕ → List ℕ → Result Held LoadLog → Type 0

@@ -11,10 +11,10 @@ ghost use Rattle.std.specs.List.{AllByRecursion};
 ghost use Rattle.disk_trait.specs.Calls.{Goes, Passes};
 ghost use Rattle.outside.specs.Counts.{Rose};
 ghost use Rattle.gated_log.specs.Log.{HasLength, IsLog, IsDamaged, batches, gates_of, log_length};
-ghost use Rattle.gated_log.specs.Held.{log_bytes, staged, room_of};
+ghost use Rattle.gated_log.specs.Held.{Held, log_bytes, staged, room_of};
 ghost use Rattle.gated_log.specs.Holding.{IsOnDisk, IsLogWithin, KeepsOldOrNew, HasNew};
 ghost use Rattle.gated_log.specs.Commit.{Answers, Reserves};
-ghost use Rattle.gated_log.specs.Load.{Loads, KeepsImages, KeepsPayloads, IsLoaded, OnlyReads, after_reads, IsFresh, IsStarted};
+ghost use Rattle.gated_log.specs.Load.{Loads, KeepsImages, KeepsPayloads, IsLoaded, IsLogOf, OnlyReads, after_reads, IsFresh, IsStarted};
 
 mod errors;
 mod scan;
@@ -326,10 +326,11 @@ impl Log {
     }
 }
 
-/// Bytes that are a log, and ten that never are.
+/// Bytes that are a log, and ten that never are. The gate of a file of one byte is closed anew, whatever the byte.
 pub fn examples()
     ensures fresh { IsLog (127 ∷ []) [] }
     ensures closed { IsLog (127 ∷ 1 ∷ []) [] }
+    ensures closed_anew { (limit : ℕ) (log : Held) → IsLogOf limit (127 ∷ []) log → log.gate ≡ 0 }
     ensures damaged { IsDamaged (1 ∷ 0 ∷ 0 ∷ 0 ∷ 0 ∷ 0 ∷ 0 ∷ 0 ∷ 5 ∷ 170 ∷ []) 0 }
 {}
 

@@ -2,7 +2,7 @@ use Rattle.std.proofs.Common.{◌<◌, refl, sym, ◌∙◌, ap, arith}
 use Rattle.disk_trait.specs.Images.{Told, surely, moment_of, last_moment}
 use Rattle.disk_trait.proofs.Sound.{syncs-sound}
 use Rattle.disk_memory.specs.Scenes.{history_of, told_of}
-use Rattle.disk_memory.proofs.Recording.{later, told-sync}
+use Rattle.disk_memory.proofs.Recording.{later, told-sync, keeps-push}
 use Rattle.disk_memory.proofs.disk.MemoryDisk.keep_sync.Goals as goal
 
 pub invariant_of-self-2 : goal.invariant_of-self-2
@@ -19,3 +19,6 @@ invariant_of-self-2 c =
 
 pub returns-clause-ok : goal.returns-clause-ok
 returns-clause-ok c = told-sync c.args.self.now.start.items c.args.self.now.calls.items c.push.new.self.items _ c.in_ok-push.ensures.items refl
+
+pub returns-clause-kept : goal.returns-clause-kept
+returns-clause-kept c = keeps-push c.args.self.now.start.items c.args.self.now.calls.items c.push.new.self.items _ c.in_ok-push.ensures.items

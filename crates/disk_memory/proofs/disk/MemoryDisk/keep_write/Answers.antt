@@ -3,7 +3,7 @@ use Rattle.disk_trait.specs.Images.{Told, moment_of, last_moment}
 use Rattle.disk_trait.specs.Calls.{overwritten, with_range}
 use Rattle.disk_trait.proofs.Sound.{writes-sound}
 use Rattle.disk_memory.specs.Scenes.{history_of, told_of}
-use Rattle.disk_memory.proofs.Recording.{later, told-write}
+use Rattle.disk_memory.proofs.Recording.{later, told-write, keeps-push}
 use Rattle.disk_memory.proofs.disk.MemoryDisk.keep_write.Goals as goal
 
 pub invariant_of-self-2 : goal.invariant_of-self-2
@@ -22,3 +22,6 @@ invariant_of-self-2 c =
 
 pub returns-clause-ok : goal.returns-clause-ok
 returns-clause-ok c = told-write c.args.self.now.start.items c.args.self.now.calls.items c.push.new.self.items _ c.args.at c.in_ok-kept.kept c.args.piece.now c.in_ok-push.ensures.items refl c.in_ok-kept.ensures.items c.requires.at
+
+pub returns-clause-kept : goal.returns-clause-kept
+returns-clause-kept c = keeps-push c.args.self.now.start.items c.args.self.now.calls.items c.push.new.self.items _ c.in_ok-push.ensures.items

@@ -2,7 +2,7 @@ use Rattle.std.proofs.Common.{◌<◌, sym, ◌∙◌, ap, arith}
 use Rattle.disk_trait.specs.Images.{Told, moment_of, last_moment}
 use Rattle.disk_trait.proofs.Sound.{passes-sound}
 use Rattle.disk_memory.specs.Scenes.{history_of, told_of}
-use Rattle.disk_memory.proofs.Recording.{later, told-pass}
+use Rattle.disk_memory.proofs.Recording.{later, told-pass, keeps-pass}
 use Rattle.disk_memory.proofs.disk.MemoryDisk.pass.Goals as goal
 
 pub invariant_of-self : goal.invariant_of-self
@@ -19,3 +19,6 @@ invariant_of-self c =
 
 pub returns-clause-told : goal.returns-clause-told
 returns-clause-told c = told-pass c.args.self.now.start.items c.args.self.now.calls.items c.args.self.now.idle
+
+pub returns-clause-kept : goal.returns-clause-kept
+returns-clause-kept c = keeps-pass c.args.self.now.start.items c.args.self.now.calls.items c.args.self.now.idle
