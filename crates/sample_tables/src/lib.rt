@@ -1,0 +1,12 @@
+#![tactic(auto)]
+
+//! Flat tables over bytes of their own, for tests and benchmarks: of commits that are handed in, or of drawn histories.
+
+mod held;
+mod history;
+mod parents;
+mod sample;
+
+pub use held::{held_id, held_ids};
+pub use history::{Rule, draw_history};
+pub use sample::Sample;

@@ -1,0 +1,10 @@
+#![tactic(auto)]
+
+//! The queries over flat tables of small graphs, against plain walks over the parents of each commit.
+
+#[cfg(test)]
+mod asked;
+#[cfg(test)]
+mod plain;
+#[cfg(test)]
+mod tests;
