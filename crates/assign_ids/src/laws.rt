@@ -8,6 +8,7 @@ ghost use Rattle.commit_graph.specs.Graph.{Reaches};
 ghost use Rattle.assign_ids.specs.Placing.{place, place_all};
 ghost use Rattle.assign_ids.specs.Numbers.{AreBelow, HaveOlderParents, others_of, rows_below, order_of, graph_below};
 ghost use Rattle.assign_ids.specs.declared.graph.Node.{Node as PlainNode};
+ghost use Rattle.assign_ids.specs.declared.graph.Node.TheVariants.{Placed, Other};
 
 /// A number that is in the order stays where it is.
 pub fn placed_before()
@@ -56,4 +57,14 @@ pub fn rows_placed_behind_parents()
     ensures { (rows : List (PlainRow NameBytes)) (row : PlainRow NameBytes) (order : List NameBytes) → IsHistory [] rows → IsIn row rows
         → is_in same_name row.name order ≡ false
         → place same_name (reverse rows) order row.name ≡ place_all same_name (reverse rows) order row.parents ++ row.name ∷ [] }
+{}
+
+/// The commit 3 merges 2 and 1, both children of 0: its parents move from left to right and 0 once, and a head in front
+/// moves first. Of three parents of which two are in master, one counts.
+pub fn order_spelled_out()
+    ensures merge { place_all nat_eq (record { name = 3; parents = 2 ∷ 1 ∷ [] } ∷ record { name = 2; parents = 0 ∷ [] } ∷ record { name = 1; parents = 0 ∷ [] } ∷ record { name = 0; parents = [] } ∷ []) [] (3 ∷ [])
+        ≡ 0 ∷ 2 ∷ 1 ∷ 3 ∷ [] }
+    ensures heads { place_all nat_eq (record { name = 3; parents = 2 ∷ 1 ∷ [] } ∷ record { name = 2; parents = 0 ∷ [] } ∷ record { name = 1; parents = 0 ∷ [] } ∷ record { name = 0; parents = [] } ∷ []) [] (1 ∷ 3 ∷ [])
+        ≡ 0 ∷ 1 ∷ 2 ∷ 3 ∷ [] }
+    ensures others { others_of (Placed ∷ Other 4 ∷ Placed ∷ []) ≡ 4 ∷ [] }
 {}

@@ -110,6 +110,7 @@ fn add_children_in(
     requires group { (segment_of segment).low < 2 ^ 56 → (segment_of segment).high < 2 ^ 56 }
     ensures within { IfOk result (λ to. to ≤ length set.now) }
     ensures passed { IfOk result (λ to. StandFrom (segment_of segment.entry).high (take to set.now)) }
+    ensures stop { IfOk result (λ to. (d : _) → to < length set.now → (slice_index_or set.now to d).low < (segment_of segment.entry).high) }
     ensures members { OnOk result ((x : ℕ) → IsMember answer.new x ↔ (IsMember answer.old x ⊎ IsChildIn set.now (segment_of segment.entry) x)) }
     ensures canonical { IsCanonical answer.old → IsCanonical answer.new }
 {

@@ -68,6 +68,7 @@ fn add_part(
     requires group { (segment_of segment).low < 2 ^ 56 → (segment_of segment).high < 2 ^ 56 }
     ensures within { IfOk result (λ to. to ≤ length set.now) }
     ensures passed { IfOk result (λ to. StandBelow (segment_of segment.entry).low (drop to set.now)) }
+    ensures stop { IfOk result (λ to. (d : _) → 0 < to → (segment_of segment.entry).low ≤ (slice_index_or set.now (to - 1) d).high) }
     ensures members { OnOk result ((x : ℕ) → IsMember answer.new x ↔ (IsMember answer.old x ⊎ IsReachedIn answer.old set.now (segment_of segment.entry) x)) }
 {
     let spans = set.spans();

@@ -13,7 +13,7 @@ pub returns-clause-members : goal.returns-clause-members
 returns-clause-members g c =
     if_ok c.minus.result (λ r h x. both-ways (h x)
     (tips-by (g.T.SegmentTable.flats c.args.table.now) (g.met.T.SegmentTable.lawful c.args.table.now) c.args.set.now c.in_ok-others.others c.in_ok-reached.reached c.lowest-floor.result
-    c.lowest-floor.ensures c.in_ok-others.ensures.members c.in_ok-reached.ensures.members x)) c.minus.ensures.members
+    (λ x m. (c.lowest-floor.ensures x m).0) c.in_ok-others.ensures.members c.in_ok-reached.ensures.members x)) c.minus.ensures.members
 
 pub returns-in_err-reached-clause-counted : goal.returns-in_err-reached-clause-counted
 returns-in_err-reached-clause-counted g c = let first = c.parents.ensures.counted in let then = c.ancestors_above.ensures.counted in omega arith
