@@ -9,8 +9,8 @@ ghost use Rattle.ancestor_query.specs.Graph.{table_graph};
 ghost use Rattle.ancestor_query.specs.Counts.{count_met, IsOnly, EndsWhole};
 
 use crate::jump::best_jump;
-use crate::work_list::{ID_END, WorkList};
-use id_groups::{Id, IdSpan};
+use crate::work_list::WorkList;
+use id_groups::{ID_END, Id, IdSpan};
 use segment_codec::{SegmentTable, Steps};
 use span_set::IdSet;
 use std::alloc::{AllocError, Global};

@@ -12,7 +12,7 @@ pub use ancestry::{ancestors, first_ancestor, is_ancestor};
 pub use floor::ancestors_above;
 pub use jump::best_jump;
 pub use parent_set::parents;
-pub use work_list::{ID_END, WorkList};
+pub use work_list::WorkList;
 
 #[cfg(test)]
 mod tests;

@@ -1,7 +1,7 @@
 //! Ids that wait, from the greatest down.
 
-use crate::{ID_END, WorkList};
-use id_groups::{FIRST_OTHER, Id, IdSpan};
+use crate::WorkList;
+use id_groups::{FIRST_OTHER, ID_END, Id, IdSpan};
 use segment_codec::read_segment;
 use span_set::IdSet;
 use std::test::Fail;

@@ -6,15 +6,12 @@ ghost use Rattle.segment_codec.specs.Lent.{parents_left};
 ghost use Rattle.span_set.specs.Members.{IsMember, IsGreatestBelow};
 ghost use Rattle.ancestor_query.specs.Visits.{Peeks, IsNext, greater_of};
 
-use id_groups::Id;
+use id_groups::{ID_END, Id};
 use segment_codec::Parents;
 use span_set::IdSet;
 use std::alloc::{AllocError, Global};
 use std::collections::BinaryHeap;
 use std::marker::Model;
-
-/// All ids lie below this number.
-pub const ID_END: u64 = 1 << 57;
 
 /// Ids that wait to be visited, the greatest first; an id may wait more than once. Contracts see it as the list of its
 /// ids, in no order that tells anything.

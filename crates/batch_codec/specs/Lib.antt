@@ -3,3 +3,4 @@ pub mod Grammar
 pub mod Reading
 pub mod Lent
 pub mod Building
+pub mod Examples

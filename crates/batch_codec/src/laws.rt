@@ -1,7 +1,8 @@
 //! Laws of the definitions.
 
 ghost use Rattle.std.specs.Prelude.{◌≡◌, ◌++◌, ℕ, List, length, [], ◌∷◌, take, drop, flat_map};
-ghost use Rattle.batch_codec.specs.Grammar.{AreLawful, IsPayload, Cover, AreMaximal, AreFlat, StandInTurn, IsFirstBroken, place_behind};
+ghost use Rattle.batch_codec.specs.Grammar.{AreLawful, MayFollow, IsPayload, Cover, AreMaximal, AreFlat, StandInTurn, IsFirstBroken, place_behind};
+ghost use Rattle.batch_codec.specs.Examples.{chain_clone, short_name};
 ghost use Rattle.segment_codec.specs.Record.{Segment};
 ghost use Rattle.batch_codec.specs.Payload.{Payload, payload_bytes};
 
@@ -12,9 +13,13 @@ pub fn payloads_are_spelled()
     ensures one { (p q : Payload) → IsPayload p → IsPayload q → payload_bytes 1 p ≡ payload_bytes 1 q → p ≡ q }
 {}
 
-/// No payloads are lawful.
-pub fn nothing_is_lawful()
-    ensures { AreLawful [] [] }
+/// A log without payloads is lawful, and one of a clone alone. A clone with another head isn't, and none may come
+/// behind another payload.
+pub fn lawful_payloads()
+    ensures none { AreLawful [] [] }
+    ensures clone { AreLawful [] (chain_clone (short_name 25) (short_name 25) ∷ []) }
+    ensures other_head { MayFollow [] (chain_clone (short_name 25) (short_name 26)) → ⊥ }
+    ensures second_clone { (first : Payload) → MayFollow (first ∷ []) (chain_clone (short_name 25) (short_name 25)) → ⊥ }
 {}
 
 /// A section is right as a whole where its records may come in turn, and then no record is the first broken one.

@@ -13,7 +13,7 @@ mod section;
 mod sections;
 
 pub use building::BatchBuild;
-pub use laws::{nothing_is_lawful, payloads_are_spelled, sections_by_records};
+pub use laws::{lawful_payloads, payloads_are_spelled, sections_by_records};
 pub use lent::{BatchRef, KnownRef, KnownSlice, NameSlice, SegmentSlice};
 
 #[cfg(test)]

@@ -8,8 +8,8 @@ ghost use Rattle.span_set.specs.Members.{IsMember, IsCanonical};
 ghost use Rattle.ancestor_query.specs.Graph.{table_graph};
 ghost use Rattle.common_ancestor.specs.Turns.{first_above, greater_with, PutsEither};
 
-use ancestor_query::{ID_END, WorkList};
-use id_groups::{Id, IdSpan};
+use ancestor_query::WorkList;
+use id_groups::{ID_END, Id, IdSpan};
 use segment_codec::{Parents, SegmentTable, Steps};
 use span_set::IdSet;
 use std::alloc::{AllocError, Global};

@@ -10,8 +10,8 @@ ghost use Rattle.common_ancestor.specs.Meets.{AreLast, greatest_of, shared_of, A
 ghost use Rattle.common_ancestor.specs.Waits.{FindsNext, Drops, PutsParents};
 
 use crate::difference::greater_with;
-use ancestor_query::{ID_END, WorkList};
-use id_groups::{Id, IdSpan};
+use ancestor_query::WorkList;
+use id_groups::{ID_END, Id, IdSpan};
 use segment_codec::{Parents, SegmentTable, Steps};
 use span_set::IdSet;
 use std::alloc::{AllocError, Global};

@@ -8,6 +8,7 @@ use Rattle.flat_segments.specs.declared.entry.Entry.{Entry}
 use Rattle.flat_segments.specs.Maximal.{goes_on}
 use Rattle.flat_segments.specs.Placed.{Placed, segments_of, AreRecords}
 
+-- what a table or a section keeps
 pub record Kept : Type 0 where
   pub entries : List Entry
   -- the id behind the last one

@@ -14,6 +14,7 @@ abbrev pub placed : ℕ → List Segment → List Placed
 placed at [] = []
 placed at (s ∷ more) = record { place = at; segment = s } ∷ placed (at + length (segment_bytes s)) more
 
+-- the segments alone
 abbrev pub segments_of : List Placed → List Segment
 segments_of records = map (λ r. r.segment) records
 

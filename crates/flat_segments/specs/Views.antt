@@ -9,6 +9,7 @@ use Rattle.flat_segments.specs.declared.run.Run.{Run}
 use Rattle.flat_segments.specs.declared.view.FlatView.{FlatView}
 use Rattle.flat_segments.specs.Runs.{flats_in}
 
+-- the segments of a run
 abbrev pub flats_of : Run → List Segment
 flats_of r = flats_in r.bytes.now r.end r.entries.now
 

@@ -23,3 +23,12 @@ pub fn cut_segments()
     ensures parents { (below end x : ℕ) (segments : List Segment) → Follow 0 end segments → x < below
         → parents_at (cut below segments) x ≡ parents_at segments x }
 {}
+
+/// Records of the ids 0 and 1, of 2 and 3 behind them, and of 4, which merges 3 and 1: their maximal segments, and these
+/// below 3. The record of 4 goes on from no id, though 3 is one of its parents.
+pub fn segments_spelled_out()
+    ensures maximal { maximal 5 (record { low = 0; high = 1; level = 0; parents = [] } ∷ record { low = 2; high = 3; level = 0; parents = 1 ∷ [] } ∷ record { low = 4; high = 4; level = 0; parents = 3 ∷ 1 ∷ [] } ∷ [])
+        ≡ record { low = 0; high = 3; level = 0; parents = [] } ∷ record { low = 4; high = 4; level = 0; parents = 3 ∷ 1 ∷ [] } ∷ [] }
+    ensures cut { cut 3 (record { low = 0; high = 3; level = 0; parents = [] } ∷ record { low = 4; high = 4; level = 0; parents = 3 ∷ 1 ∷ [] } ∷ [])
+        ≡ record { low = 0; high = 2; level = 0; parents = [] } ∷ [] }
+{}

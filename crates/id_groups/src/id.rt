@@ -10,6 +10,9 @@ use std::marker::Model;
 /// The number of the first id of the group of others.
 pub const FIRST_OTHER: u64 = 1 << 56;
 
+/// All ids have numbers below this one.
+pub const ID_END: u64 = 1 << 57;
+
 /// The two groups of ids.
 #[derive(Clone, Copy, PartialEq, Eq, Debug)]
 pub enum Group {

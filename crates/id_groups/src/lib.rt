@@ -7,7 +7,7 @@ mod laws;
 mod name;
 mod span;
 
-pub use id::{FIRST_OTHER, Group, Id};
+pub use id::{FIRST_OTHER, Group, ID_END, Id};
 pub use laws::{names_decided, names_spelled, one_filtering, printed};
 pub use name::{Name, NameRef};
 pub use span::IdSpan;

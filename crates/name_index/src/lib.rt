@@ -11,7 +11,7 @@ mod laws;
 mod run;
 
 pub use index::{IndexFault, NameIndex};
-pub use laws::{any_order, names_are_distinct};
+pub use laws::{any_order, keys_spelled_out, names_are_distinct};
 
 #[cfg(test)]
 mod tests;

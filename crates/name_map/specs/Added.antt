@@ -10,6 +10,7 @@ pub record Placed : Type 0 where
   pub at : ℕ
   pub payload : Payload
 
+-- the payloads alone
 abbrev pub payloads_of : List Placed → List Payload
 payloads_of added = map (λ a. a.payload) added
 
@@ -17,6 +18,7 @@ payloads_of added = map (λ a. a.payload) added
 abbrev pub StandsAt : List ℕ → Placed → Type 0
 StandsAt bytes a = take (length (payload_bytes 1 a.payload)) (drop a.at bytes) ≡ payload_bytes 1 a.payload
 
+-- the bytes of each payload stand in the log at its place
 abbrev pub AllStand : List ℕ → List Placed → Type 0
 AllStand bytes [] = ⊤
 AllStand bytes (a ∷ more) = StandsAt bytes a × AllStand bytes more

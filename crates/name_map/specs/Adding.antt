@@ -38,6 +38,7 @@ pub record OthersFit (old known others : List Name) : Type 0 where
   pub new_apart : Apart known others
   pub old_apart : Apart old others
 
+-- the same cause, as a map tells it
 abbrev pub fault_of : IndexFault → MapFault
 fault_of IndexDouble = Double
 fault_of IndexMemory = Memory

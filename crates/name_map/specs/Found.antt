@@ -26,5 +26,6 @@ abbrev pub IsPlaceOf : List Placed → ℕ → Option ℕ → Type 0
 IsPlaceOf added id None = IsNameOf (known_of added) id None
 IsPlaceOf added id (Some place) = (name : Name) × IsIn (record { id = id; name = name }) (known_of added) × IsIn (record { place = place; name = name }) (named_of added)
 
+-- so many known ids are below the bound
 abbrev pub CountsBelow : List Placed → ℕ → ℕ → Type 0
 CountsBelow added below n = n ≡ count_known below (known_of added)

@@ -14,10 +14,12 @@ use Rattle.name_map.specs.Added.{Placed, payloads_of, known_of, named_of, start_
 abbrev pub part_of : ℕ → Placed → PlainPart
 part_of rank a = record { first = a.payload.before; rank = rank; start = start_of a; ids = known_ids a.payload }
 
+-- what is kept of each payload, behind so many known ids
 abbrev pub parts_of : ℕ → List Placed → List PlainPart
 parts_of rank [] = []
 parts_of rank (a ∷ more) = part_of rank a ∷ parts_of (rank + length a.payload.known) more
 
+-- what a map keeps
 pub record PlainMap : Type 0 where
   -- the payloads' known ids
   pub parts : List PlainPart

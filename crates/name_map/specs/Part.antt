@@ -5,6 +5,7 @@ use Rattle.batch_codec.specs.Reading.{ids_ascend}
 use Rattle.name_map.specs.declared.part.KnownIds.{KnownIds}
 use Rattle.name_map.specs.declared.part.KnownIds.TheVariants.{All, Listed}
 
+-- what is kept of one payload
 pub record PlainPart : Type 0 where
   -- the master ids of the payload begin here
   pub first : ℕ

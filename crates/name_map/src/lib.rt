@@ -12,7 +12,7 @@ mod search;
 mod sizes;
 
 pub use fault::MapFault;
-pub use laws::{known_names_are_distinct, payloads_stay};
+pub use laws::{known_names_are_distinct, names_spelled_out, payloads_stay};
 pub use map::NameMap;
 
 #[cfg(test)]

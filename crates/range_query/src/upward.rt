@@ -11,8 +11,7 @@ ghost use Rattle.range_query.specs.Rising.{Lowest};
 
 use crate::place::{count_below, lowest_of};
 use crate::rising::Rising;
-use ancestor_query::ID_END;
-use id_groups::{Id, IdSpan};
+use id_groups::{ID_END, Id, IdSpan};
 use segment_codec::{SegmentRef, SegmentTable, Steps};
 use span_set::IdSet;
 use std::alloc::{AllocError, Global};

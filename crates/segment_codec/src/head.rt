@@ -4,7 +4,7 @@ ghost use Rattle.std.specs.Prelude.{◌≡◌, ◌≤◌, ◌<◌, ◌^◌, IfSo
 ghost use Rattle.segment_codec.specs.Reading.{Gives, fixed_at, is_head, head_at, most_parents};
 
 use crate::number::read_number;
-use id_groups::FIRST_OTHER;
+use id_groups::{FIRST_OTHER, ID_END};
 
 /// The highest level of segments.
 const TOP_LEVEL: u8 = 7;
@@ -14,9 +14,6 @@ const FLAT_PARENTS: u64 = 8;
 
 /// The most parents of a segment of a higher level.
 const MOST_PARENTS: u64 = 1 << 24;
-
-/// Ids stay below this number.
-const ID_END: u64 = 1 << 57;
 
 /// What a record says before its parents.
 #[derive(Clone, Copy)]

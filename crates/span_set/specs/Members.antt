@@ -42,11 +42,12 @@ abbrev pub ids_of : List IdSpan → List ℕ
 ids_of [] = []
 ids_of (s ∷ rest) = descending_from s.low (width s) ++ ids_of rest
 
--- each id lies above those behind it
+-- x lies above each id of the list
 abbrev pub AreUnder : ℕ → List ℕ → Type 0
 AreUnder x [] = ⊤
 AreUnder x (y ∷ ys) = (y < x) × AreUnder x ys
 
+-- each id lies above all that stand behind it
 abbrev pub IsDescending : List ℕ → Type 0
 IsDescending [] = ⊤
 IsDescending (x ∷ xs) = AreUnder x xs × IsDescending xs

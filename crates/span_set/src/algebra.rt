@@ -5,11 +5,8 @@ ghost use Rattle.id_groups.specs.Span.{IsSpan, IsInSpan};
 ghost use Rattle.span_set.specs.Members.{IsMember, IsCanonical, IsBelow, ids_of, width};
 
 use crate::set::IdSet;
-use id_groups::{Id, IdSpan};
+use id_groups::{ID_END, Id, IdSpan};
 use std::alloc::{AllocError, Global};
-
-/// No id is this high.
-const ID_END: u64 = 1 << 57;
 
 /// Whether a union goes on with the left list.
 fn is_left_next(left: &[IdSpan], i: usize, right: &[IdSpan], j: usize) -> bool

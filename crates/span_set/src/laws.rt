@@ -1,6 +1,6 @@
 //! Laws of the definitions.
 
-ghost use Rattle.std.specs.Prelude.{◌≡◌, ◌↔◌, ℕ, List};
+ghost use Rattle.std.specs.Prelude.{◌≡◌, ◌-◌, ◌^◌, ◌↔◌, ℕ, List, [], ◌∷◌};
 ghost use Rattle.id_groups.specs.declared.span.IdSpan.{IdSpan as PlainSpan};
 ghost use Rattle.id_groups.specs.Id.{group_of};
 ghost use Rattle.id_groups.specs.Lists.{IsIn};
@@ -19,4 +19,11 @@ pub fn each_once()
     ensures descending { (a : List PlainSpan) → IsCanonical a → IsDescending (ids_of a) }
     ensures group { (s : PlainSpan) (x : ℕ) → IsSpan s → IsInSpan x s
         → (group_of x ≡ group_of s.low) × (group_of x ≡ group_of s.high) }
+{}
+
+/// Ids of spans, spans that two groups keep apart, and spans that one group would join.
+pub fn spans_spelled_out()
+    ensures ids { ids_of (record { low = 8; high = 9 } ∷ record { low = 3; high = 5 } ∷ []) ≡ 9 ∷ 8 ∷ 5 ∷ 4 ∷ 3 ∷ [] }
+    ensures apart { IsCanonical (record { low = 2 ^ 56; high = 2 ^ 56 } ∷ record { low = 3; high = 2 ^ 56 - 1 } ∷ []) }
+    ensures adjacent { ¬ (IsCanonical (record { low = 6; high = 9 } ∷ record { low = 3; high = 5 } ∷ [])) }
 {}

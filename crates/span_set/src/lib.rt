@@ -9,7 +9,7 @@ mod search;
 mod set;
 
 pub use ids_down::IdsDown;
-pub use laws::{each_once, one_form};
+pub use laws::{each_once, one_form, spans_spelled_out};
 pub use set::IdSet;
 
 #[cfg(test)]
