@@ -4,5 +4,6 @@ pub mod Groups
 pub mod Lists
 pub mod Orders
 pub mod Records
+pub mod Skipping
 pub mod Tables
 pub mod Flats

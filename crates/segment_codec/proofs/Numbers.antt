@@ -45,12 +45,12 @@ abbrev pub groups_end : ℕ → ℕ
 groups_end zero = 1
 groups_end (suc k) = 128 * groups_end k
 
-record Group (group n m : ℕ) : Type 0 where
+pub record Group (group n m : ℕ) : Type 0 where
   pub value : n ≡ group + 128 * m
   pub more : 0 < m
 
 -- a group below a number
-group_is : (group : ℕ) (r : Option (ℕ × List ℕ)) (n : ℕ) (rest : List ℕ) → group_below group r ≡ Some (n, rest)
+pub group_is : (group : ℕ) (r : Option (ℕ × List ℕ)) (n : ℕ) (rest : List ℕ) → group_below group r ≡ Some (n, rest)
     → (m : ℕ) × (r ≡ Some (m, rest)) × Group group n m
 group_is group None n rest e = absurd cc
 group_is group (Some x) n rest e = later (eqb x.0 0) refl e

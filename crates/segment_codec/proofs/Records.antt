@@ -180,7 +180,7 @@ record_joined bytes head after ns rest h parents test =
           ∙ sym (segment-spelled (made_of head ns rest).0 rest);
     }
 
-head-rest : (bytes : List ℕ) (x : Head × List ℕ) → IsBytes bytes → HeadTaken bytes x → IsBytes x.1
+pub head-rest : (bytes : List ℕ) (x : Head × List ℕ) → IsBytes bytes → HeadTaken bytes x → IsBytes x.1
 head-rest bytes x fits h =
     bytes-drop (h.flags ∷ x.0.level ∷ to_be_bytes w64 x.0.high ++ (number_bytes (x.0.high - x.0.low) ++ number_bytes x.0.count)) x.1 bytes
     (h.parts ∙ ap (λ (z : List ℕ). h.flags ∷ x.0.level ∷ to_be_bytes w64 x.0.high ++ z) (sym (append_assoc (number_bytes (x.0.high - x.0.low)) (number_bytes x.0.count) x.1))) fits

@@ -4,6 +4,7 @@
 //! the trait of a table of segments, with its laws.
 
 mod head;
+mod known;
 mod laws;
 mod lent;
 mod number;
@@ -13,6 +14,7 @@ mod steps;
 mod table;
 mod writing;
 
+pub use known::read_known;
 pub use laws::{numbers_are_spelled, records_are_spelled};
 pub use lent::{Parents, SegmentRef};
 pub use reading::{read_high, read_segment};

@@ -1,9 +1,9 @@
 //! Numbers of variable length: seven bits a byte, the lowest first. Only the shortest form is a spelling.
 
-ghost use Rattle.std.specs.Prelude.{◌≡◌, ◌+◌, ◌*◌, ◌<◌, ◌^◌, ◌++◌, ◌≤◌, MatchOption, OnOk, OnErr};
+ghost use Rattle.std.specs.Prelude.{◌≡◌, ◌+◌, ◌*◌, ◌<◌, ◌^◌, ◌++◌, ◌≤◌, ℕ, List, Some, MatchOption, OnOk, OnErr};
 ghost use Rattle.segment_codec.specs.Number.{number_bytes};
 ghost use Rattle.segment_codec.specs.Record.{HasFront};
-ghost use Rattle.segment_codec.specs.Reading.{Gives, number_at};
+ghost use Rattle.segment_codec.specs.Reading.{Gives, number_at, numbers_at};
 
 use std::alloc::AllocError;
 
@@ -19,6 +19,18 @@ fn with_group(value: u64, unit: u64, group: u64) -> Option<u64>
 
 /// The number in front, and the rest; `None` where no number's spelling stands in front.
 pub fn read_number(bytes: &[u8]) -> Option<(u64, &[u8])>
+    ensures { Gives (λ r. (r.0, r.1.now)) result (number_at bytes.now) }
+{
+    if let Some((only, rest)) = bytes.split_first() {
+        if *only < MORE {
+            return Some((u64::from(*only), rest));
+        }
+    }
+    read_groups(bytes)
+}
+
+/// The same, whatever the first byte is.
+fn read_groups(bytes: &[u8]) -> Option<(u64, &[u8])>
     ensures { Gives (λ r. (r.0, r.1.now)) result (number_at bytes.now) }
 {
     let mut value = 0u64;
@@ -37,6 +49,31 @@ pub fn read_number(bytes: &[u8]) -> Option<(u64, &[u8])>
         rest = others;
     }
     None
+}
+
+/// What stands behind the number in front.
+fn skip_number(bytes: &[u8]) -> &[u8]
+    ensures { (n : ℕ) (after : List ℕ) → number_at bytes.now ≡ Some (n, after) → result.now ≡ after }
+{
+    let mut rest = bytes;
+    'groups: while let Some((first, others)) = rest.split_first() {
+        if *first < MORE {
+            return others;
+        }
+        rest = others;
+    }
+    rest
+}
+
+/// What stands behind so many numbers.
+pub fn skip_numbers(bytes: &[u8], count: u64) -> &[u8]
+    ensures { (end : ℕ) (numbers after : List ℕ) → numbers_at end count bytes.now ≡ Some (numbers, after) → result.now ≡ after }
+{
+    let mut rest = bytes;
+    'numbers: for _ in 0..count {
+        rest = skip_number(rest);
+    }
+    rest
 }
 
 /// Appends the number. A refusal may leave a part of it at the end.

@@ -1,6 +1,6 @@
 use Rattle.std.proofs.Common.{length}
 use Rattle.segment_codec.proofs.Groups.{Reads}
-use Rattle.segment_codec.proofs.number.read_number.Given as goal
+use Rattle.segment_codec.proofs.number.read_groups.Given as goal
 
 abbrev pub invariant-groups : goal.invariant-groups
 invariant-groups l = Reads l.bytes l.value l.unit l.rest
