@@ -3,7 +3,8 @@ use Rattle.std.proofs.Common.{◌≡◌, ℕ, zero, suc, ◌+◌, ◌-◌, ◌<�
 use Rattle.std.specs.Prelude.{⊤, slice_get, is_some, nat_lt, nat_le, nat_eq}
 use Rattle.std.specs.List.{list_all, AllWithin}
 use Rattle.std.specs.List.Sorted.{IsPartitionedBy}
-use Rattle.std.proofs.lemmas.Bool.{ltb-true, leb-true, leb-false, le-leb, eqb-true}
+use Rattle.std.proofs.lemmas.Bool.{ltb-true, leb-true, leb-false, le-leb, lt-leb, eqb-true}
+use Rattle.std.proofs.lemmas.List.{get_or_default}
 use Rattle.id_groups.specs.Id.{is_master_id}
 use Rattle.id_groups.proofs.Listing.{and_true}
 use Rattle.segment_codec.specs.Record.{Segment}
@@ -123,19 +124,17 @@ pub record ReadAt (bytes : List ℕ) (end : ℕ) (es : List Entry) (k next : ℕ
   pub order : s.low ≤ next - 1
   pub get : slice_get (flats_in bytes end es) k ≡ Some (record s { high = next - 1 })
 
-pub read-at : (bytes : List ℕ) (end : ℕ) (es : List Entry) (k next : ℕ) (d : Entry) (s : Segment) (rest : List ℕ) → is_run bytes end es ≡ true → k < length es
-    → next ≡ low_of end (drop (k + 1) es) → record_at (drop (get_or es k d).place bytes) ≡ Some (s, rest) → ReadAt bytes end es k next s
-read-at bytes end es k next d s rest h lt e f =
+pub read-at : (bytes : List ℕ) (end : ℕ) (es : List Entry) (k next : ℕ) (d : Entry) (q : Segment) (behind : List ℕ) → is_run bytes end es ≡ true → k < length es
+    → next ≡ low_of end (drop (k + 1) es) → behind ≡ drop (get_or es k d).place bytes → ((s : Segment) (rest : List ℕ) → record_at behind ≡ Some (s, rest) → q ≡ s) → ReadAt bytes end es k next q
+read-at bytes end es k next d q behind h lt e cut known =
     let at = run-at bytes end es k next d h lt e in
-    let same : segment_in bytes (get_or es k d) ≡ s = ap segment_read f in
+    let there = at.read.some in
+    let same : segment_in bytes (get_or es k d) ≡ q = ap segment_read there.1 ∙ sym (known there.0.0 there.0.1 (ap record_at cut ∙ there.1)) in
     record {
       group = subst (λ (q : Segment). is_master_id q.low ≡ is_master_id (next - 1)) same at.flat.segment.one_group;
       order = subst (λ (q : Segment). q.low ≤ next - 1) same at.flat.segment.ascending;
       get = at.get ∙ ap (λ (q : Segment). Some (record q { high = next - 1 })) same;
     }
-
-pub read-never : (bytes : List ℕ) (e : Entry) → IsRead bytes e → record_at (drop e.place bytes) ≡ None → ⊥
-read-never bytes e h n = let s = h.some in let f = s.1 in cc
 
 -- ---- a search
 
@@ -157,6 +156,20 @@ lows-rise end (e ∷ es) zero (suc j) d h le lt =
 lows-rise end (e ∷ es) (suc i) zero d h le lt = absurd (omega arith)
 lows-rise end (e ∷ es) (suc i) (suc j) d h le lt =
     lows-rise end es i j d (and_true (nat_lt e.low (low_of end es)) (do_rise end es) h).1 (le_of_suc-le-suc le) (le_of_suc-le-suc lt)
+
+-- what begins before an entry that doesn't begin above the id doesn't either
+pub front-to : (end id : ℕ) (es : List Entry) (at : ℕ) (d : Entry) → do_rise end es ≡ true → at < length es → (get_or es at d).low ≤ id
+    → AllWithin (λ (e : Entry). nat_le e.low id ≡ true) es 0 (at + 1)
+front-to end id es at d h lt le k e from to =
+    let rise = lows-rise end es k at e h (omega (arith, to)) lt in
+    let same = ap (λ (x : Entry). x.low) (get_or_default es at d e lt) in le-leb _ _ (omega (arith, rise, same, le))
+
+-- what stands behind an entry that begins above the id begins above it
+pub back-from : (end id : ℕ) (es : List Entry) (at : ℕ) (d : Entry) → do_rise end es ≡ true → at < length es → id < (get_or es at d).low
+    → AllWithin (λ (e : Entry). nat_le e.low id ≡ false) es at (length es)
+back-from end id es at d h lt above k e from to =
+    let rise = lows-rise end es at k e h from to in
+    let same = ap (λ (x : Entry). x.low) (get_or_default es at d e lt) in lt-leb _ _ (omega (arith, rise, same, above))
 
 pub lows-parted : (end id : ℕ) (es : List Entry) → do_rise end es ≡ true → IsPartitionedBy (λ (e : Entry). nat_le e.low id) es
 lows-parted end id es h i j d le lt t = let low = leb-true _ _ t in let rise = lows-rise end es i j d h le lt in le-leb _ _ (omega arith)

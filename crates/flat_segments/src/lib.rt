@@ -9,6 +9,7 @@ mod laws;
 mod lookups;
 mod record;
 mod run;
+mod search;
 mod section;
 mod table;
 mod view;

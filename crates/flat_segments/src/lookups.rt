@@ -3,30 +3,43 @@
 ghost use Rattle.std.specs.Prelude.{◌≡◌, ◌<◌, length, slice_get, Some, None, MatchOption};
 ghost use Rattle.segment_codec.specs.Lent.{segment_of};
 ghost use Rattle.segment_codec.specs.Table.{segment_at};
-ghost use Rattle.flat_segments.specs.Views.{view_flats};
+ghost use Rattle.flat_segments.specs.Views.{view_flats, IsRunWith};
 
+use crate::run::Run;
 use crate::view::FlatView;
 use id_groups::{FIRST_OTHER, Id};
 use segment_codec::{Bounds, SegmentRef, SegmentTable, Steps};
 
 impl<'a> FlatView<'a> {
-    /// The segment that has the id; `None` exactly where the id isn't in the bounds.
-    fn find(&self, id: u64) -> Option<SegmentRef<'a>>
-        ensures { MatchOption result (segment_at (view_flats self.now) id ≡ None) (λ r. segment_at (view_flats self.now) id ≡ Some (segment_of r)) }
+    /// The run that has the id; `None` exactly where the id isn't in the bounds.
+    fn run_with(&self, id: u64) -> Option<Run<'a>>
+        ensures { MatchOption result (segment_at (view_flats self.now) id ≡ None) (λ run. IsRunWith self.now id run) }
     {
         if id < self.master.end {
-            return Some(self.master.find(id));
+            return Some(self.master);
         }
         if id < FIRST_OTHER {
             return None;
         }
         if id < self.others.end {
-            return Some(self.others.find(id));
+            return Some(self.others);
         }
         if id < self.pending.end {
-            return Some(self.pending.find(id));
+            return Some(self.pending);
         }
         None
+    }
+
+    /// The segment that has the id; `None` exactly where the id isn't in the bounds. The search begins near the place
+    /// where the last one ended.
+    fn find(&self, id: u64, steps: &mut Steps) -> Option<SegmentRef<'a>>
+        ensures found { MatchOption result (segment_at (view_flats self.now) id ≡ None) (λ r. segment_at (view_flats self.now) id ≡ Some (segment_of r)) }
+        ensures steps { steps.new ≡ steps.old }
+    {
+        let run = self.run_with(id)?;
+        let place = run.place_of(id, steps.near());
+        steps.set_near(place);
+        Some(run.at(place))
     }
 
     /// The segment at place `k`.
@@ -72,7 +85,7 @@ impl<'a> SegmentTable for FlatView<'a> {
 
     fn flat<'b>(&'b self, id: Id, steps: &mut Steps) -> Option<SegmentRef<'b>> {
         steps.tick();
-        self.find(id.number())
+        self.find(id.number(), steps)
     }
 
     fn flat_at<'b>(&'b self, k: u32, steps: &mut Steps) -> SegmentRef<'b> {
@@ -85,7 +98,7 @@ impl<'a> SegmentTable for FlatView<'a> {
         if level > 0 {
             return None;
         }
-        let found = self.find(id.number())?;
+        let found = self.find(id.number(), steps)?;
         if found.high().number() == id.number() {
             Some(found)
         } else {

@@ -1,14 +1,16 @@
 //! Segments that follow one another, of which the records are lent.
 
 ghost use Rattle.std.specs.Prelude.{◌≡◌, ◌<◌, ◌≤◌, ◌+◌, ◌^◌, [], true, length, drop, slice_get, Some};
+ghost use Rattle.segment_codec.specs.Record.{Segment};
 ghost use Rattle.segment_codec.specs.Lent.{segment_of};
 ghost use Rattle.segment_codec.specs.Table.{segment_at};
 ghost use Rattle.flat_segments.specs.Maximal.{begin_of};
 ghost use Rattle.flat_segments.specs.Runs.{is_run, flats_in, low_of};
 
 use crate::entry::Entry;
+use crate::search::count_up_to;
 use id_groups::{FIRST_OTHER, Id};
-use segment_codec::{SegmentRef, read_segment};
+use segment_codec::{SegmentRef, read_known};
 
 /// Some segments in turn, up to the id before the end. A segment ends where the next begins.
 #[derive(Clone, Copy)]
@@ -49,19 +51,18 @@ impl<'a> Run<'a> {
         ensures { slice_get (flats_in self.now.bytes.now self.now.end self.now.entries.now) k ≡ Some (segment_of result) }
     {
         let (_, record) = self.bytes.split_at(self.entries[k].place as usize);
-        let Some((segment, _)) = read_segment(record) else {
-            unreachable!()
-        };
+        let segment = read_known(record);
         segment.ending_at(Id::from_number(self.end_of(k) - 1))
     }
 
-    /// The segment that has the id.
-    pub(crate) fn find(&self, id: u64) -> SegmentRef<'a>
+    /// The place of the segment that has the id, which is sought near a place at first.
+    pub(crate) fn place_of(&self, id: u64, near: usize) -> usize
         requires above { begin_of self.now.end (flats_in self.now.bytes.now self.now.end self.now.entries.now) ≤ id }
         requires below { id < self.now.end }
-        ensures { segment_at (flats_in self.now.bytes.now self.now.end self.now.entries.now) id ≡ Some (segment_of result) }
+        ensures within { result < length self.now.entries.now }
+        ensures found { (s : Segment) → slice_get (flats_in self.now.bytes.now self.now.end self.now.entries.now) result ≡ Some s
+            → segment_at (flats_in self.now.bytes.now self.now.end self.now.entries.now) id ≡ Some s }
     {
-        let behind = self.entries.partition_point(|entry| entry.low <= id);
-        self.at(behind - 1)
+        count_up_to(self.entries, id, near) - 1
     }
 }

@@ -1,15 +1,15 @@
 -- Numbers that are passed over, and the parents of a record that is known to stand.
-use Rattle.std.proofs.Common.{◌≡◌, ℕ, suc, ◌+◌, ◌-◌, ◌^◌, ◌<◌, ◌≤◌, cond, ltb, List, [], ◌∷◌, ◌++◌, length, take, Option, Some, None, refl, sym, ap, subst, ◌∙◌, arith, lit≤}
+use Rattle.std.proofs.Common.{◌≡◌, ℕ, suc, ◌+◌, ◌-◌, ◌^◌, ◌<◌, ◌≤◌, cond, ltb, List, [], ◌∷◌, length, take, Option, Some, None, refl, sym, ap, subst, ◌∙◌, arith, lit≤}
 use Rattle.std.specs.List.{flat_map, AllByRecursion}
 use Rattle.std.proofs.lemmas.Bool.{lt-ltb, le-ltb}
 use Rattle.std.proofs.lemmas.List.{take_at, length-append}
 use Rattle.segment_codec.specs.declared.head.Head.{Head}
 use Rattle.segment_codec.specs.Number.{number_bytes, numbers_in}
-use Rattle.segment_codec.specs.Record.{Segment, IsSegment, segment_bytes}
+use Rattle.segment_codec.specs.Record.{Segment}
 use Rattle.segment_codec.specs.Reading.{◌>>=◌, group_below, long_number_at, number_at, numbers_at, head_at, are_in_order, record_at}
 use Rattle.segment_codec.proofs.Numbers.{IsBytes, part_is, bind_some, guard_some, some_is, chosen, group_is}
 use Rattle.segment_codec.proofs.Lists.{numbers_take, in-numbers, all-below}
-use Rattle.segment_codec.proofs.Records.{head_takes, head-rest, record_again}
+use Rattle.segment_codec.proofs.Records.{head_takes, head-rest}
 
 -- ---- one number
 
@@ -99,13 +99,13 @@ known-of bytes s rest e =
 head-same : (x y : Head × List ℕ) (r : Option (Head × List ℕ)) → r ≡ Some x → r ≡ Some y → x ≡ y
 head-same x y r e f = some_is x y (sym e ∙ f)
 
-pub known-head : (bytes : List ℕ) (s : Segment) (rest : List ℕ) (x : Head × List ℕ) → IsSegment s → bytes ≡ segment_bytes s ++ rest → head_at bytes ≡ Some x → Known x s rest
-known-head bytes s rest x h e f =
-    let k = known-of bytes s rest (ap record_at e ∙ record_again s rest h) in
+pub known-head : (bytes : List ℕ) (s : Segment) (rest : List ℕ) (x : Head × List ℕ) → record_at bytes ≡ Some (s, rest) → head_at bytes ≡ Some x → Known x s rest
+known-head bytes s rest x e f =
+    let k = known-of bytes s rest e in
     subst (λ (z : Head × List ℕ). Known z s rest) (head-same k.0 x (head_at bytes) k.1 f) k.2
 
-pub known-never : (bytes : List ℕ) (s : Segment) (rest : List ℕ) → IsSegment s → bytes ≡ segment_bytes s ++ rest → head_at bytes ≡ None → ⊥
-known-never bytes s rest h e f = let k = known-of bytes s rest (ap record_at e ∙ record_again s rest h) in let some = k.1 in absurd cc
+pub known-never : (bytes : List ℕ) (s : Segment) (rest : List ℕ) → record_at bytes ≡ Some (s, rest) → head_at bytes ≡ None → ⊥
+known-never bytes s rest e f = let k = known-of bytes s rest e in let some = k.1 in absurd cc
 
 pub known-parts : (bytes : List ℕ) (x : Head × List ℕ) (s : Segment) (rest : List ℕ) → IsBytes bytes → head_at bytes ≡ Some x → Known x s rest → length rest ≤ length x.1
 known-parts bytes x s rest fits f known =
@@ -124,11 +124,11 @@ pub record Cut (x : Head × List ℕ) (s : Segment) (rest front : List ℕ) : Ty
   pub spelled : front ≡ flat_map number_bytes (numbers_in front)
   pub below : AllByRecursion (λ p. p < x.0.low) (numbers_in front)
 
-pub known-cut : (bytes : List ℕ) (s : Segment) (rest : List ℕ) (x : Head × List ℕ) (after front : List ℕ) → IsBytes bytes → IsSegment s → bytes ≡ segment_bytes s ++ rest → head_at bytes ≡ Some x
+pub known-cut : (bytes : List ℕ) (s : Segment) (rest : List ℕ) (x : Head × List ℕ) (after front : List ℕ) → IsBytes bytes → record_at bytes ≡ Some (s, rest) → head_at bytes ≡ Some x
     → after ≡ rest → front ≡ take (length x.1 - length after) x.1 → x.0.low < 2 ^ 57 → Cut x s rest front
-known-cut bytes s rest x after front fits h e f same cut small =
+known-cut bytes s rest x after front fits e f same cut small =
     let k : 2 ^ 57 ≤ 2 ^ 64 = lit≤ tt in
-    let known = known-head bytes s rest x h e f in
+    let known = known-head bytes s rest x e f in
     let taken = numbers_take x.0.low x.0.count x.1 (s.parents, rest) (head-rest bytes x fits (head_takes bytes x fits f)) known.numbers in
     let whole = ap length taken.parts in
     let parts = length-append (flat_map number_bytes s.parents) rest in
