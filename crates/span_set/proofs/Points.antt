@@ -1,8 +1,9 @@
 -- The two parts of a list of spans round the place that a search finds.
-use Rattle.std.proofs.Common.{◌≡◌, ℕ, zero, suc, ◌<◌, ◌≤◌, ◌↔◌, List, [], ◌∷◌, length, get_or, take, drop, arith, true, false, le_of_suc-le-suc, suc-le-suc, zero-le, le_refl}
+use Rattle.std.proofs.Common.{◌≡◌, ℕ, zero, suc, ◌-◌, ap, ◌<◌, ◌≤◌, ◌↔◌, List, [], ◌∷◌, length, get_or, take, drop, arith, true, false, le_of_suc-le-suc, suc-le-suc, zero-le, le_refl}
 use Rattle.std.specs.Prelude.{nat_lt, nat_le}
 use Rattle.std.specs.List.{AllWithin}
 use Rattle.std.specs.List.Sorted.{IsPartitionedBy}
+use Rattle.std.proofs.lemmas.List.{get_or_default}
 use Rattle.std.proofs.lemmas.Bool.{ltb-true, ltb-false, leb-true, leb-false, lt-ltb, le-leb}
 use Rattle.id_groups.specs.declared.span.IdSpan.{IdSpan}
 use Rattle.id_groups.specs.Span.{IsSpan}
@@ -40,6 +41,19 @@ begin-above-point id zero xs h = tt
 begin-above-point id (suc n) [] h = tt
 begin-above-point id (suc n) (s ∷ xs) h =
     (ltb-true _ _ (h 0 s zero-le (omega arith)), begin-above-point id n xs (λ k d a b. h (suc k) d zero-le (suc-le-suc b)))
+
+pub none-begins-above : (id n : ℕ) (xs : List IdSpan) → length xs ≡ 0 → BeginAbove id (take n xs)
+none-begins-above id zero xs e = tt
+none-begins-above id (suc n) [] e = tt
+none-begins-above id (suc n) (s ∷ xs) e = absurd (omega (arith, e))
+
+-- where the lowest begins above the id all do
+pub all-begin-above : (id : ℕ) (xs : List IdSpan) (d : IdSpan) → IsCanonical xs → 0 < length xs → id < (get_or xs (length xs - 1) d).low → BeginAbove id (take (length xs) xs)
+all-begin-above id xs d c some lt =
+    begin-above-point id (length xs) xs (λ k e from to.
+    let fall = lows-fall xs k (length xs - 1) e c (omega (arith, to)) (omega (arith, some)) in
+    let same = ap (λ (s : IdSpan). s.low) (get_or_default xs (length xs - 1) d e (omega (arith, some))) in
+    lt-ltb id (get_or xs k e).low (omega (arith, lt, same, fall)))
 
 pub begin-within-point : (id n : ℕ) (xs : List IdSpan) → AllWithin (λ (s : IdSpan). nat_lt id s.low ≡ false) xs n (length xs) → BeginWithin id (drop n xs)
 begin-within-point id zero [] h = tt

@@ -53,7 +53,7 @@ pub(crate) fn count_above(spans: &[IdSpan], span: &IdSpan, to: usize) -> usize
     from
 }
 
-/// How many spans begin above the id.
+/// How many spans begin above the id. All of them is told at once.
 pub(crate) fn count_begin_above(spans: &[IdSpan], id: Id) -> usize
     requires { IsCanonical spans.now }
     ensures within { result ≤ length spans.now }
@@ -61,5 +61,9 @@ pub(crate) fn count_begin_above(spans: &[IdSpan], id: Id) -> usize
     ensures rest { BeginWithin id (drop result spans.now) }
 {
     let number = id.number();
+    let len = spans.len();
+    if len == 0 || number < spans[len - 1].low.number() {
+        return len;
+    }
     spans.partition_point(|held| number < held.low.number())
 }
