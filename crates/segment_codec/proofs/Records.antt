@@ -127,7 +127,7 @@ flags-of : (count : ℕ) (ns : List ℕ) → length ns ≡ count → cond (eqb c
 flags-of count [] e = rw (← e) refl
 flags-of count (n ∷ ns) e = let t : eqb count 0 ≡ false = ne_eqb count 0 (λ z. absurd (omega (arith, e, z))) in rw t refl
 
-segment-spelled : (s : Segment) (rest : List ℕ) → segment_bytes s ++ rest ≡ spelled (flags_of s.parents) s.level s.high (s.high - s.low) (length s.parents) (flat_map number_bytes s.parents ++ rest)
+pub segment-spelled : (s : Segment) (rest : List ℕ) → segment_bytes s ++ rest ≡ spelled (flags_of s.parents) s.level s.high (s.high - s.low) (length s.parents) (flat_map number_bytes s.parents ++ rest)
 unfolding segment_bytes
 segment-spelled s rest = spelled-more (flags_of s.parents) s.level s.high (s.high - s.low) (length s.parents) (flat_map number_bytes s.parents) rest
 
@@ -144,7 +144,7 @@ group-decided low high false e f = le-leb (2 ^ 56) low (ltb-false low (2 ^ 56) f
 most-flat : (level count : ℕ) → level ≡ 0 → count ≤ most_parents level → count ≤ 8
 most-flat level count e h = rw e at h
 
-most-any : (level count : ℕ) → count ≤ most_parents level → count ≤ 16777216
+pub most-any : (level count : ℕ) → count ≤ most_parents level → count ≤ 16777216
 most-any zero count h = omega (arith, h)
 most-any (suc k) count h = subst (λ (n : ℕ). count ≤ n) (above-flat k 8 16777216) h
 
@@ -180,7 +180,7 @@ record_joined bytes head after ns rest h parents test =
           ∙ sym (segment-spelled (made_of head ns rest).0 rest);
     }
 
-pub head-rest : (bytes : List ℕ) (x : Head × List ℕ) → IsBytes bytes → HeadTaken bytes x → IsBytes x.1
+head-rest : (bytes : List ℕ) (x : Head × List ℕ) → IsBytes bytes → HeadTaken bytes x → IsBytes x.1
 head-rest bytes x fits h =
     bytes-drop (h.flags ∷ x.0.level ∷ to_be_bytes w64 x.0.high ++ (number_bytes (x.0.high - x.0.low) ++ number_bytes x.0.count)) x.1 bytes
     (h.parts ∙ ap (λ (z : List ℕ). h.flags ∷ x.0.level ∷ to_be_bytes w64 x.0.high ++ z) (sym (append_assoc (number_bytes (x.0.high - x.0.low)) (number_bytes x.0.count) x.1))) fits
@@ -195,7 +195,7 @@ record_takes bytes x fits e =
     let parents = numbers_take a.0.0.low a.0.0.count a.0.1 b.0 (head-rest bytes a.0 fits head) b.1 in
     subst (RecordTaken bytes) g.1 (record_joined bytes a.0.0 a.0.1 b.0.0 b.0.1 head parents g.0)
 
-few-parents : (level : ℕ) (parents : List ℕ) → HasLevelsParents level parents → length parents ≤ most_parents level
+pub few-parents : (level : ℕ) (parents : List ℕ) → HasLevelsParents level parents → length parents ≤ most_parents level
 few-parents zero parents h = h
 few-parents (suc k) parents h = subst (λ (n : ℕ). length parents ≤ n) (sym (above-flat k 8 16777216)) h.0
 

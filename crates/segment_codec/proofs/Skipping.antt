@@ -1,15 +1,16 @@
 -- Numbers that are passed over, and the parents of a record that is known to stand.
-use Rattle.std.proofs.Common.{◌≡◌, ℕ, suc, ◌+◌, ◌-◌, ◌^◌, ◌<◌, ◌≤◌, cond, ltb, List, [], ◌∷◌, length, take, Option, Some, None, refl, sym, ap, subst, ◌∙◌, arith, lit≤}
+use Rattle.std.proofs.Common.{◌≡◌, ℕ, suc, ◌+◌, ◌-◌, ◌^◌, ◌<◌, ◌≤◌, cond, ltb, List, [], ◌∷◌, ◌++◌, length, take, drop, get_or, Some, None, refl, sym, ap, subst, ◌∙◌, arith, lit≤}
 use Rattle.std.specs.List.{flat_map, AllByRecursion}
+use Rattle.std.specs.Int.{w64, to_be_bytes}
 use Rattle.std.proofs.lemmas.Bool.{lt-ltb, le-ltb}
 use Rattle.std.proofs.lemmas.List.{take_at, length-append}
-use Rattle.segment_codec.specs.declared.head.Head.{Head}
+use Rattle.id_groups.specs.Id.{id_end}
 use Rattle.segment_codec.specs.Number.{number_bytes, numbers_in}
-use Rattle.segment_codec.specs.Record.{Segment}
-use Rattle.segment_codec.specs.Reading.{◌>>=◌, group_below, long_number_at, number_at, numbers_at, head_at, are_in_order, record_at}
-use Rattle.segment_codec.proofs.Numbers.{IsBytes, part_is, bind_some, guard_some, some_is, chosen, group_is}
-use Rattle.segment_codec.proofs.Lists.{numbers_take, in-numbers, all-below}
-use Rattle.segment_codec.proofs.Records.{head_takes, head-rest}
+use Rattle.segment_codec.specs.Record.{Segment, IsSegment, segment_bytes, flags_of}
+use Rattle.segment_codec.specs.Reading.{◌>>=◌, group_below, long_number_at, number_at, numbers_at, record_at}
+use Rattle.segment_codec.proofs.Numbers.{IsBytes, part_is, bind_some, guard_some, some_is, chosen, group_is, number_again}
+use Rattle.segment_codec.proofs.Lists.{in-numbers, all-below, numbers_again}
+use Rattle.segment_codec.proofs.Records.{record_takes, segment-spelled, most-any, few-parents}
 
 -- ---- one number
 
@@ -71,72 +72,98 @@ none-left end bytes ms after e =
 
 -- ---- a record that stands
 
-pub record Known (x : Head × List ℕ) (s : Segment) (rest : List ℕ) : Type 0 where
-  pub numbers : numbers_at x.0.low x.0.count x.1 ≡ Some (s.parents, rest)
-  pub low : x.0.low ≡ s.low
-  pub high : x.0.high ≡ s.high
-  pub level : x.0.level ≡ s.level
+-- the fields of a record in front of bytes
+pub record Standing (bytes : List ℕ) (s : Segment) (rest : List ℕ) : Type 0 where
+  pub segment : IsSegment s
+  pub long : 10 ≤ length bytes
+  pub level : get_or bytes 1 0 ≡ s.level
+  pub span : number_at (drop 10 bytes) ≡ Some (s.high - s.low, number_bytes (length s.parents) ++ (flat_map number_bytes s.parents ++ rest))
+  pub count : number_at (number_bytes (length s.parents) ++ (flat_map number_bytes s.parents ++ rest)) ≡ Some (length s.parents, flat_map number_bytes s.parents ++ rest)
+  pub numbers : numbers_at s.low (length s.parents) (flat_map number_bytes s.parents ++ rest) ≡ Some (s.parents, rest)
+  pub high : (h : ℕ) → ((t : Segment) (more : List ℕ) → IsSegment t → bytes ≡ segment_bytes t ++ more → h ≡ t.high) → h ≡ s.high
 
-known-of : (bytes : List ℕ) (s : Segment) (rest : List ℕ) → record_at bytes ≡ Some (s, rest) → (x : Head × List ℕ) × (head_at bytes ≡ Some x) × Known x s rest
-unfolding record_at
-known-of bytes s rest e =
-    let a = bind_some (head_at bytes) (λ head. numbers_at head.0.low head.0.count head.1 >>= λ parents.
-    cond (are_in_order head.0.level parents.0) (Some (record { low = head.0.low; high = head.0.high; level = head.0.level; parents = parents.0 }, parents.1)) None) (s, rest) e in
-    let b = bind_some (numbers_at a.0.0.low a.0.0.count a.0.1) (λ parents.
-    cond (are_in_order a.0.0.level parents.0) (Some (record { low = a.0.0.low; high = a.0.0.high; level = a.0.0.level; parents = parents.0 }, parents.1)) None) (s, rest) a.2 in
-    let g = guard_some (are_in_order a.0.0.level b.0.0) (record { low = a.0.0.low; high = a.0.0.high; level = a.0.0.level; parents = b.0.0 }, b.0.1) (s, rest) b.2 in
-    let same : (record { low = a.0.0.low; high = a.0.0.high; level = a.0.0.level; parents = b.0.0 }) ≡ s = ap (λ (z : Segment × List ℕ). z.0) g.1 in (
-      a.0,
-      a.1,
-      record {
-        numbers = b.1 ∙ ap (λ (z : Segment × List ℕ). Some (z.0.parents, z.1)) g.1;
-        low = ap (λ (z : Segment). z.low) same;
-        high = ap (λ (z : Segment). z.high) same;
-        level = ap (λ (z : Segment). z.level) same;
-      },
-    )
+fields-long : (flags level high : ℕ) (tail : List ℕ) → 10 ≤ length (flags ∷ level ∷ to_be_bytes w64 high ++ tail)
+fields-long flags level high tail = let e = length-append (to_be_bytes w64 high) tail in omega (arith, e)
 
-head-same : (x y : Head × List ℕ) (r : Option (Head × List ℕ)) → r ≡ Some x → r ≡ Some y → x ≡ y
-head-same x y r e f = some_is x y (sym e ∙ f)
+pub standing : (bytes : List ℕ) (s : Segment) (rest : List ℕ) → IsSegment s → bytes ≡ segment_bytes s ++ rest → Standing bytes s rest
+standing bytes s rest h e =
+    let k : id_end ≤ 2 ^ 64 = lit≤ tt in
+    let up = h.ascending in let valid = h.valid in
+    let few = most-any s.level (length s.parents) (few-parents s.level s.parents h.level_parents) in
+    let parts = e ∙ segment-spelled s rest in
+    let tail = flat_map number_bytes s.parents ++ rest in
+    let whole = number_bytes (s.high - s.low) ++ (number_bytes (length s.parents) ++ tail) in
+    record {
+      segment = h;
+      long = subst (λ (b : List ℕ). 10 ≤ length b) (sym parts) (fields-long (flags_of s.parents) s.level s.high whole);
+      level = ap (λ (b : List ℕ). get_or b 1 0) parts;
+      span = ap (λ (b : List ℕ). number_at (drop 10 b)) parts ∙ number_again (s.high - s.low) (number_bytes (length s.parents) ++ tail) (omega (arith, k, valid));
+      count = number_again (length s.parents) tail (omega (arith, few));
+      numbers = numbers_again s.low s.parents rest (omega (arith, k, up, valid)) h.below;
+      high = λ n is. is s rest h e;
+    }
 
-pub known-head : (bytes : List ℕ) (s : Segment) (rest : List ℕ) (x : Head × List ℕ) → record_at bytes ≡ Some (s, rest) → head_at bytes ≡ Some x → Known x s rest
-known-head bytes s rest x e f =
-    let k = known-of bytes s rest e in
-    subst (λ (z : Head × List ℕ). Known z s rest) (head-same k.0 x (head_at bytes) k.1 f) k.2
+pub standing-at : (bytes : List ℕ) (s : Segment) (rest : List ℕ) → IsBytes bytes → record_at bytes ≡ Some (s, rest) → Standing bytes s rest
+standing-at bytes s rest fits e = let t = record_takes bytes (s, rest) fits e in standing bytes s rest t.segment t.parts
 
-pub known-never : (bytes : List ℕ) (s : Segment) (rest : List ℕ) → record_at bytes ≡ Some (s, rest) → head_at bytes ≡ None → ⊥
-known-never bytes s rest e f = let k = known-of bytes s rest e in let some = k.1 in absurd cc
+-- the parents that are cut off in front of the bytes behind them
+pub record Cut (s : Segment) (numbers after front : List ℕ) : Type 0 where
+  pub parents : numbers_in front ≡ s.parents
+  pub spelled : front ≡ flat_map number_bytes (numbers_in front)
+  pub below : AllByRecursion (λ p. p < s.low) (numbers_in front)
 
-pub known-parts : (bytes : List ℕ) (x : Head × List ℕ) (s : Segment) (rest : List ℕ) → IsBytes bytes → head_at bytes ≡ Some x → Known x s rest → length rest ≤ length x.1
-known-parts bytes x s rest fits f known =
-    let taken = numbers_take x.0.low x.0.count x.1 (s.parents, rest) (head-rest bytes x fits (head_takes bytes x fits f)) known.numbers in
-    let whole = ap length taken.parts in
-    let parts = length-append (flat_map number_bytes s.parents) rest in
-    omega (arith, whole, parts)
+pub cut-fits : (s : Segment) (rest numbers after : List ℕ) → numbers ≡ flat_map number_bytes s.parents ++ rest → after ≡ rest → length after ≤ length numbers
+cut-fits s rest numbers after parts same = let whole = ap length parts in let e = length-append (flat_map number_bytes s.parents) rest in let f = ap length same in omega (arith, whole, e, f)
+
+pub parents-cut : (s : Segment) (rest numbers after front : List ℕ) → IsSegment s → numbers ≡ flat_map number_bytes s.parents ++ rest → after ≡ rest
+    → front ≡ take (length numbers - length after) numbers → Cut s numbers after front
+parents-cut s rest numbers after front h parts same cut =
+    let k : id_end ≤ 2 ^ 64 = lit≤ tt in
+    let up = h.ascending in let valid = h.valid in
+    let whole = ap length parts in let sum = length-append (flat_map number_bytes s.parents) rest in
+    let len : length (flat_map number_bytes s.parents) ≡ length numbers - length after = omega (arith, whole, sum, ap length same) in
+    let is : front ≡ flat_map number_bytes s.parents = cut ∙ ap (take (length numbers - length after)) parts ∙ take_at (flat_map number_bytes s.parents) rest (length numbers - length after) len in
+    let ns : numbers_in front ≡ s.parents = ap numbers_in is ∙ in-numbers s.parents (all-below s.low (2 ^ 64) s.parents (omega (arith, k, up, valid)) h.below) in
+    record {
+      parents = ns;
+      spelled = is ∙ ap (flat_map number_bytes) (sym ns);
+      below = subst (AllByRecursion (λ p. p < s.low)) (sym ns) h.below;
+    }
 
 pub made : {low high level : ℕ} {parents : List ℕ} {s : Segment} → low ≡ s.low → high ≡ s.high → level ≡ s.level → parents ≡ s.parents
     → (record { low = low; high = high; level = level; parents = parents }) ≡ s
 made a b c d = rw (a, b, c, d) refl
 
--- the parents that are cut off
-pub record Cut (x : Head × List ℕ) (s : Segment) (rest front : List ℕ) : Type 0 where
-  pub parents : numbers_in front ≡ s.parents
-  pub spelled : front ≡ flat_map number_bytes (numbers_in front)
-  pub below : AllByRecursion (λ p. p < x.0.low) (numbers_in front)
+-- what reading one field after another gives
+module _ (bytes : List ℕ) (s : Segment) (rest : List ℕ) (st : Standing bytes s rest) (numbers : List ℕ) (back : numbers ≡ drop 10 bytes) where
+  abbrev tail : List ℕ
+  tail = flat_map number_bytes s.parents ++ rest
 
-pub known-cut : (bytes : List ℕ) (s : Segment) (rest : List ℕ) (x : Head × List ℕ) (after front : List ℕ) → IsBytes bytes → record_at bytes ≡ Some (s, rest) → head_at bytes ≡ Some x
-    → after ≡ rest → front ≡ take (length x.1 - length after) x.1 → x.0.low < 2 ^ 57 → Cut x s rest front
-known-cut bytes s rest x after front fits e f same cut small =
-    let k : 2 ^ 57 ≤ 2 ^ 64 = lit≤ tt in
-    let known = known-head bytes s rest x e f in
-    let taken = numbers_take x.0.low x.0.count x.1 (s.parents, rest) (head-rest bytes x fits (head_takes bytes x fits f)) known.numbers in
-    let whole = ap length taken.parts in
-    let parts = length-append (flat_map number_bytes s.parents) rest in
-    let len : length (flat_map number_bytes s.parents) ≡ length x.1 - length after = omega (arith, whole, parts, ap length same) in
-    let is : front ≡ flat_map number_bytes s.parents = cut ∙ ap (take (length x.1 - length after)) taken.parts ∙ take_at (flat_map number_bytes s.parents) rest (length x.1 - length after) len in
-    let ns : numbers_in front ≡ s.parents = ap numbers_in is ∙ in-numbers s.parents (all-below x.0.low (2 ^ 64) s.parents (omega (arith, k, small)) taken.below) in
-    record {
-      parents = ns;
-      spelled = is ∙ ap (flat_map number_bytes) (sym ns);
-      below = subst (AllByRecursion (λ p. p < x.0.low)) (sym ns) taken.below;
-    }
+  abbrev behind_span : List ℕ
+  behind_span = number_bytes (length s.parents) ++ tail
+
+  pub span-at : number_at numbers ≡ Some (s.high - s.low, behind_span)
+  span-at = ap number_at back ∙ st.span
+
+  pub some-span : (n : ℕ) × (r : List ℕ) × (number_at numbers ≡ Some (n, r))
+  some-span = (s.high - s.low, behind_span, span-at)
+
+  module _ (span : ℕ) (more : List ℕ) (span-of : (n : ℕ) (r : List ℕ) → number_at numbers ≡ Some (n, r) → (span ≡ n) × (more ≡ r)) where
+    pub span-is : span ≡ s.high - s.low
+    span-is = (span-of (s.high - s.low) behind_span span-at).0
+
+    pub count-at : number_at more ≡ Some (length s.parents, tail)
+    count-at = ap number_at (span-of (s.high - s.low) behind_span span-at).1 ∙ st.count
+
+    pub some-count : (n : ℕ) × (r : List ℕ) × (number_at more ≡ Some (n, r))
+    some-count = (length s.parents, tail, count-at)
+
+    module _ (count : ℕ) (left after : List ℕ) (count-of : (n : ℕ) (r : List ℕ) → number_at more ≡ Some (n, r) → (count ≡ n) × (left ≡ r))
+        (after-of : (end : ℕ) (ns r : List ℕ) → numbers_at end count left ≡ Some (ns, r) → after ≡ r) where
+      pub left-is : left ≡ flat_map number_bytes s.parents ++ rest
+      left-is = (count-of (length s.parents) tail count-at).1
+
+      pub after-is : after ≡ rest
+      after-is =
+          let k = (count-of (length s.parents) tail count-at).0 in
+          after-of s.low s.parents rest (ap (λ (n : ℕ). numbers_at s.low n left) k ∙ ap (numbers_at s.low (length s.parents)) left-is ∙ st.numbers)
