@@ -76,22 +76,6 @@ impl IdSet {
         Ok(both)
     }
 
-    /// Adds the ids from `low` to before `end`. There may be none.
-    fn insert_between(&mut self, low: u64, end: u64) -> Result<(), AllocError>
-        requires group { low < 2 ^ 56 → end ≤ 2 ^ 56 }
-        requires bound { end ≤ 2 ^ 57 }
-        ensures members { OnOk result ((x : ℕ) → IsMember self.new x ↔ (IsMember self.old x ⊎ ((low ≤ x) × (x < end)))) }
-        ensures canonical { IsCanonical self.old → IsCanonical self.new }
-    {
-        if low < end {
-            return self.insert_span(IdSpan {
-                low: Id::from_number(low),
-                high: Id::from_number(end - 1),
-            });
-        }
-        Ok(())
-    }
-
     /// The ids that are members of both sets. Linear in the spans of both.
     pub fn inter(&self, alloc: Global, other: &IdSet) -> Result<IdSet, AllocError>
         ensures members { IfOk result (λ r. (x : ℕ) → IsMember r x ↔ (IsMember self.now x × IsMember other.now x)) }

@@ -1,6 +1,6 @@
 //! The set, and what reads it.
 
-ghost use Rattle.std.specs.Prelude.{◌≡◌, ℕ, ◌⊎◌, ◌↔◌, [], length, OnOk, OnErr, IsTrue, min, max};
+ghost use Rattle.std.specs.Prelude.{◌≡◌, ℕ, ◌<◌, ◌≤◌, ◌^◌, ◌⊎◌, ◌↔◌, [], length, OnOk, OnErr, IsTrue, min, max};
 ghost use Rattle.id_groups.specs.Span.{IsSpan, IsInSpan};
 ghost use Rattle.span_set.specs.Members.{IsMember, IsCanonical, IsGreatest, IsGreatestBelow, ids_of};
 ghost use Rattle.span_set.specs.Down.{ids_left};
@@ -75,6 +75,24 @@ impl IdSet {
         self.spans[from] = joined;
         if to - from > 1 {
             self.spans.drain(from + 1..to);
+        }
+        Ok(())
+    }
+
+    /// Adds the ids from `low` to before `end`, which are of one group; there may be none. On want of memory the set stays
+    /// as it was.
+    pub fn insert_between(&mut self, low: u64, end: u64) -> Result<(), AllocError>
+        requires group { low < 2 ^ 56 → end ≤ 2 ^ 56 }
+        requires bound { end ≤ 2 ^ 57 }
+        ensures members { OnOk result ((x : ℕ) → IsMember self.new x ↔ (IsMember self.old x ⊎ ((low ≤ x) × (x < end)))) }
+        ensures canonical { IsCanonical self.old → IsCanonical self.new }
+        ensures unchanged { OnErr result (self.new ≡ self.old) }
+    {
+        if low < end {
+            return self.insert_span(IdSpan {
+                low: Id::from_number(low),
+                high: Id::from_number(end - 1),
+            });
         }
         Ok(())
     }
