@@ -94,7 +94,7 @@ pushed-all before work ids rest e m w =
     (λ i. h.0 (inl i), λ b. ⊎_elim (λ i. i) (λ n. absurd n) (h.1 b))
 
 -- the greater of two greatest
-greatest-or : (P Q : ℕ → Type 0) (below : ℕ) (a b : Option ℕ) → Greatest P below a → Greatest Q below b → Greatest (λ x. P x ⊎ Q x) below (greater_of a b)
+pub greatest-or : (P Q : ℕ → Type 0) (below : ℕ) (a b : Option ℕ) → Greatest P below a → Greatest Q below b → Greatest (λ x. P x ⊎ Q x) below (greater_of a b)
 greatest-or P Q below None None h g = λ w i lt. ⊎_elim (λ p. h w p lt) (λ q. g w q lt) i
 greatest-or P Q below None (Some y) h g = record { is = inr g.is; under = g.under; greatest = λ w i lt. ⊎_elim (λ p. absurd (h w p lt)) (λ q. g.greatest w q lt) i }
 greatest-or P Q below (Some x) None h g = record { is = inl h.is; under = h.under; greatest = λ w i lt. ⊎_elim (λ p. h.greatest w p lt) (λ q. absurd (g w q lt)) i }

@@ -3,3 +3,4 @@ pub mod Visits
 pub mod Jumps
 pub mod Counts
 pub mod Parts
+pub mod Window

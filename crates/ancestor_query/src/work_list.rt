@@ -1,10 +1,13 @@
 //! The ids that wait to be visited.
 
-ghost use Rattle.std.specs.Prelude.{◌≡◌, ◌≤◌, ◌^◌, ◌⊎◌, ◌↔◌, ℕ, [], OnOk, OnErr};
+ghost use Rattle.std.specs.Prelude.{◌≡◌, ◌≤◌, ◌^◌, ◌/◌, ◌⊎◌, ◌↔◌, ℕ, ◌<◌, [], OnOk, OnErr};
+ghost use Rattle.std.specs.BinaryHeap.{heap_items, IsHeap};
+ghost use Rattle.std.specs.Ordering.{nat_cmp};
 ghost use Rattle.id_groups.specs.Lists.{IsIn};
 ghost use Rattle.segment_codec.specs.Lent.{parents_left};
 ghost use Rattle.span_set.specs.Members.{IsMember, IsGreatestBelow};
-ghost use Rattle.ancestor_query.specs.Visits.{Peeks, IsNext, greater_of};
+ghost use Rattle.ancestor_query.specs.Visits.{Keeps, Peeks, IsNext, greater_of};
+ghost use Rattle.ancestor_query.specs.Window.{Takes, IsGreatestOf};
 
 use id_groups::{ID_END, Id};
 use segment_codec::Parents;
@@ -13,23 +16,123 @@ use std::alloc::{AllocError, Global};
 use std::collections::BinaryHeap;
 use std::marker::Model;
 
+/// How many ids a window reaches down from its end.
+const REACH: u64 = 64;
+
+/// Ids that lie less than 64 below an end, without memory of their own: bit j says that the id j + 1 below the end is
+/// among them.
+#[derive(Drop)]
+struct Window {
+    bits: u64,
+    end: u64,
+}
+
+impl Model for Window {
+    ghost use Rattle.std.specs.Prelude.{List, ℕ, ◌≤◌, ◌<◌, ◌^◌};
+    ghost use Rattle.ancestor_query.specs.Window.{window_ids, AreNumbers};
+
+    ghost Value = { List ℕ };
+
+    ghost view = { λ window. window_ids window.end window.bits };
+
+    ghost invariant = { λ window. AreNumbers window.end window.bits × (window.end ≤ 2 ^ 57) × (window.bits < 2 ^ 64) };
+}
+
 /// Ids that wait to be visited, the greatest first; an id may wait more than once. Contracts see it as the list of its
 /// ids, in no order that tells anything.
+///
+/// A walk puts on the list mostly ids that lie close below the bound that it last looked at. Those wait in a window,
+/// which takes no memory; the others in a heap.
 #[derive(Drop)]
 pub struct WorkList {
-    ids: BinaryHeap<Id>,
+    near: Window,
+    far: BinaryHeap<Id>,
 }
 
 impl Model for WorkList {
-    ghost use Rattle.std.specs.Prelude.{List, ℕ};
+    ghost use Rattle.std.specs.Prelude.{List, ℕ, ◌++◌};
     ghost use Rattle.std.specs.BinaryHeap.{heap_items, IsHeap};
     ghost use Rattle.std.specs.Ordering.{nat_cmp};
 
     ghost Value = { List ℕ };
 
-    ghost view = { λ work. heap_items work.ids };
+    ghost view = { λ work. work.near ++ heap_items work.far };
 
-    ghost invariant = { λ work. IsHeap nat_cmp (heap_items work.ids) };
+    ghost invariant = { λ work. IsHeap nat_cmp (heap_items work.far) };
+}
+
+/// The bits moved down by any number of steps; those that fall off at the end are lost.
+fn shifted_down(bits: u64, steps: u64) -> u64
+    ensures { result ≡ bits / 2 ^ steps }
+{
+    if steps < REACH { bits >> steps } else { 0 }
+}
+
+impl Window {
+    /// No id, and none that would fit.
+    fn empty() -> Window
+        ensures { result ≡ [] }
+    {
+        Window { bits: 0, end: 0 }
+    }
+
+    /// Takes the id if it fits: whether it did.
+    fn put(&mut self, id: Id) -> bool
+        ensures { Takes self.old self.new id result }
+    {
+        let number = id.number();
+        if number >= self.end {
+            return false;
+        }
+        let place = self.end - 1 - number;
+        if place >= REACH {
+            return false;
+        }
+        self.bits |= 1 << place;
+        true
+    }
+
+    /// Ends below the bound from now on, and drops the ids at or above it. A window without ids may move up.
+    fn slide(&mut self, below: u64)
+        ensures keeps { Keeps self.old self.new below }
+        ensures under { (x : ℕ) → IsIn x self.new → x < below }
+    {
+        if self.bits == 0 {
+            self.end = below.min(ID_END);
+        } else if below < self.end {
+            let steps = self.end - below;
+            self.bits = shifted_down(self.bits, steps);
+            self.end = below;
+        }
+    }
+
+    /// The greatest id; `None` exactly where there is none.
+    fn greatest(&self) -> Option<Id>
+        ensures { IsGreatestOf self.now result }
+    {
+        if self.bits == 0 {
+            return None;
+        }
+        let place = u64::from(self.bits.trailing_zeros());
+        Some(Id::from_number(self.end - 1 - place))
+    }
+}
+
+/// The greatest id of a heap below the bound; `None` exactly where there is none below it. Those at or above it are
+/// dropped, the one that it gives stays.
+fn top_below(heap: &mut BinaryHeap<Id>, below: u64) -> Option<Id>
+    requires { IsHeap nat_cmp (heap_items heap.old) }
+    ensures heap { IsHeap nat_cmp (heap_items heap.new) }
+    ensures peeks { Peeks (heap_items heap.old) (heap_items heap.new) below result }
+{
+    'drop: while let Some(top) = heap.peek() {
+        let id = *top;
+        if id.number() < below {
+            return Some(id);
+        }
+        heap.pop();
+    }
+    None
 }
 
 /// The greatest member below the bound.
@@ -64,7 +167,8 @@ impl WorkList {
         ensures { result ≡ [] }
     {
         WorkList {
-            ids: BinaryHeap::new(alloc),
+            near: Window::empty(),
+            far: BinaryHeap::new(alloc),
         }
     }
 
@@ -73,7 +177,10 @@ impl WorkList {
         ensures all { OnOk result ((x : ℕ) → IsIn x self.new ↔ (IsIn x self.old ⊎ (x ≡ id))) }
         ensures unchanged { OnErr result (self.new ≡ self.old) }
     {
-        self.ids.push(id)?;
+        if self.near.put(id) {
+            return Ok(());
+        }
+        self.far.push(id)?;
         Ok(())
     }
 
@@ -95,14 +202,9 @@ impl WorkList {
     pub fn peek_below(&mut self, below: u64) -> Option<Id>
         ensures { Peeks self.old self.new below result }
     {
-        'drop: while let Some(top) = self.ids.peek() {
-            let id = *top;
-            if id.number() < below {
-                return Some(id);
-            }
-            self.ids.pop();
-        }
-        None
+        self.near.slide(below);
+        let far = top_below(&mut self.far, below);
+        greater(self.near.greatest(), far)
     }
 
     /// The greatest id below the bound, of the set and of those that wait; `None` exactly where there is none. It drops

@@ -1,19 +1,8 @@
-use Rattle.std.proofs.Common.{arith, refl}
-use Rattle.std.specs.BinaryHeap.{heap_items, heap_len}
-use Rattle.ancestor_query.proofs.Work.{peeked, pop-keeps, pop-heap}
+use Rattle.std.specs.BinaryHeap.{heap_items}
+use Rattle.ancestor_query.proofs.Window.{both-peek}
 use Rattle.ancestor_query.proofs.work_list.WorkList.peek_below.Goals as goal
 
-pub returns-then-number-below : goal.returns-then-number-below
-returns-then-number-below c =
-    let top = c.number.ensures.number in let under = c.if-number-below.true in
-    peeked c.args.self.now (heap_items c.drop.self-inside.ids) c.args.below c.in-Some.top.now c.drop.invariant.keeps c.in-Some.ensures.lookup
-    (omega (arith, c.in-Some.ensures.variant.0 refl, c.drop.self-inside.ids.data.ok.0)) (c.in-Some.ensures.greatest c.drop.invariant.heap) (omega arith)
-
-pub drop-preserved : goal.drop-preserved
-drop-preserved c =
-    let top = c.number.ensures.number in let over = c.if-number-below.false in
-    record {
-      heap = pop-heap (heap_items c.drop.self-inside.ids) (heap_items c.pop.new.self) (heap_len c.drop.self-inside.ids) c.pop.result c.drop.invariant.heap (c.in-Some.ensures.variant.0 refl) c.pop.ensures.variant c.pop.ensures.heap_order;
-      keeps = pop-keeps c.args.self.now (heap_items c.drop.self-inside.ids) (heap_items c.pop.new.self) c.args.below c.in-Some.top.now (heap_len c.drop.self-inside.ids) c.pop.result c.drop.invariant.keeps c.in-Some.ensures.lookup (omega arith) c.drop.self-inside.ids.data.ok.0
-          (c.in-Some.ensures.variant.0 refl) c.pop.ensures.variant c.pop.ensures.top c.pop.ensures.permutation;
-    }
+pub returns : goal.returns
+returns c =
+    both-peek c.args.self.now c.self.inside.near c.slide.new.self (heap_items c.self.inside.far) (heap_items c.top_below-far.new.heap) c.args.below c.greatest.result c.top_below-far.result
+    c.greater.result c.self.view_is c.slide.ensures.keeps c.slide.ensures.under c.greatest.ensures c.top_below-far.ensures.peeks c.greater.ensures

@@ -1,0 +1,5 @@
+use Rattle.ancestor_query.proofs.Window.{no-ids}
+use Rattle.ancestor_query.proofs.work_list.Window.empty.Goals as goal
+
+pub returns : goal.returns
+returns c = no-ids 0
