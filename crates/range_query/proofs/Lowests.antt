@@ -28,11 +28,11 @@ module _ (answer xs : List IdSpan) (left k : ℕ) (r : IdSpan) (s : Segment) (lo
       let first = above-last xs k r z c lt m (λ b. let under = below z (subst (λ j. IsMember (drop j xs) z) (sym one) b) in omega arith) in
       let own = subst (λ (q : IdSpan). q.low ≤ z) (sym is) first in omega arith
 
-  pub lowest-none : s.high < low → Lowest (Enters answer xs s) s.low s.high None
-  lowest-none out z e a b = let le = enters-from z e a in omega arith
+  pub lowest-none : (high : ℕ) → high < low → Lowest (Enters answer xs s) s.low high None
+  lowest-none high out z e a b = let le = enters-from z e a in omega arith
 
-  pub lowest-some : s.low ≤ (get_or xs k r).high → low ≤ s.high → IsLowest (Enters answer xs s) s.low s.high low
-  lowest-some reach le =
+  pub lowest-some : (high : ℕ) → s.low ≤ (get_or xs k r).high → low ≤ high → IsLowest (Enters answer xs s) s.low high low
+  lowest-some high reach le =
       let lt : k < length xs = omega arith in
       let order = (span-at xs k r c lt).order in
       let l = subst (λ (q : IdSpan). low ≡ max q.low s.low) is low-is in
@@ -43,18 +43,18 @@ module _ (answer xs : List IdSpan) (left k : ℕ) (r : IdSpan) (s : Segment) (lo
         lowest = enters-from;
       }
 
-module _ (answer xs : List IdSpan) (s : Segment) where
-  pub reached-none : Lowest (Enters answer xs s) s.low s.high None → (x : ℕ) → IsReachedIn answer xs s x → ⊥
+module _ (answer xs : List IdSpan) (s : Segment) (high : ℕ) where
+  pub reached-none : Lowest (Enters answer xs s) s.low high None → (x : ℕ) → IsReachedIn answer xs s high x → ⊥
   reached-none n x h = let le = h.4 in let top = h.0 in n h.1 h.2 h.3 (omega arith)
 
-  module _ (low : ℕ) (l : IsLowest (Enters answer xs s) s.low s.high low) where
-    pub reached-some : (x : ℕ) → ((low ≤ x) × (x ≤ s.high)) ↔ IsReachedIn answer xs s x
+  module _ (low : ℕ) (l : IsLowest (Enters answer xs s) s.low high low) where
+    pub reached-some : (x : ℕ) → ((low ≤ x) × (x ≤ high)) ↔ IsReachedIn answer xs s high x
     reached-some x = (
       λ i. (i.1, low, l.is, l.from, i.0),
       λ h. let first = l.lowest h.1 h.2 h.3 in let le = h.4 in (omega arith, h.0),
     )
 
-    pub span-from : (s.low < 2 ^ 56 → s.high < 2 ^ 56) → s.high < 2 ^ 57 → IsSpan (record { low = low; high = s.high })
+    pub span-from : (s.low < 2 ^ 56 → high < 2 ^ 56) → high < 2 ^ 57 → IsSpan (record { low = low; high = high })
     span-from group bound =
         let from = l.from in
         record { order = l.to; group = λ small. group (omega arith); bound = bound }
