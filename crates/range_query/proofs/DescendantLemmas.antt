@@ -1,5 +1,5 @@
 -- Descendants, segment by segment.
-use Rattle.std.proofs.Common.{◌≡◌, ℕ, zero, suc, ◌-◌, ◌<◌, ◌≤◌, ◌^◌, ◌⊎◌, inl, inr, ◌↔◌, List, [], ◌∷◌, Some, length, take, drop, refl, sym, subst, ap, ◌∙◌, arith, ⊎_elim, le_refl}
+use Rattle.std.proofs.Common.{◌≡◌, ℕ, zero, suc, ◌-◌, ◌<◌, ◌≤◌, ◌⊎◌, inl, inr, ◌↔◌, List, [], ◌∷◌, Some, length, take, drop, refl, sym, subst, ap, ◌∙◌, arith, ⊎_elim, le_refl}
 use Rattle.std.specs.Prelude.{slice_get}
 use Rattle.id_groups.specs.Lists.{IsIn}
 use Rattle.id_groups.specs.declared.span.IdSpan.{IdSpan}

@@ -1,5 +1,5 @@
 -- Up to which id a segment is in a set.
-use Rattle.std.proofs.Common.{◌≡◌, ℕ, suc, ◌-◌, ◌<◌, ◌≤◌, ◌⊎◌, inl, inr, ◌↔◌, List, None, length, get_or, take, drop, min, sym, subst, arith, ⊎_elim}
+use Rattle.std.proofs.Common.{◌≡◌, ℕ, ◌<◌, ◌≤◌, List, None, length, get_or, take, drop, min, sym, subst, arith}
 use Rattle.id_groups.specs.declared.span.IdSpan.{IdSpan}
 use Rattle.id_groups.specs.Span.{IsInSpan}
 use Rattle.segment_codec.specs.Record.{Segment}
@@ -8,7 +8,6 @@ use Rattle.span_set.specs.Places.{BeginAbove, BeginWithin}
 use Rattle.span_set.proofs.Order.{span-at}
 use Rattle.span_set.proofs.MemberLemmas.{member-at}
 use Rattle.span_set.proofs.Below.{below-place, none-behind, low-at}
-use Rattle.range_query.specs.Parts.{IsReachedIn, IsCommonIn}
 use Rattle.range_query.specs.Rising.{IsHighest, Highest}
 
 module _ (xs : List IdSpan) (at : ℕ) (s : Segment) (above : BeginAbove s.high (take at xs)) where
@@ -32,13 +31,3 @@ module _ (xs : List IdSpan) (at : ℕ) (s : Segment) (above : BeginAbove s.high 
           to = omega arith;
           highest = top;
         }
-
-module _ (answer xs below : List IdSpan) (s : Segment) where
-  pub common-none : Highest (IsMember below) s.low s.high None → (x : ℕ) → IsCommonIn answer xs below s x → ⊥
-  common-none n x h = let from = h.3.3 in let le = h.3.4 in let top = h.3.0 in n h.0 h.1 (omega arith) h.2
-
-  pub common-some : (high : ℕ) → IsHighest (IsMember below) s.low s.high high → (x : ℕ) → IsReachedIn answer xs s high x ↔ IsCommonIn answer xs below s x
-  common-some high l x = (
-    λ r. (high, l.is, l.to, r),
-    λ h. let le = l.highest h.0 h.1 h.2 in let top = h.3.0 in (omega arith, h.3.1, h.3.2, h.3.3, h.3.4),
-  )

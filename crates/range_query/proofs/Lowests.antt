@@ -1,12 +1,11 @@
 -- From which id on a segment is in the answer.
-use Rattle.std.proofs.Common.{◌≡◌, ℕ, zero, suc, ◌<◌, ◌≤◌, ◌^◌, ◌⊎◌, inl, inr, ◌↔◌, List, [], ◌∷◌, None, length, get_or, drop, max, sym, subst, arith, ⊎_elim, le_of_suc-le-suc}
+use Rattle.std.proofs.Common.{◌≡◌, ℕ, zero, suc, ◌<◌, ◌≤◌, inl, inr, List, [], ◌∷◌, None, length, get_or, drop, max, sym, subst, arith, le_of_suc-le-suc}
 use Rattle.id_groups.specs.declared.span.IdSpan.{IdSpan}
-use Rattle.id_groups.specs.Span.{IsSpan}
 use Rattle.segment_codec.specs.Record.{Segment}
 use Rattle.span_set.specs.Members.{IsMember, IsCanonical}
 use Rattle.span_set.proofs.Order.{span-at, below-at}
 use Rattle.span_set.proofs.MemberLemmas.{member-at}
-use Rattle.range_query.specs.Parts.{HasParentIn, StandBelow, Enters, IsReachedIn}
+use Rattle.range_query.specs.Parts.{HasParentIn, StandBelow, Enters}
 use Rattle.range_query.specs.Rising.{IsLowest, Lowest}
 
 -- a member that isn't behind a span stands no lower than it begins
@@ -42,26 +41,3 @@ module _ (answer xs : List IdSpan) (left k : ℕ) (r : IdSpan) (s : Segment) (lo
         to = le;
         lowest = enters-from;
       }
-
-module _ (answer xs : List IdSpan) (s : Segment) (high : ℕ) where
-  pub reached-none : Lowest (Enters answer xs s) s.low high None → (x : ℕ) → IsReachedIn answer xs s high x → ⊥
-  reached-none n x h = let le = h.4 in let top = h.0 in n h.1 h.2 h.3 (omega arith)
-
-  module _ (low : ℕ) (l : IsLowest (Enters answer xs s) s.low high low) where
-    pub reached-some : (x : ℕ) → ((low ≤ x) × (x ≤ high)) ↔ IsReachedIn answer xs s high x
-    reached-some x = (
-      λ i. (i.1, low, l.is, l.from, i.0),
-      λ h. let first = l.lowest h.1 h.2 h.3 in let le = h.4 in (omega arith, h.0),
-    )
-
-    pub span-from : (s.low < 2 ^ 56 → high < 2 ^ 56) → high < 2 ^ 57 → IsSpan (record { low = low; high = high })
-    span-from group bound =
-        let from = l.from in
-        record { order = l.to; group = λ small. group (omega arith); bound = bound }
-
--- nothing is added where nothing is there
-pub same-added : {O P : Type 0} → (P → ⊥) → O ↔ (O ⊎ P)
-same-added n = (λ o. inl o, λ h. ⊎_elim (λ o. o) (λ p. absurd (n p)) h)
-
-pub other-added : {N O P Q : Type 0} → N ↔ (O ⊎ P) → P ↔ Q → N ↔ (O ⊎ Q)
-other-added n e = (λ x. ⊎_elim (λ o. inl o) (λ p. inr (e.0 p)) (n.0 x), λ h. n.1 (⊎_elim (λ o. inl o) (λ q. inr (e.1 q)) h))

@@ -1,4 +1,4 @@
-use Rattle.std.proofs.Common.{arith, ◌≡◌, ◌≤◌, ◌<◌, length, min, sym, subst, ap}
+use Rattle.std.proofs.Common.{arith, ◌≡◌, ◌<◌, length, min, sym, subst, ap}
 use Rattle.id_groups.specs.declared.span.IdSpan.{IdSpan}
 use Rattle.segment_codec.specs.Lent.{segment_of}
 use Rattle.span_set.specs.Members.{IsMember}

@@ -1,4 +1,4 @@
-use Rattle.std.proofs.Common.{arith, ◌≡◌, ◌-◌, ◌<◌, subst, ap}
+use Rattle.std.proofs.Common.{arith, ◌-◌, ◌<◌, subst, ap}
 use Rattle.id_groups.specs.declared.span.IdSpan.{IdSpan}
 use Rattle.span_set.proofs.Below.{begin-above-step}
 use Rattle.range_query.proofs.between.skip_begun.Goals as goal

@@ -1,4 +1,4 @@
-use Rattle.std.proofs.Common.{arith, ℕ, ◌+◌, ap, length}
+use Rattle.std.proofs.Common.{arith, ◌+◌, ap, length}
 use Rattle.segment_codec.specs.Lent.{segment_of}
 use Rattle.range_query.proofs.Rows.{at-drop}
 use Rattle.range_query.proofs.ChildLemmas.{group-at}
