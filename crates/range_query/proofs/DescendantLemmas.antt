@@ -1,5 +1,5 @@
 -- Descendants, segment by segment.
-use Rattle.std.proofs.Common.{◌≡◌, ℕ, suc, ◌-◌, ◌<◌, ◌≤◌, ◌^◌, ◌⊎◌, inl, inr, ◌↔◌, List, [], ◌∷◌, Some, length, take, drop, refl, sym, subst, ap, ◌∙◌, arith, ⊎_elim, le_refl}
+use Rattle.std.proofs.Common.{◌≡◌, ℕ, zero, suc, ◌-◌, ◌<◌, ◌≤◌, ◌⊎◌, inl, inr, ◌↔◌, List, [], ◌∷◌, Some, length, take, drop, refl, sym, subst, ap, ◌∙◌, arith, ⊎_elim, le_refl}
 use Rattle.std.specs.Prelude.{slice_get}
 use Rattle.id_groups.specs.Lists.{IsIn}
 use Rattle.id_groups.specs.declared.span.IdSpan.{IdSpan}
@@ -10,13 +10,14 @@ use Rattle.segment_codec.specs.Record.{Segment}
 use Rattle.segment_codec.specs.Table.{IsInSegment, parents_at, IsHeld, IsLawful}
 use Rattle.segment_codec.proofs.Tables.{le_or_lt, parents-low, parents-over, parent-below, lawful-rising, AreRising}
 use Rattle.span_set.specs.Members.{IsMember}
+use Rattle.span_set.specs.Places.{BeginWithin}
 use Rattle.span_set.proofs.Overlaps.{nothing-behind}
 use Rattle.ancestor_query.specs.Graph.{table_graph}
-use Rattle.ancestor_query.proofs.Graphs.{reach-down, reached-below, held-bound}
+use Rattle.ancestor_query.proofs.Graphs.{reach-down, reached-below}
 use Rattle.range_query.specs.Places.{IsOf, IsPlace}
 use Rattle.range_query.specs.Parts.{StandBelow, IsReachedIn}
 use Rattle.range_query.proofs.ChildLemmas.{child-held}
-use Rattle.range_query.proofs.Rows.{at-in, after-at, order-in, held-of, of-parts, of-take, of-from, of-before, of-all, before-place}
+use Rattle.range_query.proofs.Rows.{at-in, after-at, order-in, in-drop, held-of, of-parts, of-take, of-from, of-before, of-all, before-place}
 
 in-one : (p q : ℕ) → IsIn p (q ∷ []) → p ≡ q
 in-one p q h = ⊎_elim (λ e. e) (λ n. absurd n) h
@@ -31,9 +32,6 @@ module _ (flats : List Segment) (lawful : IsLawful flats) (set : List IdSpan) wh
       go : (x m : ℕ) (walk : List ℕ) → IsMember set m → IsWalk (table_graph flats) x walk m → IsHeld flats x
       go x m [] i e = subst (IsHeld flats) (sym e) (inside m i)
       go x m (p ∷ walk) i w = child-held flats x p w.0
-
-  pub desc-bound : ((x : ℕ) → IsMember set x → IsHeld flats x) → (x : ℕ) → Desc x → x < 2 ^ 57
-  desc-bound inside x d = held-bound flats lawful x (desc-held inside x d)
 
   pub desc-least : (lowest : ℕ) → ((x : ℕ) → IsMember set x → lowest ≤ x) → (x : ℕ) → Desc x → lowest ≤ x
   desc-least lowest least x d = let a = least d.0 d.1 in let b = reached-below flats lawful x d.0 d.2 in omega arith
@@ -58,16 +56,16 @@ module _ (flats : List Segment) (lawful : IsLawful flats) (set : List IdSpan) wh
         (le_or_lt x s.low)
 
     module _ (answer : List IdSpan) where
-      pub desc-part : ((p : ℕ) → IsIn p s.parents → Desc p → IsMember answer p) → (x : ℕ) → IsInSegment x s → Desc x → IsReachedIn answer set s x
+      pub desc-part : ((p : ℕ) → IsIn p s.parents → Desc p → IsMember answer p) → (x : ℕ) → IsInSegment x s → Desc x → IsReachedIn answer set s s.high x
       desc-part known x h d = ⊎_elim
           (λ r. (h.1, r.0, inr r.1, r.2, r.3))
           (λ r. (h.1, s.low, inl (refl, (r.0, r.1, known r.0 r.1 r.2)), le_refl s.low, h.0))
           (down d.2.0 x d.0 h d.1 d.2.1)
 
-      pub part-desc : ((p : ℕ) → IsMember answer p → Desc p) → (x : ℕ) → IsReachedIn answer set s x → Desc x
-      part-desc sound x h =
+      pub part-desc : ((p : ℕ) → IsMember answer p → Desc p) → (high : ℕ) → high ≤ s.high → (x : ℕ) → IsReachedIn answer set s high x → Desc x
+      part-desc sound high within x h =
           let y = h.1 in let from = h.3 in let le = h.4 in let top = h.0 in
-          let r = reach-down flats lawful s i (x - y) x y (omega arith) from top in
+          let r = reach-down flats lawful s i (x - y) x y (omega arith) from (omega arith) in
           ⊎_elim
           (λ e. let p = e.1 in let d = sound p.0 p.2 in (
             d.0,
@@ -77,8 +75,8 @@ module _ (flats : List Segment) (lawful : IsLawful flats) (set : List IdSpan) wh
           ))
           (λ m. (y, m, r)) h.2
 
-      pub reached-in : (x : ℕ) → IsReachedIn answer set s x → IsInSegment x s
-      reached-in x h = let from = h.3 in let le = h.4 in (omega arith, h.0)
+      pub reached-in : (high : ℕ) → high ≤ s.high → (x : ℕ) → IsReachedIn answer set s high x → IsInSegment x s
+      reached-in high within x h = let from = h.3 in let le = h.4 in let top = h.0 in (omega arith, omega arith)
 
   -- the answer before any segment
   pub desc-none : (lowest place : ℕ) (answer : List IdSpan) → answer ≡ [] → IsPlace flats lowest place → ((x : ℕ) → IsMember set x → lowest ≤ x)
@@ -101,34 +99,50 @@ module _ (flats : List Segment) (lawful : IsLawful flats) (set : List IdSpan) wh
         let b = parent-below flats lawful s.low p (subst (IsIn p) (sym (parents-low flats lawful s i)) j) in let lt = b.0 in
         (exact p).1 (d, ⊎_elim (λ a. a) (λ o. let le = of-from flats k s p rising at o in absurd (omega arith)) (of-parts flats k p (held-of flats p b.1)))
 
-    pub desc-more : (next : ℕ) (after : List IdSpan) → next ≡ suc k → ((x : ℕ) → IsMember after x ↔ (IsMember before x ⊎ IsReachedIn before set s x))
+    pub desc-more : (next : ℕ) (after : List IdSpan) → next ≡ suc k → ((x : ℕ) → IsMember after x ↔ (IsMember before x ⊎ IsReachedIn before set s s.high x))
         → (x : ℕ) → IsMember after x ↔ (Desc x × IsOf (take next flats) x)
     desc-more next after n added x =
         let parts = subst (λ j. IsOf (take j flats) x ↔ (IsOf (take k flats) x ⊎ IsInSegment x s)) (sym n) (of-take flats k s x at) in (
           λ m. ⊎_elim (λ b. let h = (exact x).0 b in (h.0, parts.1 (inl h.1)))
-              (λ r. (part-desc s i before (λ p q. ((exact p).0 q).0) x r, parts.1 (inr (reached-in s i before x r)))) ((added x).0 m),
+              (λ r. (part-desc s i before (λ p q. ((exact p).0 q).0) s.high (le_refl s.high) x r, parts.1 (inr (reached-in s i before s.high (le_refl s.high) x r)))) ((added x).0 m),
           λ h. (added x).1 (⊎_elim (λ o. inl ((exact x).1 (h.0, o))) (λ j. inr (desc-part s i before known x j h.0)) (parts.0 h.1)),
         )
 
     pub stand-over : StandBelow s.low before
     stand-over x m = of-before flats k s x rising at ((exact x).0 m).1
 
-    -- where the segment begins at the end or above it, nothing below the end is left
-    pub desc-stop : ((x : ℕ) → IsMember set x → IsHeld flats x) → (end : ℕ) → end ≤ s.low → (x : ℕ) → Desc x → x < end → IsMember before x
-    desc-stop inside end le x d lt = (exact x).1 (
-      d,
-      ⊎_elim (λ a. a) (λ o. let from = of-from flats k s x rising at o in absurd (omega arith))
-          (of-parts flats k x (held-of flats x (desc-held inside x d))),
-    )
-
-    pub below-on : (next : ℕ) (spans : List IdSpan) → next ≡ suc k → StandBelow s.low spans → (t : Segment) → IsIn t (drop next flats) → StandBelow t.low spans
-    below-on next spans n b t j x m =
-        let lt = b x m in let over = after-at flats k next s t rising n at j in let o = order-in flats rising s i in omega arith
-
   pub desc-whole : ((x : ℕ) → IsMember set x → IsHeld flats x) → (k : ℕ) (answer : List IdSpan) → length flats ≤ k
-      → ((x : ℕ) → IsMember answer x ↔ (Desc x × IsOf (take k flats) x)) → (x : ℕ) → Desc x → IsMember answer x
-  desc-whole inside k answer all exact x d =
-      (exact x).1 (d, ⊎_elim (λ a. a) (λ o. absurd (of-all flats k x all o)) (of-parts flats k x (held-of flats x (desc-held inside x d))))
+      → ((x : ℕ) → IsMember answer x ↔ (Desc x × IsOf (take k flats) x)) → (x : ℕ) → IsMember answer x ↔ Desc x
+  desc-whole inside k answer all exact x = (
+    λ m. ((exact x).0 m).0,
+    λ d. (exact x).1 (d, ⊎_elim (λ a. a) (λ o. absurd (of-all flats k x all o)) (of-parts flats k x (held-of flats x (desc-held inside x d)))),
+  )
+
+-- what holds of the spans passed at a segment holds at those behind it
+module _ (flats : List Segment) (lawful : IsLawful flats) (k : ℕ) (s : Segment) (at : slice_get flats k ≡ Some s) (next : ℕ) (spans : List IdSpan) (n : next ≡ suc k) where
+  over : (t : Segment) → IsIn t (drop next flats) → (s.high < t.low) × (t.low ≤ t.high) × (s.low ≤ s.high)
+  over t j =
+      let rising = lawful-rising flats lawful in
+      (after-at flats k next s t rising n at j, order-in flats rising t (in-drop flats next t j), order-in flats rising s (at-in flats k s at))
+
+  pub below-on : StandBelow s.low spans → (t : Segment) → IsIn t (drop next flats) → StandBelow t.low spans
+  below-on b t j x m = let lt = b x m in let o = over t j in let a = o.0 in let c = o.2 in omega arith
+
+  pub within-on : BeginWithin s.high spans → (t : Segment) → IsIn t (drop next flats) → BeginWithin t.high spans
+  within-on b t j = let o = over t j in let a = o.0 in let c = o.1 in more spans (omega arith) b
+    where
+      more : (xs : List IdSpan) → s.high ≤ t.high → BeginWithin s.high xs → BeginWithin t.high xs
+      more [] le h = h
+      more (x ∷ xs) le h = let low = h.0 in (omega arith, more xs le h.1)
 
 pub stand-none : (low n : ℕ) (xs ys : List IdSpan) → xs ≡ ys → n ≡ length xs → StandBelow low (drop n ys)
 stand-none low n xs ys e len x m = absurd (nothing-behind ys n x (omega (arith, ap length e)) m)
+
+pub within-none : (high n : ℕ) (xs ys : List IdSpan) → xs ≡ ys → n ≡ length xs → BeginWithin high (drop n ys)
+within-none high n xs ys e len = go n ys (omega (arith, ap length e))
+  where
+    go : (n : ℕ) (ys : List IdSpan) → n ≡ length ys → BeginWithin high (drop n ys)
+    go zero [] e = tt
+    go zero (y ∷ ys) e = absurd (omega arith)
+    go (suc n) [] e = tt
+    go (suc n) (y ∷ ys) e = go n ys (omega arith)

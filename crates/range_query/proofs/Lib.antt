@@ -3,6 +3,7 @@ pub mod Pieces
 pub mod ChildLemmas
 pub mod RisingLemmas
 pub mod Lowests
+pub mod Highests
 pub mod DescendantLemmas
 pub mod MergeLemmas
 pub mod RangeLemmas

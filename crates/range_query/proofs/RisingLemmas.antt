@@ -1,11 +1,11 @@
 -- Lists of spans that ascend: one more at the end, the last one joined, and a search.
-use Rattle.std.proofs.Common.{◌≡◌, ℕ, zero, suc, ◌+◌, ◌<◌, ◌≤◌, ◌^◌, ◌⊎◌, inl, inr, ◌↔◌, List, [], ◌∷◌, ◌++◌, length, get_or, take, drop, sym, subst, arith, true, false, ⊎_elim, le_of_suc-le-suc, suc-le-suc, zero-le, le_refl}
+use Rattle.std.proofs.Common.{◌≡◌, ℕ, zero, suc, ◌+◌, ◌<◌, ◌≤◌, ◌^◌, ◌⊎◌, inl, inr, ◌↔◌, List, [], ◌∷◌, ◌++◌, length, get_or, take, drop, sym, subst, ◌∙◌, arith, true, false, ⊎_elim, le_of_suc-le-suc, suc-le-suc, zero-le, le_refl}
 use Rattle.std.specs.Prelude.{slice_set, nat_lt}
 use Rattle.std.specs.List.{AllWithin}
 use Rattle.std.specs.List.Sorted.{IsPartitionedBy}
 use Rattle.std.proofs.Math.Seq.{drop-cons}
 use Rattle.std.proofs.lemmas.Bool.{ltb-true, ltb-false, lt-ltb}
-use Rattle.std.proofs.lemmas.List.{take-append-drop}
+use Rattle.std.proofs.lemmas.List.{take-append-drop, get_or_default}
 use Rattle.id_groups.specs.declared.span.IdSpan.{IdSpan}
 use Rattle.id_groups.specs.Span.{IsSpan, IsInSpan}
 use Rattle.span_set.specs.Members.{IsMember}
@@ -104,6 +104,23 @@ highs-climb (x ∷ xs) (suc i) (suc j) d r le lt = highs-climb xs i j d r.2 (le_
 
 pub highs-parted : (n : ℕ) (xs : List IdSpan) → IsRising xs → IsPartitionedBy (λ (s : IdSpan). nat_lt s.high n) xs
 highs-parted n xs r i j d le lt t = let more = ltb-true _ _ t in let climb = highs-climb xs i j d r le lt in lt-ltb _ _ (omega arith)
+
+-- what stands from the lowest id of the last span on
+last-top : (xs : List IdSpan) (k : ℕ) (d : IdSpan) (x : ℕ) → IsRising xs → length xs ≡ suc k → IsMember xs x → x ≤ (get_or xs k d).high
+last-top [] k d x r e m = absurd m
+last-top (s ∷ []) zero d x r e (inl i) = i.1
+last-top (s ∷ []) zero d x r e (inr m) = absurd m
+last-top (s ∷ t ∷ xs) zero d x r e m = absurd (omega arith)
+last-top (s ∷ xs) (suc k) d x r e (inl i) = let top = i.1 in let more = highs-climb (s ∷ xs) 0 (suc k) d r zero-le (omega arith) in omega arith
+last-top (s ∷ xs) (suc k) d x r e (inr m) = last-top xs k d x r.2 (omega arith) m
+
+pub last-holds : (xs : List IdSpan) (k : ℕ) (a b : IdSpan) (x : ℕ) → IsRising xs → length xs ≡ suc k → a ≡ get_or xs k a → b ≡ get_or xs k b → a.low ≤ x
+    → (x ≤ b.high → IsMember xs x) × (IsMember xs x → x ≤ b.high)
+last-holds xs k a b x r e is also le =
+    let same : b ≡ a = also ∙ get_or_default xs k b a (omega arith) ∙ sym is in (
+      λ top. member-at xs k a x (omega arith) (subst (λ (s : IdSpan). IsInSpan x s) is (le, subst (λ (s : IdSpan). x ≤ s.high) same top)),
+      λ m. subst (λ (s : IdSpan). x ≤ s.high) (sym also) (last-top xs k b x r e m),
+    )
 
 below-point : (id n : ℕ) (xs : List IdSpan) → AllWithin (λ (s : IdSpan). nat_lt s.high id ≡ true) xs 0 n → (x : ℕ) → IsMember (take n xs) x → x < id
 below-point id zero xs h x m = absurd m

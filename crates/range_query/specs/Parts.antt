@@ -3,6 +3,7 @@ use Rattle.std.specs.Prelude.{◌≡◌, ℕ, ◌<◌, ◌≤◌, ◌-◌, ◌�
 use Rattle.id_groups.specs.Lists.{IsIn}
 use Rattle.id_groups.specs.declared.span.IdSpan.{IdSpan}
 use Rattle.id_groups.specs.Span.{IsInSpan}
+use Rattle.commit_graph.specs.Graph.{Graph, Reaches}
 use Rattle.segment_codec.specs.Record.{Segment}
 use Rattle.span_set.specs.Members.{IsMember}
 
@@ -30,9 +31,17 @@ StandBelow low spans = (x : ℕ) → IsMember spans x → x < low
 abbrev pub Enters : List IdSpan → List IdSpan → Segment → ℕ → Type 0
 Enters answer spans s y = ((y ≡ s.low) × HasParentIn answer s) ⊎ IsMember spans y
 
--- an id of the segment at or above such a one
-abbrev pub IsReachedIn : List IdSpan → List IdSpan → Segment → ℕ → Type 0
-IsReachedIn answer spans s x = (x ≤ s.high) × (y : ℕ) × Enters answer spans s y × (s.low ≤ y) × (y ≤ x)
+-- an id of the segment at or above such a one, up to a highest one
+abbrev pub IsReachedIn : List IdSpan → List IdSpan → Segment → ℕ → ℕ → Type 0
+IsReachedIn answer spans s high x = (x ≤ high) × (y : ℕ) × Enters answer spans s y × (s.low ≤ y) × (y ≤ x)
+
+-- such an id with a member of another set at it or above it in the segment
+abbrev pub IsCommonIn : List IdSpan → List IdSpan → List IdSpan → Segment → ℕ → Type 0
+IsCommonIn answer spans below s x = (y : ℕ) × IsMember below y × (y ≤ s.high) × IsReachedIn answer spans s y x
+
+-- a set with all that its members reach, from a lowest id on
+abbrev pub IsClosedFrom : Graph ℕ → ℕ → List IdSpan → Type 0
+IsClosedFrom g low spans = (x y : ℕ) → IsMember spans x → Reaches g x y → low ≤ y → IsMember spans y
 
 -- the segment's lowest id, where it is a merge and one of the span's ids
 abbrev pub IsMergeIn : IdSpan → Segment → ℕ → Type 0

@@ -24,3 +24,15 @@ pub record IsLowest (P : ℕ → Type 0) (low high y : ℕ) : Type 0 where
 abbrev pub Lowest : (ℕ → Type 0) → ℕ → ℕ → Option ℕ → Type 0
 Lowest P low high None = (z : ℕ) → P z → low ≤ z → z ≤ high → ⊥
 Lowest P low high (Some y) = IsLowest P low high y
+
+-- the highest with P of the ids from low to high
+pub record IsHighest (P : ℕ → Type 0) (low high y : ℕ) : Type 0 where
+  pub is : P y
+  pub from : low ≤ y
+  pub to : y ≤ high
+  pub highest : (z : ℕ) → P z → z ≤ high → z ≤ y
+
+-- the highest with P of the ids from low to high, if there is one
+abbrev pub Highest : (ℕ → Type 0) → ℕ → ℕ → Option ℕ → Type 0
+Highest P low high None = (z : ℕ) → P z → low ≤ z → z ≤ high → ⊥
+Highest P low high (Some y) = IsHighest P low high y

@@ -67,8 +67,8 @@ impl Rising {
         Ok(())
     }
 
-    /// Whether the id is held: a binary search.
-    fn contains(&self, id: Id) -> bool
+    /// Whether the id is held, by a binary search.
+    fn search(&self, id: Id) -> bool
         ensures { IsTrue result ↔ IsMember self.now id }
     {
         let number = id.number();
@@ -76,6 +76,17 @@ impl Rising {
             .spans
             .partition_point(|held| held.high.number() < number);
         at < self.spans.len() && self.spans[at].low.number() <= number
+    }
+
+    /// Whether the id is held: the last span is looked at first, since most parents lie in it or above.
+    fn contains(&self, id: Id) -> bool
+        ensures { IsTrue result ↔ IsMember self.now id }
+    {
+        let n = self.spans.len();
+        if n > 0 && self.spans[n - 1].low.number() <= id.number() {
+            return id.number() <= self.spans[n - 1].high.number();
+        }
+        self.search(id)
     }
 
     /// Whether a parent of the segment's lowest id is held.

@@ -11,7 +11,7 @@ ghost use Rattle.range_query.specs.Rising.{Lowest};
 
 use crate::place::{count_below, lowest_of};
 use crate::rising::Rising;
-use id_groups::{ID_END, Id, IdSpan};
+use id_groups::{Id, IdSpan};
 use segment_codec::{SegmentRef, SegmentTable, Steps};
 use span_set::IdSet;
 use std::alloc::{AllocError, Global};
@@ -30,14 +30,21 @@ fn skip_below(spans: &[IdSpan], left: usize, id: Id) -> usize
     to
 }
 
-/// The lowest id of the segment that is in the answer: its lowest where a parent of that is held so far, else its least
-/// member. The spans from `left` on end below the segment, the others don't.
-fn lowest_in(answer: &Rising, spans: &[IdSpan], left: usize, segment: SegmentRef<'_>) -> Option<Id>
+/// The lowest id of the segment that is in the answer, up to `high`: its lowest where a parent of that is held so far,
+/// else its least member. The spans from `left` on end below the segment, the others don't.
+fn lowest_in(
+    answer: &Rising,
+    spans: &[IdSpan],
+    left: usize,
+    segment: SegmentRef<'_>,
+    high: Id,
+) -> Option<Id>
     requires canonical { IsCanonical spans.now }
     requires within { left ≤ length spans.now }
     requires passed { StandBelow (segment_of segment).low (drop left spans.now) }
     requires stop { (d : _) → 0 < left → (segment_of segment).low ≤ (slice_index_or spans.now (left - 1) d).high }
-    ensures { Lowest (Enters answer.now spans.now (segment_of segment.entry)) (segment_of segment.entry).low (segment_of segment.entry).high result }
+    requires upper { (segment_of segment).low ≤ high }
+    ensures { Lowest (Enters answer.now spans.now (segment_of segment.entry)) (segment_of segment.entry).low high result }
 {
     if answer.has_parent_of(segment) {
         return Some(segment.low());
@@ -47,85 +54,38 @@ fn lowest_in(answer: &Rising, spans: &[IdSpan], left: usize, segment: SegmentRef
     }
     let least = spans[left - 1].low.number();
     let low = least.max(segment.low().number());
-    if low > segment.high().number() {
+    if low > high.number() {
         return None;
     }
     Some(Id::from_number(low))
 }
 
-/// Adds the ids of the segment that reach a member: those from its lowest that does. The spans of the set from `left` on
-/// end below the segment; it answers from which one on they do.
-fn add_part(
+/// Adds the ids of the segment up to `high` that reach a member: those from its lowest that does. The spans of the set
+/// from `left` on end below the segment; it answers from which one on they do.
+pub(crate) fn add_part(
     answer: &mut Rising,
     set: &IdSet,
     left: usize,
     segment: SegmentRef<'_>,
+    high: Id,
 ) -> Result<usize, AllocError>
     requires within { left ≤ length set.now }
     requires passed { StandBelow (segment_of segment).low (drop left set.now) }
     requires over { StandBelow (segment_of segment).low answer.old }
-    requires group { (segment_of segment).low < 2 ^ 56 → (segment_of segment).high < 2 ^ 56 }
+    requires upper { (segment_of segment).low ≤ high }
+    requires group { (segment_of segment).low < 2 ^ 56 → high < 2 ^ 56 }
     ensures within { IfOk result (λ to. to ≤ length set.now) }
     ensures passed { IfOk result (λ to. StandBelow (segment_of segment.entry).low (drop to set.now)) }
     ensures stop { IfOk result (λ to. (d : _) → 0 < to → (segment_of segment.entry).low ≤ (slice_index_or set.now (to - 1) d).high) }
-    ensures members { OnOk result ((x : ℕ) → IsMember answer.new x ↔ (IsMember answer.old x ⊎ IsReachedIn answer.old set.now (segment_of segment.entry) x)) }
+    ensures members { OnOk result ((x : ℕ) → IsMember answer.new x ↔ (IsMember answer.old x ⊎ IsReachedIn answer.old set.now (segment_of segment.entry) high x)) }
 {
     let spans = set.spans();
     let to = skip_below(spans, left, segment.low());
-    let Some(low) = lowest_in(answer, spans, to, segment) else {
+    let Some(low) = lowest_in(answer, spans, to, segment, high) else {
         return Ok(to);
     };
-    let high = segment.high();
     answer.push(IdSpan { low, high })?;
     Ok(to)
-}
-
-/// The ids that reach a member, at least those of them below `end`, each member of which is an id of the table.
-/// It goes over the flat segments from the one that has the lowest member up to the last that begins below `end`.
-fn gather<T: SegmentTable>(
-    alloc: Global,
-    table: &T,
-    set: &IdSet,
-    end: u64,
-    steps: &mut Steps,
-) -> Result<Rising, AllocError>
-    requires { (x : ℕ) → IsMember set.now x → IsHeld (T.flats table.now) x }
-    ensures sound { IfOk result (λ r. (x : ℕ) → IsMember r x → sets.descendants (table_graph (T.flats table.now)) (IsMember set.now) x) }
-    ensures whole { IfOk result (λ r. (x : ℕ) → sets.descendants (table_graph (T.flats table.now)) (IsMember set.now) x → x < end → IsMember r x) }
-    ensures counted { min steps.old (2 ^ 64 - 1) ≤ steps.new }
-{
-    let mut answer = Rising::empty(alloc);
-    let Some(lowest) = lowest_of(set.spans()) else {
-        return Ok(answer);
-    };
-    let from = count_below(table, lowest, steps);
-    let mut left = set.spans().len();
-    'up: for k in from..table.flat_count() {
-        let segment = table.flat_at(k, steps);
-        if segment.low().number() >= end {
-            return Ok(answer);
-        }
-        left = add_part(&mut answer, set, left, segment)?;
-    }
-    Ok(answer)
-}
-
-/// The ids that reach a member, at least those of them below `end`.
-pub(crate) fn descendants_below<T: SegmentTable>(
-    alloc: Global,
-    table: &T,
-    set: &IdSet,
-    end: u64,
-    steps: &mut Steps,
-) -> Result<IdSet, AllocError>
-    requires { (x : ℕ) → IsMember set.now x → IsHeld (T.flats table.now) x }
-    ensures sound { IfOk result (λ r. (x : ℕ) → IsMember r x → sets.descendants (table_graph (T.flats table.now)) (IsMember set.now) x) }
-    ensures whole { IfOk result (λ r. (x : ℕ) → sets.descendants (table_graph (T.flats table.now)) (IsMember set.now) x → x < end → IsMember r x) }
-    ensures canonical { IfOk result IsCanonical }
-    ensures counted { min steps.old (2 ^ 64 - 1) ≤ steps.new }
-{
-    let gathered = gather(alloc, table, set, end, steps)?;
-    gathered.to_set(alloc)
 }
 
 /// The ids that reach some member along parents, the members among them. Each member is an id of the table. It goes over
@@ -141,6 +101,16 @@ pub fn descendants<T: SegmentTable>(
     ensures canonical { IfOk result IsCanonical }
     ensures counted { min steps.old (2 ^ 64 - 1) ≤ steps.new }
 {
-    let found = descendants_below(alloc, table, set, ID_END, steps)?;
+    let mut answer = Rising::empty(alloc);
+    let Some(lowest) = lowest_of(set.spans()) else {
+        return Ok(IdSet::empty(alloc));
+    };
+    let from = count_below(table, lowest, steps);
+    let mut left = set.spans().len();
+    'up: for k in from..table.flat_count() {
+        let segment = table.flat_at(k, steps);
+        left = add_part(&mut answer, set, left, segment, segment.high())?;
+    }
+    let found = answer.to_set(alloc)?;
     Ok(found)
 }

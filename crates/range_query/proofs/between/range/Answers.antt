@@ -1,13 +1,17 @@
-use Rattle.std.proofs.Common.{arith, ℕ, ◌+◌, ◌≤◌, subst}
+use Rattle.std.proofs.Common.{ℕ, ◌≤◌, subst}
 use Rattle.span_set.specs.Members.{IsMember}
-use Rattle.range_query.proofs.RangeLemmas.{range-both}
+use Rattle.range_query.proofs.RangeLemmas.{reached-closed, both-range}
 use Rattle.range_query.proofs.between.range.Goals as goal
+
+pub walk_up-requires-clause-closed : goal.walk_up-requires-clause-closed
+walk_up-requires-clause-closed g c =
+    let flats = g.T.SegmentTable.flats c.args.table.now in
+    reached-closed flats c.args.to.now c.in_ok-below.below c.in-Some.lowest c.in_ok-below.ensures.members
 
 pub returns-clause-members : goal.returns-clause-members
 returns-clause-members g c =
     let flats = g.T.SegmentTable.flats c.args.table.now in
     let lawful = g.met.T.SegmentTable.lawful c.args.table.now in
-    range-both flats lawful c.args.from.now c.args.to.now c.in-Some.lowest c.in-Some-greatest.greatest (c.number-end.result + 1)
+    both-range flats lawful c.args.from.now c.args.to.now c.in-Some.lowest c.in_ok-below.below c.in_ok-gathered.gathered c.in_ok-found.found
     (subst (λ l. (x : ℕ) → IsMember l x → c.in-Some.lowest ≤ x) c.spans.ensures.same c.in-Some.ensures.1)
-    c.in-Some-greatest.ensures.1 (omega (arith, c.number-end.ensures.number))
-    c.in_ok-above.above c.in_ok-below.below c.in_ok-found.found c.in_ok-above.ensures.sound c.in_ok-above.ensures.whole c.in_ok-below.ensures.members c.in_ok-found.ensures.members
+    c.in_ok-below.ensures.members c.in_ok-gathered.ensures.members c.in_ok-found.ensures.members

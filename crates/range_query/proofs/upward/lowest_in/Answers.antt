@@ -13,7 +13,7 @@ returns-then-low-number c =
     let own = ap (λ (t : IdSpan). t.low) c.index-spans-left.is in
     let low : c.max-low.result ≡ max c.index-spans-left.result.low s.low = omega (arith, c.max-low.ensures, c.number-least.ensures.number, c.number.ensures.number, c.low-2.ensures) in
     lowest-none c.args.answer.now c.args.spans.now c.args.left (c.args.left - 1) c.index-spans-left.result s c.max-low.result c.requires.canonical (omega arith) c.requires.within
-    c.index-spans-left.is c.requires.passed (λ h. true≢false (sym (c.has_parent_of.ensures.1 h) ∙ c.if-has_parent_of.false)) low (omega arith)
+    c.index-spans-left.is c.requires.passed (λ h. true≢false (sym (c.has_parent_of.ensures.1 h) ∙ c.if-has_parent_of.false)) low c.args.high (omega arith)
 
 pub returns : goal.returns
 returns c =
@@ -21,7 +21,7 @@ returns c =
     let s = segment_of c.args.segment in
     let own = ap (λ (t : IdSpan). t.low) c.index-spans-left.is in
     let low : c.max-low.result ≡ max c.index-spans-left.result.low s.low = omega (arith, c.max-low.ensures, c.number-least.ensures.number, c.number.ensures.number, c.low-2.ensures) in
-    let under : c.max-low.result ≤ s.high = omega arith in
-    subst (IsLowest (Enters c.args.answer.now c.args.spans.now s) s.low s.high) (sym c.from_number.ensures)
+    let under : c.max-low.result ≤ c.args.high = omega arith in
+    subst (IsLowest (Enters c.args.answer.now c.args.spans.now s) s.low c.args.high) (sym c.from_number.ensures)
     (lowest-some c.args.answer.now c.args.spans.now c.args.left (c.args.left - 1) c.index-spans-left.result s c.max-low.result c.requires.canonical (omega arith) c.requires.within
-    c.index-spans-left.is c.requires.passed (λ h. true≢false (sym (c.has_parent_of.ensures.1 h) ∙ c.if-has_parent_of.false)) low (c.requires.stop c.index-spans-left.result (omega arith)) under)
+    c.index-spans-left.is c.requires.passed (λ h. true≢false (sym (c.has_parent_of.ensures.1 h) ∙ c.if-has_parent_of.false)) low c.args.high (c.requires.stop c.index-spans-left.result (omega arith)) under)

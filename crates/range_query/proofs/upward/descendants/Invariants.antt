@@ -6,7 +6,7 @@ use Rattle.span_set.specs.Members.{IsMember}
 use Rattle.ancestor_query.specs.Graph.{table_graph}
 use Rattle.range_query.specs.Places.{IsOf}
 use Rattle.range_query.specs.Parts.{StandBelow}
-use Rattle.range_query.proofs.upward.gather.Given as goal
+use Rattle.range_query.proofs.upward.descendants.Given as goal
 
 abbrev pub invariant-up : goal.invariant-up
 invariant-up g l = record {
