@@ -16,21 +16,6 @@ use segment_codec::{SegmentRef, SegmentTable, Steps};
 use span_set::IdSet;
 use std::alloc::{AllocError, Global};
 
-/// Adds the ids from `low` to before `end`. There may be none.
-fn insert_between(set: &mut IdSet, low: u64, end: u64) -> Result<(), AllocError>
-    requires group { low < 2 ^ 56 → end ≤ 2 ^ 56 }
-    requires bound { end ≤ 2 ^ 57 }
-    ensures { OnOk result ((x : ℕ) → IsMember set.new x ↔ (IsMember set.old x ⊎ ((low ≤ x) × (x < end)))) }
-{
-    if low < end {
-        return set.insert_span(IdSpan {
-            low: Id::from_number(low),
-            high: Id::from_number(end - 1),
-        });
-    }
-    Ok(())
-}
-
 /// The ids that wait, as a set: from the greatest down, so that each goes to the set's low end.
 fn set_of(alloc: Global, mut work: WorkList) -> Result<IdSet, AllocError>
     ensures { IfOk result (λ r. (x : ℕ) → IsMember r x ↔ (IsIn x work × (x < 2 ^ 57))) }
@@ -62,10 +47,10 @@ fn add_part(
 {
     let lowest = segment.low().number();
     if lowest < low {
-        insert_between(moved, low - 1, high.number())?;
+        moved.insert_between(low - 1, high.number())?;
         return Ok(low);
     }
-    insert_between(moved, lowest, high.number())?;
+    moved.insert_between(lowest, high.number())?;
     work.push_all(segment.parents())?;
     Ok(lowest)
 }

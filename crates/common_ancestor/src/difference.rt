@@ -38,21 +38,6 @@ fn first_above(low: Id, id: &Option<Id>) -> u64
     }
 }
 
-/// Adds the ids from `low` to `high`. There may be none.
-fn insert_from(set: &mut IdSet, low: u64, high: Id) -> Result<(), AllocError>
-    requires { low < 2 ^ 56 → high < 2 ^ 56 }
-    ensures members { OnOk result ((x : ℕ) → IsMember set.new x ↔ (IsMember set.old x ⊎ ((low ≤ x) × (x ≤ high)))) }
-    ensures canonical { IsCanonical set.old → IsCanonical set.new }
-{
-    if low <= high.number() {
-        return set.insert_span(IdSpan {
-            low: Id::from_number(low),
-            high,
-        });
-    }
-    Ok(())
-}
-
 /// Puts the parents on the second list where `start` lies above `low`, else on the first.
 fn push_either(
     low: Id,
@@ -95,7 +80,7 @@ pub fn only<T: SegmentTable>(
         let segment = table.flat(id, steps).unwrap();
         let low = segment.low();
         let start = first_above(low, &reached);
-        insert_from(&mut answer, start, id)?;
+        answer.insert_between(start, id.number() + 1)?;
         push_either(low, start, &mut mine, &mut theirs, segment.parents())?;
         frontier = low.number();
     }

@@ -28,22 +28,6 @@ fn skip_from(spans: &[IdSpan], at: usize, id: Id) -> usize
     to
 }
 
-/// Adds the ids from `low` to before `end`. There may be none.
-fn insert_between(set: &mut IdSet, low: u64, end: u64) -> Result<(), AllocError>
-    requires group { low < 2 ^ 56 → end ≤ 2 ^ 56 }
-    requires bound { end ≤ 2 ^ 57 }
-    ensures members { OnOk result ((x : ℕ) → IsMember set.new x ↔ (IsMember set.old x ⊎ ((low ≤ x) × (x < end)))) }
-    ensures canonical { IsCanonical set.old → IsCanonical set.new }
-{
-    if low < end {
-        return set.insert_span(IdSpan {
-            low: Id::from_number(low),
-            high: Id::from_number(end - 1),
-        });
-    }
-    Ok(())
-}
-
 /// Adds the ids of the segment that lie one above an id of the spans from `at` on.
 fn add_moved(
     answer: &mut IdSet,
@@ -66,7 +50,7 @@ fn add_moved(
         if high < lowest {
             return Ok(());
         }
-        insert_between(answer, low.max(lowest) + 1, (high + 1).min(highest) + 1)?;
+        answer.insert_between(low.max(lowest) + 1, (high + 1).min(highest) + 1)?;
         i += 1;
     }
     Ok(())

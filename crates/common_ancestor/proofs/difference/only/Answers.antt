@@ -1,4 +1,5 @@
-use Rattle.std.proofs.Common.{◌^◌, sym, subst, arith, []}
+use Rattle.std.proofs.Common.{◌≡◌, ◌^◌, ◌+◌, ◌<◌, ◌≤◌, ◌⊎◌, ◌↔◌, ℕ, List, inl, inr, ⊎_elim, sym, subst, arith, []}
+use Rattle.id_groups.specs.declared.span.IdSpan.{IdSpan}
 use Rattle.segment_codec.specs.Lent.{segment_of, parents_left}
 use Rattle.span_set.specs.Members.{IsMember, IsCanonical}
 use Rattle.ancestor_query.proofs.Best.{looked-up, found-at}
@@ -27,14 +28,16 @@ unwrap-segment-requires g c =
     c.visit.frontier c.visit.mine c.visit.theirs c.next_id.new.self c.next_id-reached.new.self c.visit.answer c.visit.invariant.visits
     c.in-Some.next c.next_id-reached.result c.in-Some.ensures c.next_id-reached.ensures c.greater_with-id.result c.greater_with-id.ensures c.requires.from c.requires.minus)
 
-pub insert_from-requires : goal.insert_from-requires
-insert_from-requires g c =
+pub insert_between-requires : goal.insert_between-requires
+insert_between-requires g c =
     let flats = g.T.SegmentTable.flats c.args.table.now in
+    let number = c.number.ensures.number in let small = c.number.ensures.small in
     let found = found-at flats c.greater_with-id.result c.flat.result c.unwrap-segment.result c.unwrap-segment.ensures c.flat.ensures.found in
-    turn-group flats (g.met.T.SegmentTable.lawful c.args.table.now) (IsMember c.args.from.now) (IsMember c.args.minus.now)
+    let group = turn-group flats (g.met.T.SegmentTable.lawful c.args.table.now) (IsMember c.args.from.now) (IsMember c.args.minus.now)
     c.visit.frontier c.visit.mine c.visit.theirs c.next_id.new.self c.next_id-reached.new.self c.visit.answer c.visit.invariant.visits
     c.in-Some.next c.next_id-reached.result c.in-Some.ensures c.next_id-reached.ensures c.greater_with-id.result c.greater_with-id.ensures
-    (segment_of c.unwrap-segment.result) found c.low-low.result c.first_above-start.result c.low-low.ensures c.first_above-start.ensures
+    (segment_of c.unwrap-segment.result) found c.low-low.result c.first_above-start.result c.low-low.ensures c.first_above-start.ensures in
+    record { group = λ lt. let below = group lt in omega (arith, below, number); bound = omega (arith, number, small) }
 
 pub visit-smaller : goal.visit-smaller
 visit-smaller g c =
@@ -46,6 +49,14 @@ visit-smaller g c =
     (segment_of c.unwrap-segment.result) found c.low-low.result c.first_above-start.result c.low-low.ensures c.first_above-start.ensures in
     omega (arith, lt, c.number-frontier.ensures.number)
 
+-- ids before the one behind an id are those up to it
+up-to : (new old : List IdSpan) (low number id : ℕ) → number ≡ id → ((x : ℕ) → IsMember new x ↔ (IsMember old x ⊎ ((low ≤ x) × (x < number + 1))))
+    → (x : ℕ) → IsMember new x ↔ (IsMember old x ⊎ ((low ≤ x) × (x ≤ id)))
+up-to new old low number id e h x = (
+  λ m. ⊎_elim (λ o. inl o) (λ b. let lt = b.1 in inr (b.0, omega (arith, lt, e))) ((h x).0 m),
+  λ m. (h x).1 (⊎_elim (λ o. inl o) (λ b. let le = b.1 in inr (b.0, omega (arith, le, e))) m),
+)
+
 pub visit-preserved : goal.visit-preserved
 visit-preserved g c =
     let flats = g.T.SegmentTable.flats c.args.table.now in
@@ -53,13 +64,13 @@ visit-preserved g c =
     let found = found-at flats c.greater_with-id.result c.flat.result c.unwrap-segment.result c.unwrap-segment.ensures c.flat.ensures.found in
     let small = c.number-frontier.ensures.small in
     record {
-      visits = subst (λ f. OnlyVisits flats A B f c.push_either.new.mine c.push_either.new.theirs c.insert_from.new.set) (sym c.number-frontier.ensures.number)
+      visits = subst (λ f. OnlyVisits flats A B f c.push_either.new.mine c.push_either.new.theirs c.insert_between.new.self) (sym c.number-frontier.ensures.number)
           (turn-visits flats (g.met.T.SegmentTable.lawful c.args.table.now) A B
           c.visit.frontier c.visit.mine c.visit.theirs c.next_id.new.self c.next_id-reached.new.self c.visit.answer c.visit.invariant.visits
           c.in-Some.next c.next_id-reached.result c.in-Some.ensures c.next_id-reached.ensures c.greater_with-id.result c.greater_with-id.ensures
           (segment_of c.unwrap-segment.result) found c.low-low.result c.first_above-start.result c.low-low.ensures c.first_above-start.ensures
-          (parents_left c.parents.result) c.push_either.new.mine c.push_either.new.theirs c.insert_from.new.set c.parents.ensures c.in_ok-push_either.ensures c.in_ok-insert_from.ensures.members);
-      canonical = c.insert_from.ensures.canonical c.visit.invariant.canonical;
+          (parents_left c.parents.result) c.push_either.new.mine c.push_either.new.theirs c.insert_between.new.self c.parents.ensures c.in_ok-push_either.ensures (up-to c.insert_between.new.self c.visit.answer c.first_above-start.result c.number.result c.greater_with-id.result c.number.ensures.number c.in_ok-insert_between.ensures.members));
+      canonical = c.insert_between.ensures.canonical c.visit.invariant.canonical;
       counted = let tick = c.flat.ensures.tick in let before = c.visit.invariant.counted in omega arith;
       bound = omega arith;
     }
