@@ -12,6 +12,7 @@ use segment_codec::{Bounds, SegmentRef, SegmentTable, Steps};
 
 impl<'a> FlatView<'a> {
     /// The run that has the id; `None` exactly where the id isn't in the bounds.
+    #[inline(always)]
     fn run_with(&self, id: u64) -> Option<Run<'a>>
         ensures { MatchOption result (segment_at (view_flats self.now) id ≡ None) (λ run. IsRunWith self.now id run) }
     {
@@ -32,6 +33,7 @@ impl<'a> FlatView<'a> {
 
     /// The segment that has the id; `None` exactly where the id isn't in the bounds. The search begins near the place
     /// where the last one ended.
+    #[inline(always)]
     fn find(&self, id: u64, steps: &mut Steps) -> Option<SegmentRef<'a>>
         ensures found { MatchOption result (segment_at (view_flats self.now) id ≡ None) (λ r. segment_at (view_flats self.now) id ≡ Some (segment_of r)) }
         ensures steps { steps.new ≡ steps.old }

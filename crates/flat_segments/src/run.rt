@@ -35,6 +35,7 @@ impl<'a> Run<'a> {
     }
 
     /// The id behind the segment at place `k`.
+    #[inline]
     fn end_of(&self, k: usize) -> u64
         requires { k < length self.now.entries.now }
         ensures { result ≡ low_of self.now.end (drop (k + 1) self.now.entries.now) }
@@ -46,6 +47,7 @@ impl<'a> Run<'a> {
     }
 
     /// The segment at place `k`.
+    #[inline(always)]
     pub(crate) fn at(&self, k: usize) -> SegmentRef<'a>
         requires { k < length self.now.entries.now }
         ensures { slice_get (flats_in self.now.bytes.now self.now.end self.now.entries.now) k ≡ Some (segment_of result) }
@@ -56,6 +58,7 @@ impl<'a> Run<'a> {
     }
 
     /// The place of the segment that has the id, which is sought near a place at first.
+    #[inline(always)]
     pub(crate) fn place_of(&self, id: u64, near: usize) -> usize
         requires above { begin_of self.now.end (flats_in self.now.bytes.now self.now.end self.now.entries.now) ≤ id }
         requires below { id < self.now.end }

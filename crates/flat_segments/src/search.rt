@@ -7,10 +7,17 @@ ghost use Rattle.flat_segments.specs.Runs.{do_rise};
 
 use crate::entry::Entry;
 
-/// The widest stride of a search downwards, after which it halves.
-const WIDEST: usize = 64;
+/// So many entries below a place are tried one by one.
+const NEAR: u32 = 4;
+
+/// After so many entries that all begin above the id, a search goes on by halves.
+const FAR: u32 = 6;
+
+/// How many entries a search leaps over once it has tried the nearest.
+const LEAP: usize = 16;
 
 /// A place from `low` to before `high`: the stride below `high`, or the middle where that isn't between them.
+#[inline]
 fn probe(low: usize, high: usize, stride: usize) -> usize
     requires some { low < high }
     requires stride { 1 ≤ stride }
@@ -24,19 +31,22 @@ fn probe(low: usize, high: usize, stride: usize) -> usize
     }
 }
 
-/// The stride behind one that didn't reach the id: four times as wide, and in the end that of a search by halves.
-fn wider(stride: usize) -> usize
-    requires { 1 ≤ stride }
+/// How far below the last place a search looks next, behind so many entries that begin above the id.
+#[inline]
+fn stride_behind(misses: u32) -> usize
     ensures { 1 ≤ result }
 {
-    if stride < WIDEST {
-        stride * 4
+    if misses < NEAR {
+        1
+    } else if misses < FAR {
+        LEAP
     } else {
         usize::MAX
     }
 }
 
 /// The place near, where the entry there begins above the id; else the number of entries.
+#[inline]
 fn bound_of(entries: &[Entry], id: u64, near: usize) -> usize
     requires { (end : ℕ) × (do_rise end entries.now ≡ true) }
     ensures within { result ≤ length entries.now }
@@ -49,15 +59,10 @@ fn bound_of(entries: &[Entry], id: u64, near: usize) -> usize
     }
 }
 
-/// The first stride of a search below the place: halves where that is the end of the entries.
-fn stride_below(entries: &[Entry], high: usize) -> usize
-    ensures { 1 ≤ result }
-{
-    if high < entries.len() { 1 } else { usize::MAX }
-}
-
-/// How many of the entries, which rise, begin at the id or below it. It seeks downwards from the place `near`, in widening
-/// strides, where the entry there begins above the id, else by halves: a walk that goes down finds the next one at once.
+/// How many of the entries, which rise, begin at the id or below it. Where the entry at the place `near` begins above the id
+/// it seeks downwards from there, the nearest entries one by one; else by halves. So a walk that goes down finds the next
+/// entry at once.
+#[inline]
 pub(crate) fn count_up_to(entries: &[Entry], id: u64, near: usize) -> usize
     requires { (end : ℕ) × (do_rise end entries.now ≡ true) }
     ensures within { result ≤ length entries.now }
@@ -66,15 +71,15 @@ pub(crate) fn count_up_to(entries: &[Entry], id: u64, near: usize) -> usize
 {
     let mut low = 0;
     let mut high = bound_of(entries, id, near);
-    let mut stride = stride_below(entries, high);
+    let mut misses = if high < entries.len() { 0 } else { FAR };
     'search: while low < high {
-        let at = probe(low, high, stride);
+        let at = probe(low, high, stride_behind(misses));
         if id < entries[at].low {
             high = at;
-            stride = wider(stride);
+            misses = misses.saturating_add(1);
         } else {
             low = at + 1;
-            stride = usize::MAX;
+            misses = FAR;
         }
     }
     low

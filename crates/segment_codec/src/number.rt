@@ -18,6 +18,7 @@ fn with_group(value: u64, unit: u64, group: u64) -> Option<u64>
 }
 
 /// The number in front, and the rest; `None` where no number's spelling stands in front.
+#[inline(always)]
 pub fn read_number(bytes: &[u8]) -> Option<(u64, &[u8])>
     ensures { Gives (λ r. (r.0, r.1.now)) result (number_at bytes.now) }
 {
@@ -30,6 +31,7 @@ pub fn read_number(bytes: &[u8]) -> Option<(u64, &[u8])>
 }
 
 /// The same, whatever the first byte is.
+#[inline(never)]
 fn read_groups(bytes: &[u8]) -> Option<(u64, &[u8])>
     ensures { Gives (λ r. (r.0, r.1.now)) result (number_at bytes.now) }
 {
@@ -52,6 +54,7 @@ fn read_groups(bytes: &[u8]) -> Option<(u64, &[u8])>
 }
 
 /// What stands behind the number in front.
+#[inline(always)]
 fn skip_number(bytes: &[u8]) -> &[u8]
     ensures { (n : ℕ) (after : List ℕ) → number_at bytes.now ≡ Some (n, after) → result.now ≡ after }
 {

@@ -8,7 +8,6 @@ search-preserved-then-id-entries c =
     record {
       order = low;
       within = omega (arith, high, within);
-      some = c.wider-stride.ensures;
       front = c.search.invariant.front;
       back = back-from c.requires.0 c.args.id c.args.entries.now c.probe-at.result _ c.requires.1 (omega (arith, high, within)) c.if-id-entries.true;
     }
@@ -19,7 +18,6 @@ search-preserved c =
     record {
       order = omega (arith, high);
       within = within;
-      some = omega arith;
       front = front-to c.requires.0 c.args.id c.args.entries.now c.probe-at.result _ c.requires.1 (omega (arith, high, within)) c.if-id-entries.false;
       back = c.search.invariant.back;
     }

@@ -4,15 +4,14 @@ use Rattle.std.specs.List.{AllWithin}
 use Rattle.flat_segments.specs.declared.entry.Entry.{Entry}
 use Rattle.flat_segments.proofs.search.count_up_to.Given as goal
 
-pub record Between (id low high : ℕ) (es : List Entry) (width : ℕ) : Type 0 where
+pub record Between (id low high : ℕ) (es : List Entry) : Type 0 where
   pub order : low ≤ high
   pub within : high ≤ length es
-  pub some : 1 ≤ width
   pub front : AllWithin (λ (e : Entry). nat_le e.low id ≡ true) es 0 low
   pub back : AllWithin (λ (e : Entry). nat_le e.low id ≡ false) es high (length es)
 
 abbrev pub invariant-search : goal.invariant-search
-invariant-search l = Between l.id l.low l.high l.entries l.stride
+invariant-search l = Between l.id l.low l.high l.entries
 
 abbrev pub decreases-search : goal.decreases-search
 decreases-search l = l.high - l.low
