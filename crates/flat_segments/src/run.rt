@@ -47,7 +47,6 @@ impl<'a> Run<'a> {
     }
 
     /// The segment at place `k`.
-    #[inline(always)]
     pub(crate) fn at(&self, k: usize) -> SegmentRef<'a>
         requires { k < length self.now.entries.now }
         ensures { slice_get (flats_in self.now.bytes.now self.now.end self.now.entries.now) k ≡ Some (segment_of result) }

@@ -13,6 +13,7 @@ use crate::reading::read_high;
 const FIXED: usize = 10;
 
 /// A number that is known to stand in front, and what stands behind it.
+#[inline(always)]
 fn known_number(bytes: &[u8]) -> (u64, &[u8])
     requires { (n : ℕ) × (rest : List ℕ) × (number_at bytes.now ≡ Some (n, rest)) }
     ensures { (n : ℕ) (rest : List ℕ) → number_at bytes.now ≡ Some (n, rest) → (result.0 ≡ n) × (result.1.now ≡ rest) }
@@ -25,6 +26,7 @@ fn known_number(bytes: &[u8]) -> (u64, &[u8])
 
 /// The record in front of bytes in which one is known to stand. Its parents are lent and not looked at, so it takes much
 /// less than `read_segment`.
+#[inline(always)]
 pub fn read_known<'a>(bytes: &'a [u8]) -> SegmentRef<'a>
     requires { (s : Segment) × (rest : List ℕ) × (record_at bytes.now ≡ Some (s, rest)) }
     ensures known { (s : Segment) (rest : List ℕ) → IsSegment s → bytes.now ≡ segment_bytes s ++ rest → segment_of result ≡ s }
