@@ -6,3 +6,4 @@ pub mod Orders
 pub mod Records
 pub mod Tables
 pub mod Flats
+pub mod Examples

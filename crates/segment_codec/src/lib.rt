@@ -13,7 +13,7 @@ mod steps;
 mod table;
 mod writing;
 
-pub use laws::{numbers_are_spelled, records_are_spelled};
+pub use laws::{numbers_are_spelled, records_are_spelled, tables_spelled_out};
 pub use lent::{Parents, SegmentRef};
 pub use reading::{read_high, read_segment};
 pub use steps::Steps;
