@@ -1,7 +1,10 @@
 //! Histories that are drawn by a rule.
 
-ghost use Rattle.std.specs.Prelude.{◌≡◌, ◌+◌, ◌<◌, ◌≤◌, ◌^◌, IfOk, OnOk, IfSome};
-ghost use Rattle.sample_tables.specs.Drawn.{MayBegin};
+ghost use Rattle.std.specs.Prelude.{◌≡◌, ◌+◌, ◌/◌, ◌<◌, ◌≤◌, ◌^◌, ◌++◌, ℕ, List, [], ◌∷◌, IfOk, OnOk, IfSome};
+ghost use Rattle.segment_codec.specs.Record.{Segment};
+ghost use Rattle.segment_codec.specs.Table.{parents_at};
+ghost use Rattle.sample_tables.specs.Drawn.{MayBegin, parents_begun, next_drawn, begin_of, history};
+ghost use Rattle.sample_tables.specs.Samples.{IsSampleOf, next_segment};
 
 use crate::sample::Sample;
 use id_groups::Id;
@@ -27,7 +30,9 @@ enum Begin {
     Merge(u64),
 }
 
-fn next_random(x: u64) -> u64 {
+fn next_random(x: u64) -> u64
+    ensures { result ≡ next_drawn x }
+{
     x.wrapping_mul(6364136223846793005)
         .wrapping_add(1442695040888963407)
 }
@@ -35,7 +40,8 @@ fn next_random(x: u64) -> u64 {
 /// How the commit `i` begins a segment, if it does. An earlier parent is one of the 64 before the one before it.
 fn drawn_begin(rule: Rule, random: u64, i: u64) -> Option<Begin>
     requires { 0 < i }
-    ensures { IfSome result (MayBegin i) }
+    ensures may { IfSome result (MayBegin i) }
+    ensures drawn { result ≡ begin_of rule (random / 2 ^ 33) i }
 {
     if i == 1 {
         return None;
@@ -58,7 +64,9 @@ fn push_begun(sample: &mut Sample, start: Begin, count: u64) -> Result<(), Alloc
     requires begin { MayBegin sample.old.table.end start }
     requires some { 0 < count }
     requires room { sample.old.table.end + count < 2 ^ 32 }
-    ensures { OnOk result (sample.new.table.end ≡ sample.old.table.end + count) }
+    ensures added { OnOk result ((segments : List Segment) → IsSampleOf sample.old segments
+        → IsSampleOf sample.new (segments ++ next_segment sample.old.table.end (parents_begun sample.old.table.end start) count ∷ [])) }
+    ensures count { OnOk result (sample.new.table.end ≡ sample.old.table.end + count) }
 {
     let end = sample.count();
     match start {
