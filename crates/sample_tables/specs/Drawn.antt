@@ -30,8 +30,8 @@ abbrev pub picked : ℕ → ℕ → ℕ
 picked number i = i - 1 - (1 + (number / 16) % (min i 65 - 1))
 
 -- how the commit begins a segment by this number, if it isn't simply on the one before; the commit 1 is on the commit 0
-abbrev pub begin_of : Rule → ℕ → ℕ → Option Begin
-begin_of rule number i =
+abbrev pub begin_by : Rule → ℕ → ℕ → Option Begin
+begin_by rule number i =
     if nat_eq i 1 then None
     else (if nat_lt (number % 16) rule.merges then Some (Merge (picked number i))
     else (if nat_lt (number % 16 - rule.merges) rule.branches then Some (Branch (picked number i)) else None))
@@ -44,4 +44,4 @@ parents_by i (Some start) = parents_begun i start
 -- the parents of each commit of the history: 0 has none, and for each from 2 on a number is drawn
 abbrev pub history : Rule → ℕ → ℕ → List ℕ
 history rule start zero = []
-history rule start (suc k) = parents_by (suc k) (begin_of rule (drawn start k / 2 ^ 33) (suc k))
+history rule start (suc k) = parents_by (suc k) (begin_by rule (drawn start k / 2 ^ 33) (suc k))
