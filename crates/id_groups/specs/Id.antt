@@ -11,9 +11,11 @@ other_id j = 2 ^ 56 + j
 abbrev pub id_end : ℕ
 id_end = 2 ^ 57
 
+-- whether an id is one of the master group: those below 2 ^ 56 are
 abbrev pub is_master_id : ℕ → Bool
 is_master_id id = nat_lt id (2 ^ 56)
 
+-- the group of an id: each has one, and the other group has all from 2 ^ 56 on
 abbrev pub group_of : ℕ → Group
 group_of id = if is_master_id id then Master else Others
 

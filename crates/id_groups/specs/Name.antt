@@ -11,6 +11,7 @@ use Rattle.hex.specs.Hex.{encode_lower, decode_of, decode_sized}
 abbrev pub Name : Type 0
 Name = List ℕ
 
+-- 20 numbers, each of them a byte
 abbrev pub IsName : Name → Type 0
 IsName name = (length name ≡ 20) × AllByRecursion (λ b. b < 256) name
 
@@ -26,6 +27,7 @@ hex_text = encode_lower
 abbrev pub SpellsName : List ℕ → Name → Type 0
 SpellsName text name = (length name ≡ 20) × (decode_of text ≡ Ok name)
 
+-- the bytes that decoding gave, or none where it was refused, whatever the cause
 abbrev pub decoded : Result Name FromHexError → Option Name
 decoded (Ok bytes) = Some bytes
 decoded (Err e) = None

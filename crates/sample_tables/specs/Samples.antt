@@ -6,6 +6,7 @@ use Rattle.segment_codec.specs.Record.{Segment}
 use Rattle.flat_segments.specs.Placed.{Placed, segments_of, Stand}
 use Rattle.flat_segments.specs.Kept.{Kept, IsTableOf}
 
+-- the bytes of the records, and what the table keeps of them
 pub record Written : Type 0 where
   pub bytes : List ℕ
   pub table : Kept

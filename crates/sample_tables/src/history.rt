@@ -1,7 +1,10 @@
 //! Histories that are drawn by a rule.
 
-ghost use Rattle.std.specs.Prelude.{◌≡◌, ◌+◌, ◌<◌, ◌≤◌, ◌^◌, IfOk, OnOk, IfSome};
-ghost use Rattle.sample_tables.specs.Drawn.{MayBegin};
+ghost use Rattle.std.specs.Prelude.{◌≡◌, ◌+◌, ◌/◌, ◌<◌, ◌≤◌, ◌^◌, ◌++◌, ℕ, nat_lt, if◌then◌else◌, List, [], ◌∷◌, IfOk, OnOk, IfSome};
+ghost use Rattle.segment_codec.specs.Record.{Segment};
+ghost use Rattle.segment_codec.specs.Table.{parents_at};
+ghost use Rattle.sample_tables.specs.Drawn.{MayBegin, parents_begun, next_drawn, begin_by, history};
+ghost use Rattle.sample_tables.specs.Samples.{IsSampleOf, next_segment};
 
 use crate::sample::Sample;
 use id_groups::Id;
@@ -27,15 +30,25 @@ enum Begin {
     Merge(u64),
 }
 
-fn next_random(x: u64) -> u64 {
+fn next_random(x: u64) -> u64
+    ensures { result ≡ next_drawn x }
+{
     x.wrapping_mul(6364136223846793005)
         .wrapping_add(1442695040888963407)
+}
+
+/// The state that the number for the commit `i` is drawn from. None is drawn for the commits 0 and 1.
+fn state_for(i: u64, random: u64) -> u64
+    ensures { result ≡ (if nat_lt 1 i then next_drawn random else random) }
+{
+    if i > 1 { next_random(random) } else { random }
 }
 
 /// How the commit `i` begins a segment, if it does. An earlier parent is one of the 64 before the one before it.
 fn drawn_begin(rule: Rule, random: u64, i: u64) -> Option<Begin>
     requires { 0 < i }
-    ensures { IfSome result (MayBegin i) }
+    ensures may { IfSome result (MayBegin i) }
+    ensures drawn { result ≡ begin_by rule (random / 2 ^ 33) i }
 {
     if i == 1 {
         return None;
@@ -58,7 +71,9 @@ fn push_begun(sample: &mut Sample, start: Begin, count: u64) -> Result<(), Alloc
     requires begin { MayBegin sample.old.table.end start }
     requires some { 0 < count }
     requires room { sample.old.table.end + count < 2 ^ 32 }
-    ensures { OnOk result (sample.new.table.end ≡ sample.old.table.end + count) }
+    ensures added { OnOk result ((segments : List Segment) → IsSampleOf sample.old segments
+        → IsSampleOf sample.new (segments ++ next_segment sample.old.table.end (parents_begun sample.old.table.end start) count ∷ [])) }
+    ensures count { OnOk result (sample.new.table.end ≡ sample.old.table.end + count) }
 {
     let end = sample.count();
     match start {
@@ -77,7 +92,9 @@ pub fn draw_history(
     start: u64,
 ) -> Result<Sample, AllocError>
     requires { commits < 2 ^ 32 }
-    ensures { IfOk result (λ sample. sample.table.end ≡ commits) }
+    ensures count { IfOk result (λ sample. sample.table.end ≡ commits) }
+    ensures parents { IfOk result (λ sample. (segments : List Segment) × IsSampleOf sample segments
+        × ((i : ℕ) → i < commits → parents_at segments i ≡ history rule start i)) }
 {
     let mut sample = Sample::empty(alloc);
     if commits == 0 {
@@ -86,9 +103,7 @@ pub fn draw_history(
     let mut random = start;
     let mut open = Begin::Root;
     'commits: for i in 1..commits {
-        if i > 1 {
-            random = next_random(random);
-        }
+        random = state_for(i, random);
         if let Some(next) = drawn_begin(rule, random, i) {
             let count = i - sample.count();
             push_begun(&mut sample, open, count)?;

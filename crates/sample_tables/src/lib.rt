@@ -4,9 +4,11 @@
 
 mod held;
 mod history;
+mod laws;
 mod parents;
 mod sample;
 
 pub use held::{held_id, held_ids};
 pub use history::{Rule, draw_history};
+pub use laws::histories_spelled_out;
 pub use sample::Sample;

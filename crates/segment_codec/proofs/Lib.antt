@@ -7,3 +7,4 @@ pub mod Records
 pub mod Skipping
 pub mod Tables
 pub mod Flats
+pub mod Examples

@@ -5,6 +5,7 @@ use Rattle.segment_codec.specs.declared.lent.Parents.{Parents}
 use Rattle.segment_codec.specs.Number.{numbers_in}
 use Rattle.segment_codec.specs.Record.{Segment}
 
+-- the ids and the level are kept as numbers, and the parents as the bytes of theirs
 abbrev pub segment_of : SegmentRef → Segment
 segment_of r = record { low = r.low; high = r.high; level = r.level; parents = numbers_in r.parents.now }
 

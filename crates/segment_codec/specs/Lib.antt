@@ -4,3 +4,4 @@ pub mod Reading
 pub mod Lent
 pub mod Table
 pub mod Flat
+pub mod Examples

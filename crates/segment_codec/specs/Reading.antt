@@ -6,6 +6,7 @@ use Rattle.id_groups.specs.Id.{id_end}
 use Rattle.segment_codec.specs.declared.head.Head.{Head}
 use Rattle.segment_codec.specs.Record.{Segment}
 
+-- reading goes on with what was read, or there is nothing
 infixl 10 ◌>>=◌
 abbrev pub ◌>>=◌ : {A B : Type 0} → Option A → (A → Option B) → Option B
 None >>= f = None
@@ -44,6 +45,7 @@ numbers_at end (suc count) bytes = do
 unfoldable pub fixed_at : List ℕ → Option (ℕ × List ℕ)
 fixed_at bytes = if nat_lt (length bytes) 8 then None else Some (from_be_bytes w64 (take 8 bytes), drop 8 bytes)
 
+-- a flat segment has as many as a row may have; one of a higher level has at most 2 ^ 24
 abbrev pub most_parents : ℕ → ℕ
 most_parents level = if nat_eq level 0 then 8 else 16777216
 
@@ -53,6 +55,7 @@ is_head flags level high span count =
     nat_le level 7 && nat_lt high id_end && nat_le span high && (nat_lt high (2 ^ 56) || nat_le (2 ^ 56) (high - span))
     && nat_le count (most_parents level) && nat_eq flags (if nat_eq count 0 then 1 else 0)
 
+-- what stands before the parents: flags, level, highest id, how far the lowest is below it, and how many parents
 unfoldable pub head_at : List ℕ → Option (Head × List ℕ)
 head_at (flags ∷ level ∷ rest) = do
   high ← fixed_at rest
@@ -63,6 +66,7 @@ head_at (flags ∷ level ∷ rest) = do
       else None
 head_at _ = None
 
+-- whether no number stands there twice
 abbrev pub are_distinct : List ℕ → Bool
 are_distinct [] = true
 are_distinct (n ∷ ns) = not (is_in nat_eq n ns) && are_distinct ns
@@ -72,6 +76,7 @@ abbrev pub ascend_from : ℕ → List ℕ → Bool
 ascend_from least [] = true
 ascend_from least (n ∷ ns) = nat_le least n && ascend_from (n + 1) ns
 
+-- parents of a flat segment stand in any order, but none twice; those of a higher level ascend
 abbrev pub are_in_order : ℕ → List ℕ → Bool
 are_in_order level parents = if nat_eq level 0 then are_distinct parents else ascend_from 0 parents
 

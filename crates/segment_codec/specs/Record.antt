@@ -15,6 +15,7 @@ pub record Segment : Type 0 where
   -- those of low, outside the segment
   pub parents : List ℕ
 
+-- bit 0 says that there are no parents; no other bit is ever set
 abbrev pub flags_of : List ℕ → ℕ
 flags_of [] = 1
 flags_of (p ∷ parents) = 0

@@ -11,6 +11,7 @@ ticked n = min (n + 1) (2 ^ 64 - 1)
 abbrev pub IsInSegment : ℕ → Segment → Type 0
 IsInSegment x s = (s.low ≤ x) × (x ≤ s.high)
 
+-- whether the id is one of the segment's
 abbrev pub holds : Segment → ℕ → Bool
 holds s x = nat_le s.low x && nat_le x s.high
 
@@ -24,6 +25,7 @@ abbrev pub parents_in : Option Segment → ℕ → List ℕ
 parents_in None x = []
 parents_in (Some s) x = if nat_eq x s.low then s.parents else (x - 1) ∷ []
 
+-- the parents that the list gives an id: none where no segment of it has the id
 abbrev pub parents_at : List Segment → ℕ → List ℕ
 parents_at flats x = parents_in (segment_at flats x) x
 

@@ -4,6 +4,8 @@ ghost use Rattle.std.specs.Prelude.{◌≡◌, ◌++◌, ◌^◌, ◌<◌, ◌+�
 ghost use Rattle.std.specs.List.{AllByRecursion};
 ghost use Rattle.segment_codec.specs.Number.{HasNumber, number_bytes};
 ghost use Rattle.segment_codec.specs.Record.{Segment, IsSegment, segment_bytes};
+ghost use Rattle.segment_codec.specs.Table.{parents_at, Cover, IsHeaded};
+ghost use Rattle.segment_codec.specs.Examples.{small_table, gapped_table};
 
 /// Some numbers and records, and their bytes.
 #[tactic(auto, unfolding(crate::specs::Number::number_bytes, crate::specs::Record::segment_bytes))]
@@ -24,4 +26,16 @@ pub fn records_are_spelled()
         → HasNumber (s.high - s.low) × HasNumber (length s.parents) × AllByRecursion HasNumber s.parents }
     ensures one { (s t : Segment) (x y : List ℕ) → IsSegment s → IsSegment t
         → segment_bytes s ++ x ≡ segment_bytes t ++ y → (s ≡ t) × (x ≡ y) }
+{}
+
+/// Tables of a few segments: the parents of their ids, which ids they cover, and which parts of them have one head.
+pub fn tables_spelled_out()
+    ensures lowest { parents_at small_table 5 ≡ 4 ∷ 2 ∷ [] }
+    ensures inside { parents_at small_table 2 ≡ 1 ∷ [] }
+    ensures other { parents_at small_table (2 ^ 56 + 1) ≡ 2 ^ 56 ∷ [] }
+    ensures not_held { parents_at small_table 6 ≡ [] }
+    ensures covered { Cover small_table 6 2 }
+    ensures gap { (master others : ℕ) → ¬ (Cover gapped_table master others) }
+    ensures headed { IsHeaded small_table (record { low = 3; high = 5; level = 1; parents = 1 ∷ 2 ∷ [] }) }
+    ensures two_heads { ¬ (IsHeaded small_table (record { low = 0; high = 3; level = 1; parents = [] })) }
 {}

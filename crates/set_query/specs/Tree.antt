@@ -4,6 +4,7 @@ use Rattle.set_query.specs.declared.tree.Tree.{Tree, One, Named, Of'}
 use Rattle.set_query.specs.Expr as exprs
 use Rattle.set_query.specs.Expr.{Expr}
 
+-- the same names, words and calls; where the inner tree lies in memory doesn't count
 abbrev pub tree_in : Tree → Expr Name
 tree_in (One name) = exprs.One name
 tree_in (Named word) = exprs.Named word

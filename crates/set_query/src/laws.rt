@@ -1,16 +1,21 @@
 //! Laws of the definitions.
 
-ghost use Rattle.std.specs.Prelude.{◌≡◌, ℕ, List, length, map};
+ghost use Rattle.std.specs.Prelude.{◌≡◌, ℕ, List, [], ◌∷◌, length, map, codes};
 ghost use Rattle.id_groups.specs.Lists.{AreAllIn};
 ghost use Rattle.id_groups.specs.Name.{Name, same_name};
 ghost use Rattle.commit_graph.specs.Graph.{Graph, graph_of};
 ghost use Rattle.commit_graph.specs.Renaming.{IsRenaming, IsClosed};
 ghost use Rattle.commit_graph.specs.World.{World, IsWorld, rows_of};
 ghost use Rattle.set_query.specs.Computed.{answer_of};
-ghost use Rattle.set_query.specs.Expr.{Expr, commits_in, renamed};
+ghost use Rattle.set_query.specs.Expr.{Expr, One, Named, Of, OfTwo, commits_in, depth, renamed};
 ghost use Rattle.set_query.specs.Ids.{with_ids};
 ghost use Rattle.set_query.specs.Meaning.{IsAnswer};
-ghost use Rattle.set_query.specs.Spelling.{SpellsExpr};
+ghost use Rattle.set_query.specs.Spelling.{SpellsExpr, SpellsTree};
+ghost use Rattle.set_query.specs.declared.words.Call.TheVariants.{Parents, Ancestors};
+ghost use Rattle.set_query.specs.declared.words.PairCall.TheVariants.{Union};
+ghost use Rattle.set_query.specs.declared.words.Word.TheVariants.{All};
+ghost use Rattle.segment_codec.specs.Examples.{small_table};
+ghost use Rattle.ancestor_query.specs.Graph.{table_graph};
 
 /// An expression has one answer.
 pub fn one_answer()
@@ -36,4 +41,13 @@ pub fn one_expression()
 /// An expression over the ids that stand for its names is the expression under other names.
 pub fn ids_for_names()
     ensures { (f : Name → ℕ) (e : Expr Name) → with_ids e (map f (commits_in e)) ≡ renamed f e }
+{}
+
+/// The text of an expression and how deep its calls stand, the ids for its names from left to right, and what it means over
+/// a small table.
+pub fn expressions_spelled_out()
+    ensures text { SpellsTree (codes "ancestors(parents(all))") (Of Ancestors (Of Parents (Named All))) }
+    ensures levels { depth {N = ℕ} (Of Ancestors (Of Parents (Named All))) ≡ 3 }
+    ensures ids { with_ids {N = ℕ} (OfTwo Union (One 8) (Of Parents (One 9))) (3 ∷ 5 ∷ []) ≡ OfTwo Union (One 3) (Of Parents (One 5)) }
+    ensures meaning { IsAnswer (table_graph small_table) (Of Parents (One 5)) (4 ∷ 2 ∷ []) }
 {}

@@ -11,7 +11,10 @@ mod words;
 
 pub use evaluation::{Answer, eval};
 pub use expr::Expr;
-pub use laws::{answers_computed, answers_renamed, ids_for_names, one_answer, one_expression};
+pub use laws::{
+    answers_computed, answers_renamed, expressions_spelled_out, ids_for_names, one_answer,
+    one_expression,
+};
 pub use parse::ExprFault;
 pub use tree::Tree;
 pub use words::{Call, PairCall, Word};
