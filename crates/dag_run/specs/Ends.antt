@@ -50,6 +50,7 @@ EndsAs (Err Sink) limits input left taken now =
     × (lines_of limits.input input ≡ done ++ line ∷ more) × AnsweredInPart limits done line taken now
 EndsAs (Err Memory) limits input left taken now = now ≡ taken
 
+-- what an end says of the limit alone, of an input that tells its bytes
 abbrev pub LimitHolds : Result Unit Stop → Limits → List ℕ → Type 0
 LimitHolds (Ok x) limits input = length input ≤ limits.input
 LimitHolds (Err Limit) limits input = limits.input < length input

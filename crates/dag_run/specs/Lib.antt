@@ -13,3 +13,4 @@ pub mod Run
 pub mod Stops
 pub mod Ends
 pub mod Words
+pub mod Example

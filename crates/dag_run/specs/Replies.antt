@@ -9,9 +9,11 @@ use Rattle.dag_run.specs.declared.reply.Refusal.TheVariants.{Syntax, LongLine, U
 use Rattle.dag_run.specs.declared.reply.Reply.{Reply}
 use Rattle.dag_run.specs.declared.reply.Reply.TheVariants.{Added, Old, Listed, Counted, Sizes, Refused}
 
+-- the word for what is limited
 abbrev pub limit_text : Limit → List ℕ
 limit_text limit.Pending = codes "pending"
 
+-- the line of a refusal
 abbrev pub refusal_text : Refusal → List ℕ
 refusal_text Syntax = codes "err syntax"
 refusal_text LongLine = codes "err line 16384"

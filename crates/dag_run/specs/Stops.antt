@@ -7,6 +7,7 @@ use Rattle.line_io.specs.declared.lines.LineFault.TheVariants.{Read, Limit}
 use Rattle.dag_run.specs.declared.program.Stop.{Stop}
 use Rattle.dag_run.specs.declared.program.Stop.TheVariants.{Memory, Source, Sink, Limit as Over}
 
+-- why a run stops where no line could be read
 abbrev pub stop_of : LineFault → Stop
 stop_of Read = Source
 stop_of Limit = Over

@@ -15,7 +15,10 @@ mod rows;
 mod words;
 
 pub use command::{Command, CommandFault, Verb};
-pub use laws::{one_command, runs_join};
+pub use laws::{
+    one_command, refusals_spelled_out, replies_spelled_out, run_spelled_out, runs_join,
+    words_spelled_out,
+};
 pub use limits::Limits;
 pub use name_list::NameList;
 pub use program::{run_lines, top};
