@@ -1,2 +1,3 @@
 mod Pushing
 mod Listed
+mod Joining

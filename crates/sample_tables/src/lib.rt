@@ -4,9 +4,11 @@
 
 mod held;
 mod history;
+mod others;
 mod parents;
 mod sample;
 
 pub use held::{held_id, held_ids};
 pub use history::{Rule, draw_history};
+pub use others::OtherSample;
 pub use sample::Sample;
