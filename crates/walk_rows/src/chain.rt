@@ -318,28 +318,55 @@ fn does_reach<T: SegmentTable>(
     Ok(Some(found))
 }
 
+/// A place, a number of steps to first parents, and the place where they lead.
+type Walk = (u64, u64, Option<u64>);
+
+const WALKS: [Walk; 5] = [
+    (9999, 4999, Some(1)),
+    (9999, 5000, None),
+    (9998, 4999, Some(0)),
+    (9998, 5000, None),
+    (9998, 3210, Some(3578)),
+];
+
+/// The first walk that leads elsewhere.
+fn first_astray<T: SegmentTable>(table: &T, walks: &[Walk]) -> Option<Walk> {
+    for walk in walks {
+        if first_from(table, walk.0, walk.1) != walk.2 {
+            return Some(*walk);
+        }
+    }
+    None
+}
+
+/// Two places, and whether the second reaches the first.
+type Reach = (u64, u64, bool);
+
+const REACHES: [Reach; 3] = [(0, 9998, true), (1, 9998, true), (0, 9999, false)];
+
+/// The first of these that isn't so.
+fn first_false<T: SegmentTable>(
+    alloc: Global,
+    table: &T,
+    reaches: &[Reach],
+) -> Result<Option<Reach>, AllocError> {
+    for reach in reaches {
+        if does_reach(alloc, table, reach.0, reach.1)? != Some(reach.2) {
+            return Ok(Some(*reach));
+        }
+    }
+    Ok(None)
+}
+
 #[test]
 fn ten_thousand_segments(rt: HostRuntime) -> Result<(), Fail> {
     let sample = chain(rt.alloc(), COUNT)?;
-    assert_eq!(rt; sample.count(), COUNT);
     let view = sample.view(sample.count());
-    assert_eq!(rt; u64::from(view.flat_count()), COUNT);
+    assert!(rt; u64::from(view.flat_count()) == COUNT);
     let wrong = first_wrong(rt.alloc(), &view)?;
     assert!(rt; wrong.is_none(), "{wrong:?}");
-    // a place, the steps to first parents, and where they lead
-    let rows: [(u64, u64, Option<u64>); 5] = [
-        (9999, 4999, Some(1)),
-        (9999, 5000, None),
-        (9998, 4999, Some(0)),
-        (9998, 5000, None),
-        (9998, 3210, Some(3578)),
-    ];
-    for (place, n, wanted) in rows {
-        assert_eq!(rt; first_from(&view, place, n), wanted);
-    }
-    assert_eq!(rt; does_reach(rt.alloc(), &view, 0, 9998)?, Some(true));
-    assert_eq!(rt; does_reach(rt.alloc(), &view, 1, 9998)?, Some(true));
-    assert_eq!(rt; does_reach(rt.alloc(), &view, 0, 9999)?, Some(false));
+    assert!(rt; first_astray(&view, &WALKS).is_none());
+    assert!(rt; first_false(rt.alloc(), &view, &REACHES)?.is_none());
     Ok(())
 }
 
@@ -355,16 +382,25 @@ const DEEP_ROWS: [Row; 4] = [
     (Question::Only, &[199_999], &[199_998], 500),
 ];
 
+/// The first row whose answer isn't of so many.
+fn first_miscounted<T: SegmentTable>(alloc: Global, table: &T) -> Result<Option<Row>, AllocError> {
+    for (question, first, second, many) in DEEP_ROWS {
+        let found = asked(alloc, table, question, first, second)?;
+        if found.count() != many {
+            return Ok(Some((question, first, second, many)));
+        }
+    }
+    Ok(None)
+}
+
 #[test]
 fn no_query_calls_itself_for_each_segment(rt: HostRuntime) -> Result<(), Fail> {
     let sample = chain(rt.alloc(), DEEP)?;
     let view = sample.view(sample.count());
-    assert_eq!(rt; u64::from(view.flat_count()), DEEP);
-    for (question, first, second, many) in DEEP_ROWS {
-        let found = asked(rt.alloc(), &view, question, first, second)?;
-        assert_eq!(rt; found.count(), many, "{question:?}");
-    }
-    assert_eq!(rt; first_from(&view, 199_999, 99_999), Some(1));
-    assert_eq!(rt; does_reach(rt.alloc(), &view, 0, 199_999)?, Some(false));
+    assert!(rt; u64::from(view.flat_count()) == DEEP);
+    let wrong = first_miscounted(rt.alloc(), &view)?;
+    assert!(rt; wrong.is_none(), "{wrong:?}");
+    assert!(rt; first_astray(&view, &[(199_999, 99_999, Some(1))]).is_none());
+    assert!(rt; first_false(rt.alloc(), &view, &[(0, 199_999, false)])?.is_none());
     Ok(())
 }

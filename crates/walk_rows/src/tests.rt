@@ -115,18 +115,48 @@ fn an_ordinary_day(rt: HostRuntime) -> Result<(), Fail> {
         masters: 6,
     };
     assert_eq!(rt; view.flat_count(), 3);
-    assert_eq!(rt;
-        asked.made_of_two(PairQuery::Only, bit(5), bit(2))?,
-        bits(&[3, 4, 5])
-    );
-    assert_eq!(rt;
-        asked.made_of_two(PairQuery::Range, bit(1), bit(4))?,
-        bits(&[1, 3, 4])
-    );
-    assert_eq!(rt; asked.is_ancestor(1, 5)?, Some(true));
-    assert_eq!(rt; asked.is_ancestor(2, 4)?, Some(false));
-    assert_eq!(rt; asked.first_ancestor(5, 2), Some(1));
-    assert_eq!(rt; asked.first_ancestor(5, 4), None);
+    let rows: [(PairQuery, u64, u64, &[u64]); 2] = [
+        (PairQuery::Only, 5, 2, &[3, 4, 5]),
+        (PairQuery::Range, 1, 4, &[1, 3, 4]),
+    ];
+    for (query, first, second, wanted) in &rows {
+        assert_eq!(rt;
+            asked.made_of_two(*query, bit(*first), bit(*second))?,
+            bits(wanted)
+        );
+    }
+    Ok(())
+}
+
+#[test]
+fn walks_of_an_ordinary_day(rt: HostRuntime) -> Result<(), Fail> {
+    let alloc = rt.alloc();
+    let sample = table_of(alloc, &DAY)?;
+    let view = sample.view(sample.count());
+    let asked = Asked {
+        alloc,
+        table: &view,
+        masters: 6,
+    };
+    for (x, y, wanted) in [(1, 5, true), (2, 4, false)] {
+        assert_eq!(rt; asked.is_ancestor(x, y)?, Some(wanted));
+    }
+    for (n, wanted) in [(2, Some(1)), (4, None)] {
+        assert_eq!(rt; asked.first_ancestor(5, n), wanted);
+    }
+    Ok(())
+}
+
+#[test]
+fn expressions_of_an_ordinary_day(rt: HostRuntime) -> Result<(), Fail> {
+    let alloc = rt.alloc();
+    let sample = table_of(alloc, &DAY)?;
+    let view = sample.view(sample.count());
+    let asked = Asked {
+        alloc,
+        table: &view,
+        masters: 6,
+    };
     // a text, the id of its name, the members, and the most look-ups
     let rows: [(&[u8], u64, &[u64], u64); 4] = [
         (b"all", 0, &[0, 1, 2, 3, 4, 5], 0),
