@@ -1,3 +1,4 @@
 mod Pushing
 mod Listed
 mod Histories
+mod Joining

@@ -10,16 +10,16 @@ use Rattle.flat_segments.specs.Placed.{Placed, placed, Stand, AreRecords, MaySta
 use Rattle.flat_segments.specs.Kept.{Kept, IsTableOf, MayExtend}
 use Rattle.sample_tables.specs.Samples.{Written, IsSampleOf, next_segment, MayPush}
 
-all-append : {X : Type 0} (P : X → Type 0) (xs ys : List X) → AllByRecursion P xs → AllByRecursion P ys → AllByRecursion P (xs ++ ys)
+pub all-append : {X : Type 0} (P : X → Type 0) (xs ys : List X) → AllByRecursion P xs → AllByRecursion P ys → AllByRecursion P (xs ++ ys)
 all-append P [] ys h k = k
 all-append P (x ∷ xs) ys h k = (h.0, all-append P xs ys h.1 k)
 
-all-within : (n m : ℕ) (records : List Placed) → n ≤ m → AllByRecursion (λ (r : Placed). r.place ≤ n) records → AllByRecursion (λ (r : Placed). r.place ≤ m) records
+pub all-within : (n m : ℕ) (records : List Placed) → n ≤ m → AllByRecursion (λ (r : Placed). r.place ≤ n) records → AllByRecursion (λ (r : Placed). r.place ≤ m) records
 all-within n m [] le h = tt
 all-within n m (r ∷ records) le h = (let first = h.0 in omega arith, all-within n m records le h.1)
 
 -- records stand where they stood when more bytes come
-stand-longer : (bytes more : List ℕ) (records : List Placed) → AllByRecursion (λ (r : Placed). r.place ≤ length bytes) records → Stand bytes records → Stand (bytes ++ more) records
+pub stand-longer : (bytes more : List ℕ) (records : List Placed) → AllByRecursion (λ (r : Placed). r.place ≤ length bytes) records → Stand bytes records → Stand (bytes ++ more) records
 stand-longer bytes more [] w h = tt
 stand-longer bytes more (r ∷ records) w h =
     let first = h.0 in
@@ -28,12 +28,12 @@ stand-longer bytes more (r ∷ records) w h =
     ((first.0 ++ more, parts), stand-longer bytes more records w.1 h.1)
 
 -- there are at most as many segments as ids
-follow-few : (first end : ℕ) (segments : List Segment) → Follow first end segments → first + length segments ≤ end
+pub follow-few : (first end : ℕ) (segments : List Segment) → Follow first end segments → first + length segments ≤ end
 follow-few first end [] h = omega (arith, h)
 follow-few first end (s ∷ more) h = let r = follow-few (s.high + 1) end more h.2 in let order = h.1 in omega (arith, r, order)
 
 -- behind the last segment the ids end
-follow-last : (first end : ℕ) (segments : List Segment) (s : Segment) → Follow first end (segments ++ s ∷ []) → s.high + 1 ≡ end
+pub follow-last : (first end : ℕ) (segments : List Segment) (s : Segment) → Follow first end (segments ++ s ∷ []) → s.high + 1 ≡ end
 follow-last first end [] s h = h.2
 follow-last first end (t ∷ more) s h = follow-last (t.high + 1) end more s h.2
 

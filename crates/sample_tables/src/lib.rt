@@ -5,10 +5,12 @@
 mod held;
 mod history;
 mod laws;
+mod others;
 mod parents;
 mod sample;
 
 pub use held::{held_id, held_ids};
 pub use history::{Rule, draw_history};
 pub use laws::histories_spelled_out;
+pub use others::OtherSample;
 pub use sample::Sample;

@@ -3,7 +3,7 @@
 ghost use Rattle.std.specs.Prelude.{◌≡◌, ◌+◌, ◌≤◌, ◌↔◌, ◌++◌, [], ◌∷◌, List, IsTrue, OnOk, OnErr};
 ghost use Rattle.segment_codec.specs.Record.{Segment};
 ghost use Rattle.flat_segments.specs.Maximal.{maximal, cut};
-ghost use Rattle.flat_segments.specs.Views.{view_flats, master_count};
+ghost use Rattle.flat_segments.specs.Views.{view_flats, master_flats, master_count};
 ghost use Rattle.sample_tables.specs.Samples.{IsSampleOf, next_segment, MayPush};
 
 use crate::parents::{are_below, are_distinct};
@@ -98,6 +98,7 @@ impl Sample {
     pub fn view<'a>(&'a self, below: u64) -> FlatView<'a>
         requires { below ≤ self.now.table.end }
         ensures flats { (segments : List Segment) → IsSampleOf self.now segments → view_flats result ≡ cut below (maximal self.now.table.end segments) }
+        ensures master { master_flats result ≡ view_flats result }
         ensures count { master_count result ≡ below }
     {
         self.table.view(&self.bytes, below)

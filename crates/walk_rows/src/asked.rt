@@ -5,7 +5,7 @@ ghost use Rattle.segment_codec.specs.Table.{IsHeld};
 ghost use Rattle.span_set.specs.Members.{IsMember};
 
 use crate::plain::{PairQuery, Query, bit, has};
-use ancestor_query::{ancestors, first_ancestor, is_ancestor, parents};
+use ancestor_query::{ancestors, ancestors_above, first_ancestor, is_ancestor, parents};
 use common_ancestor::{common, gca, only, tips};
 use id_groups::{Group, Id};
 use range_query::{children, descendants, heads, merges, range, roots};
@@ -23,13 +23,17 @@ pub struct Asked<'a, T> {
     pub masters: u64,
 }
 
+/// The id of a place of a graph with so many master ids; it is no id of the graph where the place is none.
+pub fn id_of(masters: u64, place: u64) -> Id {
+    if place < masters && place < 64 {
+        return Id::master(place);
+    }
+    Id::other(place.saturating_sub(masters) % 64)
+}
+
 impl<'a, T: SegmentTable> Asked<'a, T> {
-    /// The id of a place; it is no id of the table where the place is none of the graph's.
     fn id_at(&self, place: u64) -> Id {
-        if place < self.masters && place < 64 {
-            return Id::master(place);
-        }
-        Id::other(place.saturating_sub(self.masters) % 64)
+        id_of(self.masters, place)
     }
 
     /// The place of an id.
@@ -67,6 +71,14 @@ impl<'a, T: SegmentTable> Asked<'a, T> {
         let set = self.set_of(places)?;
         let mut steps = Steps::new();
         let made = self.queried(query, &set, &mut steps)?;
+        Ok(self.places_of(&made))
+    }
+
+    /// What the set reaches from a lowest place on.
+    pub fn above(&self, places: u64, floor: u64) -> Result<u64, AllocError> {
+        let set = self.set_of(places)?;
+        let mut steps = Steps::new();
+        let made = ancestors_above(self.alloc, self.table, &set, self.id_at(floor), &mut steps)?;
         Ok(self.places_of(&made))
     }
 

@@ -5,6 +5,14 @@
 #[cfg(test)]
 mod asked;
 #[cfg(test)]
+mod chain;
+#[cfg(test)]
+mod compared;
+#[cfg(test)]
+mod draws;
+#[cfg(test)]
+mod joined;
+#[cfg(test)]
 mod plain;
 #[cfg(test)]
 mod tests;

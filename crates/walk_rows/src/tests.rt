@@ -1,180 +1,13 @@
 //! Drawn graphs, and graphs of a few commits with their answers.
 
 use crate::asked::Asked;
-use crate::plain::{Graph, PairQuery, QUERIES, Query, bit, has, sample_of};
+use crate::compared::wrong_in;
+use crate::draws::{Draws, drawn, graph_of};
+use crate::plain::{PairQuery, Query, bit, sample_of};
 use sample_tables::Sample;
 use segment_codec::SegmentTable;
 use std::alloc::{AllocError, Global};
 use std::test::Fail;
-
-fn next_random(x: u64) -> u64 {
-    x.wrapping_mul(6364136223846793005)
-        .wrapping_add(1442695040888963407)
-}
-
-/// Draws numbers.
-#[derive(Drop)]
-struct Draws {
-    state: u64,
-}
-
-impl Draws {
-    /// A number below the bound, which isn't 0.
-    fn below(&mut self, bound: u64) -> u64 {
-        self.state = next_random(self.state);
-        (self.state >> 33) % bound.max(1)
-    }
-
-    /// Some of the places below a count.
-    fn set_below(&mut self, count: u64) -> u64 {
-        let mut set = 0;
-        let rarity = self.below(12).saturating_add(1);
-        for place in 0..count {
-            if self.below(rarity) == 0 {
-                set |= bit(place);
-            }
-        }
-        set
-    }
-}
-
-/// Adds the place, where it isn't there.
-fn add_distinct(places: &mut Vec<u64>, place: u64) -> Result<(), AllocError> {
-    if !places.contains(&place) {
-        places.push(place)?;
-    }
-    Ok(())
-}
-
-/// The parents of the commit at a place: none, the one before, an earlier one, some to eight, or those of the commit before in
-/// the other order.
-fn drawn_parents(
-    alloc: Global,
-    draws: &mut Draws,
-    place: u64,
-    before: &[u64],
-) -> Result<Vec<u64>, AllocError> {
-    let mut parents = Vec::new(alloc);
-    let kind = draws.below(20);
-    if place == 0 || kind == 0 {
-        return Ok(parents);
-    }
-    if kind < 10 {
-        parents.push(place - 1)?;
-    } else if kind < 12 {
-        parents.push(draws.below(place))?;
-    } else if kind < 15 {
-        for parent in before.iter().rev() {
-            parents.push(*parent)?;
-        }
-    } else {
-        let most = if kind == 19 { 8 } else { 2 };
-        for _parent in 0..most {
-            add_distinct(&mut parents, draws.below(place))?;
-        }
-    }
-    Ok(parents)
-}
-
-/// The parents of so many commits.
-fn drawn(alloc: Global, draws: &mut Draws, count: u64) -> Result<Vec<Vec<u64>>, AllocError> {
-    let mut rows: Vec<Vec<u64>> = Vec::new(alloc);
-    for place in 0..count {
-        let parents = match rows.last() {
-            Some(before) => drawn_parents(alloc, draws, place, before)?,
-            None => Vec::new(alloc),
-        };
-        rows.push(parents)?;
-    }
-    Ok(rows)
-}
-
-/// The plain graph of these parents.
-fn graph_of(alloc: Global, rows: &[Vec<u64>]) -> Result<Graph, AllocError> {
-    let mut graph = Graph::empty(alloc);
-    for parents in rows {
-        graph.push(parents)?;
-    }
-    Ok(graph)
-}
-
-/// A query that gives something else than the graph.
-#[derive(Clone, Copy, Debug)]
-enum Wrong {
-    Made(Query, u64),
-    MadeOfTwo(PairQuery, u64, u64),
-    IsAncestor(u64, u64),
-    FirstAncestor(u64, u64),
-}
-
-type Found = Result<Option<Wrong>, AllocError>;
-
-/// The first query of one set that goes wrong.
-fn wrong_on<T: SegmentTable>(asked: &Asked<'_, T>, graph: &Graph, set: u64) -> Found {
-    for query in QUERIES {
-        if asked.made(query, set)? != graph.made(query, set) {
-            return Ok(Some(Wrong::Made(query, set)));
-        }
-    }
-    Ok(None)
-}
-
-/// The first query of two sets that goes wrong.
-fn wrong_on_two<T: SegmentTable>(
-    asked: &Asked<'_, T>,
-    graph: &Graph,
-    first: u64,
-    second: u64,
-) -> Found {
-    for query in [PairQuery::Range, PairQuery::Only] {
-        if asked.made_of_two(query, first, second)? != graph.made_of_two(query, first, second) {
-            return Ok(Some(Wrong::MadeOfTwo(query, first, second)));
-        }
-    }
-    Ok(None)
-}
-
-/// What goes wrong with a pair of places.
-fn wrong_on_places<T: SegmentTable>(asked: &Asked<'_, T>, graph: &Graph, x: u64, y: u64) -> Found {
-    if x <= y {
-        if let Some(wrong) = wrong_on(asked, graph, bit(x) | bit(y))? {
-            return Ok(Some(wrong));
-        }
-    }
-    if let Some(wrong) = wrong_on_two(asked, graph, bit(x), bit(y))? {
-        return Ok(Some(wrong));
-    }
-    if asked.is_ancestor(x, y)? != Some(has(graph.reach(y), x)) {
-        return Ok(Some(Wrong::IsAncestor(x, y)));
-    }
-    if asked.first_ancestor(x, y) != graph.first_ancestor(x, y) {
-        return Ok(Some(Wrong::FirstAncestor(x, y)));
-    }
-    Ok(None)
-}
-
-/// What goes wrong with any two places, in either order, or with some drawn sets.
-fn wrong_in<T: SegmentTable>(asked: &Asked<'_, T>, graph: &Graph, draws: &mut Draws) -> Found {
-    let count = graph.count();
-    for x in 0..count {
-        for y in 0..count {
-            if let Some(wrong) = wrong_on_places(asked, graph, x, y)? {
-                return Ok(Some(wrong));
-            }
-        }
-    }
-    for _set in 0..150 {
-        let first = draws.set_below(count);
-        let second = draws.set_below(count);
-        if let Some(wrong) = wrong_on(asked, graph, first)? {
-            return Ok(Some(wrong));
-        }
-        if let Some(wrong) = wrong_on_two(asked, graph, first, second)? {
-            return Ok(Some(wrong));
-        }
-    }
-    Ok(None)
-}
 
 #[test]
 fn drawn_graphs_are_walked(rt: HostRuntime) -> Result<(), Fail> {
@@ -193,7 +26,7 @@ fn drawn_graphs_are_walked(rt: HostRuntime) -> Result<(), Fail> {
                     masters: below,
                 };
                 let cut = graph.cut(alloc, below as usize)?;
-                let wrong = wrong_in(&asked, &cut, &mut draws)?;
+                let wrong = wrong_in(&asked, &cut, &mut draws, 150)?;
                 assert!(rt; wrong.is_none(), "{wrong:?} below {below}");
             }
         }
@@ -282,18 +115,48 @@ fn an_ordinary_day(rt: HostRuntime) -> Result<(), Fail> {
         masters: 6,
     };
     assert_eq!(rt; view.flat_count(), 3);
-    assert_eq!(rt;
-        asked.made_of_two(PairQuery::Only, bit(5), bit(2))?,
-        bits(&[3, 4, 5])
-    );
-    assert_eq!(rt;
-        asked.made_of_two(PairQuery::Range, bit(1), bit(4))?,
-        bits(&[1, 3, 4])
-    );
-    assert_eq!(rt; asked.is_ancestor(1, 5)?, Some(true));
-    assert_eq!(rt; asked.is_ancestor(2, 4)?, Some(false));
-    assert_eq!(rt; asked.first_ancestor(5, 2), Some(1));
-    assert_eq!(rt; asked.first_ancestor(5, 4), None);
+    let rows: [(PairQuery, u64, u64, &[u64]); 2] = [
+        (PairQuery::Only, 5, 2, &[3, 4, 5]),
+        (PairQuery::Range, 1, 4, &[1, 3, 4]),
+    ];
+    for (query, first, second, wanted) in &rows {
+        assert_eq!(rt;
+            asked.made_of_two(*query, bit(*first), bit(*second))?,
+            bits(wanted)
+        );
+    }
+    Ok(())
+}
+
+#[test]
+fn walks_of_an_ordinary_day(rt: HostRuntime) -> Result<(), Fail> {
+    let alloc = rt.alloc();
+    let sample = table_of(alloc, &DAY)?;
+    let view = sample.view(sample.count());
+    let asked = Asked {
+        alloc,
+        table: &view,
+        masters: 6,
+    };
+    for (x, y, wanted) in [(1, 5, true), (2, 4, false)] {
+        assert_eq!(rt; asked.is_ancestor(x, y)?, Some(wanted));
+    }
+    for (n, wanted) in [(2, Some(1)), (4, None)] {
+        assert_eq!(rt; asked.first_ancestor(5, n), wanted);
+    }
+    Ok(())
+}
+
+#[test]
+fn expressions_of_an_ordinary_day(rt: HostRuntime) -> Result<(), Fail> {
+    let alloc = rt.alloc();
+    let sample = table_of(alloc, &DAY)?;
+    let view = sample.view(sample.count());
+    let asked = Asked {
+        alloc,
+        table: &view,
+        masters: 6,
+    };
     // a text, the id of its name, the members, and the most look-ups
     let rows: [(&[u8], u64, &[u64], u64); 4] = [
         (b"all", 0, &[0, 1, 2, 3, 4, 5], 0),

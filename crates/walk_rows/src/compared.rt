@@ -1,0 +1,93 @@
+//! The queries over a table against the plain graph.
+
+use crate::asked::Asked;
+use crate::draws::Draws;
+use crate::plain::{Graph, PairQuery, QUERIES, Query, bit, has};
+use segment_codec::SegmentTable;
+use std::alloc::AllocError;
+
+/// A query that gives something else than the graph.
+#[derive(Clone, Copy, Debug)]
+pub enum Wrong {
+    Made(Query, u64),
+    MadeOfTwo(PairQuery, u64, u64),
+    IsAncestor(u64, u64),
+    FirstAncestor(u64, u64),
+    Above(u64, u64),
+    Expression(u64, u64),
+    Joined,
+}
+
+pub type Found = Result<Option<Wrong>, AllocError>;
+
+/// The first query of one set that goes wrong.
+pub fn wrong_on<T: SegmentTable>(asked: &Asked<'_, T>, graph: &Graph, set: u64) -> Found {
+    for query in QUERIES {
+        if asked.made(query, set)? != graph.made(query, set) {
+            return Ok(Some(Wrong::Made(query, set)));
+        }
+    }
+    Ok(None)
+}
+
+/// The first query of two sets that goes wrong.
+fn wrong_on_two<T: SegmentTable>(
+    asked: &Asked<'_, T>,
+    graph: &Graph,
+    first: u64,
+    second: u64,
+) -> Found {
+    for query in [PairQuery::Range, PairQuery::Only] {
+        if asked.made_of_two(query, first, second)? != graph.made_of_two(query, first, second) {
+            return Ok(Some(Wrong::MadeOfTwo(query, first, second)));
+        }
+    }
+    Ok(None)
+}
+
+/// What goes wrong with a pair of places.
+fn wrong_on_places<T: SegmentTable>(asked: &Asked<'_, T>, graph: &Graph, x: u64, y: u64) -> Found {
+    if x <= y {
+        if let Some(wrong) = wrong_on(asked, graph, bit(x) | bit(y))? {
+            return Ok(Some(wrong));
+        }
+    }
+    if let Some(wrong) = wrong_on_two(asked, graph, bit(x), bit(y))? {
+        return Ok(Some(wrong));
+    }
+    if asked.is_ancestor(x, y)? != Some(has(graph.reach(y), x)) {
+        return Ok(Some(Wrong::IsAncestor(x, y)));
+    }
+    if asked.first_ancestor(x, y) != graph.first_ancestor(x, y) {
+        return Ok(Some(Wrong::FirstAncestor(x, y)));
+    }
+    Ok(None)
+}
+
+/// What goes wrong with any two places, in either order, or with so many pairs of drawn sets.
+pub fn wrong_in<T: SegmentTable>(
+    asked: &Asked<'_, T>,
+    graph: &Graph,
+    draws: &mut Draws,
+    sets: u32,
+) -> Found {
+    let count = graph.count();
+    for x in 0..count {
+        for y in 0..count {
+            if let Some(wrong) = wrong_on_places(asked, graph, x, y)? {
+                return Ok(Some(wrong));
+            }
+        }
+    }
+    for _set in 0..sets {
+        let first = draws.set_below(count);
+        let second = draws.set_below(count);
+        if let Some(wrong) = wrong_on(asked, graph, first)? {
+            return Ok(Some(wrong));
+        }
+        if let Some(wrong) = wrong_on_two(asked, graph, first, second)? {
+            return Ok(Some(wrong));
+        }
+    }
+    Ok(None)
+}
