@@ -17,6 +17,7 @@ pub record Unsynced : Type 0 where
 abbrev pub surely : List ℕ → Unsynced
 surely bytes = record { stable = bytes; written = [] }
 
+-- the place is one of the range's
 abbrev pub IsWithin : ℕ → Range → Type 0
 IsWithin place range = (range.from ≤ place) × (place < range.from + range.size)
 
@@ -46,6 +47,7 @@ pub record Told : Type 0 where
   -- now
   pub now : Unsynced
 
+-- the moment now: how many there were before it
 abbrev pub moment_of : Told → ℕ
 moment_of t = length t.past
 

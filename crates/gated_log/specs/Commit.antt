@@ -6,6 +6,8 @@ use Rattle.gated_log.specs.declared.Committed.TheVariants.{Done, Full, Memory, D
 use Rattle.gated_log.specs.declared.ReserveFault.{ReserveFault}
 use Rattle.gated_log.specs.declared.ReserveFault.TheVariants as faults
 
+-- What a commit of the payload answers: done, with the payload behind the others; or full, or in want of memory, where that
+-- is so, with the log as it was; or a fault of the disk, of a payload that fits.
 abbrev pub Answers : Held → List ℕ → Committed → Type 0
 Answers log payload (Done new clock) =
     (longer log payload ≤ log.limit) × (new.payloads ≡ log.payloads ++ payload ∷ []) × (new.gate ≡ 0) × (new.limit ≡ log.limit)

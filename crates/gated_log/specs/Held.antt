@@ -4,6 +4,7 @@ use Rattle.std.specs.List.{AllByRecursion}
 use Rattle.std.specs.Int.{w64, to_be_bytes, from_be_bytes}
 use Rattle.gated_log.specs.Log.{batches, HasLength, gates_of}
 
+-- what contracts see of a log that is held in memory
 pub record Held : Type 0 where
   pub payloads : List (List ℕ)
   -- its closed gate
@@ -45,6 +46,7 @@ gate_of bytes = slice_index_or bytes (length bytes - 1) 0
 unfoldable pub room_of : ℕ → ℕ → ℕ → ℕ
 room_of capacity places used = if nat_lt used places then capacity else 0
 
+-- the log whose gates stand at these places in these bytes, with a limit and room
 abbrev pub held : List ℕ → List ℕ → ℕ → ℕ → Held
 held gates bytes limit room = record { payloads = payloads_at gates bytes; gate = gate_of bytes; limit = limit; room = room }
 

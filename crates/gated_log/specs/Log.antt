@@ -7,6 +7,7 @@ use Rattle.std.specs.Int.{w64, to_be_bytes, from_be_bytes}
 abbrev pub batch : List ℕ → List ℕ
 batch payload = 1 ∷ to_be_bytes w64 (length payload) ++ payload
 
+-- the batches of these payloads, one after another
 abbrev pub batches : List (List ℕ) → List ℕ
 batches payloads = flat_map batch payloads
 
