@@ -63,7 +63,7 @@ pub fn is_ancestor<T: SegmentTable>(
     let mut work = WorkList::empty(alloc);
     work.push(y)?;
     let mut frontier = ID_END;
-    'visit: while let Some(id) = work.peek_below(frontier) {
+    'visit: while let Some(id) = work.next_below(frontier) {
         if id.number() < target {
             return Ok(false);
         }

@@ -22,7 +22,7 @@ fn set_of(alloc: Global, mut work: WorkList) -> Result<IdSet, AllocError>
 {
     let mut ids = IdSet::empty(alloc);
     let mut end = ID_END;
-    'take: while let Some(id) = work.peek_below(end) {
+    'take: while let Some(id) = work.next_below(end) {
         ids.insert_span(IdSpan::single(id))?;
         end = id.number();
     }

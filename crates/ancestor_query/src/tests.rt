@@ -20,8 +20,8 @@ fn waiting_ids_come_from_the_greatest_down(rt: HostRuntime) -> Result<(), Fail> 
     work.push(Id::master(5))?;
     work.push(Id::other(0))?;
     work.push_all(segment.parents())?;
-    assert_eq!(rt; work.peek_below(ID_END), Some(Id::other(0)));
-    assert_eq!(rt; work.peek_below(FIRST_OTHER), Some(Id::master(7)));
+    assert_eq!(rt; work.next_below(ID_END), Some(Id::other(0)));
+    assert_eq!(rt; work.next_below(FIRST_OTHER), Some(Id::master(7)));
     assert_eq!(rt; work.next_id(&set, 7), Some(Id::master(6)));
     assert_eq!(rt; work.next_id(&set, 6), Some(Id::master(5)));
     assert_eq!(rt; work.next_id(&set, 5), Some(Id::master(3)));
@@ -30,10 +30,10 @@ fn waiting_ids_come_from_the_greatest_down(rt: HostRuntime) -> Result<(), Fail> 
     Ok(())
 }
 
-/// Each answer of `peek_below` to these bounds, in turn, is the number beside its bound.
+/// Each answer of `next_below` to these bounds, in turn, is the number beside its bound.
 fn peeks(rt: &impl Abort, work: &mut WorkList, expected: &[(u64, Option<u64>)]) {
     for (below, number) in expected {
-        assert_eq!(rt; work.peek_below(*below).map(Id::number), *number);
+        assert_eq!(rt; work.next_below(*below).map(Id::number), *number);
     }
 }
 

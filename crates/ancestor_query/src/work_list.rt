@@ -199,7 +199,7 @@ impl WorkList {
 
     /// The greatest id below the bound; `None` exactly where none waits below it. Those at or above it are dropped, the
     /// one that it gives stays.
-    pub fn peek_below(&mut self, below: u64) -> Option<Id>
+    pub fn next_below(&mut self, below: u64) -> Option<Id>
         ensures { Peeks self.old self.new below result }
     {
         self.near.slide(below);
@@ -208,13 +208,13 @@ impl WorkList {
     }
 
     /// The greatest id below the bound, of the set and of those that wait; `None` exactly where there is none. It drops
-    /// what `peek_below` does, and searches the set by halving.
+    /// what `next_below` does, and searches the set by halving.
     pub fn next_id(&mut self, set: &IdSet, below: u64) -> Option<Id>
         requires { below ≤ 2 ^ 57 }
         ensures { IsNext (IsMember set.now) self.old self.new below result }
     {
         let of_set = greatest_member_below(set, below);
-        let of_work = self.peek_below(below);
+        let of_work = self.next_below(below);
         greater(of_set, of_work)
     }
 }

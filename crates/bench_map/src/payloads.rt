@@ -64,7 +64,7 @@ pub fn log_bytes(alloc: Global, payloads: u64) -> Result<Vec<u8>, AllocError> {
 /// Adds a payload of the log; `None` where it may not come there.
 fn add(map: &mut NameMap, log: &[u8], payload: &[u8], at: u64) -> Option<Result<(), MapFault>> {
     let batch = BatchRef::read(payload)?;
-    if batch.before() != map.masters() || at >= 1 << 40 || payload.len() >= 1 << 40 {
+    if batch.before() != map.master_count() || at >= 1 << 40 || payload.len() >= 1 << 40 {
         return None;
     }
     Some(map.add_batch(log, &batch, at))

@@ -80,7 +80,7 @@ impl Waiting {
     {
         let of_left = self.left.next_id(left, below)?;
         let of_right = self.right.next_id(right, below)?;
-        let of_both = self.both.peek_below(below);
+        let of_both = self.both.next_below(below);
         Some(Next {
             left: of_left,
             right: of_right,

@@ -56,7 +56,7 @@ impl NameMap {
     }
 
     /// How many master ids the payloads have that were added.
-    pub fn masters(&self) -> u64
+    pub fn master_count(&self) -> u64
         ensures { result ≡ self.now.masters }
     {
         self.masters

@@ -81,7 +81,7 @@ fn flush_bytes(
 /// there, or for want of memory.
 fn add(map: &mut NameMap, log: &[u8], payload: &[u8]) -> Option<bool> {
     let batch = BatchRef::read(payload)?;
-    if batch.before() != map.masters() || log.len() >= 1 << 40 || payload.len() >= 1 << 40 {
+    if batch.before() != map.master_count() || log.len() >= 1 << 40 || payload.len() >= 1 << 40 {
         return None;
     }
     match map.add_batch(log, &batch, log.len() as u64) {
@@ -99,7 +99,7 @@ fn add_flush(
     names: &[[u8; 20]],
     others: &[[u8; 20]],
 ) -> Result<bool, AllocError> {
-    let payload = flush_bytes(alloc, map.masters(), names, others)?;
+    let payload = flush_bytes(alloc, map.master_count(), names, others)?;
     let distinct = add(map, log, &payload).ok_or(AllocError)?;
     if distinct {
         log.extend_from_slice(&payload)?;

@@ -22,18 +22,18 @@ visit-init g c =
 pub best_jump-segment-requires : goal.best_jump-segment-requires
 best_jump-segment-requires g c =
     id-held (g.T.SegmentTable.flats c.args.table.now) (g.met.T.SegmentTable.lawful c.args.table.now) c.args.y c.requires.y
-    c.visit.frontier c.visit.work c.peek_below.new.self c.visit.invariant.pending c.in-Some.id c.in-Some.ensures
+    c.visit.frontier c.visit.work c.next_below.new.self c.visit.invariant.pending c.in-Some.id c.in-Some.ensures
 
 pub visit-preserved : goal.visit-preserved
 visit-preserved g c =
     let flats = g.T.SegmentTable.flats c.args.table.now in
     let lawful = g.met.T.SegmentTable.lawful c.args.table.now in
     let e = c.number-low.ensures.number ∙ c.low.ensures in
-    let pushed = subst (λ (l : List ℕ). (w : ℕ) → IsIn w c.push_all.new.self ↔ (IsIn w c.peek_below.new.self ⊎ IsIn w l)) c.parents.ensures c.in_ok-push_all.ensures.all in
+    let pushed = subst (λ (l : List ℕ). (w : ℕ) → IsIn w c.push_all.new.self ↔ (IsIn w c.next_below.new.self ⊎ IsIn w l)) c.parents.ensures c.in_ok-push_all.ensures.all in
     let past = c.if-low-target.false in
     record {
       pending = subst (λ n. Pending flats c.args.y n c.push_all.new.self) (sym e)
-          (pending-turn flats lawful c.args.y c.requires.y c.visit.frontier c.visit.work c.peek_below.new.self c.visit.invariant.pending c.in-Some.id c.in-Some.ensures
+          (pending-turn flats lawful c.args.y c.requires.y c.visit.frontier c.visit.work c.next_below.new.self c.visit.invariant.pending c.in-Some.id c.in-Some.ensures
           (segment_of c.best_jump-segment.result).low (segment_of c.best_jump-segment.result).parents c.best_jump-segment.ensures.best.jump c.push_all.new.self pushed);
       counted = let b = c.best_jump-segment.ensures.counted in let k = c.visit.invariant.counted in omega arith;
       above = let x = c.number-target.ensures.number in omega arith;
@@ -47,7 +47,7 @@ returns-then-number-target-clause-reached g c =
     let under = c.if-number-target.true in let x = c.number-target.ensures.number in let n = c.number.ensures.number in (
       λ t. absurd (true≢false (sym t)),
       λ r. absurd (
-          let le = reaches-at_most flats lawful c.args.y c.requires.y c.visit.frontier c.visit.work c.peek_below.new.self c.visit.invariant.pending c.in-Some.id c.in-Some.ensures
+          let le = reaches-at_most flats lawful c.args.y c.requires.y c.visit.frontier c.visit.work c.next_below.new.self c.visit.invariant.pending c.in-Some.id c.in-Some.ensures
           c.args.x c.visit.invariant.above r in omega arith),
     )
 
@@ -59,7 +59,7 @@ returns-then-low-target-clause-reached g c =
     let x = c.number-target.ensures.number in let n = c.number.ensures.number in
     let e : c.number-low.result ≡ (segment_of c.best_jump-segment.result).low = c.number-low.ensures.number ∙ c.low.ensures in
     let over = c.if-number-target.false in let low = c.if-low-target.true in (
-      λ t. reaches-in flats lawful c.args.y c.requires.y c.visit.frontier c.visit.work c.peek_below.new.self c.visit.invariant.pending c.in-Some.id c.in-Some.ensures
+      λ t. reaches-in flats lawful c.args.y c.requires.y c.visit.frontier c.visit.work c.next_below.new.self c.visit.invariant.pending c.in-Some.id c.in-Some.ensures
           (segment_of c.best_jump-segment.result).low (segment_of c.best_jump-segment.result).parents c.best_jump-segment.ensures.best.jump c.args.x (omega arith) (omega arith),
       λ r. refl,
     )
@@ -70,5 +70,5 @@ returns-clause-reached g c =
     let lawful = g.met.T.SegmentTable.lawful c.args.table.now in (
       λ t. absurd (true≢false (sym t)),
       λ r. absurd (
-          reaches-none flats lawful c.args.y c.requires.y c.visit.frontier c.visit.work c.peek_below.new.self c.visit.invariant.pending c.in_default.ensures c.args.x c.visit.invariant.above r),
+          reaches-none flats lawful c.args.y c.requires.y c.visit.frontier c.visit.work c.next_below.new.self c.visit.invariant.pending c.in_default.ensures c.args.x c.visit.invariant.above r),
     )

@@ -1,6 +1,6 @@
 use Rattle.std.specs.BinaryHeap.{heap_items}
 use Rattle.ancestor_query.proofs.Window.{both-peek}
-use Rattle.ancestor_query.proofs.work_list.WorkList.peek_below.Goals as goal
+use Rattle.ancestor_query.proofs.work_list.WorkList.next_below.Goals as goal
 
 pub returns : goal.returns
 returns c =
