@@ -1,4 +1,4 @@
-use Rattle.std.proofs.Common.{[], ◌∷◌, ◌++◌, ◌≡◌, ◌+◌, ◌-◌, ap, sym, subst, arith, length}
+use Rattle.std.proofs.Common.{[], ◌∷◌, ◌++◌, ◌≡◌, ◌+◌, ◌-◌, sym, subst, arith, length}
 use Rattle.sample_tables.specs.Samples.{next_segment}
 use Rattle.sample_tables.specs.Others.{OthersWritten, IsOthersOf, MayPushOther}
 use Rattle.sample_tables.proofs.Pushing.{same-bytes}

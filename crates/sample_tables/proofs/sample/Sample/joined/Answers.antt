@@ -1,4 +1,4 @@
-use Rattle.std.proofs.Common.{sym, subst, ap}
+use Rattle.std.proofs.Common.{sym, subst}
 use Rattle.sample_tables.specs.Others.{OthersWritten, MayJoinSample}
 use Rattle.sample_tables.proofs.Joining.{parts-may}
 use Rattle.sample_tables.proofs.sample.Sample.joined.Goals as goal
