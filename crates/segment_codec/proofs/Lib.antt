@@ -6,4 +6,5 @@ pub mod Orders
 pub mod Records
 pub mod Skipping
 pub mod Tables
+pub mod Turns
 pub mod Flats

@@ -3,4 +3,5 @@ pub mod Record
 pub mod Reading
 pub mod Lent
 pub mod Table
+pub mod Turns
 pub mod Flat

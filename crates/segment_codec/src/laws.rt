@@ -1,9 +1,10 @@
 //! Laws of the definitions.
 
-ghost use Rattle.std.specs.Prelude.{◌≡◌, ◌++◌, ◌^◌, ◌<◌, ◌+◌, ◌-◌, ℕ, List, [], ◌∷◌, length, replicate};
+ghost use Rattle.std.specs.Prelude.{◌≡◌, ◌++◌, ◌^◌, ◌<◌, ◌+◌, ◌-◌, ◌↔◌, IsTrue, ℕ, List, [], ◌∷◌, length, replicate};
 ghost use Rattle.std.specs.List.{AllByRecursion};
 ghost use Rattle.segment_codec.specs.Number.{HasNumber, number_bytes};
 ghost use Rattle.segment_codec.specs.Record.{Segment, IsSegment, segment_bytes};
+ghost use Rattle.segment_codec.specs.Turns.{goes_on};
 
 /// Some numbers and records, and their bytes.
 #[tactic(auto, unfolding(crate::specs::Number::number_bytes, crate::specs::Record::segment_bytes))]
@@ -24,4 +25,9 @@ pub fn records_are_spelled()
         → HasNumber (s.high - s.low) × HasNumber (length s.parents) × AllByRecursion HasNumber s.parents }
     ensures one { (s t : Segment) (x y : List ℕ) → IsSegment s → IsSegment t
         → segment_bytes s ++ x ≡ segment_bytes t ++ y → (s ≡ t) × (x ≡ y) }
+{}
+
+/// A segment goes on exactly where its only parent is the id before it.
+pub fn segments_go_on()
+    ensures { (s : Segment) → IsTrue (goes_on s) ↔ (s.parents ≡ (s.low - 1) ∷ []) }
 {}
