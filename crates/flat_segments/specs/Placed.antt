@@ -27,6 +27,7 @@ pub record AreRecords (segments : List Segment) (bytes : List ℕ) : Type 0 wher
   pub each : AllByRecursion IsSegment segments
   pub bytes_are : bytes ≡ flat_map segment_bytes segments
 
--- whether a record may come at this place of the master ids of a batch that begins at first
+-- Whether a record may come at this place of a batch that begins at first: it may stand there, and its ids are master ids.
+-- The first of a batch may go on from the batch before.
 abbrev pub MasterMayStandAt : ℕ → ℕ → Segment → Type 0
 MasterMayStandAt first place s = MayStandAt first place s × (s.high < 2 ^ 56)
