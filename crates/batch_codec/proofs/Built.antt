@@ -7,7 +7,7 @@ use Rattle.batch_codec.specs.Payload.{Payload, known_bytes, names_bytes, payload
 use Rattle.batch_codec.specs.Grammar.{IsPayload}
 use Rattle.batch_codec.specs.Building.{Building, IsBuilt}
 use Rattle.batch_codec.proofs.Entries.{names-size, knowns-size}
-use Rattle.batch_codec.proofs.Meanings.{cover-length}
+use Rattle.batch_codec.proofs.Meanings.{follow-length}
 use Rattle.batch_codec.proofs.Payloads.{known-length, known-fits}
 
 pub segment-some : (s : Segment) → 1 ≤ length (segment_bytes s)
@@ -40,12 +40,12 @@ counts-of b p h g =
     let short = known-length p h in
     let heads_fit = h.heads_fit in
     record {
-      master = omega (arith, k, mc, most, cover-length p.before p.after p.master h.cover.flat_master h.cover.master);
+      master = omega (arith, k, mc, most, follow-length p.before p.after p.master h.cover.master);
       known = known;
       known_few = omega (arith, k, known, short, most);
       heads = heads;
       heads_few = omega (arith, heads, heads_fit);
-      others = omega (arith, k, oc, few, cover-length (2 ^ 56) (2 ^ 56 + length p.other_names) p.others h.cover.flat_others h.cover.others);
+      others = omega (arith, k, oc, few, follow-length (2 ^ 56) (2 ^ 56 + length p.other_names) p.others h.cover.others);
     }
 
 abbrev all-parts : List ℕ → ℕ → List ℕ → ℕ → List ℕ → ℕ → List ℕ → ℕ → ℕ → List ℕ → List ℕ → List ℕ

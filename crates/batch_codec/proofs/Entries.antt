@@ -1,25 +1,18 @@
 -- Names, and known ids with their names, that stand one after another.
-use Rattle.std.proofs.Common.{◌≡◌, ℕ, zero, suc, ◌+◌, ◌*◌, ◌^◌, ◌<◌, ◌≤◌, List, [], ◌∷◌, ◌++◌, length, map, take, drop, get_or, slice_get, Some, refl, sym, ap, ◌∙◌, append_assoc, inl, inr, arith}
+use Rattle.std.proofs.Common.{◌≡◌, ℕ, zero, suc, ◌+◌, ◌*◌, ◌^◌, ◌<◌, ◌≤◌, List, [], ◌∷◌, ◌++◌, length, map, take, drop, get_or, slice_get, Some, refl, sym, ap, ◌∙◌, append_assoc, arith}
 use Rattle.std.specs.List.{flat_map, AllByRecursion}
 use Rattle.std.specs.Int.{w64, from_be_bytes, to_be_bytes}
-use Rattle.std.proofs.lemmas.List.{nil_from_length, take_at, drop_at, take-append-drop, length-append, length-take, length-drop, drop-drop, get_or-drop, get_or-take, get_or_past}
+use Rattle.std.proofs.lemmas.List.{nil_from_length, take_at, drop_at, take-append-drop, length-append, length-take, length-drop, drop-drop, get_or-drop}
 use Rattle.std.proofs.lemmas.List.Concat.{flat_map-cons}
 use Rattle.std.proofs.lemmas.Nat.{be_bytes_8, from_be_bytes-to_be_bytes_8}
-use Rattle.std.proofs.lemmas.Bool.{cases_lt}
 use Rattle.id_groups.specs.Name.{Name, IsName}
 use Rattle.segment_codec.proofs.Numbers.{IsBytes}
+use Rattle.segment_codec.proofs.Lists.{bytes-take}
 use Rattle.batch_codec.specs.Payload.{Known, known_bytes, names_bytes}
 use Rattle.batch_codec.specs.Reading.{names_in, known_in, knowns_in, ids_in}
 
 pub bytes-behind : (n : ℕ) (bytes : List ℕ) → IsBytes bytes → IsBytes (drop n bytes)
 bytes-behind n bytes h i = rw get_or-drop (h (n + i))
-
-pub bytes-front : (n : ℕ) (bytes : List ℕ) → IsBytes bytes → IsBytes (take n bytes)
-bytes-front n bytes h i =
-    elim (cases_lt i n) [
-      | inl lt ↦ rw (get_or-take n bytes i 0 lt) (h i)
-      | inr le ↦ rw (get_or_past (take n bytes) i 0 (omega (arith, length-take {A = ℕ} n bytes))) (omega arith)
-    ]
 
 bytes-each : (bytes : List ℕ) → IsBytes bytes → AllByRecursion (λ b. b < 256) bytes
 bytes-each [] h = tt
@@ -42,7 +35,7 @@ names-spelled (suc n) b len =
 pub names-are : (n : ℕ) (b : List ℕ) → length b ≡ 20 * n → IsBytes b → AllByRecursion IsName (names_in n b)
 names-are zero b len fits = tt
 names-are (suc n) b len fits =
-    ((omega (arith, len, length-take {A = ℕ} 20 b), bytes-each (take 20 b) (bytes-front 20 b fits)), names-are n (drop 20 b) (shorter 20 n b len) (bytes-behind 20 b fits))
+    ((omega (arith, len, length-take {A = ℕ} 20 b), bytes-each (take 20 b) (bytes-take 20 b fits)), names-are n (drop 20 b) (shorter 20 n b len) (bytes-behind 20 b fits))
 
 pub names-size : (names : List Name) → AllByRecursion IsName names → length (names_bytes names) ≡ 20 * length names
 names-size [] h = refl
@@ -92,7 +85,7 @@ id-at (suc n) (suc i) b lt =
 known-spelled : (b : List ℕ) → 28 ≤ length b → IsBytes b → known_bytes (known_in b) ++ drop 28 b ≡ b
 known-spelled b le fits =
     let len : length (take 8 b) ≡ 8 = omega (arith, le, length-take {A = ℕ} 8 b) in
-    let id = be_bytes_8 (take 8 b) (from_be_bytes w64 (take 8 b)) len (bytes-front 8 b fits) refl in
+    let id = be_bytes_8 (take 8 b) (from_be_bytes w64 (take 8 b)) len (bytes-take 8 b fits) refl in
     let name : take 20 (drop 8 b) ++ drop 28 b ≡ drop 8 b = ap (λ (z : List ℕ). take 20 (drop 8 b) ++ z) (sym (drop-drop 20 8 b)) ∙ take-append-drop 20 (drop 8 b) in
     append_assoc (to_be_bytes w64 (from_be_bytes w64 (take 8 b))) (take 20 (drop 8 b)) (drop 28 b)
     ∙ ap (λ (z : List ℕ). z ++ (take 20 (drop 8 b) ++ drop 28 b)) id ∙ ap (λ (z : List ℕ). take 8 b ++ z) name ∙ take-append-drop 8 b
@@ -107,7 +100,7 @@ knowns-spelled (suc n) b len fits =
 pub knowns-are : (n : ℕ) (b : List ℕ) → length b ≡ 28 * n → IsBytes b → AllByRecursion IsName (map (λ k. k.name) (knowns_in n b))
 knowns-are zero b len fits = tt
 knowns-are (suc n) b len fits =
-    ((omega (arith, len, length-take {A = ℕ} 20 (drop 8 b), length-drop {A = ℕ} 8 b), bytes-each (take 20 (drop 8 b)) (bytes-front 20 (drop 8 b) (bytes-behind 8 b fits))), knowns-are n (drop 28 b) (shorter 28 n b len) (bytes-behind 28 b fits))
+    ((omega (arith, len, length-take {A = ℕ} 20 (drop 8 b), length-drop {A = ℕ} 8 b), bytes-each (take 20 (drop 8 b)) (bytes-take 20 (drop 8 b) (bytes-behind 8 b fits))), knowns-are n (drop 28 b) (shorter 28 n b len) (bytes-behind 28 b fits))
 
 -- what has a spelling
 pub record FitsKnown (k : Known) : Type 0 where

@@ -1,15 +1,17 @@
 -- The tests of a payload mean its rules.
-use Rattle.std.proofs.Common.{◌≡◌, ◌≢◌, ℕ, ◌+◌, ◌-◌, ◌^◌, ◌<◌, ◌≤◌, Bool, true, false, cond, not, ltb, leb, eqb, ◌&&◌, ◌||◌, ◌⊎◌, List, [], ◌∷◌, length, refl, sym, ap, subst, ◌∙◌, inl, inr, ⊎_elim, true≢false, arith}
+use Rattle.std.proofs.Common.{◌≡◌, ◌≢◌, ℕ, ◌+◌, ◌-◌, ◌^◌, ◌<◌, ◌≤◌, Bool, true, false, cond, not, ltb, leb, eqb, ◌&&◌, ◌||◌, ◌⊎◌, List, [], ◌∷◌, length, refl, sym, ap, ◌∙◌, inl, inr, ⊎_elim, true≢false, arith}
 use Rattle.std.specs.Prelude.{nat_eq}
 use Rattle.std.specs.List.{AllByRecursion}
 use Rattle.std.proofs.lemmas.List.{nil_from_length}
 use Rattle.std.proofs.lemmas.Bool.{and_parts, and_from, or_cases, not-true, ltb-true, lt-ltb, leb-true, le-leb, eqb-true, eq-eqb, ne_eqb, cases_lt, cases_eq}
 use Rattle.id_groups.specs.Lists.{IsIn, is_in, AreAllIn}
 use Rattle.id_groups.proofs.Listing.{found, there}
-use Rattle.segment_codec.specs.Record.{Segment, IsSegment}
+use Rattle.segment_codec.specs.Record.{Segment}
+use Rattle.segment_codec.specs.Table.{Follow}
+use Rattle.segment_codec.specs.Turns.{goes_on, MayStandAt, StandInTurn}
 use Rattle.batch_codec.specs.Payload.{Payload, known_ids}
-use Rattle.batch_codec.specs.Grammar.{Cover, AreFlat, StandInTurn, place_behind, HasOthersParents, IsFlush, IsClone, merge_parents}
-use Rattle.batch_codec.specs.Reading.{goes_on, are_within, may_stand, ids_ascend, are_known, knows_merge, knows_segment, knows_needed, flush_fits, clone_fits, kind_fits}
+use Rattle.batch_codec.specs.Grammar.{HasOthersParents, IsFlush, IsClone, merge_parents}
+use Rattle.batch_codec.specs.Reading.{are_within, may_stand, ids_ascend, are_known, knows_merge, knows_segment, knows_needed, flush_fits, clone_fits, kind_fits}
 use Rattle.batch_codec.proofs.Records.{AllStand}
 use Rattle.batch_codec.proofs.Ascending.{ascend-parts}
 
@@ -23,61 +25,42 @@ or-right false c h = h
 
 -- ---- a record at its place
 
--- the only parent is the one before the place
-goes-on-only : (place : ℕ) (parents : List ℕ) → goes_on place parents ≡ true → parents ≡ (place - 1) ∷ []
-goes-on-only place [] h = absurd (true≢false (sym h))
-goes-on-only place (p ∷ []) h = let e : p ≡ place - 1 = let s = eqb-true (p + 1) place h in omega (arith, s) in ap (λ (n : ℕ). n ∷ []) e
-goes-on-only place (p ∷ q ∷ more) h = absurd (true≢false (sym h))
-
-only-goes-on : (place : ℕ) (parents : List ℕ) → 0 < place → parents ≡ (place - 1) ∷ [] → goes_on place parents ≡ true
-only-goes-on place parents some e = ap (goes_on place) e ∙ eq-eqb (place - 1 + 1) place (omega (arith, some))
-
 record Tests (end first place : ℕ) (s : Segment) : Type 0 where
   pub level : s.level ≡ 0
   pub low : s.low ≡ place
-  pub apart : (eqb place first || not (goes_on place s.parents)) ≡ true
+  pub apart : (eqb place first || not (goes_on s)) ≡ true
   pub within : are_within end s.parents ≡ true
 
 tests-of : (end first place : ℕ) (s : Segment) → may_stand end first place s ≡ true → Tests end first place s
 tests-of end first place s h =
-    let a = and_parts (eqb s.level 0 && eqb s.low place && (eqb place first || not (goes_on place s.parents))) (are_within end s.parents) h in
-    let b = and_parts (eqb s.level 0 && eqb s.low place) (eqb place first || not (goes_on place s.parents)) a.0 in
+    let a = and_parts (eqb s.level 0 && eqb s.low place && (eqb place first || not (goes_on s))) (are_within end s.parents) h in
+    let b = and_parts (eqb s.level 0 && eqb s.low place) (eqb place first || not (goes_on s)) a.0 in
     let c = and_parts (eqb s.level 0) (eqb s.low place) b.0 in
     record { level = eqb-true s.level 0 c.0; low = eqb-true s.low place c.1; apart = b.1; within = a.1 }
 
-below-first : (parents : List ℕ) (p low : ℕ) → AllByRecursion (λ q. q < low) parents → parents ≡ p ∷ [] → p < low
-below-first parents p low h e = (subst (AllByRecursion (λ q. q < low)) e h).0
+apart-means : (first place : ℕ) (s : Segment) → (eqb place first || not (goes_on s)) ≡ true → place ≢ first → goes_on s ≡ false
+apart-means first place s h other = ⊎_elim (λ t. absurd (other (eqb-true place first t))) (λ t. not-true (goes_on s) t) (or_cases (eqb place first) (not (goes_on s)) h)
 
-apart-means : (first place : ℕ) (s : Segment) → IsSegment s → s.low ≡ place → (eqb place first || not (goes_on place s.parents)) ≡ true → place ≢ first → s.parents ≢ (place - 1) ∷ []
-apart-means first place s seg low h other e =
-    let below = below-first s.parents (place - 1) s.low seg.below e in
-    let some : 0 < place = omega (arith, below, low) in
-    ⊎_elim (λ t. other (eqb-true place first t)) (λ t. true≢false (sym (only-goes-on place s.parents some e) ∙ not-true (goes_on place s.parents) t)) (or_cases (eqb place first) (not (goes_on place s.parents)) h)
-
-pub stand-turn : (end first place : ℕ) (ss : List Segment) → AllStand end first place ss → StandInTurn first place ss
+pub stand-turn : (end first place : ℕ) (ss : List Segment) → AllStand end first place ss → StandInTurn (MayStandAt first) place ss
 stand-turn end first place [] h = tt
 stand-turn end first place (s ∷ more) h =
     let t = tests-of end first place s h.1 in (
-      record { segment = h.0; flat = t.level; low = t.low; apart = apart-means first place s h.0 t.low t.apart },
+      record { segment = h.0; flat = t.level; low = t.low; apart = apart-means first place s t.apart },
       stand-turn end first (s.high + 1) more h.2,
     )
 
-not-from : (b : Bool) → (b ≡ true → ⊥) → not b ≡ true
-not-from true h = absurd (h refl)
-not-from false h = refl
-
-apart-decided : (first place : ℕ) (parents : List ℕ) → (place ≢ first → parents ≢ (place - 1) ∷ []) → (eqb place first || not (goes_on place parents)) ≡ true
-apart-decided first place parents h = elim (cases_eq place first) [
-  | inl e ↦ or-left (eqb place first) (not (goes_on place parents)) (eq-eqb place first e)
-  | inr ne ↦ or-right (eqb place first) (not (goes_on place parents)) (not-from (goes_on place parents) (λ t. h ne (goes-on-only place parents t)))
+apart-decided : (first place : ℕ) (s : Segment) → (place ≢ first → goes_on s ≡ false) → (eqb place first || not (goes_on s)) ≡ true
+apart-decided first place s h = elim (cases_eq place first) [
+  | inl e ↦ or-left (eqb place first) (not (goes_on s)) (eq-eqb place first e)
+  | inr ne ↦ or-right (eqb place first) (not (goes_on s)) (ap not (h ne))
 ]
 
-pub turn-stand : (end first place : ℕ) (ss : List Segment) → AllByRecursion (λ (s : Segment). are_within end s.parents ≡ true) ss → StandInTurn first place ss → AllStand end first place ss
+pub turn-stand : (end first place : ℕ) (ss : List Segment) → AllByRecursion (λ (s : Segment). are_within end s.parents ≡ true) ss → StandInTurn (MayStandAt first) place ss → AllStand end first place ss
 turn-stand end first place [] w h = tt
 turn-stand end first place (s ∷ more) w h =
     let flat = eq-eqb s.level 0 h.0.flat in
     let low = eq-eqb s.low place h.0.low in
-    let apart = apart-decided first place s.parents h.0.apart in
+    let apart = apart-decided first place s h.0.apart in
     let within = w.0 in
     (h.0.segment, rw (flat, low, apart, within) refl, turn-stand end first (s.high + 1) more w.1 h.1)
 
@@ -121,13 +104,9 @@ pub stand-below : (end first place : ℕ) (ss : List Segment) → AllStand end f
 stand-below end first place [] h = tt
 stand-below end first place (s ∷ ss) h = (h.0.below, stand-below end first (s.high + 1) ss h.2)
 
-pub cover-behind : (first end : ℕ) (ss : List Segment) → Cover first end ss → place_behind first ss ≡ end
-cover-behind first end [] h = h
-cover-behind first end (s ∷ ss) h = cover-behind (s.high + 1) end ss h.1
-
-pub cover-length : (first end : ℕ) (ss : List Segment) → AreFlat ss → Cover first end ss → first + length ss ≤ end
-cover-length first end [] f h = omega (arith, h)
-cover-length first end (s ∷ ss) f h = let up = f.0.0.ascending in let low = h.0 in omega (arith, up, low, cover-length (s.high + 1) end ss f.1 h.1)
+pub follow-length : (first end : ℕ) (ss : List Segment) → Follow first end ss → first + length ss ≤ end
+follow-length first end [] h = omega (arith, h)
+follow-length first end (s ∷ ss) h = let up = h.1 in omega (arith, up, follow-length (s.high + 1) end ss h.2)
 
 -- ---- known ids
 

@@ -5,15 +5,18 @@ use Rattle.std.proofs.lemmas.List.{length-map}
 use Rattle.std.proofs.lemmas.Bool.{and_parts, and_from, leb-true, le-leb, eqb-true, eq-eqb}
 use Rattle.id_groups.specs.Name.{IsName}
 use Rattle.segment_codec.specs.Reading.{◌>>=◌}
+use Rattle.segment_codec.specs.Table.{Follow}
+use Rattle.segment_codec.specs.Turns.{place_behind}
+use Rattle.segment_codec.proofs.Turns.{follow-behind}
 use Rattle.segment_codec.proofs.Numbers.{IsBytes, bind_some, guard_some, some_is}
 use Rattle.batch_codec.specs.Payload.{Known, Payload, known_ids, payload_bytes}
-use Rattle.batch_codec.specs.Grammar.{Cover, IsPayload, place_behind}
+use Rattle.batch_codec.specs.Grammar.{IsPayload}
 use Rattle.batch_codec.specs.Reading.{ids_ascend, parts_at, ends_fit, kind_fits, payload_at}
 use Rattle.batch_codec.proofs.Turns.{stand-in-turn, turn-stands}
 use Rattle.batch_codec.proofs.Entries.{FitsKnown}
 use Rattle.batch_codec.proofs.Ascending.{ascend-each, ascend-increasing, increasing-ascend}
 use Rattle.batch_codec.proofs.Pieces.{PartsFit, parts_take, Lengths, parts_again}
-use Rattle.batch_codec.proofs.Meanings.{stand-turn, turn-stand, master-within, others-within, stand-parents, stand-below, cover-behind, cover-length, ascend-length, kind-means, kind-decided}
+use Rattle.batch_codec.proofs.Meanings.{stand-turn, turn-stand, master-within, others-within, stand-parents, stand-below, follow-length, ascend-length, kind-means, kind-decided}
 
 record Ends (p : Payload) : Type 0 where
   pub master : place_behind p.before p.master ≡ p.after
@@ -40,8 +43,8 @@ sound p fit ends kind =
       cover = record {
         flat_master = master.2;
         flat_others = others.2;
-        master = subst (λ (n : ℕ). Cover p.before n p.master) e.master master.0;
-        others = subst (λ (n : ℕ). Cover (2 ^ 56) n p.others) e.others others.0;
+        master = subst (λ (n : ℕ). Follow p.before n p.master) e.master master.0;
+        others = subst (λ (n : ℕ). Follow (2 ^ 56) n p.others) e.others others.0;
       };
       parents = record { master = stand-below (2 ^ 56) p.before p.before p.master fit.master; others = stand-parents p.after (2 ^ 56) (2 ^ 56) p.others fit.others };
       maximal = record { master = master.1; others = others.1 };
@@ -108,17 +111,17 @@ payload_again p h =
       other_names = h.other_names;
     } in
     let short : Lengths p = record {
-      master = omega (arith, k, most, cover-length p.before p.after p.master h.cover.flat_master h.cover.master);
+      master = omega (arith, k, most, follow-length p.before p.after p.master h.cover.master);
       known = omega (arith, k, most, ids-many p, ascend-length p.before p.after (known_ids p) up);
-      others = omega (arith, k, few, cover-length (2 ^ 56) (2 ^ 56 + length p.other_names) p.others h.cover.flat_others h.cover.others);
+      others = omega (arith, k, few, follow-length (2 ^ 56) (2 ^ 56 + length p.other_names) p.others h.cover.others);
       names = omega (arith, few);
     } in
     let read = parts_again p fit short (known-fits p.before p.after p.known (omega (arith, k, j, most)) h.known.within h.names) in
     let ends : ends_fit p ≡ true =
     and_from (eqb (place_behind p.before p.master) p.after && leb (length p.other_names) 65536) (eqb (place_behind (2 ^ 56) p.others) (2 ^ 56 + length p.other_names))
     (and_from (eqb (place_behind p.before p.master) p.after) (leb (length p.other_names) 65536)
-    (eq-eqb (place_behind p.before p.master) p.after (cover-behind p.before p.after p.master h.cover.master)) (le-leb (length p.other_names) 65536 few))
-    (eq-eqb (place_behind (2 ^ 56) p.others) (2 ^ 56 + length p.other_names) (cover-behind (2 ^ 56) (2 ^ 56 + length p.other_names) p.others h.cover.others)) in
+    (eq-eqb (place_behind p.before p.master) p.after (follow-behind p.before p.after p.master h.cover.master)) (le-leb (length p.other_names) 65536 few))
+    (eq-eqb (place_behind (2 ^ 56) p.others) (2 ^ 56 + length p.other_names) (follow-behind (2 ^ 56) (2 ^ 56 + length p.other_names) p.others h.cover.others)) in
     let kind = kind-decided p up (ids-many p) h.by_kind in
     let test = and_from (ends_fit p) (kind_fits p) ends kind in
     ap (λ r. r >>= λ (q : Payload). cond (ends_fit q && kind_fits q) (Some q) None) read ∙ ap (λ (b : Bool). cond b (Some p) None) test

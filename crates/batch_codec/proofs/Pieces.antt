@@ -9,11 +9,11 @@ use Rattle.id_groups.specs.Name.{Name, IsName}
 use Rattle.segment_codec.specs.Record.{Segment, segment_bytes}
 use Rattle.segment_codec.specs.Reading.{◌>>=◌}
 use Rattle.segment_codec.proofs.Numbers.{IsBytes, bind_some, guard_some, some_is}
-use Rattle.segment_codec.proofs.Lists.{bytes-drop}
+use Rattle.segment_codec.proofs.Lists.{bytes-take, bytes-drop}
 use Rattle.batch_codec.specs.declared.counts.Counts.{Counts}
 use Rattle.batch_codec.specs.Payload.{Known, Payload, known_bytes, names_bytes, payload_bytes}
 use Rattle.batch_codec.specs.Reading.{fixed_at, piece_at, names_in, knowns_in, ids_in, ids_ascend, segments_at, section_at, names_at, known_at, heads_at, counts_at, Others, others_at, parts_at}
-use Rattle.batch_codec.proofs.Entries.{bytes-front, names-length, names-spelled, names-are, names-size, names-again, knowns-length, knowns-spelled, knowns-are, FitsKnown, knowns-size, knowns-again}
+use Rattle.batch_codec.proofs.Entries.{names-length, names-spelled, names-are, names-size, names-again, knowns-length, knowns-spelled, knowns-are, FitsKnown, knowns-size, knowns-again}
 use Rattle.batch_codec.proofs.Records.{AllStand, segments_take, segments_again}
 
 -- a guard that let through
@@ -63,11 +63,11 @@ fixed_takes w limit wide bytes x fits e =
     let made : ℕ × List ℕ = (from_be_bytes w (take (byte_len w) bytes), drop (byte_len w) bytes) in
     let g = let-through (ltb (length bytes) (byte_len w)) made x e in
     let long : byte_len w ≤ length bytes = ltb-false (length bytes) (byte_len w) g.0 in
-    let front = wide.back (take (byte_len w) bytes) (omega (arith, length-take {A = ℕ} (byte_len w) bytes)) (bytes-front (byte_len w) bytes fits) in
+    let front = wide.back (take (byte_len w) bytes) (omega (arith, length-take {A = ℕ} (byte_len w) bytes)) (bytes-take (byte_len w) bytes fits) in
     let parts : bytes ≡ to_be_bytes w made.0 ++ made.1 = sym (take-append-drop (byte_len w) bytes) ∙ ap (λ (z : List ℕ). z ++ drop (byte_len w) bytes) (sym front) in
     subst (FixedTaken w limit bytes) g.1 (record {
       parts = parts;
-      below = wide.below (take (byte_len w) bytes) (bytes-front (byte_len w) bytes fits);
+      below = wide.below (take (byte_len w) bytes) (bytes-take (byte_len w) bytes fits);
       rest = bytes-drop (to_be_bytes w made.0) made.1 bytes parts fits;
     })
 
@@ -94,7 +94,7 @@ piece_takes n bytes x fits e =
     subst (PieceTaken n bytes) g.1 (record {
       parts = parts;
       len = omega (arith, length-take {A = ℕ} n bytes);
-      front = bytes-front n bytes fits;
+      front = bytes-take n bytes fits;
       rest = bytes-drop (take n bytes) (drop n bytes) bytes parts fits;
     })
 

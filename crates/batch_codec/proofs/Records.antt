@@ -6,10 +6,10 @@ use Rattle.std.proofs.lemmas.List.Concat.{flat_map-cons}
 use Rattle.std.proofs.lemmas.Bool.{and_left}
 use Rattle.segment_codec.specs.Record.{Segment, IsSegment, segment_bytes}
 use Rattle.segment_codec.specs.Reading.{◌>>=◌, record_at}
+use Rattle.segment_codec.specs.Turns.{place_behind}
 use Rattle.segment_codec.proofs.Numbers.{IsBytes, bind_some, chosen, some_is}
 use Rattle.segment_codec.proofs.Lists.{bytes-drop}
 use Rattle.segment_codec.proofs.Records.{record_takes, record_again}
-use Rattle.batch_codec.specs.Grammar.{place_behind}
 use Rattle.batch_codec.specs.Reading.{segments_in, may_stand, segments_at, knows_segment, knows_needed}
 
 -- ---- the records that bytes are

@@ -1,5 +1,5 @@
 -- A payload whose bytes are tried, and that it is in the grammar.
-use Rattle.std.proofs.Common.{◌≡◌, ℕ, zero, suc, ◌+◌, ◌^◌, ◌<◌, ◌≤◌, ◌++◌, List, [], ◌∷◌, refl, inl, inr, replicate, arith, lit≤}
+use Rattle.std.proofs.Common.{ℕ, zero, suc, ◌+◌, ◌^◌, ◌<◌, ◌++◌, [], ◌∷◌, refl, inl, inr, replicate, arith, lit≤}
 use Rattle.std.specs.List.{AllByRecursion}
 use Rattle.std.specs.List.Sorted.{IsStrictlyIncreasing}
 use Rattle.id_groups.specs.Lists.{IsIn}
@@ -96,8 +96,8 @@ fork-is = record {
   cover = record {
     flat_master = ((pair-is, refl), tt);
     flat_others = ((other-is, refl), tt);
-    master = (refl, refl);
-    others = (refl, refl);
+    master = (refl, lit≤ tt, refl);
+    others = (refl, lit≤ tt, refl);
   };
   parents = record { master = (tt, tt); others = ((inl (lit≤ tt), tt), tt) };
   maximal = record { master = tt; others = tt };
@@ -115,7 +115,7 @@ chain-is = record {
   cover = record {
     flat_master = ((chain-segment, refl), tt);
     flat_others = tt;
-    master = (refl, refl);
+    master = (refl, lit≤ tt, refl);
     others = refl;
   };
   parents = record { master = (tt, tt); others = tt };
@@ -141,7 +141,7 @@ twins-is = record {
     flat_master = tt;
     flat_others = ((twins-segment, refl), tt);
     master = refl;
-    others = (refl, refl);
+    others = (refl, lit≤ tt, refl);
   };
   parents = record { master = tt; others = (tt, tt) };
   maximal = record { master = tt; others = tt };

@@ -1,16 +1,12 @@
 -- Which payloads a log may have, and which one after others.
-use Rattle.std.specs.Prelude.{◌≡◌, ◌≢◌, ◌<◌, ◌≤◌, ◌⊎◌, ◌+◌, ◌-◌, ◌^◌, ℕ, zero, suc, not, ◌&&◌, List, [], ◌∷◌, ◌++◌, ⊤, length, map, filter, flat_map, nat_eq}
+use Rattle.std.specs.Prelude.{◌≡◌, ◌≢◌, ◌<◌, ◌≤◌, ◌⊎◌, ◌+◌, ◌-◌, ◌^◌, ℕ, not, ◌&&◌, List, [], ◌∷◌, ◌++◌, ⊤, length, map, filter, flat_map, nat_eq}
 use Rattle.std.specs.List.{AllByRecursion}
 use Rattle.std.specs.List.Sorted.{IsStrictlyIncreasing}
 use Rattle.id_groups.specs.Lists.{IsIn, is_in, AreAllIn, AreDistinct}
 use Rattle.id_groups.specs.Name.{Name, IsName}
 use Rattle.segment_codec.specs.Record.{Segment, IsSegment}
+use Rattle.segment_codec.specs.Table.{Follow}
 use Rattle.batch_codec.specs.Payload.{Payload, known_ids, known_names}
-
--- the segments cover the ids from first to the one before end, in order, without gap or overlap
-abbrev pub Cover : ℕ → ℕ → List Segment → Type 0
-Cover first end [] = first ≡ end
-Cover first end (s ∷ more) = (s.low ≡ first) × Cover (s.high + 1) end more
 
 -- no segment but the first goes on from the id before it
 abbrev pub AreMaximal : List Segment → Type 0
@@ -19,29 +15,6 @@ AreMaximal (first ∷ more) = AllByRecursion (λ s. s.parents ≢ (s.low - 1) �
 
 abbrev pub AreFlat : List Segment → Type 0
 AreFlat segments = AllByRecursion (λ s. IsSegment s × (s.level ≡ 0)) segments
-
--- a record that may come at this place of a section that begins at first
-pub record MayStandAt (first place : ℕ) (s : Segment) : Type 0 where
-  pub segment : IsSegment s
-  pub flat : s.level ≡ 0
-  pub low : s.low ≡ place
-  pub apart : place ≢ first → s.parents ≢ (place - 1) ∷ []
-
--- the records may come in turn, from this place on
-abbrev pub StandInTurn : ℕ → ℕ → List Segment → Type 0
-StandInTurn first place [] = ⊤
-StandInTurn first place (s ∷ more) = MayStandAt first place s × StandInTurn first (s.high + 1) more
-
--- the place behind the last record
-abbrev pub place_behind : ℕ → List Segment → ℕ
-place_behind place [] = place
-place_behind place (s ∷ more) = place_behind (s.high + 1) more
-
--- the first record that may not come where it stands has this number
-abbrev pub IsFirstBroken : ℕ → ℕ → List Segment → ℕ → Type 0
-IsFirstBroken first place [] k = ⊥
-IsFirstBroken first place (s ∷ more) zero = MayStandAt first place s → ⊥
-IsFirstBroken first place (s ∷ more) (suc k) = MayStandAt first place s × IsFirstBroken first (s.high + 1) more k
 
 -- a parent is a master id below after, or one of the others below the segment
 abbrev pub HasOthersParents : ℕ → Segment → Type 0
@@ -57,8 +30,8 @@ pub record HasCounts (p : Payload) : Type 0 where
 pub record HasCover (p : Payload) : Type 0 where
   pub flat_master : AreFlat p.master
   pub flat_others : AreFlat p.others
-  pub master : Cover p.before p.after p.master
-  pub others : Cover (2 ^ 56) (2 ^ 56 + length p.other_names) p.others
+  pub master : Follow p.before p.after p.master
+  pub others : Follow (2 ^ 56) (2 ^ 56 + length p.other_names) p.others
 
 -- parents below: those of a master record are below its low, being ids of a segment; those of another are of either group
 pub record HasParentsBelow (p : Payload) : Type 0 where

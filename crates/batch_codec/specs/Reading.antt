@@ -5,9 +5,9 @@ use Rattle.id_groups.specs.Lists.{is_in}
 use Rattle.id_groups.specs.Name.{Name}
 use Rattle.segment_codec.specs.Record.{Segment}
 use Rattle.segment_codec.specs.Reading.{◌>>=◌, record_at}
+use Rattle.segment_codec.specs.Turns.{goes_on, place_behind}
 use Rattle.batch_codec.specs.declared.counts.Counts.{Counts}
 use Rattle.batch_codec.specs.Payload.{Known, Payload, known_ids}
-use Rattle.batch_codec.specs.Grammar.{place_behind}
 
 -- a number of so many bytes
 abbrev pub fixed_at : Width → List ℕ → Option (ℕ × List ℕ)
@@ -48,12 +48,6 @@ unfoldable pub segments_in : ℕ → List ℕ → List Segment
 segments_in zero bytes = []
 segments_in (suc n) bytes = with_first (record_at bytes) (segments_in n)
 
--- the only parent is the one before this place
-abbrev pub goes_on : ℕ → List ℕ → Bool
-goes_on place [] = false
-goes_on place (p ∷ []) = nat_eq (p + 1) place
-goes_on place (p ∷ q ∷ more) = false
-
 -- each is a master id below end, or of the other group
 abbrev pub are_within : ℕ → List ℕ → Bool
 are_within end [] = true
@@ -61,7 +55,7 @@ are_within end (p ∷ more) = (nat_lt p end || nat_le (2 ^ 56) p) && are_within 
 
 -- a record may come at this place of a section that begins at first and whose master parents are below end
 abbrev pub may_stand : ℕ → ℕ → ℕ → Segment → Bool
-may_stand end first place s = nat_eq s.level 0 && nat_eq s.low place && (nat_eq place first || not (goes_on place s.parents)) && are_within end s.parents
+may_stand end first place s = nat_eq s.level 0 && nat_eq s.low place && (nat_eq place first || not (goes_on s)) && are_within end s.parents
 
 -- so many records, each of which may come at its place
 unfoldable pub segments_at : ℕ → ℕ → ℕ → ℕ → List ℕ → Option (List Segment × List ℕ)

@@ -3,7 +3,8 @@
 ghost use Rattle.std.specs.Prelude.{◌≡◌, ◌≤◌, ◌+◌, ◌*◌, ◌^◌, ℕ, List, length, IfSome, MatchOption};
 ghost use Rattle.segment_codec.specs.Reading.{Gives};
 ghost use Rattle.batch_codec.specs.Payload.{Payload, payload_bytes};
-ghost use Rattle.batch_codec.specs.Grammar.{IsPayload, place_behind};
+ghost use Rattle.segment_codec.specs.Turns.{place_behind};
+ghost use Rattle.batch_codec.specs.Grammar.{IsPayload};
 ghost use Rattle.batch_codec.specs.Reading.{others_at, parts_at, ends_fit, payload_at};
 ghost use Rattle.batch_codec.specs.Lent.{segments_of, others_of, payload_of, HasPlaces};
 

@@ -1,9 +1,11 @@
 //! Laws of the definitions.
 
 ghost use Rattle.std.specs.Prelude.{◌≡◌, ◌++◌, ℕ, List, length, [], ◌∷◌, take, drop, flat_map};
-ghost use Rattle.batch_codec.specs.Grammar.{AreLawful, MayFollow, IsPayload, Cover, AreMaximal, AreFlat, StandInTurn, IsFirstBroken, place_behind};
+ghost use Rattle.batch_codec.specs.Grammar.{AreLawful, MayFollow, IsPayload, AreMaximal, AreFlat};
 ghost use Rattle.batch_codec.specs.Examples.{chain_clone, short_name};
 ghost use Rattle.segment_codec.specs.Record.{Segment};
+ghost use Rattle.segment_codec.specs.Table.{Follow};
+ghost use Rattle.segment_codec.specs.Turns.{MayStandAt, StandInTurn, IsFirstBroken, place_behind};
 ghost use Rattle.batch_codec.specs.Payload.{Payload, payload_bytes};
 
 /// The fixed parts take 36 bytes, and a payload in the grammar is the only one with its bytes.
@@ -24,7 +26,7 @@ pub fn lawful_payloads()
 
 /// A section is right as a whole where its records may come in turn, and then no record is the first broken one.
 pub fn sections_by_records()
-    ensures turn { (first end : ℕ) (segments : List Segment) → Cover first end segments → AreMaximal segments → AreFlat segments → StandInTurn first first segments }
-    ensures whole { (first : ℕ) (segments : List Segment) → StandInTurn first first segments → Cover first (place_behind first segments) segments × AreMaximal segments × AreFlat segments }
-    ensures broken { (first place : ℕ) (segments : List Segment) (k : ℕ) → StandInTurn first place segments → IsFirstBroken first place segments k → ⊥ }
+    ensures turn { (first end : ℕ) (segments : List Segment) → Follow first end segments → AreMaximal segments → AreFlat segments → StandInTurn (MayStandAt first) first segments }
+    ensures whole { (first : ℕ) (segments : List Segment) → StandInTurn (MayStandAt first) first segments → Follow first (place_behind first segments) segments × AreMaximal segments × AreFlat segments }
+    ensures broken { (first place : ℕ) (segments : List Segment) (k : ℕ) → StandInTurn (MayStandAt first) place segments → IsFirstBroken (MayStandAt first) place segments k → ⊥ }
 {}

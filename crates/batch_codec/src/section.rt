@@ -2,29 +2,15 @@
 
 ghost use Rattle.std.specs.Prelude.{◌≡◌, ◌≤◌, ◌<◌, ◌+◌, ◌*◌, ◌^◌, ◌||◌, nat_lt, nat_le, IfSome, length};
 ghost use Rattle.segment_codec.specs.Reading.{Gives};
-ghost use Rattle.segment_codec.specs.Lent.{segment_of, parents_left};
-ghost use Rattle.batch_codec.specs.Grammar.{place_behind};
-ghost use Rattle.batch_codec.specs.Reading.{goes_on, are_within, may_stand, segments_at, section_at, names_at, known_at, heads_at, ids_in, ids_ascend};
+ghost use Rattle.segment_codec.specs.Lent.{segment_of};
+ghost use Rattle.segment_codec.specs.Turns.{place_behind};
+ghost use Rattle.batch_codec.specs.Reading.{are_within, may_stand, segments_at, section_at, names_at, known_at, heads_at, ids_in, ids_ascend};
 ghost use Rattle.batch_codec.specs.Lent.{segments_of, knowns_of, names_of};
 
 use crate::fixed::{front_u64, read_piece, read_u16, read_u32};
 use crate::lent::{KnownSlice, NameSlice, SegmentSlice};
 use id_groups::FIRST_OTHER;
 use segment_codec::{SegmentRef, read_segment};
-
-/// Whether the only parent is the id before this place.
-fn continues(segment: SegmentRef<'_>, place: u64) -> bool
-    ensures { result ≡ goes_on place (segment_of segment.entry).parents }
-{
-    let mut parents = segment.parents();
-    let Some(parent) = parents.next() else {
-        return false;
-    };
-    if parents.next().is_some() {
-        return false;
-    }
-    parent.number() + 1 == place
-}
 
 /// Whether the number is of a master id below the end, or of the other group.
 fn is_within(number: u64, end: u64) -> bool
@@ -52,7 +38,7 @@ fn fits(segment: SegmentRef<'_>, end: u64, first: u64, place: u64) -> bool
 {
     segment.level() == 0
         && segment.low().number() == place
-        && (place == first || !continues(segment, place))
+        && (place == first || !segment.goes_on())
         && parents_are_within(segment, end)
 }
 

@@ -8,8 +8,9 @@ use Rattle.segment_codec.specs.Record.{Segment, segment_bytes}
 use Rattle.segment_codec.specs.Table.{Follow}
 use Rattle.segment_codec.specs.Flat.{IsFlat}
 use Rattle.segment_codec.proofs.Flats.{follow-append}
-use Rattle.flat_segments.specs.Maximal.{goes_on}
-use Rattle.flat_segments.specs.Placed.{Placed, placed, segments_of, AreRecords, StandInTurn, place_behind}
+use Rattle.segment_codec.specs.Turns.{goes_on, StandInTurn, place_behind}
+use Rattle.segment_codec.proofs.Turns.{begins-there, turn-follow}
+use Rattle.flat_segments.specs.Placed.{Placed, placed, segments_of, AreRecords, MasterMayStandAt}
 use Rattle.flat_segments.specs.Kept.{Kept, entry_of, kept_of, IsTableOf, MayExtend}
 
 pub all-append : {X : Type 0} (P : X → Type 0) (xs ys : List X) → AllByRecursion P xs → AllByRecursion P ys → AllByRecursion P (xs ++ ys)
@@ -38,20 +39,14 @@ pub placed-segments : (at : ℕ) (segments : List Segment) → segments_of (plac
 placed-segments at [] = refl
 placed-segments at (s ∷ more) = ap (λ z. s ∷ z) (placed-segments (at + length (segment_bytes s)) more)
 
-stand-flat : (first place at : ℕ) (segments : List Segment) → StandInTurn first place segments → AllByRecursion (λ (r : Placed). IsFlat r.segment) (placed at segments)
+stand-flat : (first place at : ℕ) (segments : List Segment) → StandInTurn (MasterMayStandAt first) place segments → AllByRecursion (λ (r : Placed). IsFlat r.segment) (placed at segments)
 stand-flat first place at [] h = tt
 stand-flat first place at (s ∷ more) h =
-    (record { segment = h.0.segment; flat = h.0.flat }, stand-flat first (s.high + 1) (at + length (segment_bytes s)) more h.1)
-
-pub stand-follow : (first place : ℕ) (segments : List Segment) → StandInTurn first place segments → Follow place (place_behind place segments) segments
-stand-follow first place [] h = refl
-stand-follow first place (s ∷ more) h =
-    let low = h.0.low in let order = h.0.segment.ascending in
-    (low, omega arith, stand-follow first (s.high + 1) more h.1)
+    (record { segment = h.0.0.segment; flat = h.0.0.flat }, stand-flat first (s.high + 1) (at + length (segment_bytes s)) more h.1)
 
 -- the table after the records were added
 pub added : (old new : Kept) (before : List Placed) (segments : List Segment) (at : ℕ) (bytes : List ℕ) → MayExtend old bytes → IsTableOf old before
-    → StandInTurn old.end old.end segments → new.end ≡ place_behind old.end segments → new.end ≤ 2 ^ 56
+    → StandInTurn (MasterMayStandAt old.end) old.end segments → new.end ≡ place_behind old.end segments → new.end ≤ 2 ^ 56
     → new.entries ≡ old.entries ++ kept_of (placed at segments)
     → ((others : List Segment) → AreRecords others bytes → new.entries ≡ old.entries ++ kept_of (placed at others))
     → IsTableOf new (before ++ placed at segments)
@@ -61,7 +56,7 @@ added old new before segments at bytes may table stand end small kept kept-all =
       in_turn =
           let follow : Follow old.end new.end (segments_of (placed at segments)) =
           subst (λ (n : ℕ). Follow old.end n (segments_of (placed at segments))) (sym end)
-          (subst (λ (z : List Segment). Follow old.end (place_behind old.end segments) z) (sym (placed-segments at segments)) (stand-follow old.end old.end segments stand)) in
+          (subst (λ (z : List Segment). Follow old.end (place_behind old.end segments) z) (sym (placed-segments at segments)) (turn-follow (MasterMayStandAt old.end) (λ place s may. begins-there old.end place s may.0) old.end segments stand)) in
           subst (λ (z : List Segment). Follow 0 new.end z) (sym (map-append (λ (r : Placed). r.segment) before (placed at segments)))
           (follow-append 0 old.end new.end (segments_of before) (segments_of (placed at segments)) table.in_turn follow);
       master = small;

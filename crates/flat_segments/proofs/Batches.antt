@@ -10,8 +10,8 @@ use Rattle.flat_segments.specs.declared.fault.FlatFault.{FlatFault}
 use Rattle.flat_segments.specs.declared.fault.FlatFault.TheVariants.{BadSegment}
 use Rattle.segment_codec.proofs.Records.{one-record}
 use Rattle.flat_segments.specs.declared.entry.Entry.{Entry}
-use Rattle.flat_segments.specs.Maximal.{goes_on}
-use Rattle.flat_segments.specs.Placed.{Placed, placed, AreRecords, MayStandAt, StandInTurn, IsFirstBroken, place_behind}
+use Rattle.segment_codec.specs.Turns.{goes_on, StandInTurn, IsFirstBroken, place_behind}
+use Rattle.flat_segments.specs.Placed.{Placed, placed, AreRecords, MasterMayStandAt}
 use Rattle.flat_segments.specs.Kept.{entry_of, kept_of}
 
 -- the records that are left of those of a batch, and what is still to come of them
@@ -19,8 +19,8 @@ pub record Keeps (first at : ℕ) (records : List ℕ) (old new : List Entry) (n
   pub left : List Segment
   pub each : AllByRecursion IsSegment left
   pub rest_is : rest ≡ flat_map segment_bytes left
-  pub stand : StandInTurn first next left → StandInTurn first first segments
-  pub broken : (k : ℕ) → IsFirstBroken first next left k → IsFirstBroken first first segments (number + k)
+  pub stand : StandInTurn (MasterMayStandAt first) next left → StandInTurn (MasterMayStandAt first) first segments
+  pub broken : (k : ℕ) → IsFirstBroken (MasterMayStandAt first) next left k → IsFirstBroken (MasterMayStandAt first) first segments (number + k)
   pub behind : place_behind next left ≡ place_behind first segments
   pub kept : new ++ kept_of (placed (at + (length records - length rest)) left) ≡ old ++ kept_of (placed at segments)
   pub many : number + length left ≡ length segments
@@ -43,7 +43,7 @@ starts first at records old small = record {
     each = h.each;
     rest_is = h.bytes_are;
     stand = λ s. s;
-    broken = λ k b. let none : k ≡ 0 + k = omega arith in subst (IsFirstBroken first first segments) none b;
+    broken = λ k b. let none : k ≡ 0 + k = omega arith in subst (IsFirstBroken (MasterMayStandAt first) first segments) none b;
     behind = refl;
     kept = let place : at + (length records - length records) ≡ at = omega arith in ap (λ n. old ++ kept_of (placed n segments)) place;
     many = omega arith;
@@ -85,14 +85,14 @@ none-left (t ∷ more) rest each is none = absurd (none t (flat_map segment_byte
 module _ (first at : ℕ) (records : List ℕ) (old new : List Entry) (next number : ℕ) (rest : List ℕ)
     (h : Appending first at records old new next number rest) where
   -- a record that may not come is the first broken one
-  pub is-broken : (s : Segment) (after : List ℕ) (segments : List Segment) (k : ℕ) → IsSegment s → rest ≡ segment_bytes s ++ after → (MayStandAt first next s → ⊥)
-      → AreRecords segments records → k ≡ number → IsFirstBroken first first segments k
+  pub is-broken : (s : Segment) (after : List ℕ) (segments : List Segment) (k : ℕ) → IsSegment s → rest ≡ segment_bytes s ++ after → (MasterMayStandAt first next s → ⊥)
+      → AreRecords segments records → k ≡ number → IsFirstBroken (MasterMayStandAt first) first segments k
   is-broken s after segments k i e bad are same =
       let p = h.keeps segments are in
       let l = left-first s rest after p.left i e p.each p.rest_is in
-      let here : IsFirstBroken first next p.left 0 = subst (λ (q : List Segment). IsFirstBroken first next q 0) (sym l.is) bad in
+      let here : IsFirstBroken (MasterMayStandAt first) next p.left 0 = subst (λ (q : List Segment). IsFirstBroken (MasterMayStandAt first) next q 0) (sym l.is) bad in
       let zero-more : number + 0 ≡ k = omega arith in
-      subst (IsFirstBroken first first segments) zero-more (p.broken 0 here)
+      subst (IsFirstBroken (MasterMayStandAt first) first segments) zero-more (p.broken 0 here)
 
   -- there is room for one more in the count
   pub is-counted : (s : Segment) (after : List ℕ) (segments : List Segment) → IsSegment s → rest ≡ segment_bytes s ++ after → AreRecords segments records
@@ -103,13 +103,13 @@ module _ (first at : ℕ) (records : List ℕ) (old new : List Entry) (next numb
       let many = p.many in let len = ap length l.is in omega (arith, many, len)
 
   -- one more record was kept
-  pub goes-on : (s : Segment) (after : List ℕ) (place : ℕ) (new2 : List Entry) → IsSegment s → rest ≡ segment_bytes s ++ after → MayStandAt first next s
+  pub goes-on : (s : Segment) (after : List ℕ) (place : ℕ) (new2 : List Entry) → IsSegment s → rest ≡ segment_bytes s ++ after → MasterMayStandAt first next s
       → place ≡ at + (length records - length rest) → new2 ≡ new ++ kept_of (record { place = place; segment = s } ∷ [])
       → Appending first at records old new2 (s.high + 1) (number + 1) after
   goes-on s after place new2 i e may place-is new2-is =
       let len : length rest ≡ length (segment_bytes s) + length after = ap length e ∙ length-append (segment_bytes s) after in
       let within = h.within in
-      let master = may.master in
+      let master = may.1 in
       let here = kept_of (record { place = place; segment = s } ∷ []) in
       record {
         within = omega arith;
@@ -125,10 +125,10 @@ module _ (first at : ℕ) (records : List ℕ) (old new : List Entry) (next numb
               left = l.more;
               each = l.each;
               rest_is = l.after_is;
-              stand = λ t. p.stand (subst (λ (q : List Segment). StandInTurn first next q) (sym l.is) (may, t));
+              stand = λ t. p.stand (subst (λ (q : List Segment). StandInTurn (MasterMayStandAt first) next q) (sym l.is) (may, t));
               broken = λ k b.
                   let one : number + suc k ≡ number + 1 + k = omega arith in
-                  subst (IsFirstBroken first first segments) one (p.broken (suc k) (subst (λ (q : List Segment). IsFirstBroken first next q (suc k)) (sym l.is) (may, b)));
+                  subst (IsFirstBroken (MasterMayStandAt first) first segments) one (p.broken (suc k) (subst (λ (q : List Segment). IsFirstBroken (MasterMayStandAt first) next q (suc k)) (sym l.is) (may, b)));
               behind = ap (λ q. place_behind next q) (sym l.is) ∙ p.behind;
               kept =
                   ap (λ z. z ++ later) new2-is ∙ append_assoc new here later
@@ -143,7 +143,7 @@ module _ (first at : ℕ) (records : List ℕ) (old new : List Entry) (next numb
 
   -- all were gone over
   pub record All (segments : List Segment) : Type 0 where
-    pub stand : StandInTurn first first segments
+    pub stand : StandInTurn (MasterMayStandAt first) first segments
     pub end : next ≡ place_behind first segments
     pub kept : new ≡ old ++ kept_of (placed at segments)
 
@@ -152,7 +152,7 @@ module _ (first at : ℕ) (records : List ℕ) (old new : List Entry) (next numb
       let p = h.keeps segments are in
       let l = none-left p.left rest p.each p.rest_is none in
       record {
-        stand = p.stand (subst (λ (q : List Segment). StandInTurn first next q) (sym l) tt);
+        stand = p.stand (subst (λ (q : List Segment). StandInTurn (MasterMayStandAt first) next q) (sym l) tt);
         end = ap (λ q. place_behind next q) (sym l) ∙ p.behind;
         kept = sym (append-nil new) ∙ ap (λ q. new ++ kept_of (placed (at + (length records - length rest)) q)) (sym l) ∙ p.kept;
       }

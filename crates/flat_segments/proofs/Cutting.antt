@@ -11,7 +11,8 @@ use Rattle.segment_codec.specs.Table.{Follow}
 use Rattle.segment_codec.specs.Flat.{IsFlat, is_flat}
 use Rattle.segment_codec.proofs.Flats.{flat-decided}
 use Rattle.flat_segments.specs.declared.entry.Entry.{Entry}
-use Rattle.flat_segments.specs.Maximal.{is_only, goes_on, begin_of, up_to, cut}
+use Rattle.segment_codec.specs.Turns.{is_only, goes_on}
+use Rattle.flat_segments.specs.Maximal.{begin_of, up_to, cut}
 use Rattle.flat_segments.specs.Runs.{low_of, do_rise}
 use Rattle.flat_segments.proofs.Rising.{Rise, rise-begin}
 

@@ -2,24 +2,16 @@
 use Rattle.std.proofs.Common.{◌≡◌, ℕ, ◌+◌, ◌-◌, ◌<◌, ◌≤◌, ◌⊎◌, inl, inr, Bool, true, false, not, List, [], ◌∷◌, Some, cond, min, refl, sym, subst, ap, ◌∙◌, arith, ⊎_elim, eq-eqb}
 use Rattle.std.specs.Prelude.{filter, nat_lt}
 use Rattle.std.specs.List.{AllByRecursion}
-use Rattle.std.proofs.lemmas.Bool.{ne_eqb, eqb-true, ltb-true, ltb-false}
+use Rattle.std.proofs.lemmas.Bool.{ne_eqb, ltb-true, ltb-false}
 use Rattle.segment_codec.specs.Record.{Segment}
 use Rattle.segment_codec.specs.Table.{IsInSegment, parents_in, parents_at, Follow}
 use Rattle.segment_codec.specs.Flat.{IsFlat}
 use Rattle.segment_codec.proofs.Tables.{le_or_lt, found-head, found-behind}
-use Rattle.flat_segments.specs.Maximal.{is_only, goes_on, begin_of, up_to, maximal, cut}
+use Rattle.segment_codec.specs.Turns.{goes_on}
+use Rattle.segment_codec.proofs.Turns.{goes-on-means}
+use Rattle.flat_segments.specs.Maximal.{begin_of, up_to, maximal, cut}
 use Rattle.flat_segments.proofs.Rising.{rise-follow, follow-rise}
 use Rattle.flat_segments.proofs.Cutting.{rise-filter, maximal-begins}
-
--- ---- what goes on
-
-pub only-is : (n : ℕ) (ps : List ℕ) → is_only n ps ≡ true → ps ≡ n ∷ []
-only-is n [] e = absurd cc
-only-is n (p ∷ []) e = ap (λ q. q ∷ []) (eqb-true p n e)
-only-is n (p ∷ q ∷ ps) e = absurd cc
-
-pub is-only : (n : ℕ) (ps : List ℕ) → ps ≡ n ∷ [] → is_only n ps ≡ true
-is-only n ps e = ap (is_only n) e ∙ eq-eqb n n refl
 
 -- ---- parents
 
@@ -62,7 +54,7 @@ goes-from first end (s ∷ more) x h le lt = go (goes_on s) refl lt (goes-from (
         ⊎_elim
         (λ (in-it : x ≤ s.high). here s more x (omega (arith, low), in-it)
         ∙ ⊎_elim
-        (λ (at : x ≤ s.low). let is : x ≡ s.low = omega (arith, low) in at-low s x is ∙ only-is (s.low - 1) s.parents e ∙ ap (λ n. (n - 1) ∷ []) (sym is))
+        (λ (at : x ≤ s.low). let is : x ≡ s.low = omega (arith, low) in at-low s x is ∙ goes-on-means s e ∙ ap (λ n. (n - 1) ∷ []) (sym is))
         (λ (over : s.low < x). over-low s x (λ is. absurd (omega (arith, over, is))))
         (le_or_lt x s.low))
         (λ (past : s.high < x). behind s more x (λ (i : IsInSegment x s). let b = i.1 in absurd (omega (arith, b, past))) ∙ rest (omega (arith, past)) lt)

@@ -14,7 +14,8 @@ use Rattle.segment_codec.proofs.Flats.{IsPlaced, lawful-decided}
 use Rattle.segment_codec.proofs.Records.{record_again}
 use Rattle.segment_codec.proofs.Tables.{le_or_lt, all-pass, follow-within}
 use Rattle.flat_segments.specs.declared.entry.Entry.{Entry}
-use Rattle.flat_segments.specs.Maximal.{goes_on, begin_of, up_to, maximal, cut}
+use Rattle.segment_codec.specs.Turns.{goes_on}
+use Rattle.flat_segments.specs.Maximal.{begin_of, up_to, maximal, cut}
 use Rattle.flat_segments.specs.Placed.{Placed, segments_of, Stand}
 use Rattle.flat_segments.specs.Kept.{Kept, entry_of, IsTableOf}
 use Rattle.flat_segments.specs.Runs.{segment_read, segment_in, flats_in, is_read, low_of, do_rise, is_run}

@@ -5,7 +5,7 @@ use Rattle.segment_codec.specs.Record.{Segment}
 use Rattle.segment_codec.specs.Table.{Follow}
 use Rattle.segment_codec.specs.Flat.{IsFlat}
 use Rattle.flat_segments.specs.declared.entry.Entry.{Entry}
-use Rattle.flat_segments.specs.Maximal.{goes_on}
+use Rattle.segment_codec.specs.Turns.{goes_on}
 use Rattle.flat_segments.specs.Placed.{Placed, segments_of, AreRecords}
 
 -- what a table or a section keeps

@@ -1,16 +1,7 @@
 -- Maximal flat segments, and what is cut of them.
-use Rattle.std.specs.Prelude.{◌-◌, ℕ, Bool, false, not, List, [], ◌∷◌, min, filter, nat_lt, nat_eq, if◌then◌else◌}
+use Rattle.std.specs.Prelude.{◌-◌, ℕ, not, List, [], ◌∷◌, min, filter, nat_lt, if◌then◌else◌}
 use Rattle.segment_codec.specs.Record.{Segment}
-
--- whether the list is the one number
-abbrev pub is_only : ℕ → List ℕ → Bool
-is_only n [] = false
-is_only n (p ∷ []) = nat_eq p n
-is_only n (p ∷ q ∷ more) = false
-
--- Whether the segment goes on from the id before it, which is its only parent. Then the two belong to one maximal segment.
-abbrev pub goes_on : Segment → Bool
-goes_on s = is_only (s.low - 1) s.parents
+use Rattle.segment_codec.specs.Turns.{goes_on}
 
 -- where the first of these begins; the end where there is none
 abbrev pub begin_of : ℕ → List Segment → ℕ

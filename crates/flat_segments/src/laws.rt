@@ -1,16 +1,16 @@
 //! Laws of the definitions.
 
-ghost use Rattle.std.specs.Prelude.{◌≡◌, ◌<◌, ◌≤◌, ◌-◌, ◌↔◌, IsTrue, ℕ, true, false, List, [], ◌∷◌};
+ghost use Rattle.std.specs.Prelude.{◌≡◌, ◌<◌, ◌≤◌, ℕ, false, List, [], ◌∷◌};
 ghost use Rattle.std.specs.List.{AllByRecursion};
 ghost use Rattle.segment_codec.specs.Record.{Segment};
 ghost use Rattle.segment_codec.specs.Table.{Follow, parents_at};
 ghost use Rattle.segment_codec.specs.Flat.{IsFlat};
-ghost use Rattle.flat_segments.specs.Maximal.{goes_on, maximal, cut};
+ghost use Rattle.segment_codec.specs.Turns.{goes_on};
+ghost use Rattle.flat_segments.specs.Maximal.{maximal, cut};
 
 /// The maximal segments of records have the records' ids, each with the same parents, and none goes on from the id
 /// before it.
 pub fn maximal_segments()
-    ensures goes_on { (s : Segment) → IsTrue (goes_on s) ↔ (s.parents ≡ (s.low - 1) ∷ []) }
     ensures ids { (end : ℕ) (records : List Segment) → AllByRecursion IsFlat records → Follow 0 end records → Follow 0 end (maximal end records) }
     ensures parents { (end x : ℕ) (records : List Segment) → AllByRecursion IsFlat records → Follow 0 end records → x < end
         → parents_at (maximal end records) x ≡ parents_at records x }

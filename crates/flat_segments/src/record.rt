@@ -2,45 +2,27 @@
 
 ghost use Rattle.std.specs.Prelude.{◌≡◌, ◌≤◌, ◌<◌, ◌^◌, ◌+◌, ◌-◌, ◌++◌, ◌↔◌, IsTrue, List, ℕ, [], ◌∷◌, length, take, OnOk, OnErr, IfOk, Err};
 ghost use Rattle.segment_codec.specs.Record.{Segment, IsSegment};
-ghost use Rattle.segment_codec.specs.Lent.{segment_of, parents_left};
-ghost use Rattle.flat_segments.specs.Maximal.{is_only, goes_on};
-ghost use Rattle.flat_segments.specs.Placed.{placed, AreRecords, MayStandAt, StandInTurn, IsFirstBroken, place_behind};
+ghost use Rattle.segment_codec.specs.Lent.{segment_of};
+ghost use Rattle.segment_codec.specs.Turns.{StandInTurn, IsFirstBroken, place_behind};
+ghost use Rattle.flat_segments.specs.Placed.{placed, AreRecords, MasterMayStandAt};
 ghost use Rattle.flat_segments.specs.Kept.{kept_of};
 ghost use Rattle.flat_segments.specs.declared.fault.FlatFault.{FlatFault as Fault};
 
 use crate::entry::Entry;
 use crate::fault::FlatFault;
 use id_groups::FIRST_OTHER;
-use segment_codec::{Parents, SegmentRef, read_segment};
+use segment_codec::{SegmentRef, read_segment};
 use std::alloc::AllocError;
-
-/// Whether there is one parent, and it has this number.
-fn is_only_parent(parents: Parents<'_>, number: u64) -> bool
-    ensures { result ≡ is_only number (parents_left parents.entry) }
-{
-    let mut rest = parents;
-    let Some(parent) = rest.next() else {
-        return false;
-    };
-    rest.next().is_none() && parent.number() == number
-}
-
-/// Whether the segment goes on from the id before it.
-fn does_go_on(segment: &SegmentRef<'_>) -> bool
-    ensures { result ≡ goes_on (segment_of segment.now) }
-{
-    is_only_parent(segment.parents(), segment.low().number().saturating_sub(1))
-}
 
 /// Whether the record may come at this place of a batch whose first id is given.
 fn may_stand_at(first: u64, place: u64, segment: &SegmentRef<'_>) -> bool
     requires { IsSegment (segment_of segment.now) }
-    ensures { IsTrue result ↔ MayStandAt first place (segment_of segment.now) }
+    ensures { IsTrue result ↔ MasterMayStandAt first place (segment_of segment.now) }
 {
     segment.level() == 0
         && segment.high().number() < FIRST_OTHER
         && segment.low().number() == place
-        && (place == first || !does_go_on(segment))
+        && (place == first || !segment.goes_on())
 }
 
 /// Keeps the segment, where it doesn't go on from the one before.
@@ -48,7 +30,7 @@ fn keep(entries: &mut Vec<Entry>, segment: &SegmentRef<'_>, place: u64) -> Resul
     ensures ok { OnOk result (entries.new.items ≡ entries.old.items ++ kept_of (record { place = place; segment = segment_of segment.now } ∷ [])) }
     ensures err { OnErr result (entries.new.items ≡ entries.old.items) }
 {
-    if does_go_on(segment) {
+    if segment.goes_on() {
         return Ok(());
     }
     let low = segment.low().number();
@@ -67,12 +49,12 @@ pub(crate) fn append(
     requires records { (segments : List Segment) × AreRecords segments records.now × (length segments < 2 ^ 32) }
     requires place { at + length records.now < 2 ^ 63 }
     requires first { first ≤ 2 ^ 56 }
-    ensures stand { IfOk result (λ end. (segments : List Segment) → AreRecords segments records.now → StandInTurn first first segments) }
+    ensures stand { IfOk result (λ end. (segments : List Segment) → AreRecords segments records.now → StandInTurn (MasterMayStandAt first) first segments) }
     ensures end { IfOk result (λ end. (segments : List Segment) → AreRecords segments records.now → end ≡ place_behind first segments) }
     ensures kept { IfOk result (λ end. (segments : List Segment) → AreRecords segments records.now
         → entries.new.items ≡ entries.old.items ++ kept_of (placed at segments)) }
     ensures small { IfOk result (λ end. end ≤ 2 ^ 56) }
-    ensures bad { (segments : List Segment) (k : ℕ) → AreRecords segments records.now → result ≡ Err (Fault.BadSegment k) → IsFirstBroken first first segments k }
+    ensures bad { (segments : List Segment) (k : ℕ) → AreRecords segments records.now → result ≡ Err (Fault.BadSegment k) → IsFirstBroken (MasterMayStandAt first) first segments k }
     ensures err { OnErr result (take (length entries.old.items) entries.new.items ≡ entries.old.items) }
 {
     let mut rest = records;

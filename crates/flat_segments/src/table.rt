@@ -3,7 +3,8 @@
 ghost use Rattle.std.specs.Prelude.{◌≡◌, ◌≤◌, ◌<◌, ◌^◌, ◌+◌, ◌++◌, List, ℕ, [], ◌∷◌, true, length, take, filter, nat_lt, OnOk, OnErr, Err};
 ghost use Rattle.segment_codec.specs.Record.{Segment};
 ghost use Rattle.flat_segments.specs.Maximal.{maximal, cut};
-ghost use Rattle.flat_segments.specs.Placed.{Placed, placed, segments_of, Stand, AreRecords, StandInTurn, IsFirstBroken};
+ghost use Rattle.segment_codec.specs.Turns.{StandInTurn, IsFirstBroken};
+ghost use Rattle.flat_segments.specs.Placed.{Placed, placed, segments_of, Stand, AreRecords, MasterMayStandAt};
 ghost use Rattle.flat_segments.specs.Kept.{IsTableOf, MayExtend};
 ghost use Rattle.flat_segments.specs.Runs.{do_rise};
 ghost use Rattle.flat_segments.specs.Views.{view_flats, master_flats, master_count};
@@ -68,9 +69,9 @@ impl FlatTable {
         requires place { at + length records.now < 2 ^ 63 }
         ensures table { OnOk result ((before : List Placed) (segments : List Segment) → IsTableOf self.old before → AreRecords segments records.now
             → IsTableOf self.new (before ++ placed at segments)) }
-        ensures lawful { OnOk result ((segments : List Segment) → AreRecords segments records.now → StandInTurn self.old.end self.old.end segments) }
+        ensures lawful { OnOk result ((segments : List Segment) → AreRecords segments records.now → StandInTurn (MasterMayStandAt self.old.end) self.old.end segments) }
         ensures bad { (segments : List Segment) (k : ℕ) → AreRecords segments records.now → result ≡ Err (Fault.BadSegment k)
-            → IsFirstBroken self.old.end self.old.end segments k }
+            → IsFirstBroken (MasterMayStandAt self.old.end) self.old.end segments k }
         ensures unchanged { OnErr result (self.new ≡ self.old) }
     {
         let len = self.entries.len();

@@ -6,7 +6,8 @@ use Rattle.std.proofs.lemmas.List.{map-append, length-append, length-map, append
 use Rattle.std.proofs.lemmas.List.Concat.{flat_map-cons}
 use Rattle.segment_codec.specs.Record.{Segment, IsSegment, segment_bytes, HasFront}
 use Rattle.segment_codec.specs.Table.{Follow}
-use Rattle.flat_segments.specs.Placed.{Placed, placed, Stand, AreRecords, MayStandAt, IsFirstBroken}
+use Rattle.segment_codec.specs.Turns.{IsFirstBroken}
+use Rattle.flat_segments.specs.Placed.{Placed, placed, Stand, AreRecords, MasterMayStandAt}
 use Rattle.flat_segments.specs.Kept.{Kept, IsTableOf, MayExtend}
 use Rattle.sample_tables.specs.Samples.{Written, IsSampleOf, next_segment, MayPush}
 
@@ -110,15 +111,9 @@ module _ (end : ℕ) (parents : List ℕ) (count : ℕ) (may : MayPush end paren
       let last = follow-last 0 sample.table.end segments next (subst (Follow 0 sample.table.end) is.segments_are is.table_of.in_turn) in
       let some = may.some in omega (arith, last)
 
-  next-may-stand : (first : ℕ) → first ≡ end → MayStandAt first first next
-  next-may-stand first e = let room = may.room in record {
-    segment = next-is;
-    flat = refl;
-    master = omega arith;
-    low = sym e;
-    apart = λ ne. absurd (ne refl);
-  }
+  next-may-stand : (first : ℕ) → first ≡ end → MasterMayStandAt first first next
+  next-may-stand first e = let room = may.room in (record { segment = next-is; flat = refl; low = sym e; apart = λ ne. absurd (ne refl) }, omega arith)
 
-  pub never-bad : (first k : ℕ) → first ≡ end → IsFirstBroken first first (next ∷ []) k → ⊥
+  pub never-bad : (first k : ℕ) → first ≡ end → IsFirstBroken (MasterMayStandAt first) first (next ∷ []) k → ⊥
   never-bad first zero e h = h (next-may-stand first e)
   never-bad first (suc k) e h = h.1

@@ -6,5 +6,6 @@ pub mod Orders
 pub mod Records
 pub mod Skipping
 pub mod Tables
+pub mod Turns
 pub mod Flats
 pub mod Examples

@@ -1,9 +1,9 @@
 -- Lists of numbers.
-use Rattle.std.proofs.Common.{◌≡◌, ℕ, zero, suc, ◌+◌, ◌-◌, ◌*◌, ◌/◌, ◌%◌, ◌^◌, ◌<◌, ◌≤◌, Bool, true, false, cond, ltb, List, [], ◌∷◌, ◌++◌, length, take, drop, Option, Some, None, refl, sym, ap, subst, ◌∙◌, append_assoc, arith, lit≤}
+use Rattle.std.proofs.Common.{◌≡◌, ℕ, zero, suc, ◌+◌, ◌-◌, ◌*◌, ◌/◌, ◌%◌, ◌^◌, ◌<◌, ◌≤◌, Bool, true, false, cond, ltb, List, [], ◌∷◌, ◌++◌, length, take, drop, Option, Some, None, refl, sym, ap, subst, ◌∙◌, append_assoc, inl, inr, arith, lit≤}
 use Rattle.std.specs.List.{flat_map, AllByRecursion}
-use Rattle.std.proofs.lemmas.List.{append-nil, take_at, drop_at, length-append}
+use Rattle.std.proofs.lemmas.List.{append-nil, take_at, drop_at, length-append, length-take, get_or-take, get_or_past}
 use Rattle.std.proofs.lemmas.List.Concat.{flat_map-cons}
-use Rattle.std.proofs.lemmas.Bool.{ltb-true, ltb-false, le-ltb, lt-ltb}
+use Rattle.std.proofs.lemmas.Bool.{ltb-true, ltb-false, le-ltb, lt-ltb, cases_lt}
 use Rattle.segment_codec.specs.Number.{groups_of, number_bytes, HasNumber, numbers_in}
 use Rattle.segment_codec.specs.Reading.{◌>>=◌, long_number_at, number_at, numbers_at}
 use Rattle.segment_codec.proofs.Numbers.{part_is, IsBytes, bytes-rest, some_is, bind_some, chosen, groups_end, long_group, number_takes, number_again}
@@ -93,6 +93,13 @@ pub record Taken (end count : ℕ) (bytes : List ℕ) (x : List ℕ × List ℕ)
   pub parts : bytes ≡ flat_map number_bytes x.0 ++ x.1
   pub many : length x.0 ≡ count
   pub below : AllByRecursion (λ n. n < end) x.0
+
+pub bytes-take : (n : ℕ) (bytes : List ℕ) → IsBytes bytes → IsBytes (take n bytes)
+bytes-take n bytes h i =
+    elim (cases_lt i n) [
+      | inl lt ↦ rw (get_or-take n bytes i 0 lt) (h i)
+      | inr le ↦ rw (get_or_past (take n bytes) i 0 (omega (arith, length-take {A = ℕ} n bytes))) (omega arith)
+    ]
 
 pub bytes-drop : (front rest bytes : List ℕ) → bytes ≡ front ++ rest → IsBytes bytes → IsBytes rest
 bytes-drop [] rest bytes e fits = subst IsBytes e fits

@@ -1,9 +1,9 @@
 -- A record that is read is the one that was written, and what was written is read again.
-use Rattle.std.proofs.Common.{◌≡◌, ℕ, zero, suc, ◌-◌, ◌^◌, ◌<◌, ◌≤◌, Bool, true, false, cond, ltb, leb, eqb, ◌||◌, List, [], ◌∷◌, ◌++◌, length, take, drop, get_or, Some, None, refl, sym, ap, subst, ◌∙◌, append_assoc, inl, inr, ⊎_elim, arith, lit≤}
+use Rattle.std.proofs.Common.{◌≡◌, ℕ, zero, suc, ◌-◌, ◌^◌, ◌<◌, ◌≤◌, Bool, true, false, cond, ltb, leb, eqb, ◌||◌, List, [], ◌∷◌, ◌++◌, length, take, drop, get_or, Some, None, refl, sym, ap, subst, ◌∙◌, append_assoc, ⊎_elim, arith, lit≤}
 use Rattle.std.specs.List.{flat_map}
 use Rattle.std.specs.Int.{w64, from_be_bytes, to_be_bytes}
-use Rattle.std.proofs.lemmas.Bool.{and_parts, or_cases, ltb-true, ltb-false, leb-true, le-leb, lt-ltb, le-ltb, eqb-true, eq-eqb, ne_eqb, cases_lt}
-use Rattle.std.proofs.lemmas.List.{take-append-drop, length-append, length-take, get_or-take, get_or_past}
+use Rattle.std.proofs.lemmas.Bool.{and_parts, or_cases, ltb-true, ltb-false, leb-true, le-leb, lt-ltb, le-ltb, eqb-true, eq-eqb, ne_eqb}
+use Rattle.std.proofs.lemmas.List.{take-append-drop, length-append, length-take}
 use Rattle.std.proofs.lemmas.Nat.{be_bytes_8, from_be_bytes-to_be_bytes_8}
 use Rattle.id_groups.specs.Id.{is_master_id, id_end}
 use Rattle.segment_codec.specs.declared.head.Head.{Head}
@@ -11,17 +11,10 @@ use Rattle.segment_codec.specs.Number.{number_bytes}
 use Rattle.segment_codec.specs.Record.{Segment, IsSegment, segment_bytes, flags_of, HasLevelsParents}
 use Rattle.segment_codec.specs.Reading.{◌>>=◌, number_at, numbers_at, fixed_at, most_parents, is_head, head_at, are_in_order, record_at}
 use Rattle.segment_codec.proofs.Numbers.{IsBytes, bytes-rest, bind_some, guard_some, some_is, number_takes, number_again}
-use Rattle.segment_codec.proofs.Lists.{bytes-drop, Taken, numbers_take, numbers_again}
+use Rattle.segment_codec.proofs.Lists.{bytes-take, bytes-drop, Taken, numbers_take, numbers_again}
 use Rattle.segment_codec.proofs.Orders.{above-flat, order-distinct, order-means, order-decided}
 
 -- ---- eight bytes
-
-bytes-take : (n : ℕ) (bytes : List ℕ) → IsBytes bytes → IsBytes (take n bytes)
-bytes-take n bytes h i =
-    elim (cases_lt i n) [
-      | inl lt ↦ rw (get_or-take n bytes i 0 lt) (h i)
-      | inr le ↦ rw (get_or_past (take n bytes) i 0 (omega (arith, length-take n bytes))) (omega arith)
-    ]
 
 above_guard : {A : Type 0} (b : Bool) (x y : A) → cond b None (Some x) ≡ Some y → (b ≡ false) × (x ≡ y)
 above_guard true x y e = absurd cc

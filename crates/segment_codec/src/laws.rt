@@ -1,11 +1,12 @@
 //! Laws of the definitions.
 
-ghost use Rattle.std.specs.Prelude.{◌≡◌, ◌++◌, ◌^◌, ◌<◌, ◌+◌, ◌-◌, ℕ, List, [], ◌∷◌, length, replicate};
+ghost use Rattle.std.specs.Prelude.{◌≡◌, ◌++◌, ◌^◌, ◌<◌, ◌+◌, ◌-◌, ◌↔◌, IsTrue, ℕ, List, [], ◌∷◌, length, replicate};
 ghost use Rattle.std.specs.List.{AllByRecursion};
 ghost use Rattle.segment_codec.specs.Number.{HasNumber, number_bytes};
 ghost use Rattle.segment_codec.specs.Record.{Segment, IsSegment, segment_bytes};
 ghost use Rattle.segment_codec.specs.Table.{parents_at, Cover, IsHeaded};
 ghost use Rattle.segment_codec.specs.Examples.{small_table, gapped_table};
+ghost use Rattle.segment_codec.specs.Turns.{goes_on};
 
 /// Some numbers and records, and their bytes.
 #[tactic(auto, unfolding(crate::specs::Number::number_bytes, crate::specs::Record::segment_bytes))]
@@ -38,4 +39,9 @@ pub fn tables_spelled_out()
     ensures gap { (master others : ℕ) → ¬ (Cover gapped_table master others) }
     ensures headed { IsHeaded small_table (record { low = 3; high = 5; level = 1; parents = 1 ∷ 2 ∷ [] }) }
     ensures two_heads { ¬ (IsHeaded small_table (record { low = 0; high = 3; level = 1; parents = [] })) }
+{}
+
+/// A segment goes on exactly where its only parent is the id before it.
+pub fn segments_go_on()
+    ensures { (s : Segment) → IsTrue (goes_on s) ↔ (s.parents ≡ (s.low - 1) ∷ []) }
 {}

@@ -15,7 +15,7 @@ mod table;
 mod writing;
 
 pub use known::read_known;
-pub use laws::{numbers_are_spelled, records_are_spelled, tables_spelled_out};
+pub use laws::{numbers_are_spelled, records_are_spelled, segments_go_on, tables_spelled_out};
 pub use lent::{Parents, SegmentRef};
 pub use reading::{read_high, read_segment};
 pub use steps::Steps;

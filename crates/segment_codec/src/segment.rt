@@ -5,10 +5,22 @@ ghost use Rattle.std.specs.Iterator.{YieldsFirst, item_count};
 ghost use Rattle.id_groups.specs.Id.{is_master_id, id_end};
 ghost use Rattle.segment_codec.specs.Record.{IsSegment};
 ghost use Rattle.segment_codec.specs.Lent.{segment_of, parents_left};
+ghost use Rattle.segment_codec.specs.Turns.{is_only, goes_on};
 
 use crate::lent::{Parents, SegmentRef};
 use crate::number::read_number;
 use id_groups::Id;
+
+/// Whether there is one parent, and it has this number.
+fn is_only_parent(parents: Parents<'_>, number: u64) -> bool
+    ensures { result ≡ is_only number (parents_left parents.entry) }
+{
+    let mut rest = parents;
+    let Some(parent) = rest.next() else {
+        return false;
+    };
+    rest.next().is_none() && parent.number() == number
+}
 
 impl<'a> SegmentRef<'a> {
     /// The lowest id.
@@ -37,6 +49,13 @@ impl<'a> SegmentRef<'a> {
         ensures { parents_left result ≡ (segment_of self.now).parents }
     {
         Parents { rest: self.parents }
+    }
+
+    /// Whether the segment goes on from the id before it, its only parent.
+    pub fn goes_on(&self) -> bool
+        ensures { result ≡ goes_on (segment_of self.now) }
+    {
+        is_only_parent(self.parents(), self.low.saturating_sub(1))
     }
 
     /// The same segment with this highest id, which is of its group and at least its lowest.

@@ -1,4 +1,6 @@
-use Rattle.batch_codec.proofs.Turns.{stand-in-turn, turn-stands, none-broken}
+use Rattle.segment_codec.specs.Turns.{MayStandAt}
+use Rattle.segment_codec.proofs.Turns.{none-broken}
+use Rattle.batch_codec.proofs.Turns.{stand-in-turn, turn-stands}
 use Rattle.batch_codec.proofs.laws.sections_by_records.Goals as goal
 
 pub returns-clause-turn : goal.returns-clause-turn
@@ -8,4 +10,4 @@ pub returns-clause-whole : goal.returns-clause-whole
 returns-clause-whole c = turn-stands
 
 pub returns-clause-broken : goal.returns-clause-broken
-returns-clause-broken c = none-broken
+returns-clause-broken c = λ first. none-broken (MayStandAt first)

@@ -1,8 +1,5 @@
-use Rattle.flat_segments.proofs.Graphs.{only-is, is-only, maximal-ids, maximal-parents, maximal-apart}
+use Rattle.flat_segments.proofs.Graphs.{maximal-ids, maximal-parents, maximal-apart}
 use Rattle.flat_segments.proofs.laws.maximal_segments.Goals as goal
-
-pub returns-clause-goes_on : goal.returns-clause-goes_on
-returns-clause-goes_on c = λ s. (only-is _ s.parents, is-only _ s.parents)
 
 pub returns-clause-ids : goal.returns-clause-ids
 returns-clause-ids c = maximal-ids
