@@ -1,5 +1,5 @@
 -- The ids of payloads that follow one another: those of each lie below those of the next.
-use Rattle.std.proofs.Common.{◌≡◌, ◌<◌, ◌≤◌, ℕ, List, [], ◌∷◌, ◌++◌, refl, ◌⊎◌, ⊎_elim, arith}
+use Rattle.std.proofs.Common.{◌≡◌, ◌<◌, ◌≤◌, ℕ, List, [], ◌∷◌, ◌++◌, refl, ⊎_elim, arith}
 use Rattle.std.proofs.lemmas.List.Concat.{flat_map-append}
 use Rattle.id_groups.specs.Lists.{IsIn}
 use Rattle.batch_codec.specs.Payload.{Known, Payload}
