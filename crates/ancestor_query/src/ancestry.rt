@@ -28,9 +28,9 @@ pub fn ancestors<T: SegmentTable>(
     requires { (x : ℕ) → IsMember set.now x → IsHeld (T.flats table.now) x }
     ensures members { IfOk result (λ r. (x : ℕ) → IsMember r x ↔ sets.ancestors (table_graph (T.flats table.now)) (IsMember set.now) x) }
     ensures canonical { IfOk result IsCanonical }
-    ensures few { IfOk result (λ r. steps.new ≤ steps.old + 8 * (1 + count_met r (T.flats table.now))) }
-    ensures one { IfOk result (λ r. (x : ℕ) → IsOnly x set.now → EndsWhole (T.ending_at table.now) x → steps.new ≤ steps.old + 8) }
-    ensures counted { min steps.old (2 ^ 64 - 1) ≤ steps.new }
+    ensures few { IfOk result (λ r. steps.new.taken ≤ steps.old.taken + 8 * (1 + count_met r (T.flats table.now))) }
+    ensures one { IfOk result (λ r. (x : ℕ) → IsOnly x set.now → EndsWhole (T.ending_at table.now) x → steps.new.taken ≤ steps.old.taken + 8) }
+    ensures counted { min steps.old.taken (2 ^ 64 - 1) ≤ steps.new.taken }
 {
     let mut answer = IdSet::empty(alloc);
     let mut work = WorkList::empty(alloc);
@@ -57,7 +57,7 @@ pub fn is_ancestor<T: SegmentTable>(
     requires x { IsHeld (T.flats table.now) x }
     requires y { IsHeld (T.flats table.now) y }
     ensures reached { IfOk result (λ r. IsTrue r ↔ Reaches (table_graph (T.flats table.now)) y x) }
-    ensures counted { min steps.old (2 ^ 64 - 1) ≤ steps.new }
+    ensures counted { min steps.old.taken (2 ^ 64 - 1) ≤ steps.new.taken }
 {
     let target = x.number();
     let mut work = WorkList::empty(alloc);
@@ -83,7 +83,7 @@ pub fn is_ancestor<T: SegmentTable>(
 pub fn first_ancestor<T: SegmentTable>(table: &T, x: Id, n: u64, steps: &mut Steps) -> Option<Id>
     requires { IsHeld (T.flats table.now) x }
     ensures ancestor { result ≡ after_steps (table_graph (T.flats table.now)) n x }
-    ensures counted { min steps.old (2 ^ 64 - 1) ≤ steps.new }
+    ensures counted { min steps.old.taken (2 ^ 64 - 1) ≤ steps.new.taken }
 {
     let mut id = x;
     let mut left = n;

@@ -25,7 +25,7 @@ pub fn ancestors_above<T: SegmentTable>(
     requires { (x : ℕ) → IsMember set.now x → IsHeld (T.flats table.now) x }
     ensures members { IfOk result (λ r. (x : ℕ) → IsMember r x ↔ (sets.ancestors (table_graph (T.flats table.now)) (IsMember set.now) x × (floor ≤ x))) }
     ensures canonical { IfOk result IsCanonical }
-    ensures counted { min steps.old (2 ^ 64 - 1) ≤ steps.new }
+    ensures counted { min steps.old.taken (2 ^ 64 - 1) ≤ steps.new.taken }
 {
     let least = floor.number();
     let mut answer = IdSet::empty(alloc);

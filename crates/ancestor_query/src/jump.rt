@@ -32,8 +32,8 @@ fn lower<'a>(best: SegmentRef<'a>, other: Option<SegmentRef<'a>>) -> SegmentRef<
 pub fn best_jump<'a, T: SegmentTable>(table: &'a T, id: Id, steps: &mut Steps) -> SegmentRef<'a>
     requires { IsHeld (T.flats table.now) id }
     ensures best { IsBest (T.flats table.now) (T.ending_at table.now) 8 id (segment_of result) }
-    ensures few { steps.new ≤ steps.old + 8 }
-    ensures counted { min steps.old (2 ^ 64 - 1) ≤ steps.new }
+    ensures few { steps.new.taken ≤ steps.old.taken + 8 }
+    ensures counted { min steps.old.taken (2 ^ 64 - 1) ≤ steps.new.taken }
 {
     let mut best = table.flat(id, steps).unwrap();
     'levels: for level in 1..LEVEL_END {

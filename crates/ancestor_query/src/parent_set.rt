@@ -68,7 +68,7 @@ fn add_span<T: SegmentTable>(
     ensures parents { OnOk result ((x : ℕ) → (IsMember moved.new x ⊎ IsIn x work.new)
         ↔ ((IsMember moved.old x ⊎ IsIn x work.old)
         ⊎ sets.parents (table_graph (T.flats table.now)) (λ c. IsInSpan c span) x)) }
-    ensures counted { min steps.old (2 ^ 64 - 1) ≤ steps.new }
+    ensures counted { min steps.old.taken (2 ^ 64 - 1) ≤ steps.new.taken }
 {
     let low = span.low.number();
     let mut end = span.high.number() + 1;
@@ -91,7 +91,7 @@ pub fn parents<T: SegmentTable>(
     requires { (x : ℕ) → IsMember set.now x → IsHeld (T.flats table.now) x }
     ensures members { IfOk result (λ r. (x : ℕ) → IsMember r x ↔ sets.parents (table_graph (T.flats table.now)) (IsMember set.now) x) }
     ensures canonical { IfOk result IsCanonical }
-    ensures counted { min steps.old (2 ^ 64 - 1) ≤ steps.new }
+    ensures counted { min steps.old.taken (2 ^ 64 - 1) ≤ steps.new.taken }
 {
     let mut moved = IdSet::empty(alloc);
     let mut work = WorkList::empty(alloc);

@@ -43,7 +43,7 @@ fn meet_span<T: SegmentTable>(
         ↔ (sets.ancestors (table_graph (T.flats table.now)) (IsMember set) x × AllReach (table_graph (T.flats table.now)) (λ m. IsInSpan m span) x)) }
     ensures last { IfOk result (λ r. AreLast (table_graph (T.flats table.now)) (IsMember r)) }
     ensures canonical { IfOk result IsCanonical }
-    ensures counted { min steps.old (2 ^ 64 - 1) ≤ steps.new }
+    ensures counted { min steps.old.taken (2 ^ 64 - 1) ≤ steps.new.taken }
 {
     let low = span.low.number();
     let mut end = span.high.number() + 1;
@@ -74,7 +74,7 @@ pub fn gca<T: SegmentTable>(
     ensures members { IfOk result (λ r. (x : ℕ) → IsMember r x ↔ sets.gca (table_graph (T.flats table.now)) (IsMember set.now) x) }
     ensures reached { IfOk result (λ r. (x : ℕ) → sets.ancestors (table_graph (T.flats table.now)) (IsMember r) x ↔ sets.common (table_graph (T.flats table.now)) (IsMember set.now) x) }
     ensures canonical { IfOk result IsCanonical }
-    ensures counted { min steps.old (2 ^ 64 - 1) ≤ steps.new }
+    ensures counted { min steps.old.taken (2 ^ 64 - 1) ≤ steps.new.taken }
 {
     let Some(first) = set.greatest() else {
         return Ok(IdSet::empty(alloc));
@@ -97,7 +97,7 @@ pub fn common<T: SegmentTable>(
     requires { (x : ℕ) → IsMember set.now x → IsHeld (T.flats table.now) x }
     ensures members { IfOk result (λ r. (x : ℕ) → IsMember r x ↔ sets.common (table_graph (T.flats table.now)) (IsMember set.now) x) }
     ensures canonical { IfOk result IsCanonical }
-    ensures counted { min steps.old (2 ^ 64 - 1) ≤ steps.new }
+    ensures counted { min steps.old.taken (2 ^ 64 - 1) ≤ steps.new.taken }
 {
     let last = gca(alloc, table, set, steps)?;
     ancestors(alloc, table, &last, steps)

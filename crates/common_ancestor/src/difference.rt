@@ -68,7 +68,7 @@ pub fn only<T: SegmentTable>(
     requires minus { (x : ℕ) → IsMember minus.now x → IsHeld (T.flats table.now) x }
     ensures members { IfOk result (λ r. (x : ℕ) → IsMember r x ↔ sets.only (table_graph (T.flats table.now)) (IsMember from.now) (IsMember minus.now) x) }
     ensures canonical { IfOk result IsCanonical }
-    ensures counted { min steps.old (2 ^ 64 - 1) ≤ steps.new }
+    ensures counted { min steps.old.taken (2 ^ 64 - 1) ≤ steps.new.taken }
 {
     let mut answer = IdSet::empty(alloc);
     let mut mine = WorkList::empty(alloc);

@@ -135,7 +135,7 @@ pub(crate) fn meet<T: SegmentTable>(
         ↔ (sets.ancestors (table_graph (T.flats table.now)) (IsMember left.now) x × sets.ancestors (table_graph (T.flats table.now)) (IsMember right.now) x)) }
     ensures last { IfOk result (λ r. AreLast (table_graph (T.flats table.now)) (IsMember r)) }
     ensures canonical { IfOk result IsCanonical }
-    ensures counted { min steps.old (2 ^ 64 - 1) ≤ steps.new }
+    ensures counted { min steps.old.taken (2 ^ 64 - 1) ≤ steps.new.taken }
 {
     let mut last = IdSet::empty(alloc);
     let mut waiting = Waiting::empty(alloc);

@@ -36,7 +36,7 @@ impl<'a> FlatView<'a> {
     #[inline(always)]
     fn find(&self, id: u64, steps: &mut Steps) -> Option<SegmentRef<'a>>
         ensures found { MatchOption result (segment_at (view_flats self.now) id ≡ None) (λ r. segment_at (view_flats self.now) id ≡ Some (segment_of r)) }
-        ensures steps { steps.new ≡ steps.old }
+        ensures steps { steps.new.taken ≡ steps.old.taken }
     {
         let run = self.run_with(id)?;
         let place = run.place_of(id, steps.near());

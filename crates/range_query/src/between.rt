@@ -113,7 +113,7 @@ fn walk_up<T: SegmentTable>(
     requires least { (x : ℕ) → IsMember from.now x → lowest ≤ x }
     requires closed { IsClosedFrom (table_graph (T.flats table.now)) lowest below.now }
     ensures members { IfOk result (λ r. (x : ℕ) → IsMember r x ↔ (sets.descendants (table_graph (T.flats table.now)) (IsMember from.now) x × IsMember below.now x)) }
-    ensures counted { min steps.old (2 ^ 64 - 1) ≤ steps.new }
+    ensures counted { min steps.old.taken (2 ^ 64 - 1) ≤ steps.new.taken }
 {
     let mut answer = Rising::empty(alloc);
     let Some(greatest) = below.greatest() else {
@@ -148,7 +148,7 @@ pub fn range<T: SegmentTable>(
     requires to { (x : ℕ) → IsMember to.now x → IsHeld (T.flats table.now) x }
     ensures members { IfOk result (λ r. (x : ℕ) → IsMember r x ↔ sets.range (table_graph (T.flats table.now)) (IsMember from.now) (IsMember to.now) x) }
     ensures canonical { IfOk result IsCanonical }
-    ensures counted { min steps.old (2 ^ 64 - 1) ≤ steps.new }
+    ensures counted { min steps.old.taken (2 ^ 64 - 1) ≤ steps.new.taken }
 {
     let Some(lowest) = lowest_of(from.spans()) else {
         return Ok(IdSet::empty(alloc));

@@ -23,7 +23,7 @@ pub fn heads<T: SegmentTable>(
     requires { (x : ℕ) → IsMember set.now x → IsHeld (T.flats table.now) x }
     ensures members { IfOk result (λ r. (x : ℕ) → IsMember r x ↔ sets.heads (table_graph (T.flats table.now)) (IsMember set.now) x) }
     ensures canonical { IfOk result IsCanonical }
-    ensures counted { min steps.old (2 ^ 64 - 1) ≤ steps.new }
+    ensures counted { min steps.old.taken (2 ^ 64 - 1) ≤ steps.new.taken }
 {
     let below = parents(alloc, table, set, steps)?;
     let found = set.minus(alloc, &below)?;
@@ -40,7 +40,7 @@ pub fn roots<T: SegmentTable>(
     requires { (x : ℕ) → IsMember set.now x → IsHeld (T.flats table.now) x }
     ensures members { IfOk result (λ r. (x : ℕ) → IsMember r x ↔ sets.roots (table_graph (T.flats table.now)) (IsMember set.now) x) }
     ensures canonical { IfOk result IsCanonical }
-    ensures counted { min steps.old (2 ^ 64 - 1) ≤ steps.new }
+    ensures counted { min steps.old.taken (2 ^ 64 - 1) ≤ steps.new.taken }
 {
     let above = children(alloc, table, set, steps)?;
     let found = set.minus(alloc, &above)?;

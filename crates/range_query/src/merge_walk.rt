@@ -49,7 +49,7 @@ fn add_merges<T: SegmentTable>(
     ensures members { OnOk result ((x : ℕ) → IsMember answer.new x
         ↔ (IsMember answer.old x ⊎ (IsInSpan x span.now × (2 ≤ length (parents_at (T.flats table.now) x))))) }
     ensures canonical { IsCanonical answer.old → IsCanonical answer.new }
-    ensures counted { min steps.old (2 ^ 64 - 1) ≤ steps.new }
+    ensures counted { min steps.old.taken (2 ^ 64 - 1) ≤ steps.new.taken }
 {
     let end = count_below(table, span.high, steps) + 1;
     'down: for k in (0..end).rev() {
@@ -73,7 +73,7 @@ pub fn merges<T: SegmentTable>(
     requires { (x : ℕ) → IsMember set.now x → IsHeld (T.flats table.now) x }
     ensures members { IfOk result (λ r. (x : ℕ) → IsMember r x ↔ sets.merges (table_graph (T.flats table.now)) (IsMember set.now) x) }
     ensures canonical { IfOk result IsCanonical }
-    ensures counted { min steps.old (2 ^ 64 - 1) ≤ steps.new }
+    ensures counted { min steps.old.taken (2 ^ 64 - 1) ≤ steps.new.taken }
 {
     let mut answer = IdSet::empty(alloc);
     'spans: for span in set.spans() {

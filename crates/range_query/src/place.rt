@@ -13,7 +13,7 @@ pub(crate) fn count_below<T: SegmentTable>(table: &T, id: Id, steps: &mut Steps)
     ensures within { result ≤ length (T.flats table.now) }
     ensures place { IsPlace (T.flats table.now) id result }
     ensures fits { length (T.flats table.now) < 2 ^ 32 }
-    ensures counted { min steps.old (2 ^ 64 - 1) ≤ steps.new }
+    ensures counted { min steps.old.taken (2 ^ 64 - 1) ≤ steps.new.taken }
 {
     let mut low = 0;
     let mut high = table.flat_count();

@@ -17,7 +17,7 @@ use Rattle.segment_codec.proofs.Tables.{segment-in, follow-held, found-head, fou
 
 -- ---- flat segments
 
-few-flat : (level : ℕ) (parents : List ℕ) → level ≡ 0 → HasLevelsParents level parents → length parents ≤ 8
+pub few-flat : (level : ℕ) (parents : List ℕ) → level ≡ 0 → HasLevelsParents level parents → length parents ≤ 8
 few-flat zero parents e h = h
 few-flat (suc k) parents e h = absurd (omega (arith, e))
 

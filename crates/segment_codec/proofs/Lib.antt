@@ -2,6 +2,7 @@ pub mod Fronts
 pub mod Numbers
 pub mod Groups
 pub mod Lists
+pub mod Lengths
 pub mod Orders
 pub mod Records
 pub mod Skipping

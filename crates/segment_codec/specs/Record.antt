@@ -31,6 +31,14 @@ abbrev pub HasLevelsParents : ℕ → List ℕ → Type 0
 HasLevelsParents zero parents = length parents ≤ 8
 HasLevelsParents (suc k) parents = (length parents ≤ 16777216) × IsStrictlyIncreasing parents
 
+-- what stands before the parents
+abbrev pub head_bytes : Segment → List ℕ
+head_bytes s = flags_of s.parents ∷ s.level ∷ to_be_bytes w64 s.high ++ (number_bytes (s.high - s.low) ++ number_bytes (length s.parents))
+
+-- the parents, with which the record ends
+abbrev pub parents_bytes : Segment → List ℕ
+parents_bytes s = flat_map number_bytes s.parents
+
 -- what has a spelling
 pub record IsSegment (s : Segment) : Type 0 where
   pub ascending : s.low ≤ s.high

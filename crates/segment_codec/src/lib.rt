@@ -3,6 +3,7 @@
 //! Records of segments: runs of ids in which each id but the lowest has the one before it as its only parent. Beside them
 //! the trait of a table of segments, with its laws.
 
+mod flat;
 mod head;
 mod known;
 mod laws;

@@ -1,6 +1,6 @@
 //! Numbers of variable length: seven bits a byte, the lowest first. Only the shortest form is a spelling.
 
-ghost use Rattle.std.specs.Prelude.{◌≡◌, ◌+◌, ◌*◌, ◌<◌, ◌^◌, ◌++◌, ◌≤◌, ℕ, List, Some, MatchOption, OnOk, OnErr};
+ghost use Rattle.std.specs.Prelude.{◌≡◌, ◌+◌, ◌*◌, ◌<◌, ◌^◌, ◌++◌, ◌≤◌, ℕ, List, length, Some, MatchOption, OnOk, OnErr};
 ghost use Rattle.segment_codec.specs.Number.{number_bytes};
 ghost use Rattle.segment_codec.specs.Record.{HasFront};
 ghost use Rattle.segment_codec.specs.Reading.{Gives, number_at, numbers_at};
@@ -77,6 +77,19 @@ pub fn skip_numbers(bytes: &[u8], count: u64) -> &[u8]
         rest = skip_number(rest);
     }
     rest
+}
+
+/// How many bytes the number takes.
+pub fn number_len(number: u64) -> usize
+    ensures { result ≡ length (number_bytes number) }
+{
+    let mut rest = number;
+    let mut len = 1;
+    'groups: while rest >= 128 {
+        rest /= 128;
+        len += 1;
+    }
+    len
 }
 
 /// Appends the number. A refusal may leave a part of it at the end.

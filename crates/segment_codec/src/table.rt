@@ -38,18 +38,18 @@ pub trait SegmentTable {
     /// The flat segment that has the id; `None` exactly where the id isn't in the bounds.
     fn flat<'a>(&'a self, id: Id, steps: &mut Steps) -> Option<SegmentRef<'a>>
         ensures found { MatchOption result (segment_at (flats self.now) id ≡ None) (λ r. segment_at (flats self.now) id ≡ Some (segment_of r)) }
-        ensures tick { steps.new ≡ ticked steps.old };
+        ensures tick { steps.new.taken ≡ ticked steps.old.taken };
 
     /// The flat segment at place `k`, which is below their count.
     fn flat_at<'a>(&'a self, k: u32, steps: &mut Steps) -> SegmentRef<'a>
         requires { k < length (flats self.now) }
         ensures found { slice_get (flats self.now) k ≡ Some (segment_of result) }
-        ensures tick { steps.new ≡ ticked steps.old };
+        ensures tick { steps.new.taken ≡ ticked steps.old.taken };
 
     /// The segment of the level that ends at the id. At level 0 it is `None` exactly where no flat segment ends there.
     fn ending<'a>(&'a self, level: u8, id: Id, steps: &mut Steps) -> Option<SegmentRef<'a>>
         ensures found { MatchOption result (ending_at self.now level id ≡ None) (λ r. ending_at self.now level id ≡ Some (segment_of r)) }
-        ensures tick { steps.new ≡ ticked steps.old };
+        ensures tick { steps.new.taken ≡ ticked steps.old.taken };
 
     ghost lawful: { (t : Self) → IsLawful (flats t) };
 

@@ -82,9 +82,9 @@ fn answer_with<T: SegmentTable>(
     requires count { length ids.now ≡ length (commits_in (tree_of expr.now)) }
     requires held { (x : ℕ) → IsIn x ids.now → IsHeld (T.flats table.now) x }
     ensures members { IfOk result (λ a. (x : ℕ) → IsMember a.set x ↔ IsMeant (table_graph (T.flats table.now)) (with_ids (tree_of expr.now) ids.now) x) }
-    ensures counted { IfOk result (λ a. a.steps ≡ steps.new) }
-    ensures few { (name : NameBytes) → tree_of expr.now ≡ Of Call.Ancestors (One name) → IfOk result (λ a. steps.new ≤ steps.old + 8 * (1 + count_met a.set (T.flats table.now))) }
-    ensures one { (name : NameBytes) (x : ℕ) → tree_of expr.now ≡ Of Call.Ancestors (One name) → ids.now ≡ x ∷ [] → EndsWhole (T.ending_at table.now) x → OnOk result (steps.new ≤ steps.old + 8) }
+    ensures counted { IfOk result (λ a. a.steps ≡ steps.new.taken) }
+    ensures few { (name : NameBytes) → tree_of expr.now ≡ Of Call.Ancestors (One name) → IfOk result (λ a. steps.new.taken ≤ steps.old.taken + 8 * (1 + count_met a.set (T.flats table.now))) }
+    ensures one { (name : NameBytes) (x : ℕ) → tree_of expr.now ≡ Of Call.Ancestors (One name) → ids.now ≡ x ∷ [] → EndsWhole (T.ending_at table.now) x → OnOk result (steps.new.taken ≤ steps.old.taken + 8) }
 {
     let set = members_of(alloc, table, expr.tree(), ids, steps)?;
     Ok(Answer {
@@ -105,9 +105,9 @@ fn members_of<T: SegmentTable>(
     requires count { length ids.now ≡ length (commits_in (tree_in tree.now)) }
     requires held { (x : ℕ) → IsIn x ids.now → IsHeld (T.flats table.now) x }
     ensures members { IfOk result (λ r. (x : ℕ) → IsMember r x ↔ IsMeant (table_graph (T.flats table.now)) (with_ids (tree_in tree.now) ids.now) x) }
-    ensures quiet { (name : NameBytes) → tree_in tree.now ≡ One name → OnOk result (steps.new ≡ steps.old) }
-    ensures few { (name : NameBytes) → tree_in tree.now ≡ Of Call.Ancestors (One name) → IfOk result (λ r. steps.new ≤ steps.old + 8 * (1 + count_met r (T.flats table.now))) }
-    ensures one { (name : NameBytes) (x : ℕ) → tree_in tree.now ≡ Of Call.Ancestors (One name) → ids.now ≡ x ∷ [] → EndsWhole (T.ending_at table.now) x → OnOk result (steps.new ≤ steps.old + 8) }
+    ensures quiet { (name : NameBytes) → tree_in tree.now ≡ One name → OnOk result (steps.new.taken ≡ steps.old.taken) }
+    ensures few { (name : NameBytes) → tree_in tree.now ≡ Of Call.Ancestors (One name) → IfOk result (λ r. steps.new.taken ≤ steps.old.taken + 8 * (1 + count_met r (T.flats table.now))) }
+    ensures one { (name : NameBytes) (x : ℕ) → tree_in tree.now ≡ Of Call.Ancestors (One name) → ids.now ≡ x ∷ [] → EndsWhole (T.ending_at table.now) x → OnOk result (steps.new.taken ≤ steps.old.taken + 8) }
 {
     match tree {
         Tree::One(_) => one(alloc, ids[0]),
@@ -176,8 +176,8 @@ fn made_of<T: SegmentTable>(
     requires built { IsTrue (is_built_call call) }
     requires held { (x : ℕ) → IsMember set.now x → IsHeld (T.flats table.now) x }
     ensures members { IfOk result (λ r. (x : ℕ) → IsMember r x ↔ made (table_graph (T.flats table.now)) call (IsMember set.now) x) }
-    ensures few { call ≡ Call.Ancestors → IfOk result (λ r. steps.new ≤ steps.old + 8 * (1 + count_met r (T.flats table.now))) }
-    ensures one { (x : ℕ) → call ≡ Call.Ancestors → ((y : ℕ) → IsMember set.now y ↔ (y ≡ x)) → EndsWhole (T.ending_at table.now) x → OnOk result (steps.new ≤ steps.old + 8) }
+    ensures few { call ≡ Call.Ancestors → IfOk result (λ r. steps.new.taken ≤ steps.old.taken + 8 * (1 + count_met r (T.flats table.now))) }
+    ensures one { (x : ℕ) → call ≡ Call.Ancestors → ((y : ℕ) → IsMember set.now y ↔ (y ≡ x)) → EndsWhole (T.ending_at table.now) x → OnOk result (steps.new.taken ≤ steps.old.taken + 8) }
 {
     match call {
         Call::Parents => parents(alloc, table, set, steps),
