@@ -64,6 +64,7 @@ def report(name, merges, branches, count):
     print(f'{name}, {count} commits')
     print(f'drawn and put into a table: {count}')
     print(f'flat_at, all segments: {len(begun)}')
+    print('flat_at, all parents of segments:', sum(len(rows[i]) for i in begun))
     draws = Draws()
     print('flat, random ids:', sum(draws.below(count) in set(begun) for _ in range(count)))
     print('ancestors of the head:', size(reach[head]))
@@ -78,7 +79,9 @@ def report(name, merges, branches, count):
     print('is_ancestor, random pairs:', pairs)
     print('parents(all):', size(parents_of(2**count - 1)))
     for whose, place in (('a low id', 10), ('a middle id', count // 2)):
-        print('flat_at, the segments above:', len(begun) - bisect.bisect_right(begun, place) + 1)
+        above = begun[bisect.bisect_right(begun, place) - 1:]
+        print('flat_at, the segments above:', len(above))
+        print('flat_at, the parents of these:', sum(len(rows[i]) for i in above))
         print(f'of {whose}:')
         print('children:', sum(place in parents for parents in rows))
         above = [i for i in range(count) if reach[i] >> place & 1]

@@ -58,6 +58,9 @@ impl<'a, R: Print + Eprint + Clock, T: SegmentTable> Walks<'a, R, T> {
         let start = Instant::now(self.rt)?;
         self.told("flat_at, all segments", start, 1, self.scanned(0))?;
         let start = Instant::now(self.rt)?;
+        let parents = self.parents_scanned(0);
+        self.told("flat_at, all parents of segments", start, 1, parents)?;
+        let start = Instant::now(self.rt)?;
         let times = self.count();
         self.told("flat, random ids", start, times, self.looked_up(times))
     }
@@ -88,6 +91,9 @@ impl<'a, R: Print + Eprint + Clock, T: SegmentTable> Walks<'a, R, T> {
         let start = Instant::now(self.rt)?;
         let segments = self.scanned(place);
         self.told("flat_at, the segments above", start, 1, segments)?;
+        let start = Instant::now(self.rt)?;
+        let parents = self.parents_scanned(place);
+        self.told("flat_at, the parents of these", start, 1, parents)?;
         eprintln!(self.rt; "of {whose}:")?;
         println!(self.rt; "of {whose}:")?;
         let start = Instant::now(self.rt)?;
@@ -133,6 +139,22 @@ impl<'a, R: Print + Eprint + Clock, T: SegmentTable> Walks<'a, R, T> {
             above = above.saturating_add(1);
         }
         above
+    }
+
+    /// How many parents the segments from the id's one on have, each of which is looked up and read whole.
+    fn parents_scanned(&self, place: u64) -> u64 {
+        let mut steps = Steps::new();
+        let mut parents = 0u64;
+        for k in (0..self.table.flat_count()).rev() {
+            let segment = self.table.flat_at(k, &mut steps);
+            if segment.high().number() < place {
+                return parents;
+            }
+            for _parent in segment.parents() {
+                parents = parents.saturating_add(1);
+            }
+        }
+        parents
     }
 
     /// How many of so many random ids begin a segment.
