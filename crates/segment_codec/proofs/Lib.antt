@@ -5,6 +5,7 @@ pub mod Lists
 pub mod Lengths
 pub mod Orders
 pub mod Records
+pub mod Short
 pub mod Skipping
 pub mod Tables
 pub mod Turns

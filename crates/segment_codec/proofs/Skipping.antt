@@ -2,13 +2,14 @@
 use Rattle.std.proofs.Common.{◌≡◌, ℕ, suc, ◌+◌, ◌-◌, ◌^◌, ◌<◌, ◌≤◌, cond, ltb, List, [], ◌∷◌, ◌++◌, length, take, drop, get_or, Some, None, refl, sym, ap, subst, ◌∙◌, arith, lit≤}
 use Rattle.std.specs.List.{flat_map, AllByRecursion}
 use Rattle.std.specs.Int.{w64, to_be_bytes}
-use Rattle.std.proofs.lemmas.Bool.{lt-ltb, le-ltb}
+use Rattle.std.proofs.lemmas.Bool.{lt-ltb}
 use Rattle.std.proofs.lemmas.List.{take_at, length-append}
 use Rattle.id_groups.specs.Id.{id_end}
 use Rattle.segment_codec.specs.Number.{number_bytes, numbers_in}
 use Rattle.segment_codec.specs.Record.{Segment, IsSegment, segment_bytes, flags_of}
-use Rattle.segment_codec.specs.Reading.{◌>>=◌, group_below, long_number_at, number_at, numbers_at, record_at}
+use Rattle.segment_codec.specs.Reading.{◌>>=◌, long_number_at, number_at, numbers_at, record_at}
 use Rattle.segment_codec.proofs.Numbers.{IsBytes, part_is, bind_some, guard_some, some_is, chosen, group_is, number_again}
+use Rattle.segment_codec.proofs.Short.{only-byte, more-bytes}
 use Rattle.segment_codec.proofs.Lists.{in-numbers, all-below, numbers_again}
 use Rattle.segment_codec.proofs.Records.{record_takes, segment-spelled, most-any, few-parents}
 
@@ -21,10 +22,6 @@ long-of bytes n after e =
     let g = guard_some (ltb a.0.0 (2 ^ 64)) a.0 (n, after) a.2 in
     (n, a.1 ∙ ap (λ (x : ℕ × List ℕ). Some x) g.1)
 
-pub only-byte : (first : ℕ) (others : List ℕ) → first < 128 → long_number_at (first ∷ others) ≡ Some (first, others)
-unfolding long_number_at
-only-byte first others lt = let t = lt-ltb first 128 lt in rw t refl
-
 pub only-number : (first : ℕ) (others : List ℕ) → first < 128 → number_at (first ∷ others) ≡ Some (first, others)
 unfolding number_at
 only-number first others lt =
@@ -34,10 +31,6 @@ only-number first others lt =
 
 pub behind-only : (first : ℕ) (others : List ℕ) (m : ℕ) (after : List ℕ) → first < 128 → long_number_at (first ∷ others) ≡ Some (m, after) → others ≡ after
 behind-only first others m after lt e = (part_is first m others after (sym (only-byte first others lt) ∙ e)).1
-
-more-bytes : (first : ℕ) (others : List ℕ) → 128 ≤ first → long_number_at (first ∷ others) ≡ group_below (first - 128) (long_number_at others)
-unfolding long_number_at
-more-bytes first others le = let t = le-ltb first 128 le in rw t refl
 
 pub behind-first : (first : ℕ) (others : List ℕ) (m : ℕ) (after : List ℕ) → 128 ≤ first → long_number_at (first ∷ others) ≡ Some (m, after)
     → (n : ℕ) × (long_number_at others ≡ Some (n, after))
