@@ -6,7 +6,6 @@ pub mod Lengths
 pub mod Orders
 pub mod Records
 pub mod Short
-pub mod Skipping
 pub mod Tables
 pub mod Turns
 pub mod Flats

@@ -5,11 +5,11 @@ use Rattle.std.proofs.lemmas.List.{drop_more, take_rest}
 use Rattle.segment_codec.specs.Reading.{group_below, long_number_at, number_at}
 use Rattle.segment_codec.proofs.Numbers.{IsBytes}
 
-pub only-byte : (first : ℕ) (others : List ℕ) → first < 128 → long_number_at (first ∷ others) ≡ Some (first, others)
+only-byte : (first : ℕ) (others : List ℕ) → first < 128 → long_number_at (first ∷ others) ≡ Some (first, others)
 unfolding long_number_at
 only-byte first others lt = let t = lt-ltb first 128 lt in rw t refl
 
-pub more-bytes : (first : ℕ) (others : List ℕ) → 128 ≤ first → long_number_at (first ∷ others) ≡ group_below (first - 128) (long_number_at others)
+more-bytes : (first : ℕ) (others : List ℕ) → 128 ≤ first → long_number_at (first ∷ others) ≡ group_below (first - 128) (long_number_at others)
 unfolding long_number_at
 more-bytes first others le = let t = le-ltb first 128 le in rw t refl
 

@@ -73,32 +73,6 @@ fn read_groups(bytes: &[u8]) -> Option<(u64, &[u8])>
     None
 }
 
-/// What stands behind the number in front.
-#[inline(always)]
-fn skip_number(bytes: &[u8]) -> &[u8]
-    ensures { (n : ℕ) (after : List ℕ) → number_at bytes.now ≡ Some (n, after) → result.now ≡ after }
-{
-    let mut rest = bytes;
-    'groups: while let Some((first, others)) = rest.split_first() {
-        if *first < MORE {
-            return others;
-        }
-        rest = others;
-    }
-    rest
-}
-
-/// What stands behind so many numbers.
-pub fn skip_numbers(bytes: &[u8], count: u64) -> &[u8]
-    ensures { (end : ℕ) (numbers after : List ℕ) → numbers_at end count bytes.now ≡ Some (numbers, after) → result.now ≡ after }
-{
-    let mut rest = bytes;
-    'numbers: for _ in 0..count {
-        rest = skip_number(rest);
-    }
-    rest
-}
-
 /// How many bytes the number takes.
 pub fn number_len(number: u64) -> usize
     ensures { result ≡ length (number_bytes number) }
