@@ -1,13 +1,13 @@
 -- How many bytes numbers take.
-use Rattle.std.proofs.Common.{◌≡◌, ℕ, zero, suc, ◌+◌, ◌-◌, ◌*◌, ◌/◌, ◌^◌, ◌<◌, ◌≤◌, Bool, true, false, ltb, List, [], ◌∷◌, ◌++◌, length, refl, ap, ◌∙◌, arith, lit≤}
+use Rattle.std.proofs.Common.{◌≡◌, ℕ, zero, suc, ◌+◌, ◌-◌, ◌*◌, ◌/◌, ◌^◌, ◌<◌, ◌≤◌, Bool, true, false, ltb, List, [], ◌∷◌, ◌++◌, length, drop, refl, sym, ap, ◌∙◌, append_assoc, arith, lit≤}
 use Rattle.std.specs.List.{flat_map, AllByRecursion}
 use Rattle.std.specs.Int.{w64, to_be_bytes}
-use Rattle.std.proofs.lemmas.List.{length-append}
+use Rattle.std.proofs.lemmas.List.{length-append, drop_at}
 use Rattle.std.proofs.lemmas.List.Concat.{flat_map-cons}
 use Rattle.std.proofs.lemmas.Bool.{ltb-true, ltb-false}
 use Rattle.id_groups.specs.Id.{id_end}
 use Rattle.segment_codec.specs.Number.{groups_of, number_bytes, numbers_in}
-use Rattle.segment_codec.specs.Record.{Segment, head_bytes, parents_bytes}
+use Rattle.segment_codec.specs.Record.{Segment, flags_of, segment_bytes, head_bytes, parents_bytes}
 use Rattle.segment_codec.specs.Flat.{IsFlat}
 use Rattle.segment_codec.proofs.Numbers.{groups_end, short_group, long_group, number_last}
 use Rattle.segment_codec.proofs.Lists.{all-below, in-numbers}
@@ -70,6 +70,23 @@ flat-head s h =
     let a = length-append (to_be_bytes w64 s.high) (number_bytes (s.high - s.low) ++ number_bytes (length s.parents)) in
     let b = length-append (number_bytes (s.high - s.low)) (number_bytes (length s.parents)) in
     omega (arith, one, a, b)
+
+-- the parents stand behind the head
+pub record-parts : (s : Segment) → segment_bytes s ≡ head_bytes s ++ parents_bytes s
+unfolding segment_bytes
+record-parts s = ap (λ (z : List ℕ). flags_of s.parents ∷ s.level ∷ z) (simp append_assoc)
+
+-- a record in front of bytes, and its parents cut out of them
+pub head-fits : (s : Segment) (bytes rest : List ℕ) → bytes ≡ segment_bytes s ++ rest → length (head_bytes s) ≤ length bytes
+head-fits s bytes rest is =
+    let e = ap length (is ∙ ap (λ (z : List ℕ). z ++ rest) (record-parts s) ∙ append_assoc (head_bytes s) (parents_bytes s) rest) in
+    omega (arith, e, length-append (head_bytes s) (parents_bytes s ++ rest))
+
+pub behind-head : (s : Segment) (bytes rest : List ℕ) (head : ℕ) → bytes ≡ segment_bytes s ++ rest → head ≡ length (head_bytes s)
+    → drop head bytes ≡ parents_bytes s ++ rest
+behind-head s bytes rest head is len =
+    ap (drop head) (is ∙ ap (λ (z : List ℕ). z ++ rest) (record-parts s) ∙ append_assoc (head_bytes s) (parents_bytes s) rest)
+    ∙ drop_at (head_bytes s) (parents_bytes s ++ rest) head (sym len)
 
 -- the parents that bytes are, each below an id
 pub parents-are : (low : ℕ) (ns bytes : List ℕ) → low < 2 ^ 57 → AllByRecursion (λ p. p < low) ns → bytes ≡ flat_map number_bytes ns → numbers_in bytes ≡ ns

@@ -5,7 +5,7 @@ pub mod Lists
 pub mod Lengths
 pub mod Orders
 pub mod Records
-pub mod Skipping
+pub mod Short
 pub mod Tables
 pub mod Turns
 pub mod Flats

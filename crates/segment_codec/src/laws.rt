@@ -3,7 +3,7 @@
 ghost use Rattle.std.specs.Prelude.{◌≡◌, ◌++◌, ◌^◌, ◌<◌, ◌+◌, ◌-◌, ◌↔◌, IsTrue, ℕ, List, [], ◌∷◌, length, replicate};
 ghost use Rattle.std.specs.List.{AllByRecursion};
 ghost use Rattle.segment_codec.specs.Number.{HasNumber, number_bytes};
-ghost use Rattle.segment_codec.specs.Record.{Segment, IsSegment, segment_bytes};
+ghost use Rattle.segment_codec.specs.Record.{Segment, IsSegment, segment_bytes, head_bytes, parents_bytes};
 ghost use Rattle.segment_codec.specs.Table.{parents_at, Cover, IsHeaded};
 ghost use Rattle.segment_codec.specs.Examples.{small_table, gapped_table};
 ghost use Rattle.segment_codec.specs.Turns.{goes_on};
@@ -21,10 +21,11 @@ pub fn numbers_are_spelled()
         ≡ 1 ∷ 0 ∷ 1 ∷ 0 ∷ 0 ∷ 0 ∷ 0 ∷ 0 ∷ 0 ∷ 1 ∷ 1 ∷ 0 ∷ [] }
 {}
 
-/// Each number of a record has a spelling, and no spelling of a record begins another's.
+/// Each number of a record has a spelling, its parents stand behind its head, and no spelling of a record begins another's.
 pub fn records_are_spelled()
     ensures numbers { (s : Segment) → IsSegment s
         → HasNumber (s.high - s.low) × HasNumber (length s.parents) × AllByRecursion HasNumber s.parents }
+    ensures parts { (s : Segment) → segment_bytes s ≡ head_bytes s ++ parents_bytes s }
     ensures one { (s t : Segment) (x y : List ℕ) → IsSegment s → IsSegment t
         → segment_bytes s ++ x ≡ segment_bytes t ++ y → (s ≡ t) × (x ≡ y) }
 {}

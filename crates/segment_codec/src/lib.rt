@@ -5,7 +5,6 @@
 
 mod flat;
 mod head;
-mod known;
 mod laws;
 mod lent;
 mod number;
@@ -15,7 +14,6 @@ mod steps;
 mod table;
 mod writing;
 
-pub use known::read_known;
 pub use laws::{numbers_are_spelled, records_are_spelled, segments_go_on, tables_spelled_out};
 pub use lent::{Parents, SegmentRef};
 pub use reading::{read_high, read_segment};

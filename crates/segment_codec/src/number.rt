@@ -1,6 +1,6 @@
 //! Numbers of variable length: seven bits a byte, the lowest first. Only the shortest form is a spelling.
 
-ghost use Rattle.std.specs.Prelude.{◌≡◌, ◌+◌, ◌*◌, ◌<◌, ◌^◌, ◌++◌, ◌≤◌, ℕ, List, length, Some, MatchOption, OnOk, OnErr};
+ghost use Rattle.std.specs.Prelude.{◌≡◌, ◌+◌, ◌*◌, ◌%◌, ◌<◌, ◌^◌, ◌++◌, ◌≤◌, ℕ, List, length, Some, MatchOption, OnOk, OnErr};
 ghost use Rattle.segment_codec.specs.Number.{number_bytes};
 ghost use Rattle.segment_codec.specs.Record.{HasFront};
 ghost use Rattle.segment_codec.specs.Reading.{Gives, number_at, numbers_at};
@@ -10,6 +10,9 @@ use std::alloc::AllocError;
 /// The bits of a byte that say there are more bytes.
 const MORE: u8 = 128;
 
+/// How many values two groups of seven bits have.
+const TWO_GROUPS: u64 = 1 << 14;
+
 /// The value with a group of seven bits put in front; `None` where it doesn't fit 64 bits.
 fn with_group(value: u64, unit: u64, group: u64) -> Option<u64>
     ensures { MatchOption result (2 ^ 64 ≤ value + unit * group) (λ sum. (sum ≡ value + unit * group) × (sum < 2 ^ 64)) }
@@ -17,20 +20,37 @@ fn with_group(value: u64, unit: u64, group: u64) -> Option<u64>
     value.checked_add(unit.checked_mul(group)?)
 }
 
-/// The number in front, and the rest; `None` where no number's spelling stands in front.
+/// The number of two groups of seven bits, the lower one first.
+#[inline(always)]
+fn two_groups(low: u8, high: u8) -> u64
+    ensures { result ≡ low % 128 + 128 * (high % 128) }
+{
+    u64::from(low % MORE) + 128 * u64::from(high % MORE)
+}
+
+/// The number in front, and the rest; `None` where no number's spelling stands in front. A number below 2^28
+/// takes no loop.
 #[inline(always)]
 pub fn read_number(bytes: &[u8]) -> Option<(u64, &[u8])>
     ensures { Gives (λ r. (r.0, r.1.now)) result (number_at bytes.now) }
 {
-    if let Some((only, rest)) = bytes.split_first() {
-        if *only < MORE {
-            return Some((u64::from(*only), rest));
+    match bytes {
+        [one, rest @ ..] if *one < MORE => Some((u64::from(*one), rest)),
+        [one, two, rest @ ..] if 0 < *two && *two < MORE => Some((two_groups(*one, *two), rest)),
+        [one, two, three, rest @ ..] if *two >= MORE && 0 < *three && *three < MORE => {
+            let high = two_groups(*two, *three);
+            Some((u64::from(*one % MORE) + 128 * high, rest))
         }
+        [one, two, three, four, rest @ ..]
+            if *two >= MORE && *three >= MORE && 0 < *four && *four < MORE => {
+            let high = two_groups(*three, *four);
+            Some((two_groups(*one, *two) + TWO_GROUPS * high, rest))
+        }
+        _ => read_groups(bytes),
     }
-    read_groups(bytes)
 }
 
-/// The same, whatever the first byte is.
+/// The same, group by group, for a number of any length.
 #[inline(never)]
 fn read_groups(bytes: &[u8]) -> Option<(u64, &[u8])>
     ensures { Gives (λ r. (r.0, r.1.now)) result (number_at bytes.now) }
@@ -51,32 +71,6 @@ fn read_groups(bytes: &[u8]) -> Option<(u64, &[u8])>
         rest = others;
     }
     None
-}
-
-/// What stands behind the number in front.
-#[inline(always)]
-fn skip_number(bytes: &[u8]) -> &[u8]
-    ensures { (n : ℕ) (after : List ℕ) → number_at bytes.now ≡ Some (n, after) → result.now ≡ after }
-{
-    let mut rest = bytes;
-    'groups: while let Some((first, others)) = rest.split_first() {
-        if *first < MORE {
-            return others;
-        }
-        rest = others;
-    }
-    rest
-}
-
-/// What stands behind so many numbers.
-pub fn skip_numbers(bytes: &[u8], count: u64) -> &[u8]
-    ensures { (end : ℕ) (numbers after : List ℕ) → numbers_at end count bytes.now ≡ Some (numbers, after) → result.now ≡ after }
-{
-    let mut rest = bytes;
-    'numbers: for _ in 0..count {
-        rest = skip_number(rest);
-    }
-    rest
 }
 
 /// How many bytes the number takes.

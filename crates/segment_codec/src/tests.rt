@@ -1,17 +1,30 @@
 //! The bytes of numbers and records, both ways, and what is none.
 
+ghost use Rattle.std.specs.Prelude.{◌≡◌, ◌++◌, List, ℕ};
+ghost use Rattle.segment_codec.specs.Record.{segment_bytes};
+ghost use Rattle.segment_codec.specs.Flat.{IsFlat};
+ghost use Rattle.segment_codec.specs.Lent.{segment_of};
+
 use crate::number::{read_number, write_number};
-use crate::{Steps, read_high, read_segment, write_segment};
+use crate::{SegmentRef, Steps, read_high, read_segment, write_segment};
 use id_groups::Id;
 use std::test::Fail;
 
 #[test]
 fn numbers_both_ways(rt: HostRuntime) -> Result<(), Fail> {
-    let rows: [(u64, &[u8]); 7] = [
+    let rows: [(u64, &[u8]); 15] = [
         (0, &[0]),
         (127, &[127]),
         (128, &[0x80, 1]),
         (300, &[0xac, 2]),
+        ((1 << 14) - 1, &[0xff, 0x7f]),
+        (1 << 14, &[0x80, 0x80, 1]),
+        (70_000, &[0xf0, 0xa2, 4]),
+        ((1 << 21) - 1, &[0xff, 0xff, 0x7f]),
+        (1 << 21, &[0x80, 0x80, 0x80, 1]),
+        (12_345_678, &[0xce, 0xc2, 0xf1, 5]),
+        ((1 << 28) - 1, &[0xff, 0xff, 0xff, 0x7f]),
+        (1 << 28, &[0x80, 0x80, 0x80, 0x80, 1]),
         (
             1 << 56,
             &[0x80, 0x80, 0x80, 0x80, 0x80, 0x80, 0x80, 0x80, 1],
@@ -26,27 +39,40 @@ fn numbers_both_ways(rt: HostRuntime) -> Result<(), Fail> {
         let mut out = Vec::new(rt.alloc());
         write_number(&mut out, *number)?;
         assert_eq!(rt; out.as_slice(), *bytes);
-        let read = read_number(bytes).ok_or("the bytes are a number")?;
+        out.extend_from_slice(&[0, 0x80])?;
+        let read = read_number(&out).ok_or("the bytes begin with a number")?;
         assert_eq!(rt; read.0, *number);
-        assert!(rt; read.1.is_empty());
+        assert_eq!(rt; read.1, [0, 0x80].as_slice());
     }
-    let none: [&[u8]; 8] = [
+    Ok(())
+}
+
+#[test]
+fn no_numbers(rt: HostRuntime) {
+    let rows: [&[u8]; 16] = [
         &[],
         &[0x80],
         &[0x80, 0],
         &[0xff, 0],
+        &[0x80, 0x81],
+        &[0x80, 0x80, 0],
         &[0x80, 0x81, 0],
         &[0xac, 0x82, 0],
+        &[0x81, 0x82, 0x83],
+        &[0x80, 0x80, 0x80, 0],
+        &[0x81, 0x82, 0x83, 0],
+        &[0x80, 0x80, 0x80, 0x80, 0],
+        &[0x81, 0x82, 0x83, 0x84, 0],
+        &[0x81, 0x82, 0x83, 0x84, 0x85],
         // 2^64, and a number of eleven bytes
         &[0x80, 0x80, 0x80, 0x80, 0x80, 0x80, 0x80, 0x80, 0x80, 2],
         &[
             0x80, 0x80, 0x80, 0x80, 0x80, 0x80, 0x80, 0x80, 0x80, 0x80, 1,
         ],
     ];
-    for bytes in &none {
+    for bytes in &rows {
         assert!(rt; read_number(bytes).is_none());
     }
-    Ok(())
 }
 
 #[test]
@@ -78,6 +104,43 @@ fn a_record_both_ways(rt: HostRuntime) -> Result<(), Fail> {
     for len in 0..30usize {
         assert!(rt; read_segment(&bytes[..len]).is_none());
     }
+    Ok(())
+}
+
+/// A flat segment, made once more of its ids and of the bytes of its parents, cut out of its record.
+fn made_again<'a>(record: &'a [u8], segment: SegmentRef<'_>) -> SegmentRef<'a>
+    requires flat { IsFlat (segment_of segment) }
+    requires stands { (rest : List ℕ) × (record.now ≡ segment_bytes (segment_of segment) ++ rest) }
+    ensures { segment_of result ≡ segment_of segment.entry }
+{
+    let (_, behind) = record.split_at(segment.head_len());
+    let (parents, _) = behind.split_at(segment.parents_len());
+    SegmentRef::flat(segment.low(), segment.high(), parents)
+}
+
+#[test]
+fn a_flat_segment_of_its_parts(rt: HostRuntime) -> Result<(), Fail> {
+    let mut out = Vec::new(rt.alloc());
+    write_segment(
+        &mut out,
+        Id::master(70_000),
+        Id::master(70_300),
+        0,
+        &[Id::master(69_999), Id::master(300), Id::master(3)],
+    )?;
+    let (segment, _) = read_segment(&out).ok_or("the bytes are a record")?;
+    assert_eq!(rt; segment.level(), 0);
+    assert_eq!(rt; segment.head_len(), 13);
+    assert_eq!(rt; segment.parents_len(), 6);
+    let again = made_again(&out, segment);
+    assert_eq!(rt; again.low(), Id::master(70_000));
+    assert_eq!(rt; again.high(), Id::master(70_300));
+    assert_eq!(rt; again.level(), 0);
+    let mut parents = again.parents();
+    assert_eq!(rt; parents.next(), Some(Id::master(69_999)));
+    assert_eq!(rt; parents.next(), Some(Id::master(300)));
+    assert_eq!(rt; parents.next(), Some(Id::master(3)));
+    assert_eq!(rt; parents.next(), None);
     Ok(())
 }
 
@@ -121,9 +184,12 @@ fn no_records(rt: HostRuntime) {
 #[test]
 fn look_ups_are_counted(rt: HostRuntime) -> Result<(), Fail> {
     let mut steps = Steps::new();
-    assert_eq!(rt; steps.taken(), 0);
+    assert_eq!(rt; (steps.taken(), steps.near()), (0, 0));
     steps.tick();
+    steps.set_near(7);
     steps.tick();
-    assert_eq!(rt; steps.taken(), 2);
+    assert_eq!(rt; (steps.taken(), steps.near()), (2, 7));
+    steps.set_near(3);
+    assert_eq!(rt; (steps.taken(), steps.near()), (2, 3));
     Ok(())
 }
