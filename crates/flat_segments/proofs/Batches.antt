@@ -9,13 +9,13 @@ use Rattle.segment_codec.specs.Record.{Segment, IsSegment, segment_bytes}
 use Rattle.flat_segments.specs.declared.fault.FlatFault.{FlatFault}
 use Rattle.flat_segments.specs.declared.fault.FlatFault.TheVariants.{BadSegment}
 use Rattle.segment_codec.proofs.Records.{one-record}
-use Rattle.flat_segments.specs.declared.entry.Entry.{Entry}
+use Rattle.flat_segments.specs.Entries.{PlainEntry}
 use Rattle.segment_codec.specs.Turns.{goes_on, StandInTurn, IsFirstBroken, place_behind}
 use Rattle.flat_segments.specs.Placed.{Placed, placed, AreRecords, MasterMayStandAt}
 use Rattle.flat_segments.specs.Kept.{entry_of, kept_of}
 
 -- the records that are left of those of a batch, and what is still to come of them
-pub record Keeps (first at : ℕ) (records : List ℕ) (old new : List Entry) (next number : ℕ) (rest : List ℕ) (segments : List Segment) : Type 0 where
+pub record Keeps (first at : ℕ) (records : List ℕ) (old new : List PlainEntry) (next number : ℕ) (rest : List ℕ) (segments : List Segment) : Type 0 where
   pub left : List Segment
   pub each : AllByRecursion IsSegment left
   pub rest_is : rest ≡ flat_map segment_bytes left
@@ -25,14 +25,14 @@ pub record Keeps (first at : ℕ) (records : List ℕ) (old new : List Entry) (n
   pub kept : new ++ kept_of (placed (at + (length records - length rest)) left) ≡ old ++ kept_of (placed at segments)
   pub many : number + length left ≡ length segments
 
-pub record Appending (first at : ℕ) (records : List ℕ) (old new : List Entry) (next number : ℕ) (rest : List ℕ) : Type 0 where
+pub record Appending (first at : ℕ) (records : List ℕ) (old new : List PlainEntry) (next number : ℕ) (rest : List ℕ) : Type 0 where
   pub within : length rest ≤ length records
   pub small : next ≤ 2 ^ 56
-  pub more : List Entry
+  pub more : List PlainEntry
   pub front : new ≡ old ++ more
   pub keeps : (segments : List Segment) → AreRecords segments records → Keeps first at records old new next number rest segments
 
-pub starts : (first at : ℕ) (records : List ℕ) (old : List Entry) → first ≤ 2 ^ 56 → Appending first at records old old first 0 records
+pub starts : (first at : ℕ) (records : List ℕ) (old : List PlainEntry) → first ≤ 2 ^ 56 → Appending first at records old old first 0 records
 starts first at records old small = record {
   within = omega arith;
   small = small;
@@ -82,7 +82,7 @@ pub none-left : (left : List Segment) (rest : List ℕ) → AllByRecursion IsSeg
 none-left [] rest each is none = refl
 none-left (t ∷ more) rest each is none = absurd (none t (flat_map segment_bytes more) each.0 (is ∙ flat_map-cons segment_bytes t more))
 
-module _ (first at : ℕ) (records : List ℕ) (old new : List Entry) (next number : ℕ) (rest : List ℕ)
+module _ (first at : ℕ) (records : List ℕ) (old new : List PlainEntry) (next number : ℕ) (rest : List ℕ)
     (h : Appending first at records old new next number rest) where
   -- a record that may not come is the first broken one
   pub is-broken : (s : Segment) (after : List ℕ) (segments : List Segment) (k : ℕ) → IsSegment s → rest ≡ segment_bytes s ++ after → (MasterMayStandAt first next s → ⊥)
@@ -103,7 +103,7 @@ module _ (first at : ℕ) (records : List ℕ) (old new : List Entry) (next numb
       let many = p.many in let len = ap length l.is in omega (arith, many, len)
 
   -- one more record was kept
-  pub goes-on : (s : Segment) (after : List ℕ) (place : ℕ) (new2 : List Entry) → IsSegment s → rest ≡ segment_bytes s ++ after → MasterMayStandAt first next s
+  pub goes-on : (s : Segment) (after : List ℕ) (place : ℕ) (new2 : List PlainEntry) → IsSegment s → rest ≡ segment_bytes s ++ after → MasterMayStandAt first next s
       → place ≡ at + (length records - length rest) → new2 ≡ new ++ kept_of (record { place = place; segment = s } ∷ [])
       → Appending first at records old new2 (s.high + 1) (number + 1) after
   goes-on s after place new2 i e may place-is new2-is =

@@ -10,7 +10,7 @@ use Rattle.segment_codec.specs.Record.{Segment, IsSegment}
 use Rattle.segment_codec.specs.Table.{Follow}
 use Rattle.segment_codec.specs.Flat.{IsFlat, is_flat}
 use Rattle.segment_codec.proofs.Flats.{flat-decided}
-use Rattle.flat_segments.specs.declared.entry.Entry.{Entry}
+use Rattle.flat_segments.specs.Entries.{PlainEntry}
 use Rattle.segment_codec.specs.Turns.{is_only, goes_on}
 use Rattle.flat_segments.specs.Maximal.{begin_of, up_to, cut}
 use Rattle.flat_segments.specs.Runs.{low_of, do_rise}
@@ -135,7 +135,7 @@ all-flat (s ∷ more) h = both_true (is_flat s) (list_all is_flat more) (flat-de
 
 -- ---- entries below a number
 
-lows-rise : (end : ℕ) (es : List Entry) (i j : ℕ) (d : Entry) → do_rise end es ≡ true → i ≤ j → j < length es → (get_or es i d).low ≤ (get_or es j d).low
+lows-rise : (end : ℕ) (es : List PlainEntry) (i j : ℕ) (d : PlainEntry) → do_rise end es ≡ true → i ≤ j → j < length es → (get_or es i d).low ≤ (get_or es j d).low
 lows-rise end [] i j d h le lt = absurd (omega arith)
 lows-rise end (e ∷ es) zero zero d h le lt = le_refl _
 lows-rise end (e ∷ []) zero (suc j) d h le lt = absurd (omega arith)
@@ -147,20 +147,20 @@ lows-rise end (e ∷ es) (suc i) zero d h le lt = absurd (omega arith)
 lows-rise end (e ∷ es) (suc i) (suc j) d h le lt =
     lows-rise end es i j d (and_true (nat_lt e.low (low_of end es)) (do_rise end es) h).1 (le_of_suc-le-suc le) (le_of_suc-le-suc lt)
 
-pub below-parted : (end below : ℕ) (es : List Entry) → do_rise end es ≡ true → IsPartitionedBy (λ (e : Entry). nat_lt e.low below) es
+pub below-parted : (end below : ℕ) (es : List PlainEntry) → do_rise end es ≡ true → IsPartitionedBy (λ (e : PlainEntry). nat_lt e.low below) es
 below-parted end below es h i j d le lt t = let low = ltb-true _ _ t in let rise = lows-rise end es i j d h le lt in lt-ltb _ _ (omega arith)
 
-filter-none : (below : ℕ) (es : List Entry) → AllWithin (λ (e : Entry). nat_lt e.low below ≡ false) es 0 (length es) → filter (λ (e : Entry). nat_lt e.low below) es ≡ []
+filter-none : (below : ℕ) (es : List PlainEntry) → AllWithin (λ (e : PlainEntry). nat_lt e.low below ≡ false) es 0 (length es) → filter (λ (e : PlainEntry). nat_lt e.low below) es ≡ []
 filter-none below [] h = refl
 filter-none below (e ∷ es) h =
-    ap (λ b. cond b (e ∷ filter (λ (f : Entry). nat_lt f.low below) es) (filter (λ (f : Entry). nat_lt f.low below) es)) (h 0 e zero-le (omega arith))
+    ap (λ b. cond b (e ∷ filter (λ (f : PlainEntry). nat_lt f.low below) es) (filter (λ (f : PlainEntry). nat_lt f.low below) es)) (h 0 e zero-le (omega arith))
     ∙ filter-none below es (λ k d a b. h (suc k) d zero-le (suc-le-suc b))
 
-pub below-front : (below : ℕ) (es : List Entry) (n : ℕ) → AllWithin (λ (e : Entry). nat_lt e.low below ≡ true) es 0 n
-    → AllWithin (λ (e : Entry). nat_lt e.low below ≡ false) es n (length es) → take n es ≡ filter (λ (e : Entry). nat_lt e.low below) es
+pub below-front : (below : ℕ) (es : List PlainEntry) (n : ℕ) → AllWithin (λ (e : PlainEntry). nat_lt e.low below ≡ true) es 0 n
+    → AllWithin (λ (e : PlainEntry). nat_lt e.low below ≡ false) es n (length es) → take n es ≡ filter (λ (e : PlainEntry). nat_lt e.low below) es
 below-front below [] zero f b = refl
 below-front below [] (suc n) f b = refl
 below-front below (e ∷ es) zero f b = sym (filter-none below (e ∷ es) b)
 below-front below (e ∷ es) (suc n) f b =
     ap (λ z. e ∷ z) (below-front below es n (λ k d x y. f (suc k) d zero-le (suc-le-suc y)) (λ k d x y. b (suc k) d (suc-le-suc x) (suc-le-suc y)))
-    ∙ ap (λ t. cond t (e ∷ filter (λ (g : Entry). nat_lt g.low below) es) (filter (λ (g : Entry). nat_lt g.low below) es)) (sym (f 0 e zero-le (omega arith)))
+    ∙ ap (λ t. cond t (e ∷ filter (λ (g : PlainEntry). nat_lt g.low below) es) (filter (λ (g : PlainEntry). nat_lt g.low below) es)) (sym (f 0 e zero-le (omega arith)))

@@ -1,3 +1,4 @@
+pub mod Slices
 pub mod Rising
 pub mod Searching
 pub mod Batches

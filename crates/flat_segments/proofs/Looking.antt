@@ -6,7 +6,7 @@ use Rattle.segment_codec.specs.Record.{Segment}
 use Rattle.segment_codec.specs.Table.{IsInSegment, segment_at, Follow, Cover}
 use Rattle.segment_codec.proofs.Flats.{lawful-parts}
 use Rattle.segment_codec.proofs.Tables.{found-head, found-behind, head-or-behind, follow-ends}
-use Rattle.flat_segments.specs.declared.entry.Entry.{Entry}
+use Rattle.flat_segments.specs.Entries.{PlainEntry}
 use Rattle.flat_segments.specs.declared.view.FlatView.{FlatView}
 use Rattle.flat_segments.specs.Maximal.{begin_of, up_to}
 use Rattle.flat_segments.specs.Runs.{segment_in, flats_in}
@@ -20,7 +20,7 @@ up_to-length : (end : ℕ) (xs : List Segment) → length (up_to end xs) ≡ len
 up_to-length end [] = refl
 up_to-length end (s ∷ more) = ap suc (up_to-length end more)
 
-pub flats-length : (bytes : List ℕ) (end : ℕ) (es : List Entry) → length (flats_in bytes end es) ≡ length es
+pub flats-length : (bytes : List ℕ) (end : ℕ) (es : List PlainEntry) → length (flats_in bytes end es) ≡ length es
 flats-length bytes end es = up_to-length end (map (segment_in bytes) es) ∙ length-map es (segment_in bytes)
 
 pub get-front : (xs ys : List Segment) (k : ℕ) (s : Segment) → slice_get xs k ≡ Some s → slice_get (xs ++ ys) k ≡ Some s

@@ -9,7 +9,7 @@ use Rattle.segment_codec.specs.Table.{Follow}
 use Rattle.segment_codec.specs.Flat.{IsFlat, is_lawful}
 use Rattle.segment_codec.proofs.Flats.{follow-append, IsPlaced, Parts, lawful-parts, lawful-decided}
 use Rattle.segment_codec.proofs.Tables.{all-pass, follow-within, follow-ends}
-use Rattle.flat_segments.specs.declared.entry.Entry.{Entry}
+use Rattle.flat_segments.specs.Entries.{PlainEntry}
 use Rattle.flat_segments.specs.declared.run.Run.{Run}
 use Rattle.flat_segments.specs.declared.view.FlatView.{FlatView}
 use Rattle.flat_segments.specs.Maximal.{begin_of}
@@ -52,10 +52,10 @@ pushed section (q ∷ records) r may is =
     }
 
 -- as the code makes it
-pub made : (section : Kept) (records : List Placed) (r : Placed) (entries : List Entry) (end : ℕ) → entries ≡ section.entries ++ entry_of r ∷ [] → end ≡ r.segment.high + 1
+pub made : (section : Kept) (records : List Placed) (r : Placed) (entries : List PlainEntry) (end : ℕ) → entries ≡ section.entries ++ entry_of r ∷ [] → end ≡ r.segment.high + 1
     → IsSectionOf (with_record section r) (records ++ r ∷ []) → IsSectionOf (record { entries = entries; end = end }) (records ++ r ∷ [])
 made section records r entries end e f is =
-    subst (λ (z : List Entry). IsSectionOf (record { entries = z; end = end }) (records ++ r ∷ [])) (sym e)
+    subst (λ (z : List PlainEntry). IsSectionOf (record { entries = z; end = end }) (records ++ r ∷ [])) (sym e)
     (subst (λ (n : ℕ). IsSectionOf (record { entries = section.entries ++ entry_of r ∷ []; end = n }) (records ++ r ∷ [])) (sym f) is)
 
 -- ---- the run of a section
@@ -67,20 +67,20 @@ follow-once start end first last s more h g = go (s.high + 1) more h.2 g.2
     go n [] a b = sym a ∙ b
     go n (x ∷ xs) a b = go (x.high + 1) xs a.2 b.2
 
-module _ (section : Kept) (bytes : List ℕ) (start e : ℕ) (none : section.entries ≡ [] → e ≡ start) (some : section.entries ≢ [] → e ≡ section.end) where
+module _ (section : Kept) (bytes : List ℕ) (small : length bytes < 2 ^ 64) (start e : ℕ) (none : section.entries ≡ [] → e ≡ start) (some : section.entries ≢ [] → e ≡ section.end) where
   kept-some : (r : Placed) (records : List Placed) → section.entries ≡ map entry_of (r ∷ records) → section.entries ≢ []
   kept-some r records k n = cc
 
   pub section-run : (records : List Placed) → StandAs section bytes records → IsRunOf bytes e section.entries (segments_of records)
-  section-run [] h = subst (λ (z : List Entry). IsRunOf bytes e z []) (sym h.section_of.kept) (run-of bytes e [] tt tt tt tt)
+  section-run [] h = subst (λ (z : List PlainEntry). IsRunOf bytes e z []) (sym h.section_of.kept) (run-of bytes e [] small tt tt tt tt)
   section-run (r ∷ records) h =
       let is = h.section_of in
       let end = some (kept-some r records is.kept) in
       let follow : Follow is.first e (segments_of (r ∷ records)) = subst (λ (n : ℕ). Follow is.first n (segments_of (r ∷ records))) (sym end) is.in_turn in
       let same = follow-up_to is.first e (segments_of (r ∷ records)) follow in
-      let run = run-of bytes e (r ∷ records) is.flat h.stand (follow-rise is.first e (segments_of (r ∷ records)) follow)
+      let run = run-of bytes e (r ∷ records) small is.flat h.stand (follow-rise is.first e (segments_of (r ∷ records)) follow)
       (subst (AllByRecursion IsFlat) (sym same) (all-segments (r ∷ records) is.flat)) in
-      subst (λ (z : List Entry). IsRunOf bytes e z (segments_of (r ∷ records))) (sym is.kept) (subst (λ (z : List Segment). IsRunOf bytes e (map entry_of (r ∷ records)) z) same run)
+      subst (λ (z : List PlainEntry). IsRunOf bytes e z (segments_of (r ∷ records))) (sym is.kept) (subst (λ (z : List Segment). IsRunOf bytes e (map entry_of (r ∷ records)) z) same run)
 
   pub section-end : (records : List Placed) (end : ℕ) → StandAs section bytes records → Follow start end (segments_of records) → e ≡ end
   section-end [] end h f = none h.section_of.kept ∙ f

@@ -1,56 +1,40 @@
 -- Runs of records that stand in bytes.
-use Rattle.std.proofs.Common.{◌≡◌, ℕ, ◌+◌, ◌-◌, ◌<◌, ◌≤◌, ◌^◌, inl, Bool, true, not, ◌&&◌, List, [], ◌∷◌, ◌++◌, length, map, take, drop, Option, Some, refl, sym, subst, ap, ◌∙◌, arith, ⊎_elim, eq-eqb}
-use Rattle.std.specs.Prelude.{filter, nat_lt, nat_le, nat_eq, is_some}
+use Rattle.std.proofs.Common.{◌≡◌, ℕ, ◌+◌, ◌-◌, ◌<◌, ◌≤◌, ◌^◌, inl, Bool, true, not, ◌&&◌, List, [], ◌∷◌, ◌++◌, length, map, take, drop, refl, sym, subst, ap, ◌∙◌, arith}
+use Rattle.std.specs.Prelude.{filter, nat_lt}
 use Rattle.std.specs.List.{AllByRecursion, list_all}
-use Rattle.std.proofs.lemmas.Bool.{le-leb, lt-ltb}
-use Rattle.std.proofs.lemmas.List.{drop_all, append-nil, length-take}
+use Rattle.std.proofs.lemmas.Bool.{lt-ltb}
+use Rattle.std.proofs.lemmas.List.{append-nil, length-take}
 use Rattle.id_groups.specs.Lists.{IsIn}
 use Rattle.id_groups.proofs.Listing.{both_true}
-use Rattle.segment_codec.specs.Record.{Segment, IsSegment, segment_bytes, HasFront}
-use Rattle.segment_codec.specs.Reading.{record_at}
+use Rattle.segment_codec.specs.Record.{Segment, segment_bytes, HasFront}
 use Rattle.segment_codec.specs.Table.{Follow}
 use Rattle.segment_codec.specs.Flat.{IsFlat, is_flat, is_lawful}
 use Rattle.segment_codec.proofs.Flats.{IsPlaced, lawful-decided}
-use Rattle.segment_codec.proofs.Records.{record_again}
-use Rattle.segment_codec.proofs.Tables.{le_or_lt, all-pass, follow-within}
-use Rattle.flat_segments.specs.declared.entry.Entry.{Entry}
+use Rattle.segment_codec.proofs.Tables.{all-pass, follow-within}
+use Rattle.flat_segments.specs.Entries.{PlainEntry}
 use Rattle.segment_codec.specs.Turns.{goes_on}
 use Rattle.flat_segments.specs.Maximal.{begin_of, up_to, maximal, cut}
 use Rattle.flat_segments.specs.Placed.{Placed, segments_of, Stand}
 use Rattle.flat_segments.specs.Kept.{Kept, entry_of, IsTableOf}
-use Rattle.flat_segments.specs.Runs.{segment_read, segment_in, flats_in, is_read, low_of, do_rise, is_run}
+use Rattle.flat_segments.specs.Runs.{segment_in, flats_in, is_read, low_of, do_rise, is_run}
 use Rattle.flat_segments.proofs.Rising.{Rise, rise-follow, follow-rise}
-use Rattle.flat_segments.proofs.Batches.{shorter}
+use Rattle.flat_segments.proofs.Slices.{ended-there, read-there}
 use Rattle.flat_segments.proofs.Cutting.{filter-map, all-filter, rise-filter, begins_below, begin-cut, rise-cut, cut-is, maximal-begins, up_to-flat, all-flat}
 
-place-within : (place : ℕ) (s : Segment) (bytes : List ℕ) → HasFront (segment_bytes s) (drop place bytes) → place ≤ length bytes
-place-within place s bytes h =
-    ⊎_elim (λ le. le)
-    (λ (lt : length bytes < place).
-    let none : drop place bytes ≡ [] = drop_all place bytes (omega arith) in
-    absurd (let less = shorter s (drop place bytes) h.0 h.1 in let zero-length = ap length none in omega (arith, less, zero-length)))
-    (le_or_lt place (length bytes))
+begin-there : (bytes : List ℕ) (end : ℕ) (records : List Placed) → begin_of end (map (segment_in bytes) (map entry_of records)) ≡ begin_of end (segments_of records)
+begin-there bytes end [] = refl
+begin-there bytes end (r ∷ more) = refl
 
--- what is read at the place of a record is its segment
-read-there : (bytes : List ℕ) (r : Placed) → IsSegment r.segment → (h : HasFront (segment_bytes r.segment) (drop r.place bytes))
-    → record_at (drop r.place bytes) ≡ Some (r.segment, h.0)
-read-there bytes r i h = ap record_at h.1 ∙ record_again r.segment h.0 i
-
-read-decided : (bytes : List ℕ) (r : Placed) → IsSegment r.segment → HasFront (segment_bytes r.segment) (drop r.place bytes) → is_read bytes (entry_of r) ≡ true
-unfolding is_read
-read-decided bytes r i h =
-    let there = read-there bytes r i h in
-    both_true (nat_le r.place (length bytes) && is_some (record_at (drop r.place bytes))) (nat_eq (segment_in bytes (entry_of r)).low r.segment.low)
-    (both_true (nat_le r.place (length bytes)) (is_some (record_at (drop r.place bytes))) (le-leb r.place (length bytes) (place-within r.place r.segment bytes h)) (ap is_some there))
-    (eq-eqb (segment_in bytes (entry_of r)).low r.segment.low (ap (λ (o : Option (Segment × List ℕ)). (segment_read o).low) there))
-
-pub all-read : (bytes : List ℕ) (records : List Placed) → AllByRecursion (λ (r : Placed). IsFlat r.segment) records → Stand bytes records
-    → (list_all (is_read bytes) (map entry_of records) ≡ true) × (map (segment_in bytes) (map entry_of records) ≡ segments_of records)
-all-read bytes [] f h = (refl, refl)
-all-read bytes (r ∷ more) f h =
-    let rest = all-read bytes more f.1 h.1 in (
-      both_true (is_read bytes (entry_of r)) (list_all (is_read bytes) (map entry_of more)) (read-decided bytes r f.0.segment h.0) rest.0,
-      ap (λ (s : Segment). s ∷ map (segment_in bytes) (map entry_of more)) (ap segment_read (read-there bytes r f.0.segment h.0)) ∙ ap (λ z. r.segment ∷ z) rest.1,
+-- what is read of records that stand in the bytes are their segments, each up to the next
+pub all-read : (bytes : List ℕ) (end : ℕ) (records : List Placed) → length bytes < 2 ^ 64 → AllByRecursion (λ (r : Placed). IsFlat r.segment) records → Stand bytes records
+    → (list_all (is_read bytes) (map entry_of records) ≡ true) × (flats_in bytes end (map entry_of records) ≡ up_to end (segments_of records))
+all-read bytes end [] small f h = (refl, refl)
+all-read bytes end (r ∷ more) small f h =
+    let rest = all-read bytes end more small f.1 h.1 in (
+      both_true (is_read bytes (entry_of r)) (list_all (is_read bytes) (map entry_of more)) (read-there bytes r small f.0 h.0) rest.0,
+      ap (λ n. record (segment_in bytes (entry_of r)) { high = n - 1 } ∷ flats_in bytes end (map entry_of more)) (begin-there bytes end more)
+      ∙ ap (λ (s : Segment). s ∷ flats_in bytes end (map entry_of more)) (ended-there bytes r small f.0 h.0 (begin_of end (segments_of more) - 1))
+      ∙ ap (λ z. record r.segment { high = begin_of end (segments_of more) - 1 } ∷ z) rest.1,
     )
 
 low-begin : (end : ℕ) (records : List Placed) → low_of end (map entry_of records) ≡ begin_of end (segments_of records)
@@ -64,15 +48,15 @@ rise-decided end (r ∷ more) h =
     (lt-ltb r.segment.low (low_of end (map entry_of more)) (let lt = h.0 in let e = low-begin end more in omega arith)) (rise-decided end more h.1)
 
 -- the run of records
-pub record IsRunOf (bytes : List ℕ) (end : ℕ) (es : List Entry) (flats : List Segment) : Type 0 where
+pub record IsRunOf (bytes : List ℕ) (end : ℕ) (es : List PlainEntry) (flats : List Segment) : Type 0 where
   pub run : is_run bytes end es ≡ true
   pub flats_are : flats_in bytes end es ≡ flats
 
-pub run-of : (bytes : List ℕ) (end : ℕ) (records : List Placed) → AllByRecursion (λ (r : Placed). IsFlat r.segment) records → Stand bytes records
+pub run-of : (bytes : List ℕ) (end : ℕ) (records : List Placed) → length bytes < 2 ^ 64 → AllByRecursion (λ (r : Placed). IsFlat r.segment) records → Stand bytes records
     → Rise end (segments_of records) → AllByRecursion IsFlat (up_to end (segments_of records)) → IsRunOf bytes end (map entry_of records) (up_to end (segments_of records))
-run-of bytes end records f h r flat =
-    let read = all-read bytes records f h in
-    let are : flats_in bytes end (map entry_of records) ≡ up_to end (segments_of records) = ap (up_to end) read.1 in
+run-of bytes end records small f h r flat =
+    let read = all-read bytes end records small f h in
+    let are = read.1 in
     record {
       run = both_true (list_all (is_read bytes) (map entry_of records) && do_rise end (map entry_of records)) (list_all is_flat (flats_in bytes end (map entry_of records)))
           (both_true (list_all (is_read bytes) (map entry_of records)) (do_rise end (map entry_of records)) read.0 (rise-decided end records r))
@@ -86,7 +70,7 @@ all-segments (r ∷ more) h = (h.0, all-segments more h.1)
 
 -- ---- a table's run below a number
 
-module _ (bytes : List ℕ) (table : Kept) (records : List Placed) (is : IsTableOf table records) (stand : Stand bytes records) (below : ℕ) (le : below ≤ table.end) where
+module _ (bytes : List ℕ) (small : length bytes < 2 ^ 64) (table : Kept) (records : List Placed) (is : IsTableOf table records) (stand : Stand bytes records) (below : ℕ) (le : below ≤ table.end) where
   begins : Segment → Bool
   begins s = not (goes_on s)
 
@@ -109,8 +93,8 @@ module _ (bytes : List ℕ) (table : Kept) (records : List Placed) (is : IsTable
   lower-are : segments_of lower ≡ filter (begins_below below) (segments_of firsts)
   lower-are = sym (filter-map (λ (r : Placed). r.segment) (begins_below below) firsts)
 
-  lower-entries : filter (λ (e : Entry). nat_lt e.low below) table.entries ≡ map entry_of lower
-  lower-entries = ap (filter (λ (e : Entry). nat_lt e.low below)) is.kept ∙ filter-map entry_of (λ (e : Entry). nat_lt e.low below) firsts
+  lower-entries : filter (λ (e : PlainEntry). nat_lt e.low below) table.entries ≡ map entry_of lower
+  lower-entries = ap (filter (λ (e : PlainEntry). nat_lt e.low below)) is.kept ∙ filter-map entry_of (λ (e : PlainEntry). nat_lt e.low below) firsts
 
   rise-lower : Rise below (segments_of lower)
   rise-lower = subst (Rise below) (sym lower-are) (rise-cut below table.end (segments_of firsts) rise-all le)
@@ -131,11 +115,11 @@ module _ (bytes : List ℕ) (table : Kept) (records : List Placed) (is : IsTable
   cut-flats = ap (up_to below) lower-are ∙ cut-is below table.end (segments_of firsts) rise-all le ∙ ap (λ z. cut below (up_to table.end z)) firsts-are
 
   run-lower : IsRunOf bytes below (map entry_of lower) (up_to below (segments_of lower))
-  run-lower = run-of bytes below lower flat-lower stand-lower rise-lower lower-flat
+  run-lower = run-of bytes below lower small flat-lower stand-lower rise-lower lower-flat
 
-  pub table-run : (es : List Entry) → es ≡ filter (λ (e : Entry). nat_lt e.low below) table.entries → IsRunOf bytes below es (cut below (maximal table.end (segments_of records)))
+  pub table-run : (es : List PlainEntry) → es ≡ filter (λ (e : PlainEntry). nat_lt e.low below) table.entries → IsRunOf bytes below es (cut below (maximal table.end (segments_of records)))
   table-run es e =
-      subst (λ (z : List Entry). IsRunOf bytes below z (cut below (maximal table.end (segments_of records)))) (sym (e ∙ lower-entries))
+      subst (λ (z : List PlainEntry). IsRunOf bytes below z (cut below (maximal table.end (segments_of records)))) (sym (e ∙ lower-entries))
       (subst (λ (z : List Segment). IsRunOf bytes below (map entry_of lower) z) cut-flats run-lower)
 
   lower-begin : begin_of below (segments_of lower) ≡ 0
@@ -167,32 +151,32 @@ module _ (bytes : List ℕ) (table : Kept) (records : List Placed) (is : IsTable
   master-part = subst MasterPart cut-flats (record { room = let m = is.master in omega arith; master_ids = lower-follow; each = lower-placed })
 
   -- the entries below the number, as a search counts them
-  pub viewed : (n : ℕ) (es counted : List Entry) → es ≡ table.entries → counted ≡ table.entries → take n counted ≡ filter (λ (e : Entry). nat_lt e.low below) counted
+  pub viewed : (n : ℕ) (es counted : List PlainEntry) → es ≡ table.entries → counted ≡ table.entries → take n counted ≡ filter (λ (e : PlainEntry). nat_lt e.low below) counted
       → IsRunOf bytes below (take n es) (cut below (maximal table.end (segments_of records)))
   viewed n es counted e c f =
       let same : es ≡ counted = e ∙ sym c in
-      table-run (take n es) (ap (take n) same ∙ f ∙ ap (filter (λ (e : Entry). nat_lt e.low below)) c)
+      table-run (take n es) (ap (take n) same ∙ f ∙ ap (filter (λ (e : PlainEntry). nat_lt e.low below)) c)
 
 -- ---- a view without sections
 
-none-flats : (bytes : List ℕ) (end : ℕ) (es : List Entry) → es ≡ [] → flats_in bytes end es ≡ []
+none-flats : (bytes : List ℕ) (end : ℕ) (es : List PlainEntry) → es ≡ [] → flats_in bytes end es ≡ []
 none-flats bytes end es e = ap (flats_in bytes end) e
 
-pub alone-flats : (flats same : List Segment) (b1 : List ℕ) (e1 : ℕ) (es1 : List Entry) (b2 : List ℕ) (e2 : ℕ) (es2 : List Entry) → flats ≡ same → es1 ≡ [] → es2 ≡ []
+pub alone-flats : (flats same : List Segment) (b1 : List ℕ) (e1 : ℕ) (es1 : List PlainEntry) (b2 : List ℕ) (e2 : ℕ) (es2 : List PlainEntry) → flats ≡ same → es1 ≡ [] → es2 ≡ []
     → flats ++ (flats_in b1 e1 es1 ++ flats_in b2 e2 es2) ≡ same
 alone-flats flats same b1 e1 es1 b2 e2 es2 is n1 n2 =
     ap (λ z. flats ++ (z ++ flats_in b2 e2 es2)) (none-flats b1 e1 es1 n1) ∙ ap (λ z. flats ++ z) (none-flats b2 e2 es2 n2) ∙ append-nil flats ∙ is
 
-pub alone-begin : (bytes : List ℕ) (end : ℕ) (es : List Entry) (n : ℕ) → es ≡ [] → end ≡ n → begin_of end (flats_in bytes end es) ≡ n
+pub alone-begin : (bytes : List ℕ) (end : ℕ) (es : List PlainEntry) (n : ℕ) → es ≡ [] → end ≡ n → begin_of end (flats_in bytes end es) ≡ n
 alone-begin bytes end es n e is = ap (begin_of end) (none-flats bytes end es e) ∙ is
 
-pub alone-lawful : (bytes : List ℕ) (table : Kept) (records : List Placed) (is : IsTableOf table records) (stand : Stand bytes records) (below : ℕ) (le : below ≤ table.end)
+pub alone-lawful : (bytes : List ℕ) (small : length bytes < 2 ^ 64) (table : Kept) (records : List Placed) (is : IsTableOf table records) (stand : Stand bytes records) (below : ℕ) (le : below ≤ table.end)
     → (flats : List Segment) → flats ≡ cut below (maximal table.end (segments_of records))
-    → (b1 : List ℕ) (e1 : ℕ) (es1 : List Entry) (b2 : List ℕ) (e2 : ℕ) (es2 : List Entry) → es1 ≡ [] → es2 ≡ [] → e2 ≡ 2 ^ 56
+    → (b1 : List ℕ) (e1 : ℕ) (es1 : List PlainEntry) (b2 : List ℕ) (e2 : ℕ) (es2 : List PlainEntry) → es1 ≡ [] → es2 ≡ [] → e2 ≡ 2 ^ 56
     → is_lawful below (e2 - 2 ^ 56) flats (flats_in b1 e1 es1 ++ flats_in b2 e2 es2) ≡ true
-alone-lawful bytes table records is stand below le flats same b1 e1 es1 b2 e2 es2 n1 n2 end =
+alone-lawful bytes small table records is stand below le flats same b1 e1 es1 b2 e2 es2 n1 n2 end =
     let cuts = cut below (maximal table.end (segments_of records)) in
-    let part = master-part bytes table records is stand below le in
+    let part = master-part bytes small table records is stand below le in
     let none : e2 - 2 ^ 56 ≡ 0 = omega (arith, end) in
     let whole : is_lawful below 0 cuts [] ≡ true = lawful-decided below 0 cuts [] (record {
       room = part.room;
@@ -204,8 +188,8 @@ alone-lawful bytes table records is stand below le flats same b1 e1 es1 b2 e2 es
     ∙ ap (λ z. is_lawful below 0 z (flats_in b1 e1 es1 ++ flats_in b2 e2 es2)) same
     ∙ ap (λ z. is_lawful below 0 cuts (z ++ flats_in b2 e2 es2)) (none-flats b1 e1 es1 n1) ∙ ap (is_lawful below 0 cuts) (none-flats b2 e2 es2 n2) ∙ whole
 
-pub alone-few : (table : Kept) (records : List Placed) (n : ℕ) (es es1 es2 : List Entry) → IsTableOf table records → es ≡ table.entries → es1 ≡ [] → es2 ≡ []
+pub alone-few : (table : Kept) (records : List Placed) (n : ℕ) (es es1 es2 : List PlainEntry) → IsTableOf table records → es ≡ table.entries → es1 ≡ [] → es2 ≡ []
     → length (take n es) + length es1 + length es2 < 2 ^ 32
 alone-few table records n es es1 es2 is e n1 n2 =
     let few = is.few in let same = ap length e in let l1 = ap length n1 in let l2 = ap length n2 in
-    omega (arith, few, same, l1, l2, length-take {A = Entry} n es)
+    omega (arith, few, same, l1, l2, length-take {A = PlainEntry} n es)

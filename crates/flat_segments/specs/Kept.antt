@@ -1,25 +1,30 @@
 -- What a table and a section keep of the records that were added to them.
-use Rattle.std.specs.Prelude.{◌≡◌, ◌≢◌, ◌≤◌, ◌<◌, ◌^◌, ◌+◌, ℕ, not, List, [], length, map, filter}
+use Rattle.std.specs.Prelude.{◌≡◌, ◌≢◌, ◌≤◌, ◌<◌, ◌^◌, ◌+◌, ◌-◌, ℕ, not, List, [], length, map, filter, min}
 use Rattle.std.specs.List.{AllByRecursion}
-use Rattle.segment_codec.specs.Record.{Segment}
+use Rattle.segment_codec.specs.Record.{Segment, head_bytes, parents_bytes}
 use Rattle.segment_codec.specs.Table.{Follow}
 use Rattle.segment_codec.specs.Flat.{IsFlat}
-use Rattle.flat_segments.specs.declared.entry.Entry.{Entry}
+use Rattle.flat_segments.specs.Entries.{PlainEntry}
 use Rattle.segment_codec.specs.Turns.{goes_on}
 use Rattle.flat_segments.specs.Placed.{Placed, segments_of, AreRecords}
 
 -- what a table or a section keeps
 pub record Kept : Type 0 where
-  pub entries : List Entry
+  pub entries : List PlainEntry
   -- the id behind the last one
   pub end : ℕ
 
--- what is kept of a segment: the place of its record, and its lowest id
-abbrev pub entry_of : Placed → Entry
-entry_of r = record { place = r.place; low = r.segment.low }
+-- What is kept of a segment: where the numbers of its parents stand, how many bytes they take, and its lowest id. No record
+-- stands so far behind that the place doesn't fit a word.
+abbrev pub entry_of : Placed → PlainEntry
+entry_of r = record {
+  place = min (r.place + length (head_bytes r.segment)) (2 ^ 64 - 1);
+  len = length (parents_bytes r.segment);
+  low = r.segment.low;
+}
 
 -- of records, those that begin a maximal segment are kept
-abbrev pub kept_of : List Placed → List Entry
+abbrev pub kept_of : List Placed → List PlainEntry
 kept_of records = map entry_of (filter (λ r. not (goes_on r.segment)) records)
 
 -- the table of these records: they are flat and have the master ids from 0 on, in turn

@@ -1,3 +1,4 @@
+pub mod Entries
 pub mod Maximal
 pub mod Placed
 pub mod Kept

@@ -1,39 +1,39 @@
--- Segments that are read from bytes when they are wanted.
-use Rattle.std.specs.Prelude.{ℕ, Bool, true, ◌&&◌, List, [], ◌∷◌, length, drop, map, Option, Some, None, is_some, nat_lt, nat_le, nat_eq}
+-- Segments whose parents are read from bytes when they are wanted.
+use Rattle.std.specs.Prelude.{ℕ, ◌+◌, Bool, true, ◌&&◌, List, [], ◌∷◌, length, take, drop, map, flat_map, nat_lt, nat_le}
+use Rattle.std.specs.Str.{bytes_eq}
 use Rattle.std.specs.List.{list_all}
 use Rattle.segment_codec.specs.Record.{Segment}
-use Rattle.segment_codec.specs.Reading.{record_at}
+use Rattle.segment_codec.specs.Number.{number_bytes, numbers_in}
 use Rattle.segment_codec.specs.Flat.{is_flat}
-use Rattle.flat_segments.specs.declared.entry.Entry.{Entry}
+use Rattle.flat_segments.specs.Entries.{PlainEntry}
 use Rattle.flat_segments.specs.Maximal.{up_to}
 
--- the segment of what was read, or one without meaning where nothing was
-abbrev pub segment_read : Option (Segment × List ℕ) → Segment
-segment_read None = record { low = 0; high = 0; level = 0; parents = [] }
-segment_read (Some r) = r.0
+-- the bytes that the entry names
+abbrev pub slice_in : List ℕ → PlainEntry → List ℕ
+slice_in bytes e = take e.len (drop e.place bytes)
 
--- the segment whose record stands at the entry's place
-abbrev pub segment_in : List ℕ → Entry → Segment
-segment_in bytes e = segment_read (record_at (drop e.place bytes))
+-- the segment whose parents the entry names; where it ends, the next entry says
+abbrev pub segment_in : List ℕ → PlainEntry → Segment
+segment_in bytes e = record { low = e.low; high = e.low; level = 0; parents = numbers_in (slice_in bytes e) }
 
 -- the flat segments of entries, up to an end
-abbrev pub flats_in : List ℕ → ℕ → List Entry → List Segment
+abbrev pub flats_in : List ℕ → ℕ → List PlainEntry → List Segment
 flats_in bytes end entries = up_to end (map (segment_in bytes) entries)
 
--- whether a record stands at the entry's place, with the entry's lowest id
-unfoldable pub is_read : List ℕ → Entry → Bool
-is_read bytes e = nat_le e.place (length bytes) && is_some (record_at (drop e.place bytes)) && nat_eq (segment_in bytes e).low e.low
+-- whether the bytes reach so far, and what the entry names is the spelling of numbers
+unfoldable pub is_read : List ℕ → PlainEntry → Bool
+is_read bytes e = nat_le (e.place + e.len) (length bytes) && bytes_eq (slice_in bytes e) (flat_map number_bytes (numbers_in (slice_in bytes e)))
 
 -- where the first entry begins; the end where there is none
-abbrev pub low_of : ℕ → List Entry → ℕ
+abbrev pub low_of : ℕ → List PlainEntry → ℕ
 low_of end [] = end
 low_of end (e ∷ more) = e.low
 
 -- whether each begins below the next, and the last below the end
-abbrev pub do_rise : ℕ → List Entry → Bool
+abbrev pub do_rise : ℕ → List PlainEntry → Bool
 do_rise end [] = true
 do_rise end (e ∷ more) = nat_lt e.low (low_of end more) && do_rise end more
 
 -- whether the entries are those of flat segments whose records stand in the bytes
-abbrev pub is_run : List ℕ → ℕ → List Entry → Bool
+abbrev pub is_run : List ℕ → ℕ → List PlainEntry → Bool
 is_run bytes end entries = list_all (is_read bytes) entries && do_rise end entries && list_all is_flat (flats_in bytes end entries)

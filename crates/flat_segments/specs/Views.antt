@@ -1,13 +1,12 @@
 -- The segments of a view.
-use Rattle.std.specs.Prelude.{◌≡◌, ◌<◌, ◌≤◌, ◌^◌, ◌-◌, ℕ, List, ◌++◌, Option, Some}
+use Rattle.std.specs.Prelude.{◌≡◌, ◌^◌, ◌-◌, ℕ, List, ◌++◌, Option, Some}
 use Rattle.segment_codec.specs.Record.{Segment}
-use Rattle.segment_codec.specs.Table.{segment_at, IsLawful, IsEnding}
+use Rattle.segment_codec.specs.Table.{IsLawful, IsEnding}
 use Rattle.segment_codec.specs.Flat.{flat_ending}
 use Rattle.segment_codec.proofs.Flats.{lawful-means, flat_ending-is, flat_ending-all}
 use Rattle.id_groups.specs.Lists.{IsIn}
 use Rattle.flat_segments.specs.declared.run.Run.{Run}
 use Rattle.flat_segments.specs.declared.view.FlatView.{FlatView}
-use Rattle.flat_segments.specs.Maximal.{begin_of}
 use Rattle.flat_segments.specs.Runs.{flats_in}
 
 -- the segments of a run
@@ -27,12 +26,6 @@ other_flats v = flats_of v.others ++ flats_of v.pending
 -- all segments, ascending
 abbrev pub view_flats : FlatView → List Segment
 view_flats v = master_flats v ++ other_flats v
-
--- the run has the id, and the run's segment that has it is the view's
-pub record IsRunWith (v : FlatView) (id : ℕ) (run : Run) : Type 0 where
-  pub above : begin_of run.end (flats_of run) ≤ id
-  pub below : id < run.end
-  pub found : (s : Segment) → segment_at (flats_of run) id ≡ Some s → segment_at (view_flats v) id ≡ Some s
 
 -- the segment that ends at an id; there is none above level 0
 abbrev pub view_ending : FlatView → ℕ → ℕ → Option Segment

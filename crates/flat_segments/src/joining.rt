@@ -7,7 +7,7 @@ ghost use Rattle.flat_segments.specs.Placed.{Placed, segments_of};
 ghost use Rattle.flat_segments.specs.Views.{flats_of, master_flats, other_flats, master_count};
 ghost use Rattle.flat_segments.specs.Joined.{StandAs, MayJoin};
 
-use crate::run::Run;
+use crate::run::{Run, are_countable};
 use crate::section::Section;
 use crate::view::FlatView;
 use id_groups::FIRST_OTHER;
@@ -32,6 +32,7 @@ fn run_of<'a>(section: &'a Section, bytes: &'a [u8], start: u64) -> Run<'a>
         → begin_of result.end (flats_of result) ≡ start }
     ensures end { (records : List Placed) (end : ℕ) → StandAs section.now bytes.now records → Follow start end (segments_of records) → result.end ≡ end }
 {
+    are_countable(bytes);
     let end = end_from(section, start);
     Run {
         entries: &section.entries,

@@ -1,47 +1,35 @@
 //! The look-ups of a view. None takes memory.
 
-ghost use Rattle.std.specs.Prelude.{◌≡◌, ◌<◌, length, slice_get, Some, None, MatchOption};
+ghost use Rattle.std.specs.Prelude.{◌≡◌, ◌<◌, ◌^◌, length, slice_get, Some, None, MatchOption};
 ghost use Rattle.segment_codec.specs.Lent.{segment_of};
 ghost use Rattle.segment_codec.specs.Table.{segment_at};
-ghost use Rattle.flat_segments.specs.Views.{view_flats, IsRunWith};
+ghost use Rattle.flat_segments.specs.Views.{view_flats};
 
-use crate::run::Run;
 use crate::view::FlatView;
 use id_groups::{FIRST_OTHER, Id};
 use segment_codec::{Bounds, SegmentRef, SegmentTable, Steps};
 
 impl<'a> FlatView<'a> {
-    /// The run that has the id; `None` exactly where the id isn't in the bounds.
+    /// The segment that has the id; `None` exactly where the id isn't in the bounds.
     #[inline(always)]
-    fn run_with(&self, id: u64) -> Option<Run<'a>>
-        ensures { MatchOption result (segment_at (view_flats self.now) id ≡ None) (λ run. IsRunWith self.now id run) }
+    fn find(&self, id: u64, steps: &mut Steps) -> Option<SegmentRef<'a>>
+        requires { id < 2 ^ 57 }
+        ensures found { MatchOption result (segment_at (view_flats self.now) id ≡ None) (λ r. segment_at (view_flats self.now) id ≡ Some (segment_of r)) }
+        ensures steps { steps.new.taken ≡ steps.old.taken }
     {
         if id < self.master.end {
-            return Some(self.master);
+            return Some(self.master.find(id, steps));
         }
         if id < FIRST_OTHER {
             return None;
         }
         if id < self.others.end {
-            return Some(self.others);
+            return Some(self.others.find(id, steps));
         }
         if id < self.pending.end {
-            return Some(self.pending);
+            return Some(self.pending.find(id, steps));
         }
         None
-    }
-
-    /// The segment that has the id; `None` exactly where the id isn't in the bounds. The search begins near the place
-    /// where the last one ended.
-    #[inline(always)]
-    fn find(&self, id: u64, steps: &mut Steps) -> Option<SegmentRef<'a>>
-        ensures found { MatchOption result (segment_at (view_flats self.now) id ≡ None) (λ r. segment_at (view_flats self.now) id ≡ Some (segment_of r)) }
-        ensures steps { steps.new.taken ≡ steps.old.taken }
-    {
-        let run = self.run_with(id)?;
-        let place = run.place_of(id, steps.near());
-        steps.set_near(place);
-        Some(run.at(place))
     }
 
     /// The segment at place `k`.
@@ -85,16 +73,19 @@ impl<'a> SegmentTable for FlatView<'a> {
         (self.master.entries.len() + self.others.entries.len() + self.pending.entries.len()) as u32
     }
 
+    #[inline(always)]
     fn flat<'b>(&'b self, id: Id, steps: &mut Steps) -> Option<SegmentRef<'b>> {
         steps.tick();
         self.find(id.number(), steps)
     }
 
+    #[inline(always)]
     fn flat_at<'b>(&'b self, k: u32, steps: &mut Steps) -> SegmentRef<'b> {
         steps.tick();
         self.at(k as usize)
     }
 
+    #[inline(always)]
     fn ending<'b>(&'b self, level: u8, id: Id, steps: &mut Steps) -> Option<SegmentRef<'b>> {
         steps.tick();
         if level > 0 {

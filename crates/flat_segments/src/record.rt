@@ -3,6 +3,7 @@
 ghost use Rattle.std.specs.Prelude.{◌≡◌, ◌≤◌, ◌<◌, ◌^◌, ◌+◌, ◌-◌, ◌++◌, ◌↔◌, IsTrue, List, ℕ, [], ◌∷◌, length, take, OnOk, OnErr, IfOk, Err};
 ghost use Rattle.segment_codec.specs.Record.{Segment, IsSegment};
 ghost use Rattle.segment_codec.specs.Lent.{segment_of};
+ghost use Rattle.segment_codec.specs.Flat.{IsFlat};
 ghost use Rattle.segment_codec.specs.Turns.{StandInTurn, IsFirstBroken, place_behind};
 ghost use Rattle.flat_segments.specs.Placed.{placed, AreRecords, MasterMayStandAt};
 ghost use Rattle.flat_segments.specs.Kept.{kept_of};
@@ -27,14 +28,14 @@ fn may_stand_at(first: u64, place: u64, segment: &SegmentRef<'_>) -> bool
 
 /// Keeps the segment, where it doesn't go on from the one before.
 fn keep(entries: &mut Vec<Entry>, segment: &SegmentRef<'_>, place: u64) -> Result<(), AllocError>
+    requires { IsFlat (segment_of segment.now) }
     ensures ok { OnOk result (entries.new.items ≡ entries.old.items ++ kept_of (record { place = place; segment = segment_of segment.now } ∷ [])) }
     ensures err { OnErr result (entries.new.items ≡ entries.old.items) }
 {
     if segment.goes_on() {
         return Ok(());
     }
-    let low = segment.low().number();
-    entries.push(Entry { place, low })?;
+    entries.push(Entry::of(segment, place))?;
     Ok(())
 }
 

@@ -1,8 +1,8 @@
 //! A search among entries that rise.
 
-ghost use Rattle.std.specs.Prelude.{◌≡◌, ◌<◌, ◌≤◌, ℕ, true, false, length, nat_le};
+ghost use Rattle.std.specs.Prelude.{◌≡◌, ◌<◌, ◌≤◌, ◌^◌, ℕ, true, false, length, nat_le};
 ghost use Rattle.std.specs.List.{AllWithin};
-ghost use Rattle.flat_segments.specs.declared.entry.Entry.{Entry as PlainEntry};
+ghost use Rattle.flat_segments.specs.Entries.{PlainEntry};
 ghost use Rattle.flat_segments.specs.Runs.{do_rise};
 
 use crate::entry::Entry;
@@ -48,11 +48,12 @@ fn stride_behind(misses: u32) -> usize
 /// The place near, where the entry there begins above the id; else the number of entries.
 #[inline]
 fn bound_of(entries: &[Entry], id: u64, near: usize) -> usize
-    requires { (end : ℕ) × (do_rise end entries.now ≡ true) }
+    requires rise { (end : ℕ) × (do_rise end entries.now ≡ true) }
+    requires small { id < 2 ^ 57 }
     ensures within { result ≤ length entries.now }
     ensures back { AllWithin (λ (e : PlainEntry). nat_le e.low id ≡ false) entries.now result (length entries.now) }
 {
-    if near < entries.len() && id < entries[near].low {
+    if near < entries.len() && entries[near].begins_above(id) {
         near
     } else {
         entries.len()
@@ -60,11 +61,11 @@ fn bound_of(entries: &[Entry], id: u64, near: usize) -> usize
 }
 
 /// How many of the entries, which rise, begin at the id or below it. Where the entry at the place `near` begins above the id
-/// it seeks downwards from there, the nearest entries one by one; else by halves. So a walk that goes down finds the next
-/// entry at once.
-#[inline]
-pub(crate) fn count_up_to(entries: &[Entry], id: u64, near: usize) -> usize
-    requires { (end : ℕ) × (do_rise end entries.now ≡ true) }
+/// it seeks downwards from there, the nearest entries one by one; else by halves.
+#[inline(never)]
+fn count_by_search(entries: &[Entry], id: u64, near: usize) -> usize
+    requires rise { (end : ℕ) × (do_rise end entries.now ≡ true) }
+    requires small { id < 2 ^ 57 }
     ensures within { result ≤ length entries.now }
     ensures front { AllWithin (λ (e : PlainEntry). nat_le e.low id ≡ true) entries.now 0 result }
     ensures back { AllWithin (λ (e : PlainEntry). nat_le e.low id ≡ false) entries.now result (length entries.now) }
@@ -74,7 +75,7 @@ pub(crate) fn count_up_to(entries: &[Entry], id: u64, near: usize) -> usize
     let mut misses = if high < entries.len() { 0 } else { FAR };
     'search: while low < high {
         let at = probe(low, high, stride_behind(misses));
-        if id < entries[at].low {
+        if entries[at].begins_above(id) {
             high = at;
             misses = misses.saturating_add(1);
         } else {
@@ -83,4 +84,23 @@ pub(crate) fn count_up_to(entries: &[Entry], id: u64, near: usize) -> usize
         }
     }
     low
+}
+
+/// The same, first tried at the place `near` itself: where a walk goes down by one segment, the next is found at once.
+#[inline(always)]
+pub(crate) fn count_up_to(entries: &[Entry], id: u64, near: usize) -> usize
+    requires rise { (end : ℕ) × (do_rise end entries.now ≡ true) }
+    requires small { id < 2 ^ 57 }
+    ensures within { result ≤ length entries.now }
+    ensures front { AllWithin (λ (e : PlainEntry). nat_le e.low id ≡ true) entries.now 0 result }
+    ensures back { AllWithin (λ (e : PlainEntry). nat_le e.low id ≡ false) entries.now result (length entries.now) }
+{
+    if 0 < near
+        && near < entries.len()
+        && entries[near].begins_above(id)
+        && !entries[near - 1].begins_above(id)
+    {
+        return near;
+    }
+    count_by_search(entries, id, near)
 }

@@ -47,8 +47,7 @@ impl Section {
             → IsSectionOf self.new (records ++ record { place = at; segment = segment_of segment.entry } ∷ [])) }
         ensures unchanged { OnErr result (self.new ≡ self.old) }
     {
-        let low = segment.low().number();
-        self.entries.push(Entry { place: at, low })?;
+        self.entries.push(Entry::of(&segment, at))?;
         self.end = segment.high().number() + 1;
         Ok(())
     }

@@ -13,7 +13,7 @@ ghost use Rattle.flat_segments.specs.declared.fault.FlatFault.{FlatFault as Faul
 use crate::entry::Entry;
 use crate::fault::FlatFault;
 use crate::record::append;
-use crate::run::Run;
+use crate::run::{Run, are_countable};
 use crate::view::FlatView;
 use std::alloc::Global;
 use std::marker::Model;
@@ -40,7 +40,7 @@ fn count_below(entries: &[Entry], below: u64) -> usize
     ensures within { result ≤ length entries.now }
     ensures below { take result entries.now ≡ filter (λ e. nat_lt e.low below) entries.now }
 {
-    entries.partition_point(|entry| entry.low < below)
+    entries.partition_point(|entry| entry.low() < below)
 }
 
 impl FlatTable {
@@ -97,6 +97,7 @@ impl FlatTable {
         ensures master { master_flats result ≡ view_flats result }
         ensures count { master_count result ≡ below }
     {
+        are_countable(bytes);
         let count = count_below(&self.entries, below);
         FlatView {
             master: Run {

@@ -1,5 +1,10 @@
-use Rattle.flat_segments.proofs.Searching.{back-from}
+use Rattle.std.proofs.Common.{ap, arith}
+use Rattle.flat_segments.specs.Entries.{PlainEntry}
+use Rattle.flat_segments.proofs.Searching.{back-from, above}
 use Rattle.flat_segments.proofs.search.bound_of.Goals as goal
 
-pub returns-then-id-entries-clause-back : goal.returns-then-id-entries-clause-back
-returns-then-id-entries-clause-back c = back-from c.requires.0 c.args.id c.args.entries.now c.args.near _ c.requires.1 c.if-near-entries.true c.if-id-entries.true
+pub returns-then-begins_above-clause-back : goal.returns-then-begins_above-clause-back
+returns-then-begins_above-clause-back c =
+    let more = above c.begins_above.ensures c.if-begins_above.true in
+    let same = ap (λ (e : PlainEntry). e.low) c.index-entries-near.is in
+    back-from c.requires.rise.0 c.args.id c.args.entries.now c.args.near c.index-entries-near.result c.requires.rise.1 c.if-near-entries.true (omega (arith, more, same))

@@ -1,23 +1,22 @@
-use Rattle.std.proofs.Common.{arith}
-use Rattle.flat_segments.proofs.Searching.{front-to, back-from}
+use Rattle.std.proofs.Common.{◌+◌, ◌-◌, ◌≡◌, ℕ, true, ap, arith, subst}
+use Rattle.std.specs.Prelude.{nat_le}
+use Rattle.std.specs.List.{AllWithin}
+use Rattle.flat_segments.specs.Entries.{PlainEntry}
+use Rattle.flat_segments.proofs.Searching.{front-to, back-from, above, not-above}
 use Rattle.flat_segments.proofs.search.count_up_to.Goals as goal
 
-pub search-preserved-then-id-entries : goal.search-preserved-then-id-entries
-search-preserved-then-id-entries c =
-    let low = c.probe-at.ensures.low in let high = c.probe-at.ensures.high in let within = c.search.invariant.within in
-    record {
-      order = low;
-      within = omega (arith, high, within);
-      front = c.search.invariant.front;
-      back = back-from c.requires.0 c.args.id c.args.entries.now c.probe-at.result _ c.requires.1 (omega (arith, high, within)) c.if-id-entries.true;
-    }
+pub returns-then-not-begins_above-clause-front : goal.returns-then-not-begins_above-clause-front
+returns-then-not-begins_above-clause-front c =
+    let some = c.if-near-gt0.true in
+    let before = c.if-near-entries.true in
+    let one : c.args.near - 1 + 1 ≡ c.args.near = omega (arith, some) in
+    let low = not-above c.begins_above-then-begins_above.ensures c.if-not-begins_above.true in
+    let same = ap (λ (e : PlainEntry). e.low) c.index-entries-near-then-begins_above.is in
+    subst (λ (n : ℕ). AllWithin (λ (e : PlainEntry). nat_le e.low c.args.id ≡ true) c.args.entries.now 0 n) one
+    (front-to c.requires.rise.0 c.args.id c.args.entries.now (c.args.near - 1) c.index-entries-near-then-begins_above.result c.requires.rise.1 (omega (arith, before)) (omega (arith, low, same)))
 
-pub search-preserved : goal.search-preserved
-search-preserved c =
-    let high = c.probe-at.ensures.high in let within = c.search.invariant.within in
-    record {
-      order = omega (arith, high);
-      within = within;
-      front = front-to c.requires.0 c.args.id c.args.entries.now c.probe-at.result _ c.requires.1 (omega (arith, high, within)) c.if-id-entries.false;
-      back = c.search.invariant.back;
-    }
+pub returns-then-not-begins_above-clause-back : goal.returns-then-not-begins_above-clause-back
+returns-then-not-begins_above-clause-back c =
+    let more = above c.begins_above.ensures c.if-begins_above.true in
+    let same = ap (λ (e : PlainEntry). e.low) c.index-entries-near.is in
+    back-from c.requires.rise.0 c.args.id c.args.entries.now c.args.near c.index-entries-near.result c.requires.rise.1 c.if-near-entries.true (omega (arith, more, same))

@@ -7,5 +7,5 @@ overflow_sub-result c =
 
 pub returns-clause-found : goal.returns-clause-found
 returns-clause-found c = λ s get.
-    found-in c.args.self.now.bytes.now c.args.self.now.end c.args.id c.args.self.now.entries.now c.count_up_to.result (record { place = 0; low = 0 }) s c.args.self.now.read c.count_up_to.ensures.within
+    found-in c.args.self.now.bytes.now c.args.self.now.end c.args.id c.args.self.now.entries.now c.count_up_to.result (record { place = 0; len = 0; low = 0 }) s c.args.self.now.read c.count_up_to.ensures.within
     c.requires.above c.requires.below c.count_up_to.ensures.front c.count_up_to.ensures.back get

@@ -1,6 +1,6 @@
-use Rattle.std.proofs.Common.{◌++◌, [], ◌∷◌, ◌∙◌, ◌+◌, subst, sym, ap, ℕ}
+use Rattle.std.proofs.Common.{◌++◌, List, [], ◌∷◌, ◌∙◌, ◌+◌, subst, sym, ap}
 use Rattle.segment_codec.specs.Lent.{segment_of}
-use Rattle.flat_segments.specs.declared.entry.Entry.{Entry}
+use Rattle.flat_segments.specs.Entries.{PlainEntry}
 use Rattle.flat_segments.specs.Placed.{Placed}
 use Rattle.flat_segments.specs.Kept.{Kept, IsSectionOf, MayPush}
 use Rattle.flat_segments.proofs.Sections.{pushed, made}
@@ -10,7 +10,6 @@ pub returns-clause-section : goal.returns-clause-section
 returns-clause-section c = λ records is.
     let r : Placed = record { place = c.args.at; segment = segment_of c.args.segment } in
     let old : Kept = record { entries = c.self.inside.entries.items; end = c.self.inside.end } in
-    let low = c.number-low.ensures.number ∙ c.low.ensures in
-    let added = λ (n : ℕ). (let e : Entry = record { place = c.args.at; low = n } in c.self.inside.entries.items ++ e ∷ []) in
-    made old records r _ _ (c.in_ok-push.ensures.items ∙ ap added low) (ap (λ n. n + 1) (c.number.ensures.number ∙ c.high.ensures))
+    let added = λ (e : PlainEntry). c.self.inside.entries.items ++ e ∷ [] in
+    made old records r _ _ (◌∙◌ {A = List PlainEntry} c.in_ok-push.ensures.items (ap added c.of.ensures)) (ap (λ n. n + 1) (c.number.ensures.number ∙ c.high.ensures))
     (pushed old records r (subst (λ (k : Kept). MayPush k (segment_of c.args.segment)) (sym c.self.view_is) c.requires) (subst (λ (k : Kept). IsSectionOf k records) (sym c.self.view_is) is))
