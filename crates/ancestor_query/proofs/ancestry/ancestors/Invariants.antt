@@ -5,8 +5,8 @@ use Rattle.ancestor_query.proofs.ancestry.ancestors.Given as goal
 
 abbrev pub invariant-visit : goal.invariant-visit
 invariant-visit g l = record {
-  going : Going (g.T.SegmentTable.flats l.table) (g.T.SegmentTable.ending_at l.table) (IsMember l.set) l.fn.steps l.frontier l.work l.answer l.steps;
-  counted : min l.fn.steps (2 ^ 64 - 1) ≤ l.steps;
+  going : Going (g.T.SegmentTable.flats l.table) (g.T.SegmentTable.ending_at l.table) (IsMember l.set) l.fn.steps.taken l.frontier l.work l.answer l.steps.taken;
+  counted : min l.fn.steps.taken (2 ^ 64 - 1) ≤ l.steps.taken;
   canonical : IsCanonical l.answer;
 }
 

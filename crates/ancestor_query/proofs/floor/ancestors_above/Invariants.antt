@@ -6,7 +6,7 @@ use Rattle.ancestor_query.proofs.floor.ancestors_above.Given as goal
 abbrev pub invariant-visit : goal.invariant-visit
 invariant-visit g l = record {
   above : Above (g.T.SegmentTable.flats l.table) (IsMember l.set) l.fn.floor l.frontier l.work l.answer;
-  counted : min l.fn.steps (2 ^ 64 - 1) ≤ l.steps;
+  counted : min l.fn.steps.taken (2 ^ 64 - 1) ≤ l.steps.taken;
   canonical : IsCanonical l.answer;
 }
 
