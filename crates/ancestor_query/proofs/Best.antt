@@ -1,24 +1,19 @@
--- The best jump at an id, and one turn of the visits with it.
-use Rattle.std.proofs.Common.{◌≡◌, ℕ, ◌+◌, ◌*◌, ◌<◌, ◌≤◌, ◌^◌, ◌⊎◌, ◌↔◌, inl, inr, Bool, true, false, nat_lt, List, [], ◌∷◌, Option, Some, None, refl, sym, subst, ap, ◌∙◌, arith, ⊎_elim, if◌then◌else◌}
+-- The best jump at an id.
+use Rattle.std.proofs.Common.{◌≡◌, ℕ, ◌+◌, ◌<◌, ◌≤◌, ◌^◌, inl, Bool, true, false, nat_lt, List, [], ◌∷◌, Option, Some, None, refl, sym, subst, ap, ◌∙◌, arith, ⊎_elim, if◌then◌else◌}
 use Rattle.std.specs.Prelude.{MatchOption, IsSome}
 use Rattle.std.proofs.lemmas.Bool.{ltb-true, ltb-false, lt-ltb}
 use Rattle.id_groups.specs.Lists.{IsIn}
 use Rattle.id_groups.specs.Id.{is_master_id}
-use Rattle.id_groups.specs.declared.span.IdSpan.{IdSpan}
 use Rattle.commit_graph.specs.Graph.{IsWalk}
 use Rattle.segment_codec.specs.Record.{Segment}
 use Rattle.segment_codec.specs.Lent.{segment_of}
 use Rattle.segment_codec.specs.declared.lent.SegmentRef.{SegmentRef}
 use Rattle.segment_codec.specs.Table.{segment_at, IsHeld, IsLawful, IsEnding}
 use Rattle.segment_codec.proofs.Tables.{le_or_lt, segment-in, parent-below, lawful-at}
-use Rattle.span_set.specs.Members.{IsMember}
 use Rattle.ancestor_query.specs.Graph.{table_graph, IsJump}
-use Rattle.ancestor_query.specs.Visits.{ToVisit, IsNext, Visits}
 use Rattle.ancestor_query.specs.Jumps.{lower_of, IsBest}
-use Rattle.ancestor_query.specs.Counts.{count_segments, EndsWhole}
+use Rattle.ancestor_query.specs.Counts.{EndsWhole}
 use Rattle.ancestor_query.proofs.Graphs.{segment-jump, ending-segment, ending-jump}
-use Rattle.ancestor_query.proofs.Down.{visits-kept, visits-jump, anc-visit, anc-inside}
-use Rattle.ancestor_query.proofs.Counts.{has_low, one-more}
 
 some-one : (a b : Segment) (o : Option Segment) → o ≡ Some a → o ≡ Some b → a ≡ b
 some-one a b o e f = cc
@@ -124,52 +119,3 @@ best-whole flats lawful ending law id best b (level, s, few, found, none) =
     no-member best.parents (λ p i.
     let h = b.jump.only p i in let lt = h.0 in let a = h.2 in
     absurd (subst (IsIn p) none (jump.out h.1 p (omega arith) h.3 h.4 (omega arith))))
-
--- where a single id is asked for: before the first turn nothing is on the work, after it nothing is left
-abbrev pub OneTurn : (ℕ → Type 0) → ℕ → List ℕ → ℕ → ℕ → Type 0
-OneTurn S a work start taken =
-    ((taken ≡ start) × (work ≡ [])) ⊎ ((taken ≤ start + 8) × ((w : ℕ) → ToVisit S work w → w < a → ⊥))
-
-module _ (flats : List Segment) (lawful : IsLawful flats) (S : ℕ → Type 0) (a : ℕ) (before after : List ℕ) (answer : List IdSpan)
-    (v : Visits flats S a before answer) (x : ℕ) (next : IsNext S before after a (Some x)) where
-  pub kept : Visits flats S a after answer
-  kept = visits-kept flats lawful S a before after answer next.keeps v
-
-  pub next-held : ((y : ℕ) → S y → IsHeld flats y) → IsHeld flats x
-  next-held inside = anc-inside flats lawful S inside x (anc-visit flats lawful S after kept.pending.sound x next.greatest.is)
-
-  module _ (ending : ℕ → ℕ → Option Segment) (best : Segment) (b : IsBest flats ending 8 x best) where
-    pub low-bound : best.low < a
-    low-bound = let o = b.jump.order in let u = next.greatest.under in omega arith
-
-    module _ (more : List ℕ) (longer : List IdSpan)
-        (pushed : (w : ℕ) → IsIn w more ↔ (IsIn w after ⊎ IsIn w best.parents))
-        (added : (z : ℕ) → IsMember longer z ↔ (IsMember answer z ⊎ ((best.low ≤ z) × (z ≤ x)))) where
-      pub visits-best : Visits flats S best.low more longer
-      visits-best = visits-jump flats lawful S a after answer kept x best.low best.parents more longer next.greatest b.jump pushed added
-
-      pub few-best : ((y : ℕ) → S y → IsHeld flats y) → (start taken now : ℕ) → taken ≤ start + 8 * count_segments (has_low answer) flats → now ≤ taken + 8
-          → now ≤ start + 8 * count_segments (has_low longer) flats
-      few-best inside start taken now h e =
-          let i = next-held inside in
-          let s = i.0 in
-          let f = segment-in flats x s i.1 in
-          let low = f.1.0 in let u = next.greatest.under in
-          let under = b.flat s i.1 in
-          let grows = one-more flats answer longer s f.0 (λ m. let le = ((v.exact s.low).0 m).1 in absurd (omega arith)) ((added s.low).1 (inr (under, low))) (λ z m. (added z).1 (inl m)) in
-          omega arith
-
-      pub one-best : ((level id : ℕ) (s : Segment) → ending level id ≡ Some s → IsEnding flats level id s) → (start taken now : ℕ) → now ≤ taken + 8 → (y : ℕ) → ((z : ℕ) → S z → z ≡ y) → EndsWhole ending y
-          → OneTurn S a before start taken → OneTurn S best.low more start now
-      one-best law start taken now e y is-y whole (inl h) =
-          let none : (w : ℕ) → IsIn w after → ⊥ = λ w i. subst (IsIn w) h.1 (next.keeps.kept w i) in
-          let same : x ≡ y = ⊎_elim (λ m. is-y x m) (λ i. absurd (none x i)) next.greatest.is in
-          let empty = best-whole flats lawful ending law x best b (subst (EndsWhole ending) (sym same) whole) in
-          let o = b.jump.order in let t = h.0 in
-          inr (
-            omega arith,
-            λ w v lt. ⊎_elim (λ m. let q = is-y w m in absurd (omega arith))
-                (λ i. ⊎_elim (λ j. none w j) (λ p. subst (IsIn w) empty p) ((pushed w).0 i)) v,
-          )
-      one-best law start taken now e y is-y whole (inr h) =
-          absurd (h.1 x (⊎_elim (λ m. inl m) (λ i. inr (next.keeps.kept x i)) next.greatest.is) next.greatest.under)

@@ -1,5 +1,5 @@
--- How many segments have their lowest id in the answer.
-use Rattle.std.proofs.Common.{◌≡◌, ℕ, ◌<◌, ◌≤◌, inl, inr, Bool, true, false, ◌&&◌, nat_le, List, [], ◌∷◌, refl, sym, subst, arith, ⊎_elim, if◌then◌else◌, zero-le, true≢false}
+-- How many segments have their lowest id, from a floor on, in the answer.
+use Rattle.std.proofs.Common.{◌≡◌, ℕ, ◌<◌, ◌≤◌, inl, inr, Bool, true, false, ◌&&◌, nat_le, max, List, [], ◌∷◌, refl, sym, subst, arith, ⊎_elim, if◌then◌else◌, zero-le, true≢false}
 use Rattle.std.specs.List.{list_any}
 use Rattle.std.proofs.lemmas.Bool.{leb-true, le-leb}
 use Rattle.id_groups.specs.Lists.{IsIn}
@@ -10,33 +10,41 @@ use Rattle.segment_codec.specs.Table.{IsLawful}
 use Rattle.span_set.specs.Members.{IsMember}
 use Rattle.ancestor_query.specs.Counts.{count_segments, meets, count_met}
 
--- whether some span has the lowest id of the segment
-abbrev pub has_low : List IdSpan → Segment → Bool
-has_low spans s = list_any (λ t. nat_le t.low s.low && nat_le s.low t.high) spans
+-- whether some span has the segment's lowest id from the floor on
+abbrev pub has_first : ℕ → List IdSpan → Segment → Bool
+has_first floor spans s = nat_le floor s.high && list_any (λ t. nat_le t.low (max s.low floor) && nat_le (max s.low floor) t.high) spans
 
-pub low-member : (spans : List IdSpan) (s : Segment) → has_low spans s ≡ true → IsMember spans s.low
-low-member [] s e = true≢false (sym e)
-low-member (t ∷ rest) s e = ⊎_elim
-    (λ h. let b = and_true (nat_le t.low s.low) (nat_le s.low t.high) h in inl (leb-true t.low s.low b.0, leb-true s.low t.high b.1))
-    (λ h. inr (low-member rest s h))
-    (or_true (nat_le t.low s.low && nat_le s.low t.high) (has_low rest s) e)
+any-member : (spans : List IdSpan) (x : ℕ) → list_any (λ t. nat_le t.low x && nat_le x t.high) spans ≡ true → IsMember spans x
+any-member [] x e = true≢false (sym e)
+any-member (t ∷ rest) x e = ⊎_elim
+    (λ h. let b = and_true (nat_le t.low x) (nat_le x t.high) h in inl (leb-true t.low x b.0, leb-true x t.high b.1))
+    (λ h. inr (any-member rest x h))
+    (or_true (nat_le t.low x && nat_le x t.high) (list_any (λ t. nat_le t.low x && nat_le x t.high) rest) e)
 
-pub member-low : (spans : List IdSpan) (s : Segment) → IsMember spans s.low → has_low spans s ≡ true
-member-low [] s m = absurd m
-member-low (t ∷ rest) s (inl i) =
-    or_left (nat_le t.low s.low && nat_le s.low t.high) (has_low rest s)
-    (both_true (nat_le t.low s.low) (nat_le s.low t.high) (le-leb t.low s.low i.0) (le-leb s.low t.high i.1))
-member-low (t ∷ rest) s (inr m) = or_right (nat_le t.low s.low && nat_le s.low t.high) (has_low rest s) (member-low rest s m)
+member-any : (spans : List IdSpan) (x : ℕ) → IsMember spans x → list_any (λ t. nat_le t.low x && nat_le x t.high) spans ≡ true
+member-any [] x m = absurd m
+member-any (t ∷ rest) x (inl i) =
+    or_left (nat_le t.low x && nat_le x t.high) (list_any (λ t. nat_le t.low x && nat_le x t.high) rest)
+    (both_true (nat_le t.low x) (nat_le x t.high) (le-leb t.low x i.0) (le-leb x t.high i.1))
+member-any (t ∷ rest) x (inr m) = or_right (nat_le t.low x && nat_le x t.high) (list_any (λ t. nat_le t.low x && nat_le x t.high) rest) (member-any rest x m)
 
-low-meets : (spans : List IdSpan) (s : Segment) → s.low ≤ s.high → has_low spans s ≡ true → meets spans s ≡ true
-low-meets [] s o e = e
-low-meets (t ∷ rest) s o e = ⊎_elim
-    (λ h. let b = and_true (nat_le t.low s.low) (nat_le s.low t.high) h in
-    let u = leb-true t.low s.low b.0 in
+first-member : (floor : ℕ) (spans : List IdSpan) (s : Segment) → has_first floor spans s ≡ true → (floor ≤ s.high) × IsMember spans (max s.low floor)
+first-member floor spans s e =
+    let b = and_true (nat_le floor s.high) (list_any (λ t. nat_le t.low (max s.low floor) && nat_le (max s.low floor) t.high) spans) e in
+    (leb-true floor s.high b.0, any-member spans (max s.low floor) b.1)
+
+member-first : (floor : ℕ) (spans : List IdSpan) (s : Segment) → floor ≤ s.high → IsMember spans (max s.low floor) → has_first floor spans s ≡ true
+member-first floor spans s le m =
+    both_true (nat_le floor s.high) (list_any (λ t. nat_le t.low (max s.low floor) && nat_le (max s.low floor) t.high) spans)
+    (le-leb floor s.high le) (member-any spans (max s.low floor) m)
+
+member-meets : (spans : List IdSpan) (s : Segment) (x : ℕ) → s.low ≤ x → x ≤ s.high → IsMember spans x → meets spans s ≡ true
+member-meets [] s x a b m = absurd m
+member-meets (t ∷ rest) s x a b (inl i) =
+    let low = i.0 in let high = i.1 in
     or_left (nat_le t.low s.high && nat_le s.low t.high) (meets rest s)
-    (both_true (nat_le t.low s.high) (nat_le s.low t.high) (le-leb t.low s.high (omega arith)) b.1))
-    (λ h. or_right (nat_le t.low s.high && nat_le s.low t.high) (meets rest s) (low-meets rest s o h))
-    (or_true (nat_le t.low s.low && nat_le s.low t.high) (has_low rest s) e)
+    (both_true (nat_le t.low s.high) (nat_le s.low t.high) (le-leb t.low s.high (omega arith)) (le-leb s.low t.high (omega arith)))
+member-meets (t ∷ rest) s x a b (inr m) = or_right (nat_le t.low s.high && nat_le s.low t.high) (meets rest s) (member-meets rest s x a b m)
 
 bit-le : (b c : Bool) → (b ≡ true → c ≡ true) → (if b then 1 else 0) ≤ (if c then 1 else 0)
 bit-le false c h = zero-le
@@ -58,16 +66,20 @@ module _ (p q : Segment → Bool) where
   count-lt (t ∷ xs) s (inr i) e f h =
       let a = bit-le (p t) (q t) (h t (inl refl)) in let b = count-lt xs s i e f (λ u i. h u (inr i)) in omega arith
 
--- one more segment has its lowest id in the answer
-pub one-more : (flats : List Segment) (answer longer : List IdSpan) (s : Segment) → IsIn s flats → (IsMember answer s.low → ⊥) → IsMember longer s.low → ((x : ℕ) → IsMember answer x → IsMember longer x)
-    → count_segments (has_low answer) flats < count_segments (has_low longer) flats
-one-more flats answer longer s i out into grows =
-    count-lt (has_low answer) (has_low longer) flats s i (absent (has_low answer s) refl) (member-low longer s into)
-    (λ t _ e. member-low longer t (grows t.low (low-member answer t e)))
+-- one more segment has its lowest id from the floor on in the answer
+pub one-more : (flats : List Segment) (floor : ℕ) (answer longer : List IdSpan) (s : Segment) → IsIn s flats → floor ≤ s.high
+    → (IsMember answer (max s.low floor) → ⊥) → IsMember longer (max s.low floor) → ((x : ℕ) → IsMember answer x → IsMember longer x)
+    → count_segments (has_first floor answer) flats < count_segments (has_first floor longer) flats
+one-more flats floor answer longer s i le out into grows =
+    count-lt (has_first floor answer) (has_first floor longer) flats s i (absent (has_first floor answer s) refl) (member-first floor longer s le into)
+    (λ t _ e. let h = first-member floor answer t e in member-first floor longer t h.0 (grows (max t.low floor) h.1))
   where
-    absent : (b : Bool) → has_low answer s ≡ b → has_low answer s ≡ false
-    absent true e = absurd (out (low-member answer s e))
+    absent : (b : Bool) → has_first floor answer s ≡ b → has_first floor answer s ≡ false
+    absent true e = absurd (out (first-member floor answer s e).1)
     absent false e = e
 
-pub low-met : (flats : List Segment) (answer : List IdSpan) → IsLawful flats → count_segments (has_low answer) flats ≤ count_met answer flats
-low-met flats answer lawful = count-le (has_low answer) (meets answer) flats (λ t i e. low-meets answer t (lawful.each t i).segment.ascending e)
+pub first-met : (flats : List Segment) (floor : ℕ) (answer : List IdSpan) → IsLawful flats → count_segments (has_first floor answer) flats ≤ count_met answer flats
+first-met flats floor answer lawful =
+    count-le (has_first floor answer) (meets answer) flats
+    (λ t i e. let h = first-member floor answer t e in let le = h.0 in let order = (lawful.each t i).segment.ascending in
+    member-meets answer t (max t.low floor) (omega arith) (omega arith) h.1)

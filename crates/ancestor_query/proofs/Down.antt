@@ -1,16 +1,14 @@
 -- Visits from the greatest id down: what a jump keeps, and what is left at the end.
 use Rattle.std.proofs.Common.{ℕ, ◌<◌, ◌≤◌, ◌^◌, ◌⊎◌, inl, inr, ◌↔◌, List, [], ◌∷◌, refl, sym, subst, arith, ⊎_elim}
 use Rattle.id_groups.specs.Lists.{IsIn}
-use Rattle.id_groups.specs.declared.span.IdSpan.{IdSpan}
 use Rattle.commit_graph.specs.Graph.{IsWalk, Reaches}
 use Rattle.commit_graph.specs.Sets as sets
 use Rattle.commit_graph.proofs.Walks.{reaches-trans, reaches-self}
 use Rattle.segment_codec.specs.Record.{Segment}
 use Rattle.segment_codec.specs.Table.{IsHeld, IsLawful}
 use Rattle.segment_codec.proofs.Tables.{le_or_lt, parent-below}
-use Rattle.span_set.specs.Members.{IsMember}
 use Rattle.ancestor_query.specs.Graph.{table_graph, IsJump}
-use Rattle.ancestor_query.specs.Visits.{ToVisit, Keeps, IsGreatest, IsFrontier, Visits}
+use Rattle.ancestor_query.specs.Visits.{ToVisit, Keeps, IsGreatest, IsFrontier}
 use Rattle.ancestor_query.proofs.Graphs.{reached-held, held-bound}
 
 module _ (flats : List Segment) (lawful : IsLawful flats) (S : ℕ → Type 0) where
@@ -46,9 +44,6 @@ module _ (flats : List Segment) (lawful : IsLawful flats) (S : ℕ → Type 0) w
     whole = λ y p ay le i lt. k.lost p (f.whole y p ay le i lt) lt;
   }
 
-  pub visits-kept : (a : ℕ) (before after : List ℕ) (answer : List IdSpan) → Keeps before after a → Visits flats S a before answer → Visits flats S a after answer
-  visits-kept a before after answer k v = record { exact = v.exact; pending = frontier-kept a before after k v.pending }
-
   module _ (a : ℕ) (work : List ℕ) (f : IsFrontier flats S a work) where
     module _ (x : ℕ) (top : IsGreatest (ToVisit S work) a x) where
       pub anc-top : Anc x
@@ -72,28 +67,6 @@ module _ (flats : List Segment) (lawful : IsLawful flats) (S : ℕ → Type 0) w
     pub none-below : ((w : ℕ) → ToVisit S work w → w < a → ⊥) → (z : ℕ) → Anc z → z < a → ⊥
     none-below none = below-frontier (λ _. ⊥) (λ u p n lt. n) a work none f.whole
 
-  module _ (a : ℕ) (work : List ℕ) (answer : List IdSpan) (v : Visits flats S a work answer) where
-    pub visits-jump : (x low : ℕ) (parents more : List ℕ) (longer : List IdSpan) → IsGreatest (ToVisit S work) a x → IsJump (table_graph flats) low x parents
-        → ((w : ℕ) → IsIn w more ↔ (IsIn w work ⊎ IsIn w parents))
-        → ((z : ℕ) → IsMember longer z ↔ (IsMember answer z ⊎ ((low ≤ z) × (z ≤ x))))
-        → Visits flats S low more longer
-    visits-jump x low parents more longer top jump pushed added =
-        let order = jump.order in let under = top.under in
-        record {
-          exact = λ z. (
-            λ m. ⊎_elim (λ o. let e = (v.exact z).0 o in let le = e.1 in (e.0, omega arith))
-                (λ i. (anc-reach x z (anc-top a work v.pending x top) (jump.reaches z i.0 i.1), i.0)) ((added z).0 m),
-            λ h. (added z).1 (⊎_elim (λ (le : a ≤ z). inl ((v.exact z).1 (h.0, le))) (λ (lt : z < a). inr (h.1, anc-at_most a work v.pending x top z h.0 lt)) (le_or_lt a z)),
-          );
-          pending = frontier-jump a work v.pending x top low parents more jump pushed;
-        }
-
-    pub visits-done : ((w : ℕ) → ToVisit S work w → w < a → ⊥) → (z : ℕ) → IsMember answer z ↔ Anc z
-    visits-done none z = (
-      λ m. ((v.exact z).0 m).0,
-      λ h. ⊎_elim (λ (le : a ≤ z). (v.exact z).1 (h, le)) (λ (lt : z < a). absurd (none-below a work v.pending none z h lt)) (le_or_lt a z),
-    )
-
   module _ (inside : (x : ℕ) → S x → IsHeld flats x) where
     pub anc-inside : (z : ℕ) → Anc z → IsHeld flats z
     anc-inside z h = reached-held flats lawful h.0 h.2.0 z (inside h.0 h.1) h.2.1
@@ -103,9 +76,3 @@ module _ (flats : List Segment) (lawful : IsLawful flats) (S : ℕ → Type 0) w
 
     pub frontier-none : (work : List ℕ) → ((w : ℕ) → IsIn w work → Anc w) → IsFrontier flats S (2 ^ 57) work
     frontier-none work sound = record { sound = sound; whole = λ y p ay le i lt. let b = anc-bound y ay in absurd (omega arith) }
-
-    pub visits-none : Visits flats S (2 ^ 57) [] []
-    visits-none = record {
-      exact = λ z. (λ m. absurd m, λ h. let lt = anc-bound z h.0 in let le = h.1 in absurd (omega arith));
-      pending = frontier-none [] (λ w i. absurd i);
-    }

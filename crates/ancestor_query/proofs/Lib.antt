@@ -8,4 +8,3 @@ pub mod Turns
 pub mod Single
 pub mod Firsts
 pub mod Parts
-pub mod FloorLemmas

@@ -1,10 +1,8 @@
 -- Visits of ids from the greatest down: what waits to be visited, and what is known of the ids gone over.
-use Rattle.std.specs.Prelude.{◌≡◌, ℕ, ◌<◌, ◌≤◌, ◌⊎◌, ◌↔◌, List, Option, Some, None, max}
+use Rattle.std.specs.Prelude.{◌≡◌, ℕ, ◌<◌, ◌≤◌, ◌⊎◌, List, Option, Some, None, max}
 use Rattle.id_groups.specs.Lists.{IsIn}
-use Rattle.id_groups.specs.declared.span.IdSpan.{IdSpan}
 use Rattle.commit_graph.specs.Sets as sets
 use Rattle.segment_codec.specs.Record.{Segment}
-use Rattle.span_set.specs.Members.{IsMember}
 use Rattle.ancestor_query.specs.Graph.{table_graph}
 
 -- an id of the set from which the visits start, or of the work
@@ -48,12 +46,7 @@ pub record IsFrontier (flats : List Segment) (S : ℕ → Type 0) (frontier : �
   pub sound : (w : ℕ) → IsIn w work → sets.ancestors (table_graph flats) S w
   pub whole : (y p : ℕ) → sets.ancestors (table_graph flats) S y → frontier ≤ y → IsIn p ((table_graph flats).parents y) → p < frontier → IsIn p work
 
--- The answer has exactly the ancestors from the frontier on.
-pub record Visits (flats : List Segment) (S : ℕ → Type 0) (frontier : ℕ) (work : List ℕ) (answer : List IdSpan) : Type 0 where
-  pub exact : (x : ℕ) → IsMember answer x ↔ (sets.ancestors (table_graph flats) S x × (frontier ≤ x))
-  pub pending : IsFrontier flats S frontier work
-
--- the same where the visits start from one id, which stands on the work too
+-- The same where the visits start from one id, which stands on the work too.
 pub record Pending (flats : List Segment) (y frontier : ℕ) (work : List ℕ) : Type 0 where
   pub pending : IsFrontier flats (λ z. z ≡ y) frontier work
   pub own : y < frontier → IsIn y work

@@ -8,9 +8,10 @@ ghost use Rattle.span_set.specs.Members.{IsMember, IsCanonical};
 ghost use Rattle.ancestor_query.specs.Graph.{table_graph};
 ghost use Rattle.ancestor_query.specs.Counts.{count_met, IsOnly, EndsWhole};
 
+use crate::floor::ancestors_above;
 use crate::jump::best_jump;
 use crate::work_list::WorkList;
-use id_groups::{ID_END, Id, IdSpan};
+use id_groups::{ID_END, Id};
 use segment_codec::{SegmentTable, Steps};
 use span_set::IdSet;
 use std::alloc::{AllocError, Global};
@@ -32,17 +33,7 @@ pub fn ancestors<T: SegmentTable>(
     ensures one { IfOk result (λ r. (x : ℕ) → IsOnly x set.now → EndsWhole (T.ending_at table.now) x → steps.new.taken ≤ steps.old.taken + 8) }
     ensures counted { min steps.old.taken (2 ^ 64 - 1) ≤ steps.new.taken }
 {
-    let mut answer = IdSet::empty(alloc);
-    let mut work = WorkList::empty(alloc);
-    let mut frontier = ID_END;
-    'visit: while let Some(id) = work.next_id(set, frontier) {
-        let segment = best_jump(table, id, steps);
-        let low = segment.low();
-        answer.insert_span(IdSpan { low, high: id })?;
-        work.push_all(segment.parents())?;
-        frontier = low.number();
-    }
-    Ok(answer)
+    ancestors_above(alloc, table, set, Id::master(0), steps)
 }
 
 /// Whether a walk along parents leads from `y` to `x`, both ids of the table; from an id to itself one does.

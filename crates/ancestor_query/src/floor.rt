@@ -1,10 +1,11 @@
 //! What some ids reach along parents, from a lowest id on.
 
-ghost use Rattle.std.specs.Prelude.{◌≡◌, ℕ, ◌≤◌, ◌↔◌, IfOk, ◌-◌, ◌^◌, min};
+ghost use Rattle.std.specs.Prelude.{◌≡◌, ℕ, ◌+◌, ◌-◌, ◌*◌, ◌≤◌, ◌^◌, ◌↔◌, IfOk, min};
 ghost use Rattle.commit_graph.specs.Sets as sets;
 ghost use Rattle.segment_codec.specs.Table.{IsHeld};
 ghost use Rattle.span_set.specs.Members.{IsMember, IsCanonical};
 ghost use Rattle.ancestor_query.specs.Graph.{table_graph};
+ghost use Rattle.ancestor_query.specs.Counts.{count_met, IsOnly, EndsWhole};
 
 use crate::jump::best_jump;
 use crate::work_list::WorkList;
@@ -14,7 +15,9 @@ use span_set::IdSet;
 use std::alloc::{AllocError, Global};
 
 /// The ids from `floor` on that some member of the set reaches along parents, the members from `floor` on among them.
-/// Each member is an id of the table. It visits no id below `floor`. `AllocError` only for want of memory.
+/// Each member is an id of the table. It visits no id below `floor`. It takes at most eight look-ups more than eight for
+/// each flat segment that has one of these ids, and at most eight where a segment without parents, of any level, ends at
+/// the one member. No call takes back what `steps` counted. `AllocError` only for want of memory.
 pub fn ancestors_above<T: SegmentTable>(
     alloc: Global,
     table: &T,
@@ -25,6 +28,8 @@ pub fn ancestors_above<T: SegmentTable>(
     requires { (x : ℕ) → IsMember set.now x → IsHeld (T.flats table.now) x }
     ensures members { IfOk result (λ r. (x : ℕ) → IsMember r x ↔ (sets.ancestors (table_graph (T.flats table.now)) (IsMember set.now) x × (floor ≤ x))) }
     ensures canonical { IfOk result IsCanonical }
+    ensures few { IfOk result (λ r. steps.new.taken ≤ steps.old.taken + 8 * (1 + count_met r (T.flats table.now))) }
+    ensures one { IfOk result (λ r. (x : ℕ) → IsOnly x set.now → EndsWhole (T.ending_at table.now) x → steps.new.taken ≤ steps.old.taken + 8) }
     ensures counted { min steps.old.taken (2 ^ 64 - 1) ≤ steps.new.taken }
 {
     let least = floor.number();

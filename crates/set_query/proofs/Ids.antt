@@ -1,27 +1,26 @@
 -- The ids of a table: where they stand in its graph, and that the members of an expression are among them.
-use Rattle.std.proofs.Common.{◌≡◌, ℕ, zero, suc, ◌+◌, ◌-◌, ◌<◌, ◌≤◌, ◌^◌, ◌⊎◌, inl, inr, Bool, true, false, List, [], ◌∷◌, ◌++◌, Option, Some, None, length, refl, sym, subst, ap, ◌∙◌, arith, ⊎_elim, append-nil}
-use Rattle.std.specs.Prelude.{◌↔◌, ◌&&◌, IsTrue}
+use Rattle.std.proofs.Common.{◌≡◌, ℕ, zero, suc, ◌+◌, ◌-◌, ◌<◌, ◌≤◌, ◌^◌, ◌⊎◌, inl, inr, true, List, [], ◌∷◌, ◌++◌, Some, None, length, refl, sym, subst, ap, ◌∙◌, arith, ⊎_elim}
+use Rattle.std.specs.Prelude.{◌↔◌, IsTrue}
 use Rattle.std.specs.Prelude.{map, take, drop}
 use Rattle.std.proofs.Math.Seq.{take-append_seam, drop-append_seam}
 use Rattle.std.proofs.lemmas.List.{map-append, length-map}
 use Rattle.id_groups.specs.Lists.{IsIn}
 use Rattle.id_groups.specs.declared.span.IdSpan.{IdSpan}
 use Rattle.id_groups.proofs.Listing.{and_true}
-use Rattle.commit_graph.specs.Graph.{Graph, Reaches}
+use Rattle.commit_graph.specs.Graph.{Graph}
 use Rattle.commit_graph.proofs.Histories.{in-append}
 use Rattle.commit_graph.proofs.Down.{in-left, in-right}
 use Rattle.segment_codec.specs.Record.{Segment}
-use Rattle.segment_codec.specs.Table.{IsInSegment, segment_at, IsHeld, Follow, Cover, IsLawful}
-use Rattle.segment_codec.proofs.Tables.{le_or_lt, found-head, found-behind, head-or-behind, segment-in, parent-below, follow-held, follow-within}
-use Rattle.span_set.specs.Members.{IsMember, descending_from, ids_of}
+use Rattle.segment_codec.specs.Table.{IsInSegment, IsHeld, Cover, IsLawful}
+use Rattle.segment_codec.proofs.Tables.{found-head, found-behind, head-or-behind, segment-in, parent-below, follow-held, follow-within}
+use Rattle.span_set.specs.Members.{IsMember, descending_from}
 use Rattle.span_set.proofs.Counts.{ids-member, member-ids}
 use Rattle.ancestor_query.specs.Graph.{table_graph, down_of}
 use Rattle.ancestor_query.proofs.Graphs.{held-bound, reached-held}
-use Rattle.set_query.specs.declared.words.Word.{Word}
 use Rattle.set_query.specs.declared.words.Word.TheVariants as words
 use Rattle.set_query.specs.declared.words.Call.{Call}
 use Rattle.set_query.specs.declared.words.Call.TheVariants as calls
-use Rattle.set_query.specs.Built.{is_built, is_built_word, is_built_call}
+use Rattle.set_query.specs.Built.{is_built}
 use Rattle.set_query.specs.Expr.{Expr, One, Named, Of, OfTwo, Up, Top, commits_in, renamed}
 use Rattle.set_query.specs.Ids.{first_id, with_ids}
 use Rattle.set_query.specs.Meaning as means

@@ -5,7 +5,7 @@ use Rattle.ancestor_query.proofs.ancestry.is_ancestor.Given as goal
 abbrev pub invariant-visit : goal.invariant-visit
 invariant-visit g l = record {
   pending : Pending (g.T.SegmentTable.flats l.table) l.fn.y l.frontier l.work;
-  counted : min l.fn.steps (2 ^ 64 - 1) ≤ l.steps;
+  counted : min l.fn.steps.taken (2 ^ 64 - 1) ≤ l.steps.taken;
   above : l.fn.x < l.frontier;
 }
 

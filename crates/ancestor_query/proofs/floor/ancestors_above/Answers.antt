@@ -1,12 +1,13 @@
 use Rattle.std.proofs.Common.{arith, ◌≡◌, ◌∙◌, max, subst, sym}
 use Rattle.segment_codec.specs.Lent.{segment_of, parents_left}
 use Rattle.span_set.specs.Members.{IsMember, IsCanonical}
-use Rattle.ancestor_query.proofs.FloorLemmas.{above-none, above-held, above-stop, above-turn, above-done}
+use Rattle.ancestor_query.proofs.Turns.{going-none, going-held, going-stop, going-turn, going-done, going-few, going-one}
 use Rattle.ancestor_query.proofs.floor.ancestors_above.Goals as goal
 
 pub visit-init : goal.visit-init
 visit-init g c = record {
-  above = above-none (g.T.SegmentTable.flats c.args.table.now) (IsMember c.args.set.now) c.args.floor (g.met.T.SegmentTable.lawful c.args.table.now) c.requires
+  going = going-none (g.T.SegmentTable.flats c.args.table.now) (g.T.SegmentTable.ending_at c.args.table.now) (IsMember c.args.set.now) c.args.floor c.args.steps.now.taken
+    (g.met.T.SegmentTable.lawful c.args.table.now) (λ level id s e. g.met.T.SegmentTable.endings c.args.table.now level id s e) c.requires
       c.empty-work.result c.empty-answer.result c.empty-work.ensures c.empty-answer.ensures;
   counted = omega arith;
   canonical = subst IsCanonical (sym c.empty-answer.ensures) tt;
@@ -14,30 +15,59 @@ visit-init g c = record {
 
 pub best_jump-segment-requires : goal.best_jump-segment-requires
 best_jump-segment-requires g c =
-    above-held (g.T.SegmentTable.flats c.args.table.now) (IsMember c.args.set.now) c.args.floor (g.met.T.SegmentTable.lawful c.args.table.now) c.requires
-    c.visit.frontier c.visit.work c.next_id.new.self c.visit.answer c.visit.invariant.above c.in-Some.id c.in-Some.ensures
-
-pub returns-clause-members : goal.returns-clause-members
-returns-clause-members g c =
-    above-done (g.T.SegmentTable.flats c.args.table.now) (IsMember c.args.set.now) c.args.floor (g.met.T.SegmentTable.lawful c.args.table.now) c.requires
-    c.visit.frontier c.visit.work c.next_id.new.self c.visit.answer c.visit.invariant.above c.in_default.ensures
-
-pub returns-then-number-least-clause-members : goal.returns-then-number-least-clause-members
-returns-then-number-least-clause-members g c =
-    above-stop (g.T.SegmentTable.flats c.args.table.now) (IsMember c.args.set.now) c.args.floor (g.met.T.SegmentTable.lawful c.args.table.now) c.requires
-    c.visit.frontier c.visit.work c.next_id.new.self c.visit.answer c.visit.invariant.above c.in-Some.id c.in-Some.ensures
-    (omega (arith, c.if-number-least.true, c.number.ensures.number, c.number-least.ensures.number))
+    going-held (g.T.SegmentTable.flats c.args.table.now) (g.T.SegmentTable.ending_at c.args.table.now) (IsMember c.args.set.now) c.args.floor c.args.steps.now.taken
+    (g.met.T.SegmentTable.lawful c.args.table.now) (λ level id s e. g.met.T.SegmentTable.endings c.args.table.now level id s e) c.requires
+    c.visit.frontier c.visit.work c.next_id.new.self c.visit.answer c.visit.steps.taken c.visit.invariant.going c.in-Some.id c.in-Some.ensures
 
 pub visit-preserved : goal.visit-preserved
 visit-preserved g c = record {
-  above =
-      above-turn (g.T.SegmentTable.flats c.args.table.now) (IsMember c.args.set.now) c.args.floor (g.met.T.SegmentTable.lawful c.args.table.now) c.requires
-      c.visit.frontier c.visit.work c.next_id.new.self c.visit.answer c.visit.invariant.above c.in-Some.id c.in-Some.ensures
-      (g.T.SegmentTable.ending_at c.args.table.now) (segment_of c.best_jump-segment.result) c.best_jump-segment.ensures.best
+  going =
+      going-turn (g.T.SegmentTable.flats c.args.table.now) (g.T.SegmentTable.ending_at c.args.table.now) (IsMember c.args.set.now) c.args.floor c.args.steps.now.taken
+    (g.met.T.SegmentTable.lawful c.args.table.now) (λ level id s e. g.met.T.SegmentTable.endings c.args.table.now level id s e) c.requires
+      c.visit.frontier c.visit.work c.next_id.new.self c.visit.answer c.visit.steps.taken c.visit.invariant.going c.in-Some.id c.in-Some.ensures
+      (segment_of c.best_jump-segment.result) c.best_jump-segment.ensures.best
       c.from_number-from.result (let m : c.max.result ≡ max (segment_of c.best_jump-segment.result).low c.args.floor = omega (arith, c.max.ensures, c.number-low.ensures.number, c.low.ensures, c.number-least.ensures.number) in c.from_number-from.ensures ∙ m)
       (omega (arith, c.if-number-least.false, c.number.ensures.number, c.number-least.ensures.number))
-      c.number-low.result (c.number-low.ensures.number ∙ c.low.ensures) (parents_left c.parents.result) c.push_all.new.self c.insert_span.new.self c.parents.ensures
-      c.in_ok-push_all.ensures.all c.in_ok-insert_span.ensures.members;
+      (parents_left c.parents.result) c.push_all.new.self c.insert_span.new.self c.parents.ensures
+      c.in_ok-push_all.ensures.all c.in_ok-insert_span.ensures.members
+      c.number-low.result (c.number-low.ensures.number ∙ c.low.ensures) c.best_jump-segment.new.steps.taken c.best_jump-segment.ensures.few;
   counted = let b = c.best_jump-segment.ensures.counted in let k = c.visit.invariant.counted in omega arith;
   canonical = c.in_ok-insert_span.ensures.canonical;
 }
+
+pub returns-clause-members : goal.returns-clause-members
+returns-clause-members g c =
+    going-done (g.T.SegmentTable.flats c.args.table.now) (g.T.SegmentTable.ending_at c.args.table.now) (IsMember c.args.set.now) c.args.floor c.args.steps.now.taken
+    (g.met.T.SegmentTable.lawful c.args.table.now) (λ level id s e. g.met.T.SegmentTable.endings c.args.table.now level id s e) c.requires
+    c.visit.frontier c.visit.work c.next_id.new.self c.visit.answer c.visit.steps.taken c.visit.invariant.going c.in_default.ensures
+
+pub returns-clause-few : goal.returns-clause-few
+returns-clause-few g c =
+    going-few (g.T.SegmentTable.flats c.args.table.now) (g.T.SegmentTable.ending_at c.args.table.now) (IsMember c.args.set.now) c.args.floor c.args.steps.now.taken
+    (g.met.T.SegmentTable.lawful c.args.table.now) (λ level id s e. g.met.T.SegmentTable.endings c.args.table.now level id s e) c.requires
+    c.visit.frontier c.visit.work c.next_id.new.self c.visit.answer c.visit.steps.taken c.visit.invariant.going
+
+pub returns-clause-one : goal.returns-clause-one
+returns-clause-one g c = λ x only whole.
+    going-one (g.T.SegmentTable.flats c.args.table.now) (g.T.SegmentTable.ending_at c.args.table.now) (IsMember c.args.set.now) c.args.floor c.args.steps.now.taken
+    (g.met.T.SegmentTable.lawful c.args.table.now) (λ level id s e. g.met.T.SegmentTable.endings c.args.table.now level id s e) c.requires
+    c.visit.frontier c.visit.work c.next_id.new.self c.visit.answer c.visit.steps.taken c.visit.invariant.going x (λ z m. (only z).0 m) whole
+
+pub returns-then-number-least-clause-members : goal.returns-then-number-least-clause-members
+returns-then-number-least-clause-members g c =
+    going-stop (g.T.SegmentTable.flats c.args.table.now) (g.T.SegmentTable.ending_at c.args.table.now) (IsMember c.args.set.now) c.args.floor c.args.steps.now.taken
+    (g.met.T.SegmentTable.lawful c.args.table.now) (λ level id s e. g.met.T.SegmentTable.endings c.args.table.now level id s e) c.requires
+    c.visit.frontier c.visit.work c.next_id.new.self c.visit.answer c.visit.steps.taken c.visit.invariant.going c.in-Some.id c.in-Some.ensures
+    (omega (arith, c.if-number-least.true, c.number.ensures.number, c.number-least.ensures.number))
+
+pub returns-then-number-least-clause-few : goal.returns-then-number-least-clause-few
+returns-then-number-least-clause-few g c =
+    going-few (g.T.SegmentTable.flats c.args.table.now) (g.T.SegmentTable.ending_at c.args.table.now) (IsMember c.args.set.now) c.args.floor c.args.steps.now.taken
+    (g.met.T.SegmentTable.lawful c.args.table.now) (λ level id s e. g.met.T.SegmentTable.endings c.args.table.now level id s e) c.requires
+    c.visit.frontier c.visit.work c.next_id.new.self c.visit.answer c.visit.steps.taken c.visit.invariant.going
+
+pub returns-then-number-least-clause-one : goal.returns-then-number-least-clause-one
+returns-then-number-least-clause-one g c = λ x only whole.
+    going-one (g.T.SegmentTable.flats c.args.table.now) (g.T.SegmentTable.ending_at c.args.table.now) (IsMember c.args.set.now) c.args.floor c.args.steps.now.taken
+    (g.met.T.SegmentTable.lawful c.args.table.now) (λ level id s e. g.met.T.SegmentTable.endings c.args.table.now level id s e) c.requires
+    c.visit.frontier c.visit.work c.next_id.new.self c.visit.answer c.visit.steps.taken c.visit.invariant.going x (λ z m. (only z).0 m) whole

@@ -6,6 +6,6 @@ use Rattle.ancestor_query.proofs.jump.best_jump.Given as goal
 abbrev pub invariant-levels : goal.invariant-levels
 invariant-levels g l = record {
   best : IsBest (g.T.SegmentTable.flats l.table) (g.T.SegmentTable.ending_at l.table) l.level l.id (segment_of l.best);
-  counted : min l.fn.steps (2 ^ 64 - 1) ≤ l.steps;
-  few : l.steps ≤ l.fn.steps + l.level;
+  counted : min l.fn.steps.taken (2 ^ 64 - 1) ≤ l.steps.taken;
+  few : l.steps.taken ≤ l.fn.steps.taken + l.level;
 }

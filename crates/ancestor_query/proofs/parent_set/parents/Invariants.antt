@@ -7,6 +7,6 @@ use Rattle.ancestor_query.proofs.parent_set.parents.Given as goal
 
 abbrev pub invariant-spans : goal.invariant-spans
 invariant-spans g l = record {
-  counted : min l.fn.steps (2 ^ 64 - 1) ≤ l.steps;
+  counted : min l.fn.steps.taken (2 ^ 64 - 1) ≤ l.steps.taken;
   parents : (x : ℕ) → (IsMember l.moved x ⊎ IsIn x l.work) ↔ sets.parents (table_graph (g.T.SegmentTable.flats l.table)) (IsMember (take l.span-index l.span-items)) x;
 }

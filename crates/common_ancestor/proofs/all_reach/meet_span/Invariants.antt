@@ -6,7 +6,7 @@ abbrev pub invariant-pieces : goal.invariant-pieces
 invariant-pieces g l = record {
   low : l.low ≤ l.end;
   high : l.end ≤ l.fn.span.high + 1;
-  counted : min l.fn.steps (2 ^ 64 - 1) ≤ l.steps;
+  counted : min l.fn.steps.taken (2 ^ 64 - 1) ≤ l.steps.taken;
   pieces : Pieces (g.T.SegmentTable.flats l.table) (g.met.T.SegmentTable.lawful l.table) l.fn.set l.end l.fn.span.high l.last;
 }
 

@@ -7,7 +7,7 @@ abbrev pub invariant-visit : goal.invariant-visit
 invariant-visit g l = record {
   visits : Visiting (g.T.SegmentTable.flats l.table) (IsMember l.left) (IsMember l.right) l.frontier l.waiting l.last;
   canonical : IsCanonical l.last;
-  counted : min l.fn.steps (2 ^ 64 - 1) ≤ l.steps;
+  counted : min l.fn.steps.taken (2 ^ 64 - 1) ≤ l.steps.taken;
   bound : l.frontier ≤ 2 ^ 57;
 }
 

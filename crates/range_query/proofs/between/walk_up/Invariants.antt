@@ -12,7 +12,7 @@ abbrev pub invariant-up : goal.invariant-up
 invariant-up g l = record {
   within_from : l.passed.from ≤ length l.from;
   within_below : l.passed.below ≤ length l.below;
-  counted : min l.fn.steps (2 ^ 64 - 1) ≤ l.steps;
+  counted : min l.fn.steps.taken (2 ^ 64 - 1) ≤ l.steps.taken;
   passed : (s : Segment) → IsIn s (drop l.k (g.T.SegmentTable.flats l.table)) → StandBelow s.low (drop l.passed.from l.from);
   begun : (s : Segment) → IsIn s (drop l.k (g.T.SegmentTable.flats l.table)) → BeginWithin s.high (drop l.passed.below l.below);
   exact : (x : ℕ) → IsMember l.answer x ↔ (Both (g.T.SegmentTable.flats l.table) l.from l.below x × IsOf (take l.k (g.T.SegmentTable.flats l.table)) x);

@@ -12,7 +12,7 @@ abbrev pub invariant-down : goal.invariant-down
 invariant-down g l = record {
   within : l.at ≤ length l.set;
   canonical : IsCanonical l.answer;
-  counted : min l.fn.steps (2 ^ 64 - 1) ≤ l.steps;
+  counted : min l.fn.steps.taken (2 ^ 64 - 1) ≤ l.steps.taken;
   passed : (s : Segment) → IsIn s (take l.k (g.T.SegmentTable.flats l.table)) → StandFrom s.high (take l.at l.set);
   exact : (x : ℕ) → IsMember l.answer x ↔ (sets.children (table_graph (g.T.SegmentTable.flats l.table)) (IsMember l.set) x × IsOf (drop l.k (g.T.SegmentTable.flats l.table)) x);
 }

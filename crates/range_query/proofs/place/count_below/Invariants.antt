@@ -4,7 +4,7 @@ use Rattle.range_query.proofs.place.count_below.Given as goal
 
 abbrev pub invariant-halve : goal.invariant-halve
 invariant-halve g l = record {
-  counted : min l.fn.steps (2 ^ 64 - 1) ≤ l.steps;
+  counted : min l.fn.steps.taken (2 ^ 64 - 1) ≤ l.steps.taken;
   halves : Halves (g.T.SegmentTable.flats l.table) l.id l.low l.high;
 }
 

@@ -11,7 +11,7 @@ use Rattle.range_query.proofs.upward.descendants.Given as goal
 abbrev pub invariant-up : goal.invariant-up
 invariant-up g l = record {
   within : l.left ≤ length l.set;
-  counted : min l.fn.steps (2 ^ 64 - 1) ≤ l.steps;
+  counted : min l.fn.steps.taken (2 ^ 64 - 1) ≤ l.steps.taken;
   passed : (s : Segment) → IsIn s (drop l.k (g.T.SegmentTable.flats l.table)) → StandBelow s.low (drop l.left l.set);
   exact : (x : ℕ) → IsMember l.answer x ↔ (sets.descendants (table_graph (g.T.SegmentTable.flats l.table)) (IsMember l.set) x × IsOf (take l.k (g.T.SegmentTable.flats l.table)) x);
 }

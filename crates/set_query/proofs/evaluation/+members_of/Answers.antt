@@ -26,7 +26,7 @@ returns-in_ok-members-in-Of-clause-one g t c = λ name x e i ends.
     let f = subst (λ (tree : Tree). Of c.in-Of.call (tree_in tree) ≡ Of calls.Ancestors (One name)) (sym c.deref.ensures)
     (subst (λ (tree : Tree). tree_in tree ≡ Of calls.Ancestors (One name)) c.in-Of.is e) in
     let one = set-of c.in-Of.call calls.Ancestors set (One name) f in
-    subst (λ (n : ℕ). OnOk c.made_of.result (c.made_of.new.steps ≤ n + 8)) (c.in_ok-members-in-Of.ensures.quiet name one)
+    subst (λ (n : ℕ). OnOk c.made_of.result (c.made_of.new.steps.taken ≤ n + 8)) (c.in_ok-members-in-Of.ensures.quiet name one)
     (c.made_of.ensures.one x (call-of c.in-Of.call calls.Ancestors set (One name) f)
     (only-of (table_graph (g.T.SegmentTable.flats c.args.table.now)) set name c.args.ids.now x c.in_ok-members-in-Of.members one i c.in_ok-members-in-Of.ensures.members)
     ends)
