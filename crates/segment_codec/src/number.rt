@@ -1,6 +1,6 @@
 //! Numbers of variable length: seven bits a byte, the lowest first. Only the shortest form is a spelling.
 
-ghost use Rattle.std.specs.Prelude.{◌≡◌, ◌+◌, ◌*◌, ◌%◌, ◌<◌, ◌^◌, ◌++◌, ◌≤◌, ℕ, List, length, Some, MatchOption, OnOk, OnErr};
+ghost use Rattle.std.specs.Prelude.{◌≡◌, ◌+◌, ◌*◌, ◌%◌, ◌<◌, ◌^◌, ◌++◌, ◌≤◌, ℕ, List, length, Some, IsTrue, ◌↔◌, MatchOption, OnOk, OnErr};
 ghost use Rattle.segment_codec.specs.Number.{number_bytes};
 ghost use Rattle.segment_codec.specs.Record.{HasFront};
 ghost use Rattle.segment_codec.specs.Reading.{Gives, number_at, numbers_at};
@@ -28,21 +28,29 @@ fn two_groups(low: u8, high: u8) -> u64
     u64::from(low % MORE) + 128 * u64::from(high % MORE)
 }
 
-/// The number in front, and the rest; `None` where no number's spelling stands in front. A number below 2^28
-/// takes no loop.
+/// Whether the byte can be the last of several. A number of several bytes that ends with 0 has a shorter form.
+#[inline(always)]
+fn ends_several(byte: u8) -> bool
+    ensures { IsTrue result ↔ (0 < byte) × (byte < 128) }
+{
+    0 < byte && byte < MORE
+}
+
+/// The number in front, and the rest; `None` where no number's spelling stands in front. A number below 2^28 takes
+/// no loop.
 #[inline(always)]
 pub fn read_number(bytes: &[u8]) -> Option<(u64, &[u8])>
     ensures { Gives (λ r. (r.0, r.1.now)) result (number_at bytes.now) }
 {
     match bytes {
         [one, rest @ ..] if *one < MORE => Some((u64::from(*one), rest)),
-        [one, two, rest @ ..] if 0 < *two && *two < MORE => Some((two_groups(*one, *two), rest)),
-        [one, two, three, rest @ ..] if *two >= MORE && 0 < *three && *three < MORE => {
+        [one, two, rest @ ..] if ends_several(*two) => Some((two_groups(*one, *two), rest)),
+        [one, two, three, rest @ ..] if *two >= MORE && ends_several(*three) => {
             let high = two_groups(*two, *three);
             Some((u64::from(*one % MORE) + 128 * high, rest))
         }
         [one, two, three, four, rest @ ..]
-            if *two >= MORE && *three >= MORE && 0 < *four && *four < MORE => {
+            if *two >= MORE && *three >= MORE && ends_several(*four) => {
             let high = two_groups(*three, *four);
             Some((two_groups(*one, *two) + TWO_GROUPS * high, rest))
         }

@@ -107,13 +107,13 @@ fn a_record_both_ways(rt: HostRuntime) -> Result<(), Fail> {
     Ok(())
 }
 
-/// A flat segment, made once more of its ids and of the bytes of its parents, cut out of its record.
-fn made_again<'a>(record: &'a [u8], segment: SegmentRef<'_>) -> SegmentRef<'a>
+/// A flat segment, made once more of its ids and of the bytes of its parents, cut out of its record in front of bytes.
+fn made_again<'a>(bytes: &'a [u8], segment: SegmentRef<'_>) -> SegmentRef<'a>
     requires flat { IsFlat (segment_of segment) }
-    requires stands { (rest : List ℕ) × (record.now ≡ segment_bytes (segment_of segment) ++ rest) }
+    requires stands { (rest : List ℕ) × (bytes.now ≡ segment_bytes (segment_of segment) ++ rest) }
     ensures { segment_of result ≡ segment_of segment.entry }
 {
-    let (_, behind) = record.split_at(segment.head_len());
+    let (_, behind) = bytes.split_at(segment.head_len());
     let (parents, _) = behind.split_at(segment.parents_len());
     SegmentRef::flat(segment.low(), segment.high(), parents)
 }

@@ -1,4 +1,4 @@
-use Rattle.std.proofs.Common.{◌+◌, ◌*◌, arith}
+use Rattle.std.proofs.Common.{◌+◌, ◌*◌, refl, arith}
 use Rattle.segment_codec.proofs.Numbers.{IsBytes}
 use Rattle.segment_codec.proofs.Short.{last-at, more-at, short-number}
 use Rattle.segment_codec.proofs.number.read_number.Goals as goal
@@ -15,7 +15,7 @@ returns-in-len2-up c =
     let bytes = c.args.bytes.now in
     let fits : IsBytes bytes = λ i. omega (arith, c.type_inv.bytes i) in
     let len = c.in-len2-up.len_at_least in
-    let small = c.if-two-lt-MORE.true in let some = c.if-two-gt0.true in
+    let last = c.if-ends_several.ensures.0 refl in let some = last.0 in let small = last.1 in
     let two = last-at bytes 1 len small in
     let one = more-at bytes 0 _ _ fits (omega (arith, len)) c.if-one-lt-MORE.false some two in
     let value = c.two_groups.ensures in
@@ -26,7 +26,7 @@ returns-in-len3-up c =
     let bytes = c.args.bytes.now in
     let fits : IsBytes bytes = λ i. omega (arith, c.type_inv.bytes i) in
     let len = c.in-len3-up.len_at_least in
-    let small = c.if-three-lt-MORE.true in let some = c.if-three-gt0.true in
+    let last = c.if-ends_several-2.ensures.0 refl in let some = last.0 in let small = last.1 in
     let three = last-at bytes 2 len small in
     let two = more-at bytes 1 _ _ fits (omega (arith, len)) c.if-two-ge-MORE.true some three in
     let one = more-at bytes 0 _ _ fits (omega (arith, len)) c.if-one-lt-MORE.false (omega (arith, some)) two in
@@ -38,7 +38,7 @@ returns-in-len4-up c =
     let bytes = c.args.bytes.now in
     let fits : IsBytes bytes = λ i. omega (arith, c.type_inv.bytes i) in
     let len = c.in-len4-up.len_at_least in
-    let small = c.if-four-lt-MORE.true in let some = c.if-four-gt0.true in
+    let last = c.if-ends_several-3.ensures.0 refl in let some = last.0 in let small = last.1 in
     let four = last-at bytes 3 len small in
     let three = more-at bytes 2 _ _ fits (omega (arith, len)) c.if-three-ge-MORE.true some four in
     let two = more-at bytes 1 _ _ fits (omega (arith, len)) c.if-two-ge-MORE-2.true (omega (arith, some)) three in
