@@ -33,8 +33,8 @@ all-read bytes end (r ∷ more) small f h =
     let rest = all-read bytes end more small f.1 h.1 in (
       both_true (is_read bytes (entry_of r)) (list_all (is_read bytes) (map entry_of more)) (read-there bytes r small f.0 h.0) rest.0,
       ap (λ n. record (segment_in bytes (entry_of r)) { high = n - 1 } ∷ flats_in bytes end (map entry_of more)) (begin-there bytes end more)
-      ∙ ap (λ (s : Segment). s ∷ flats_in bytes end (map entry_of more)) (ended-there bytes r small f.0 h.0 (begin_of end (segments_of more) - 1))
-      ∙ ap (λ z. record r.segment { high = begin_of end (segments_of more) - 1 } ∷ z) rest.1,
+          ∙ ap (λ (s : Segment). s ∷ flats_in bytes end (map entry_of more)) (ended-there bytes r small f.0 h.0 (begin_of end (segments_of more) - 1))
+          ∙ ap (λ z. record r.segment { high = begin_of end (segments_of more) - 1 } ∷ z) rest.1,
     )
 
 low-begin : (end : ℕ) (records : List Placed) → low_of end (map entry_of records) ≡ begin_of end (segments_of records)

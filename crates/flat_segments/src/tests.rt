@@ -171,6 +171,31 @@ fn is_cut(view: &FlatView<'_>, below: u8) -> bool {
         && steps.taken() == 2 * u64::from(below) + 2
 }
 
+/// Whether each id of the view of the whole graph is found, wherever a search begins.
+fn is_found_from(view: &FlatView<'_>, near: usize) -> bool {
+    let mut steps = Steps::new();
+    for id in 0..200u8 {
+        steps.set_near(near);
+        let Some(segment) = view.flat(Id::master(u64::from(id)), &mut steps) else {
+            return false;
+        };
+        if !has_parents(segment, id) {
+            return false;
+        }
+    }
+    true
+}
+
+/// Whether each id is found from each place, from one behind the last, and from the last number.
+fn is_found_from_all(view: &FlatView<'_>) -> bool {
+    for near in 0..=view.flat_count() as usize {
+        if !is_found_from(view, near) {
+            return false;
+        }
+    }
+    is_found_from(view, usize::MAX)
+}
+
 /// Whether the table, whose records stand in the log, is that of the graph.
 fn is_whole(table: &FlatTable, log: &[u8]) -> bool
     requires { (records : List Placed) × IsTableOf table.now records × Stand log.now records }
@@ -184,7 +209,7 @@ fn is_whole(table: &FlatTable, log: &[u8]) -> bool
             return false;
         }
     }
-    true
+    is_found_from_all(&table.view(log, 200))
 }
 
 #[test]
@@ -282,6 +307,20 @@ fn pushed(alloc: Global, bytes: &[u8], low: u64) -> Result<Section, FlatFault>
     let mut section = Section::empty(alloc);
     section.push(segment, 0)?;
     Ok(section)
+}
+
+#[test]
+fn a_place_beyond_all_bytes(rt: HostRuntime) -> Result<(), Fail> {
+    let bytes: [u8; 12] = [1, 0, 1, 0, 0, 0, 0, 0, 0, 6, 6, 0];
+    let Some((segment, _)) = read_segment(&bytes) else {
+        return Err("the record is read".into());
+    };
+    let mut section = Section::empty(rt.alloc());
+    if segment.level() == 0 && segment.low().number() == FIRST_OTHER {
+        section.push(segment, u64::MAX)?;
+    }
+    assert_eq!(rt; section.end, FIRST_OTHER + 7);
+    Ok(())
 }
 
 /// Whether an id is found in the segment from a lowest to a highest id.
