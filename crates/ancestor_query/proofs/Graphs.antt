@@ -1,18 +1,13 @@
 -- The graph of a lawful table: what the ids of a segment reach, and which ids are held.
 use Rattle.std.proofs.Common.{◌≡◌, ℕ, zero, suc, ◌+◌, ◌-◌, ◌<◌, ◌≤◌, ◌^◌, inl, inr, List, [], ◌∷◌, Some, refl, sym, subst, ap, ◌∙◌, arith, ⊎_elim}
-use Rattle.std.specs.List.{AllByRecursion}
 use Rattle.id_groups.specs.Lists.{IsIn}
 use Rattle.commit_graph.specs.Graph.{IsWalk, Reaches}
+use Rattle.commit_graph.proofs.Naming.{each}
 use Rattle.commit_graph.proofs.Walks.{reaches-parent, reaches-self, reaches-trans}
 use Rattle.segment_codec.specs.Record.{Segment, IsSegment}
 use Rattle.segment_codec.specs.Table.{IsInSegment, segment_at, parents_at, IsHeld, IsLawful, IsHeaded, IsEnding}
 use Rattle.segment_codec.proofs.Tables.{le_or_lt, segment-in, parents-low, parents-over, parent-below}
 use Rattle.ancestor_query.specs.Graph.{table_graph, IsJump}
-
-all-pass : {X : Type 0} (P : X → Type 0) (xs : List X) → AllByRecursion P xs → (x : X) → IsIn x xs → P x
-all-pass P [] h x i = absurd i
-all-pass P (y ∷ ys) h x (inl e) = subst P (sym e) h.0
-all-pass P (y ∷ ys) h x (inr i) = all-pass P ys h.1 x i
 
 in-one : (p q : ℕ) → IsIn p (q ∷ []) → p ≡ q
 in-one p q h = ⊎_elim (λ e. e) (λ n. absurd n) h
@@ -56,7 +51,7 @@ module _ (flats : List Segment) (lawful : IsLawful flats) where
               (λ (same : y ≡ s.low). subst (IsIn p) (ap (λ z. parents_at flats z) same ∙ parents-low flats lawful s i) j)
               (λ (over : s.low < y). let e = in-one p (y - 1) (subst (IsIn p) (parents-over flats lawful s i y over (omega arith)) j) in absurd (omega arith))
               (⊎_elim (λ (le : y ≤ s.low). inl (omega arith)) (λ (lt : s.low < y). inr lt) (le_or_lt y s.low));
-          only = λ p j. (all-pass (λ q. q < s.low) s.parents (lawful.each s i).segment.below p j, s.low, omega arith, low, subst (IsIn p) (sym (parents-low flats lawful s i)) j);
+          only = λ p j. (each (λ q. q < s.low) s.parents (lawful.each s i).segment.below p j, s.low, omega arith, low, subst (IsIn p) (sym (parents-low flats lawful s i)) j);
         }
 
   -- the ids of the flat segment that has an id, up to this one
@@ -81,7 +76,7 @@ module _ (flats : List Segment) (lawful : IsLawful flats) where
       order = ok.ascending;
       reaches = λ y a b. climb (s.high - y) y a b (omega arith);
       out = λ y p a b j lt. h.outside y p (a, b) j lt;
-      only = λ p j. let c = h.stored p j in (all-pass (λ q. q < s.low) s.parents ok.below p j, c.0, c.1.0, c.1.1, c.2);
+      only = λ p j. let c = h.stored p j in (each (λ q. q < s.low) s.parents ok.below p j, c.0, c.1.0, c.1.1, c.2);
     }
 
   -- a segment of any level that ends at an id

@@ -1,22 +1,18 @@
 -- The parents of the ids of a span, a segment at a time.
-use Rattle.std.proofs.Common.{◌≡◌, ℕ, suc, ◌+◌, ◌-◌, ◌<◌, ◌≤◌, ◌^◌, ◌⊎◌, ◌↔◌, inl, inr, max, List, [], ◌∷◌, length, take, get_or, Some, None, refl, sym, subst, ap, ◌∙◌, arith, ⊎_elim, if◌then◌else◌, eq-eqb, le_refl}
-use Rattle.std.specs.Prelude.{IfOk, Ok, Err}
-use Rattle.std.specs.declared.result.Result.{Result}
+use Rattle.std.proofs.Common.{◌≡◌, ℕ, suc, ◌+◌, ◌-◌, ◌<◌, ◌≤◌, ◌^◌, ◌⊎◌, ◌↔◌, inl, inr, max, List, [], ◌∷◌, length, take, get_or, Some, None, refl, sym, subst, ap, ◌∙◌, arith, ⊎_elim, if◌then◌else◌, eq-eqb}
 use Rattle.std.proofs.lemmas.Bool.{ne_eqb}
-use Rattle.std.proofs.lemmas.List.{take_all}
 use Rattle.id_groups.specs.Lists.{IsIn}
 use Rattle.id_groups.specs.Span.{IsInSpan}
 use Rattle.id_groups.specs.declared.span.IdSpan.{IdSpan}
 use Rattle.commit_graph.specs.Sets as sets
 use Rattle.segment_codec.specs.Record.{Segment}
 use Rattle.segment_codec.specs.Table.{segment_at, parents_in, parents_at, IsHeld, IsLawful}
-use Rattle.segment_codec.proofs.Tables.{le_or_lt, segment-in, lawful-at, parent-below}
-use Rattle.span_set.specs.Members.{IsMember}
+use Rattle.segment_codec.proofs.Tables.{le_or_lt, segment-in, lawful-at}
+use Rattle.span_set.specs.Members.{IsMember, IsCanonical}
 use Rattle.span_set.proofs.MemberLemmas.{take-member-at, member-at}
 use Rattle.ancestor_query.specs.Graph.{table_graph}
 use Rattle.ancestor_query.specs.Visits.{Keeps, Peeks}
-use Rattle.ancestor_query.specs.Parts.{IsParentOfPart}
-use Rattle.ancestor_query.proofs.Graphs.{held-bound}
+use Rattle.ancestor_query.specs.Parts.{IsParentOfPart, IsFound, IsSettled}
 use Rattle.ancestor_query.proofs.Best.{same-group}
 
 -- one of the two steps of a shuffle: more is had on the left by what is new
@@ -38,6 +34,15 @@ same-right a t = (
   λ x. ⊎_elim (λ m. inl m) (λ y. inr (t.0 y)) (a.0 x),
   λ y. a.1 (⊎_elim (λ m. inl m) (λ u. inr (t.1 u)) y),
 )
+
+pub same-left : {A M N T : Type 0} → A ↔ (M ⊎ T) → M ↔ N → A ↔ (N ⊎ T)
+same-left a m = (
+  λ x. ⊎_elim (λ y. inl (m.0 y)) (λ t. inr t) (a.0 x),
+  λ y. a.1 (⊎_elim (λ n. inl (m.1 n)) (λ t. inr t) y),
+)
+
+pub both-ways : {A B C : Type 0} → A ↔ B → B ↔ C → A ↔ C
+both-ways a b = (λ x. b.0 (a.0 x), λ z. a.1 (b.1 z))
 
 -- two steps in one
 pub join-steps : {A B C T U V : Type 0} → B ↔ (A ⊎ T) → C ↔ (B ⊎ U) → V ↔ (T ⊎ U) → C ↔ (A ⊎ V)
@@ -108,26 +113,7 @@ module _ (flats : List Segment) (lawful : IsLawful flats) where
       let f = segment-in flats high s found in let top = f.1.1 in
       (f.1.0, λ small. let h = same-group s.low s.high (lawful.each s f.0).segment.one_group small in omega arith)
 
--- none yet
-pub parents-none : (flats : List Segment) {A : Type 0} (end last x : ℕ) → last < end → A ↔ (A ⊎ ParentsFrom flats end last x)
-parents-none flats end last x lt = (λ a. inl a, λ s. ⊎_elim (λ a. a) (λ h. let a = h.1 in let b = h.2 in absurd (omega arith)) s)
-
--- all
-pub parents-span : (flats : List Segment) {A B : Type 0} (s : IdSpan) (first x : ℕ) → first ≡ s.low → B ↔ (A ⊎ ParentsFrom flats first s.high x)
-    → B ↔ (A ⊎ sets.parents (table_graph flats) (λ c. IsInSpan c s) x)
-parents-span flats s first x e b = same-right b (
-  λ h. let a = h.1 in (h.0, (omega arith, h.2), h.3),
-  λ h. let a = h.1.0 in (h.0, omega arith, h.1.1, h.2),
-)
-
 -- the spans of a set, one after another
-pub parents-start : (flats : List Segment) (spans moved : List IdSpan) (work : List ℕ) → moved ≡ [] → work ≡ []
-    → (x : ℕ) → (IsMember moved x ⊎ IsIn x work) ↔ sets.parents (table_graph flats) (IsMember (take 0 spans)) x
-parents-start flats spans moved work e f x = (
-  λ a. ⊎_elim (λ m. absurd (subst (λ l. IsMember l x) e m)) (λ i. absurd (subst (IsIn x) f i)) a,
-  λ h. absurd h.1,
-)
-
 pub parents-next : (flats : List Segment) {A B : Type 0} (spans : List IdSpan) (i k : ℕ) (t : IdSpan) (x : ℕ) → i < length spans → k ≡ suc i → t ≡ get_or spans i t
     → A ↔ sets.parents (table_graph flats) (IsMember (take i spans)) x → B ↔ (A ⊎ sets.parents (table_graph flats) (λ c. IsInSpan c t) x)
     → B ↔ sets.parents (table_graph flats) (IsMember (take k spans)) x
@@ -141,57 +127,55 @@ pub span-held : (flats : List Segment) (spans : List IdSpan) (i : ℕ) (t : IdSp
     → (x : ℕ) → IsInSpan x t → IsHeld flats x
 span-held flats spans i t inside lt is x m = inside x (member-at spans i t x lt (subst (λ s. IsInSpan x s) is m))
 
--- the parents of held ids are held
-pub parents-bound : (flats : List Segment) → IsLawful flats → (S : ℕ → Type 0) → ((x : ℕ) → S x → IsHeld flats x) → (x : ℕ) → sets.parents (table_graph flats) S x → x < 2 ^ 57
-parents-bound flats lawful S inside x h = held-bound flats lawful x (parent-below flats lawful h.0 x h.2).1
+-- what waits is taken from the greatest down
+module _ (before after : List ℕ) (ids : List IdSpan) (end : ℕ) (settled : IsSettled ids before end) where
+  module _ (keeps : Keeps before after end) where
+    still : IsSettled ids after end
+    still = record { canonical = settled.canonical; has = λ x i le. settled.has x (keeps.kept x i) le }
 
-pub parents-end : (flats : List Segment) {M W O R : Type 0} (spans all : List IdSpan) (i : ℕ) (x : ℕ) → length spans ≤ i → spans ≡ all
-    → (sets.parents (table_graph flats) (IsMember all) x → x < 2 ^ 57)
-    → (M ⊎ W) ↔ sets.parents (table_graph flats) (IsMember (take i spans)) x → O ↔ (W × (x < 2 ^ 57)) → R ↔ (M ⊎ O) → R ↔ sets.parents (table_graph flats) (IsMember all) x
-parents-end flats spans all i x le same bound a o r =
-    let e : take i spans ≡ all = take_all i spans le ∙ same in (
-      λ y. subst (λ l. sets.parents (table_graph flats) (IsMember l) x) e (a.0 (⊎_elim (λ m. inl m) (λ w. inr (o.0 w).0) (r.0 y))),
-      λ h. r.1 (⊎_elim (λ m. inl m) (λ w. inr (o.1 (w, bound h))) (a.1 (subst (λ l. sets.parents (table_graph flats) (IsMember l) x) (sym e) h))),
+    pub found-kept : (x : ℕ) → IsFound ids after x ↔ IsFound ids before x
+    found-kept x = (
+      λ f. ⊎_elim (λ m. inl m) (λ i. inr (keeps.kept x i)) f,
+      λ f. ⊎_elim (λ m. inl m) (λ i. ⊎_elim (λ (over : end ≤ x). inl (settled.has x i over)) (λ (under : x < end). inr (keeps.lost x i under)) (le_or_lt end x)) f,
     )
 
--- the ids that wait, taken from the greatest down
-pub record Taken (start : List ℕ) (end : ℕ) (work : List ℕ) (ids : List IdSpan) : Type 0 where
-  pub exact : (x : ℕ) → IsMember ids x ↔ (IsIn x start × (end ≤ x) × (x < 2 ^ 57))
-  pub rest : Keeps start work end
-  pub bound : end ≤ 2 ^ 57
-
-pub taken-none : (start : List ℕ) (ids : List IdSpan) → ids ≡ [] → Taken start (2 ^ 57) start ids
-taken-none start ids e = record {
-  exact = λ x. (λ m. absurd (subst (λ l. IsMember l x) e m), λ h. let a = h.1 in let b = h.2 in absurd (omega arith));
-  rest = record { kept = λ x i. i; lost = λ x i lt. i };
-  bound = le_refl (2 ^ 57);
-}
-
-pub taken-next : (start before after : List ℕ) (end next : ℕ) (ids longer : List IdSpan) → Taken start end before ids → (id : ℕ) → Peeks before after end (Some id) → next ≡ id
-    → (t : IdSpan) → t.low ≡ id → t.high ≡ id → ((x : ℕ) → IsMember longer x ↔ (IsMember ids x ⊎ IsInSpan x t)) → Taken start next after longer
-taken-next start before after end next ids longer h id peeks en t tl th added =
-    let u = peeks.greatest.under in let top = h.bound in
-    record {
-      exact = λ x. (
-        λ m. ⊎_elim (λ o. let e = (h.exact x).0 o in let le = e.1 in (e.0, omega arith, e.2))
-            (λ (i : IsInSpan x t). let a = i.0 in let b = i.1 in let same : x ≡ id = omega arith in
-            (subst (λ n. IsIn n start) (sym same) (h.rest.kept id (peeks.keeps.kept id peeks.greatest.is)), omega arith, omega arith)) ((added x).0 m),
-        λ k. let le = k.1 in (added x).1 (⊎_elim (λ (over : end ≤ x). inl ((h.exact x).1 (k.0, over, k.2)))
-            (λ (under : x < end). let most = peeks.greatest.greatest x (peeks.keeps.lost x (h.rest.lost x k.0 under) under) under in inr (omega arith, omega arith)) (le_or_lt end x)),
-      );
-      rest = record {
-        kept = λ x i. h.rest.kept x (peeks.keeps.kept x i);
-        lost = λ x i lt. peeks.keeps.lost x (h.rest.lost x i (omega arith)) (omega arith);
-      };
-      bound = omega arith;
+  module _ (id : ℕ) (peeks : Peeks before after end (Some id)) where
+    pub settled-stop : (least : ℕ) → id < least → IsSettled ids after least
+    settled-stop least lt = record {
+      canonical = settled.canonical;
+      has = λ x i le. ⊎_elim (λ (over : end ≤ x). (still peeks.keeps).has x i over)
+          (λ (under : x < end). let most = peeks.greatest.greatest x i under in absurd (omega arith)) (le_or_lt end x);
     }
 
-pub taken-all : (start before after : List ℕ) (end : ℕ) (ids : List IdSpan) → Taken start end before ids → Peeks before after end None → (x : ℕ) → IsMember ids x ↔ (IsIn x start × (x < 2 ^ 57))
-taken-all start before after end ids h peeks x = (
-  λ m. let e = (h.exact x).0 m in (e.0, e.2),
-  λ i. (h.exact x).1 (i.0, ⊎_elim (λ le. le) (λ lt. absurd (peeks.greatest x (peeks.keeps.lost x (h.rest.lost x i.0 lt) lt) lt)) (le_or_lt end x), i.1),
-)
+    module _ (longer : List IdSpan) (t : IdSpan) (low : t.low ≡ id) (high : t.high ≡ id)
+        (added : (x : ℕ) → IsMember longer x ↔ (IsMember ids x ⊎ IsInSpan x t)) where
+      pub found-next : (x : ℕ) → IsFound longer after x ↔ IsFound ids before x
+      found-next x = (
+        λ f. ⊎_elim (λ m. ⊎_elim (λ o. inl o)
+            (λ (i : IsInSpan x t). let a = i.0 in let b = i.1 in let same : x ≡ id = omega arith in
+            inr (subst (λ n. IsIn n before) (sym same) (peeks.keeps.kept id peeks.greatest.is))) ((added x).0 m))
+            (λ i. inr (peeks.keeps.kept x i)) f,
+        λ f. ⊎_elim (λ m. inl ((added x).1 (inl m))) (λ i. inr i) ((found-kept peeks.keeps x).1 f),
+      )
 
-pub if_ok : {E : Type 0} {P Q : List IdSpan → Type 0} (r : Result (List IdSpan) E) → ((s : List IdSpan) → P s → Q s) → IfOk r P → IfOk r Q
-if_ok (Ok s) h p = h s p
-if_ok (Err e) h p = p
+      pub settled-next : (next : ℕ) → next ≡ id → IsCanonical longer → IsSettled longer after next
+      settled-next next e canonical = record {
+        canonical = canonical;
+        has = λ x i le. (added x).1 (⊎_elim (λ (over : end ≤ x). inl ((still peeks.keeps).has x i over))
+            (λ (under : x < end). let most = peeks.greatest.greatest x i under in inr (omega arith, omega arith)) (le_or_lt end x));
+      }
+
+  pub settled-none : (least : ℕ) → Peeks before after end None → IsSettled ids after least
+  settled-none least peeks = record {
+    canonical = settled.canonical;
+    has = λ x i le. ⊎_elim (λ (over : end ≤ x). (still peeks.keeps).has x i over) (λ (under : x < end). absurd (peeks.greatest x i under)) (le_or_lt end x);
+  }
+
+-- a part goes into the set, and only ids below it come to wait
+pub settled-part : (ids longer : List IdSpan) (before after : List ℕ) (from high : ℕ) → IsSettled ids before high → ((x : ℕ) → IsMember longer x ↔ (IsMember ids x ⊎ ((from ≤ x) × (x < high))))
+    → ((x : ℕ) → IsIn x after → IsIn x before ⊎ (x < from)) → IsCanonical longer → IsSettled longer after from
+settled-part ids longer before after from high settled added came canonical = record {
+  canonical = canonical;
+  has = λ x i le. (added x).1 (⊎_elim (λ (over : high ≤ x). inl (⊎_elim (λ o. settled.has x o over) (λ (lt : x < from). absurd (omega arith)) (came x i)))
+      (λ (under : x < high). inr (le, under)) (le_or_lt high x));
+}

@@ -76,7 +76,7 @@ module _ (flats : List Segment) (ending : ℕ → ℕ → Option Segment) (S : �
                 let low = f.1.0 in let high = f.1.1 in let u = next.greatest.under in
                 let down = b.flat s going-held.1 in
                 let grows = one-more flats floor answer longer s f.0 (omega arith) (λ m. let over = ((h.exact (max s.low floor)).0 m).1 in absurd (omega arith))
-                    ((added (max s.low floor)).1 (inr (omega arith, omega arith))) (λ z m. (added z).1 (inl m)) in
+                ((added (max s.low floor)).1 (inr (omega arith, omega arith))) (λ z m. (added z).1 (inl m)) in
                 let few = h.few in omega arith
 
             one-turn : (now : ℕ) → now ≤ taken + 8 → (y : ℕ) → ((z : ℕ) → S z → z ≡ y) → EndsWhole ending y → OneTurn S a before start taken → OneTurn S best.low more start now

@@ -82,9 +82,6 @@ pub no-ids : (end : ℕ) → window_ids end 0 ≡ []
 unfolding window_ids
 no-ids end = refl
 
-pub no-numbers : (end : ℕ) → AreNumbers end 0
-no-numbers end j on = let off = bit_at-zero j in absurd (omega (arith, on, off))
-
 -- a bit is set
 abbrev with_bit : ℕ → ℕ → ℕ
 with_bit bits place = bit_or bits (1 * 2 ^ place % 2 ^ 64)

@@ -50,10 +50,6 @@ peeked before work below x keeps e some top lt = record {
   greatest = record { is = subst (λ y. IsIn y work) (sym e) (in-at work 0 x some); under = lt; greatest = λ w i _. bound-in x work w top i };
 }
 
--- nothing waits
-pub peeked-none : (before work : List ℕ) (below : ℕ) → Keeps before work below → work ≡ [] → Peeks before work below None
-peeked-none before work below keeps e = record { keeps = keeps; greatest = λ w i lt. subst (IsIn w) e i }
-
 -- the top goes, which is at or above the bound
 pub popped : (before work after : List ℕ) (below x : ℕ) → Keeps before work below → IsPermutation work (x ∷ after) → below ≤ x → Keeps before after below
 popped before work after below x keeps h le = record {

@@ -12,6 +12,7 @@ use segment_codec::{SegmentRef, SegmentTable, Steps};
 const LEVEL_END: u8 = 8;
 
 /// The segment that begins lower.
+#[inline]
 fn lower<'a>(best: SegmentRef<'a>, other: Option<SegmentRef<'a>>) -> SegmentRef<'a>
     ensures { MatchOption other.entry (segment_of result ≡ segment_of best.entry) (λ s. segment_of result ≡ lower_of (segment_of best.entry) (Some (segment_of s))) }
 {
@@ -29,6 +30,7 @@ fn lower<'a>(best: SegmentRef<'a>, other: Option<SegmentRef<'a>>) -> SegmentRef<
 
 /// The segment that begins lowest, of the flat one that has the id and those of the higher levels that end there. It
 /// takes at most eight look-ups.
+#[inline]
 pub fn best_jump<'a, T: SegmentTable>(table: &'a T, id: Id, steps: &mut Steps) -> SegmentRef<'a>
     requires { IsHeld (T.flats table.now) id }
     ensures best { IsBest (T.flats table.now) (T.ending_at table.now) 8 id (segment_of result) }

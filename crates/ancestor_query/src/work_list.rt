@@ -62,6 +62,7 @@ impl Model for WorkList {
 }
 
 /// The bits moved down by any number of steps; those that fall off at the end are lost.
+#[inline]
 fn shifted_down(bits: u64, steps: u64) -> u64
     ensures { result ≡ bits / 2 ^ steps }
 {
@@ -77,6 +78,7 @@ impl Window {
     }
 
     /// Takes the id if it fits: whether it did.
+    #[inline]
     fn put(&mut self, id: Id) -> bool
         ensures { Takes self.old self.new id result }
     {
@@ -93,6 +95,7 @@ impl Window {
     }
 
     /// Ends below the bound from now on, and drops the ids at or above it. A window without ids may move up.
+    #[inline]
     fn slide(&mut self, below: u64)
         ensures keeps { Keeps self.old self.new below }
         ensures under { (x : ℕ) → IsIn x self.new → x < below }
@@ -107,6 +110,7 @@ impl Window {
     }
 
     /// The greatest id; `None` exactly where there is none.
+    #[inline]
     fn greatest(&self) -> Option<Id>
         ensures { IsGreatestOf self.now result }
     {
@@ -120,6 +124,7 @@ impl Window {
 
 /// The greatest id of a heap below the bound; `None` exactly where there is none below it. Those at or above it are
 /// dropped, the one that it gives stays.
+#[inline]
 fn top_below(heap: &mut BinaryHeap<Id>, below: u64) -> Option<Id>
     requires { IsHeap nat_cmp (heap_items heap.old) }
     ensures heap { IsHeap nat_cmp (heap_items heap.new) }
@@ -136,6 +141,7 @@ fn top_below(heap: &mut BinaryHeap<Id>, below: u64) -> Option<Id>
 }
 
 /// The greatest member below the bound.
+#[inline]
 fn greatest_member_below(set: &IdSet, below: u64) -> Option<Id>
     requires { below ≤ 2 ^ 57 }
     ensures { IsGreatestBelow set.now below result }
@@ -149,6 +155,7 @@ fn greatest_member_below(set: &IdSet, below: u64) -> Option<Id>
 }
 
 /// The greater of the two, where there are two.
+#[inline]
 fn greater(a: Option<Id>, b: Option<Id>) -> Option<Id>
     ensures { result ≡ greater_of a b }
 {
@@ -173,6 +180,7 @@ impl WorkList {
     }
 
     /// Puts an id on the list. On want of memory the list stays as it was.
+    #[inline]
     pub fn push(&mut self, id: Id) -> Result<(), AllocError>
         ensures all { OnOk result ((x : ℕ) → IsIn x self.new ↔ (IsIn x self.old ⊎ (x ≡ id))) }
         ensures unchanged { OnErr result (self.new ≡ self.old) }
@@ -186,6 +194,7 @@ impl WorkList {
 
     /// Puts the parents of a segment on the list. On want of memory some of them may wait, and no other id has come or
     /// gone.
+    #[inline]
     pub fn push_all(&mut self, parents: Parents<'_>) -> Result<(), AllocError>
         ensures all { OnOk result ((x : ℕ) → IsIn x self.new ↔ (IsIn x self.old ⊎ IsIn x (parents_left parents.entry))) }
         ensures kept { (x : ℕ) → IsIn x self.old → IsIn x self.new }
@@ -199,6 +208,7 @@ impl WorkList {
 
     /// The greatest id below the bound; `None` exactly where none waits below it. Those at or above it are dropped, the
     /// one that it gives stays.
+    #[inline]
     pub fn next_below(&mut self, below: u64) -> Option<Id>
         ensures { Peeks self.old self.new below result }
     {
@@ -209,6 +219,7 @@ impl WorkList {
 
     /// The greatest id below the bound, of the set and of those that wait; `None` exactly where there is none. It drops
     /// what `next_below` does, and searches the set by halving.
+    #[inline]
     pub fn next_id(&mut self, set: &IdSet, below: u64) -> Option<Id>
         requires { below ≤ 2 ^ 57 }
         ensures { IsNext (IsMember set.now) self.old self.new below result }

@@ -15,9 +15,6 @@ use Rattle.ancestor_query.specs.Graph.{table_graph}
 use Rattle.ancestor_query.proofs.Graphs.{reach-down, reached-held, reached-below}
 use Rattle.common_ancestor.specs.Meets.{AreLast, AllReach}
 
-pub both-ways : {A B C : Type 0} → A ↔ B → B ↔ C → A ↔ C
-both-ways a b = (λ x. b.0 (a.0 x), λ z. a.1 (b.1 z))
-
 -- a list of length 0 has nothing
 pub empty-list : {X : Type 0} (l : List X) → true ≡ nat_eq (length l) 0 → l ≡ []
 empty-list [] e = refl

@@ -9,6 +9,7 @@ ghost use Rattle.span_set.specs.Places.{AreAbove, AreNotAbove, AreNotBelow, Begi
 use id_groups::{FIRST_OTHER, Id, IdSpan};
 
 /// The number below which the spans end that lie below `span` and would not join it.
+#[inline]
 fn gap_below(span: &IdSpan) -> u64
     ensures { (t : PlainSpan) → t.high < result ↔ IsBelow t span.now }
 {
@@ -21,6 +22,7 @@ fn gap_below(span: &IdSpan) -> u64
 }
 
 /// How many spans lie above `span` or join it.
+#[inline]
 pub(crate) fn count_not_below(spans: &[IdSpan], span: &IdSpan) -> usize
     requires { IsCanonical spans.now }
     ensures within { result ≤ length spans.now }
@@ -37,6 +39,7 @@ pub(crate) fn count_not_below(spans: &[IdSpan], span: &IdSpan) -> usize
 
 /// How many spans lie above `span` without joining it, of which there are at most `to`.
 /// It goes upwards from `to`, over spans that the insert then joins to one.
+#[inline]
 pub(crate) fn count_above(spans: &[IdSpan], span: &IdSpan, to: usize) -> usize
     requires canonical { IsCanonical spans.now }
     requires span { IsSpan span.now }
@@ -54,6 +57,7 @@ pub(crate) fn count_above(spans: &[IdSpan], span: &IdSpan, to: usize) -> usize
 }
 
 /// How many spans begin above the id. All of them is told at once.
+#[inline]
 pub(crate) fn count_begin_above(spans: &[IdSpan], id: Id) -> usize
     requires { IsCanonical spans.now }
     ensures within { result ≤ length spans.now }

@@ -30,6 +30,7 @@ impl Model for IdSet {
 }
 
 /// The span from the lower low to the higher high.
+#[inline]
 fn join(span: &IdSpan, first: &IdSpan, last: &IdSpan) -> IdSpan
     ensures low { result.low ≡ min span.now.low last.now.low }
     ensures high { result.high ≡ max span.now.high first.now.high }
@@ -59,6 +60,7 @@ impl IdSet {
 
     /// Adds the ids of the span, which are of one group. On want of memory the set stays as it was.
     /// Below all that is held, or joined to the lowest span, it takes constant time, amortised; elsewhere a binary search and a move of the spans below.
+    #[inline]
     pub fn insert_span(&mut self, span: IdSpan) -> Result<(), AllocError>
         requires { IsSpan span }
         ensures members { OnOk result ((x : ℕ) → IsMember self.new x ↔ (IsMember self.old x ⊎ IsInSpan x span)) }
@@ -81,6 +83,7 @@ impl IdSet {
 
     /// Adds the ids from `low` to before `end`, which are of one group; there may be none. On want of memory the set stays
     /// as it was.
+    #[inline]
     pub fn insert_between(&mut self, low: u64, end: u64) -> Result<(), AllocError>
         requires group { low < 2 ^ 56 → end ≤ 2 ^ 56 }
         requires bound { end ≤ 2 ^ 57 }

@@ -7,7 +7,7 @@ use Rattle.ancestor_query.proofs.floor.ancestors_above.Goals as goal
 pub visit-init : goal.visit-init
 visit-init g c = record {
   going = going-none (g.T.SegmentTable.flats c.args.table.now) (g.T.SegmentTable.ending_at c.args.table.now) (IsMember c.args.set.now) c.args.floor c.args.steps.now.taken
-    (g.met.T.SegmentTable.lawful c.args.table.now) (λ level id s e. g.met.T.SegmentTable.endings c.args.table.now level id s e) c.requires
+      (g.met.T.SegmentTable.lawful c.args.table.now) (λ level id s e. g.met.T.SegmentTable.endings c.args.table.now level id s e) c.requires
       c.empty-work.result c.empty-answer.result c.empty-work.ensures c.empty-answer.ensures;
   counted = omega arith;
   canonical = subst IsCanonical (sym c.empty-answer.ensures) tt;
@@ -23,7 +23,7 @@ pub visit-preserved : goal.visit-preserved
 visit-preserved g c = record {
   going =
       going-turn (g.T.SegmentTable.flats c.args.table.now) (g.T.SegmentTable.ending_at c.args.table.now) (IsMember c.args.set.now) c.args.floor c.args.steps.now.taken
-    (g.met.T.SegmentTable.lawful c.args.table.now) (λ level id s e. g.met.T.SegmentTable.endings c.args.table.now level id s e) c.requires
+      (g.met.T.SegmentTable.lawful c.args.table.now) (λ level id s e. g.met.T.SegmentTable.endings c.args.table.now level id s e) c.requires
       c.visit.frontier c.visit.work c.next_id.new.self c.visit.answer c.visit.steps.taken c.visit.invariant.going c.in-Some.id c.in-Some.ensures
       (segment_of c.best_jump-segment.result) c.best_jump-segment.ensures.best
       c.from_number-from.result (let m : c.max.result ≡ max (segment_of c.best_jump-segment.result).low c.args.floor = omega (arith, c.max.ensures, c.number-low.ensures.number, c.low.ensures, c.number-least.ensures.number) in c.from_number-from.ensures ∙ m)

@@ -1,15 +1,9 @@
 use Rattle.std.proofs.Common.{arith, ℕ, ◌+◌, sym, subst}
 use Rattle.span_set.specs.Members.{IsMember, IsCanonical}
 use Rattle.span_set.proofs.MemberLemmas.{span-read}
-use Rattle.ancestor_query.proofs.Parts.{parents-start, parents-next, parents-bound, parents-end, span-held, if_ok}
+use Rattle.ancestor_query.proofs.Parts.{parents-next, span-held}
 use Rattle.segment_codec.specs.Table.{IsHeld}
 use Rattle.ancestor_query.proofs.parent_set.parents.Goals as goal
-
-pub spans-init : goal.spans-init
-spans-init g c = record {
-  counted = omega arith;
-  parents = parents-start (g.T.SegmentTable.flats c.args.table.now) c.spans-span-items.result.now c.empty-moved.result c.empty-work.result c.empty-moved.ensures c.empty-work.ensures;
-}
 
 pub add_span-requires-clause-span : goal.add_span-requires-clause-span
 add_span-requires-clause-span g c =
@@ -26,13 +20,5 @@ spans-preserved g c = record {
   counted = let k = c.add_span.ensures.counted in let b = c.spans.invariant.counted in omega arith;
   parents = λ x. parents-next (g.T.SegmentTable.flats c.args.table.now) c.spans-span-items.result.now c.spans.span-index (c.spans.span-index + 1) c.span-item.result x c.spans-test.true (omega arith) c.span-item.is
       (c.spans.invariant.parents x) (c.in_ok-add_span.ensures.parents x);
+  settled = c.in_ok-add_span.ensures.settled;
 }
-
-pub returns-clause-members : goal.returns-clause-members
-returns-clause-members g c =
-    let flats = g.T.SegmentTable.flats c.args.table.now in
-    let lawful = g.met.T.SegmentTable.lawful c.args.table.now in
-    let done = c.spans-test.false in
-    if_ok c.union.result (λ r h x.
-    parents-end flats c.spans-span-items.result.now c.args.set.now c.spans.span-index x (omega arith) c.spans-span-items.ensures.same
-    (parents-bound flats lawful (IsMember c.args.set.now) c.requires x) (c.spans.invariant.parents x) (c.in_ok-others.ensures x) (h x)) c.union.ensures.members

@@ -1,6 +1,7 @@
 use Rattle.span_set.specs.Members.{IsMember}
-use Rattle.ancestor_query.proofs.Parts.{if_ok}
-use Rattle.common_ancestor.proofs.Folds.{gca-held, both-ways}
+use Rattle.std.proofs.lemmas.Result.{IfOk-weaker}
+use Rattle.ancestor_query.proofs.Parts.{both-ways}
+use Rattle.common_ancestor.proofs.Folds.{gca-held}
 use Rattle.common_ancestor.proofs.all_reach.common.Goals as goal
 
 pub ancestors-requires : goal.ancestors-requires
@@ -8,4 +9,4 @@ ancestors-requires g c =
     gca-held (g.T.SegmentTable.flats c.args.table.now) (g.met.T.SegmentTable.lawful c.args.table.now) (IsMember c.args.set.now) c.requires c.in_ok-last.last c.in_ok-last.ensures.members
 
 pub returns-clause-members : goal.returns-clause-members
-returns-clause-members g c = if_ok c.ancestors.result (λ r h x. both-ways (h x) (c.in_ok-last.ensures.reached x)) c.ancestors.ensures.members
+returns-clause-members g c = IfOk-weaker c.ancestors.result _ _ (λ r h x. both-ways (h x) (c.in_ok-last.ensures.reached x)) c.ancestors.ensures.members

@@ -1,7 +1,7 @@
 use Rattle.std.proofs.Common.{arith}
 use Rattle.span_set.specs.Members.{IsMember}
-use Rattle.ancestor_query.proofs.Parts.{if_ok}
-use Rattle.common_ancestor.proofs.Folds.{both-ways}
+use Rattle.std.proofs.lemmas.Result.{IfOk-weaker}
+use Rattle.ancestor_query.proofs.Parts.{both-ways}
 use Rattle.common_ancestor.proofs.Unreached.{tips-by, parents-held}
 use Rattle.common_ancestor.proofs.last_members.tips.Goals as goal
 
@@ -11,7 +11,7 @@ ancestors_above-requires g c =
 
 pub returns-clause-members : goal.returns-clause-members
 returns-clause-members g c =
-    if_ok c.minus.result (λ r h x. both-ways (h x)
+    IfOk-weaker c.minus.result _ _ (λ r h x. both-ways (h x)
     (tips-by (g.T.SegmentTable.flats c.args.table.now) (g.met.T.SegmentTable.lawful c.args.table.now) c.args.set.now c.in_ok-others.others c.in_ok-reached.reached c.lowest-floor.result
     (λ x m. (c.lowest-floor.ensures x m).0) c.in_ok-others.ensures.members c.in_ok-reached.ensures.members x)) c.minus.ensures.members
 

@@ -1,20 +1,9 @@
-use Rattle.std.proofs.Common.{arith, ◌⊎◌, ◌+◌}
-use Rattle.id_groups.specs.Lists.{IsIn}
+use Rattle.std.proofs.Common.{arith}
 use Rattle.segment_codec.specs.Lent.{segment_of}
-use Rattle.span_set.specs.Members.{IsMember}
+use Rattle.ancestor_query.specs.Parts.{IsFound}
 use Rattle.ancestor_query.proofs.Best.{found-at, looked-up}
-use Rattle.ancestor_query.proofs.Parts.{parents-part, part-facts, parents-none, parents-span, join-steps}
-use Rattle.ancestor_query.proofs.parent_set.add_span.Goals as goal
-
-pub parts-init : goal.parts-init
-parts-init g c =
-    let low = c.number-low.ensures.number in let high = c.number-end.ensures.number in let order = c.requires.span.order in
-    record {
-      counted = omega arith;
-      low = omega arith;
-      high = omega arith;
-      parents = λ x. parents-none (g.T.SegmentTable.flats c.args.table.now) {A = IsMember c.args.moved.now x ⊎ IsIn x c.args.work.now} (c.number-end.result + 1) c.args.span.high x (omega arith);
-    }
+use Rattle.ancestor_query.proofs.Parts.{parents-part, part-facts, join-steps}
+use Rattle.ancestor_query.proofs.parent_set.Found.add_span.Goals as goal
 
 pub unwrap-segment-requires : goal.unwrap-segment-requires
 unwrap-segment-requires g c =
@@ -53,11 +42,7 @@ parts-preserved g c =
       counted = let k = c.flat.ensures.tick in let b = c.parts.invariant.counted in omega arith;
       low = omega arith;
       high = omega arith;
-      parents = λ x. join-steps (c.parts.invariant.parents x) (c.in_ok-end.ensures.parents x)
+      parents = λ x. join-steps {C = IsFound c.add_part.new.self.ids c.add_part.new.self.waiting x} (c.parts.invariant.parents x) (c.in_ok-end.ensures.parents x)
           (parents-part flats lawful (segment_of c.unwrap-segment.result) c.number-low.result c.args.span.high c.from_number-high.result c.parts.end c.in_ok-end.end found (omega arith) (omega arith) (omega arith) end x);
+      settled = c.in_ok-end.ensures.settled;
     }
-
-pub returns-clause-parents : goal.returns-clause-parents
-returns-clause-parents g c = λ x.
-    let low = c.number-low.ensures.number in let done = c.parts-test.false in let least = c.parts.invariant.low in
-    parents-span (g.T.SegmentTable.flats c.args.table.now) c.args.span c.parts.end x (omega arith) (c.parts.invariant.parents x)
