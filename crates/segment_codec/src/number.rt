@@ -1,6 +1,6 @@
 //! Numbers of variable length: seven bits a byte, the lowest first. Only the shortest form is a spelling.
 
-ghost use Rattle.std.specs.Prelude.{◌≡◌, ◌+◌, ◌*◌, ◌%◌, ◌<◌, ◌^◌, ◌++◌, ◌≤◌, ℕ, List, length, Some, IsTrue, ◌↔◌, MatchOption, OnOk, OnErr};
+ghost use Rattle.std.specs.Prelude.{◌≡◌, ◌+◌, ◌*◌, ◌%◌, ◌<◌, ◌^◌, ◌++◌, ◌≤◌, ℕ, List, length, Some, IsTrue, ◌↔◌, MatchOption, IfSome, OnOk, OnErr};
 ghost use Rattle.segment_codec.specs.Number.{number_bytes};
 ghost use Rattle.segment_codec.specs.Record.{HasFront};
 ghost use Rattle.segment_codec.specs.Reading.{Gives, number_at, numbers_at};
@@ -36,11 +36,10 @@ fn ends_several(byte: u8) -> bool
     0 < byte && byte < MORE
 }
 
-/// The number in front, and the rest; `None` where no number's spelling stands in front. A number below 2^28 takes
-/// no loop.
+/// The number in front, and the rest, if it takes at most four bytes; `None` also where it takes more.
 #[inline(always)]
-pub fn read_number(bytes: &[u8]) -> Option<(u64, &[u8])>
-    ensures { Gives (λ r. (r.0, r.1.now)) result (number_at bytes.now) }
+pub fn read_short(bytes: &[u8]) -> Option<(u64, &[u8])>
+    ensures { IfSome result (λ r. number_at bytes.now ≡ Some (r.0, r.1.now)) }
 {
     match bytes {
         [one, rest @ ..] if *one < MORE => Some((u64::from(*one), rest)),
@@ -50,17 +49,30 @@ pub fn read_number(bytes: &[u8]) -> Option<(u64, &[u8])>
             Some((u64::from(*one % MORE) + 128 * high, rest))
         }
         [one, two, three, four, rest @ ..]
-            if *two >= MORE && *three >= MORE && ends_several(*four) => {
+            if *two >= MORE && *three >= MORE && ends_several(*four) =>
+        {
             let high = two_groups(*three, *four);
             Some((two_groups(*one, *two) + TWO_GROUPS * high, rest))
         }
-        _ => read_groups(bytes),
+        _ => None,
     }
 }
 
-/// The same, group by group, for a number of any length.
+/// The number in front, and the rest; `None` where no number's spelling stands in front. A number below 2^28 takes
+/// no loop.
+#[inline(always)]
+pub fn read_number(bytes: &[u8]) -> Option<(u64, &[u8])>
+    ensures { Gives (λ r. (r.0, r.1.now)) result (number_at bytes.now) }
+{
+    if let Some(short) = read_short(bytes) {
+        return Some(short);
+    }
+    read_groups(bytes)
+}
+
+/// The number in front, and the rest, group by group, whatever its length.
 #[inline(never)]
-fn read_groups(bytes: &[u8]) -> Option<(u64, &[u8])>
+pub fn read_groups(bytes: &[u8]) -> Option<(u64, &[u8])>
     ensures { Gives (λ r. (r.0, r.1.now)) result (number_at bytes.now) }
 {
     let mut value = 0u64;

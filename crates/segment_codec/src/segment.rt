@@ -8,7 +8,7 @@ ghost use Rattle.segment_codec.specs.Lent.{segment_of, parents_left};
 ghost use Rattle.segment_codec.specs.Turns.{is_only, goes_on};
 
 use crate::lent::{Parents, SegmentRef};
-use crate::number::read_number;
+use crate::number::{read_groups, read_short};
 use id_groups::Id;
 
 /// Whether there is one parent, and it has this number.
@@ -87,8 +87,16 @@ impl<'a> Iterator for Parents<'a> {
 
     ghost remaining = { item_count parents_left };
 
+    #[inline(always)]
     fn next(&mut self) -> Option<Id> {
-        let (number, rest) = read_number(self.rest)?;
+        if self.rest.is_empty() {
+            return None;
+        }
+        if let Some((number, rest)) = read_short(self.rest) {
+            self.rest = rest;
+            return Some(Id::from_number(number));
+        }
+        let (number, rest) = read_groups(self.rest)?;
         self.rest = rest;
         Some(Id::from_number(number))
     }

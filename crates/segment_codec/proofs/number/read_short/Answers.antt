@@ -1,7 +1,7 @@
 use Rattle.std.proofs.Common.{◌+◌, ◌*◌, refl, arith}
 use Rattle.segment_codec.proofs.Numbers.{IsBytes}
 use Rattle.segment_codec.proofs.Short.{last-at, more-at, short-number}
-use Rattle.segment_codec.proofs.number.read_number.Goals as goal
+use Rattle.segment_codec.proofs.number.read_short.Goals as goal
 
 pub returns-in-len1-up : goal.returns-in-len1-up
 returns-in-len1-up c =
