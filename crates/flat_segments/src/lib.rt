@@ -1,6 +1,6 @@
 #![tactic(auto)]
 
-//! The commits of a graph as flat segments, whose records are read from the log's bytes when they are wanted.
+//! The commits of a graph as flat segments, whose parents are read from the log's bytes when they are wanted.
 
 mod entry;
 mod fault;

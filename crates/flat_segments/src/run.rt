@@ -1,4 +1,4 @@
-//! Segments that follow one another, of which the records are lent.
+//! Segments that follow one another, whose parents are lent.
 
 ghost use Rattle.std.specs.Prelude.{◌≡◌, ◌<◌, ◌≤◌, ◌+◌, ◌^◌, [], true, length, drop, slice_get, Some};
 ghost use Rattle.segment_codec.specs.Record.{Segment};
