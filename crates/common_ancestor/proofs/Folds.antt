@@ -55,13 +55,6 @@ module _ (flats : List Segment) (lawful : IsLawful flats) where
     pub last : AreLast (table_graph flats) (IsMember rest)
     pub canonical : IsCanonical rest
 
-  pub pieces-start : (start : List IdSpan) (end high : ℕ) → high < end → AreLast (table_graph flats) (IsMember start) → IsCanonical start → Pieces start end high start
-  pieces-start start end high lt last canonical = record {
-    reached = λ z. (λ a. (a, λ m h. let le = h.0 in let ge = h.1 in absurd (omega arith)), λ h. h.0);
-    last = last;
-    canonical = canonical;
-  }
-
   module _ (start : List IdSpan) (end high : ℕ) (rest : List IdSpan) (p : Pieces start end high rest) where
     pub pieces-held : ((x : ℕ) → IsMember start x → IsHeld flats x) → (x : ℕ) → IsMember rest x → IsHeld flats x
     pieces-held held x m =
@@ -136,12 +129,6 @@ module _ (flats : List Segment) (lawful : IsLawful flats) where
 
     pub done-gca : IsMember done first → (z : ℕ) → IsMember set z ↔ sets.gca (table_graph flats) (IsMember done) z
     done-gca member z = last-heads (IsMember set) (sets.common (table_graph flats) (IsMember done)) d.last (done-common member) z
-
-  pub none-gca : (set : List IdSpan) → ((x : ℕ) → IsMember set x → ⊥) → (r : List IdSpan) → r ≡ [] → (z : ℕ) → IsMember r z ↔ sets.gca (table_graph flats) (IsMember set) z
-  none-gca set none r e z = (λ m. absurd (subst (λ l. IsMember l z) e m), λ h. absurd (none h.0.0.0 h.0.0.1))
-
-  pub none-common : (set : List IdSpan) → ((x : ℕ) → IsMember set x → ⊥) → (r : List IdSpan) → r ≡ [] → (z : ℕ) → Anc (IsMember r) z ↔ sets.common (table_graph flats) (IsMember set) z
-  none-common set none r e z = (λ h. absurd (subst (λ l. IsMember l h.0) e h.1), λ h. absurd (none h.0.0 h.0.1))
 
   -- what all members reach is held
   pub gca-held : (S : ℕ → Type 0) → ((x : ℕ) → S x → IsHeld flats x) → (r : List IdSpan) → ((x : ℕ) → IsMember r x ↔ sets.gca (table_graph flats) S x) → (x : ℕ) → IsMember r x → IsHeld flats x

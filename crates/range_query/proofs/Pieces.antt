@@ -8,7 +8,6 @@ use Rattle.segment_codec.specs.Record.{Segment}
 use Rattle.span_set.specs.Members.{IsMember, IsCanonical}
 use Rattle.span_set.proofs.MemberLemmas.{member-at, span-read, take-member-at, member-first, member-last, member-right, member-either}
 use Rattle.span_set.proofs.Below.{canonical-drop}
-use Rattle.span_set.proofs.Overlaps.{nothing-behind}
 use Rattle.range_query.specs.Parts.{IsMoved, StandFrom}
 
 -- a step: what was left is the piece and what is left now
@@ -35,24 +34,12 @@ piece s t rest low end x l h = (
       (λ r. (r.0, r.1, inr r.2)) m,
 )
 
-pub piece-added : {G O N : Type 0} → (s : Segment) (xs : List IdSpan) (i k : ℕ) (t : IdSpan) (low end x : ℕ) → i < length xs → k ≡ suc i → t ≡ get_or xs i t
-    → low ≡ max t.low s.low + 1 → end ≡ min (t.high + 1) s.high + 1
-    → G ↔ (O ⊎ IsMoved (drop i xs) s x) → N ↔ (O ⊎ ((low ≤ x) × (x < end))) → G ↔ (N ⊎ IsMoved (drop k xs) s x)
-piece-added s xs i k t low end x lt e is l h g n =
-    let cons : drop i xs ≡ t ∷ drop (suc i) xs = subst (λ q. drop i xs ≡ q ∷ drop (suc i) xs) (sym is) (drop-cons xs i t lt) in
-    walked g
-    (subst (λ j. IsMoved (drop i xs) s x ↔ (((low ≤ x) × (x < end)) ⊎ IsMoved (drop j xs) s x)) (sym e)
-    (subst (λ q. IsMoved q s x ↔ (((low ≤ x) × (x < end)) ⊎ IsMoved (drop (suc i) xs) s x)) (sym cons) (piece s t (drop (suc i) xs) low end x l h))) n
-
 -- the spans from one that ends below the segment on have no piece of it
 pub moved-none : (s : Segment) (xs : List IdSpan) (i : ℕ) (t : IdSpan) (x : ℕ) → IsCanonical xs → i < length xs → t ≡ get_or xs i t → t.high < s.low → IsMoved (drop i xs) s x → ⊥
 moved-none s xs i t x c lt is under m =
     let cons : drop i xs ≡ t ∷ drop (suc i) xs = subst (λ q. drop i xs ≡ q ∷ drop (suc i) xs) (sym is) (drop-cons xs i t lt) in
     let top = member-first (t ∷ drop (suc i) xs) t (x - 1) (subst IsCanonical cons (canonical-drop i xs c)) (subst (λ q. IsMember q (x - 1)) cons m.2) in
     let a = m.0 in omega arith
-
-pub moved-past : (s : Segment) (xs : List IdSpan) (i x : ℕ) → length xs ≤ i → IsMoved (drop i xs) s x → ⊥
-moved-past s xs i x le m = nothing-behind xs i (x - 1) le m.2
 
 -- what is left is nothing
 pub whole-now : {G O R : Type 0} → G ↔ (O ⊎ R) → (R → ⊥) → O ↔ G

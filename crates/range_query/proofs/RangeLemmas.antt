@@ -97,10 +97,6 @@ module _ (flats : List Segment) (lawful : IsLawful flats) (from : List IdSpan) (
     λ d. (exact x).1 (d, ⊎_elim (λ a. a) (λ o. absurd (of-all flats k x all o)) (of-parts flats k x (held-of flats x (desc-held flats lawful from inside x d.0)))),
   )
 
-  -- no id of the other set, none of both
-  pub both-empty : (answer : List IdSpan) → answer ≡ [] → ((x : ℕ) → IsMember below x → ⊥) → (x : ℕ) → IsMember answer x ↔ Both flats from below x
-  both-empty answer e none x = (λ m. absurd (subst (λ l. IsMember l x) e m), λ d. absurd (none x d.1))
-
 -- both are what descends from one set and is reached by the other
 pub both-range : (flats : List Segment) → IsLawful flats → (from to : List IdSpan) (lowest : ℕ) (below found answer : List IdSpan) → ((x : ℕ) → IsMember from x → lowest ≤ x)
     → ((x : ℕ) → IsMember below x ↔ (sets.ancestors (table_graph flats) (IsMember to) x × (lowest ≤ x)))

@@ -166,11 +166,3 @@ module _ (id n : ℕ) (xs : List IdSpan) (rising : IsRising xs) (before : AllWit
         λ m. subst (λ (s : IdSpan). s.low ≤ id) (sym is)
             (first-low (get_or xs n r) (drop (suc n) xs) id (subst IsRising cons (rising-drop n xs rising)) (subst (λ l. IsMember l id) cons (behind m))),
       )
-
--- one more of the spans behind a place
-pub drop-member : (xs : List IdSpan) (i k : ℕ) (r : IdSpan) (x : ℕ) → i < length xs → k ≡ suc i → r ≡ get_or xs i r → IsMember (drop i xs) x ↔ (IsMember (drop k xs) x ⊎ IsInSpan x r)
-drop-member xs i k r x lt e is =
-    subst (λ l. IsMember l x ↔ (IsMember (drop k xs) x ⊎ IsInSpan x r)) (sym (drop-cons xs i r lt))
-    (subst (λ (s : IdSpan). IsMember (s ∷ drop (suc i) xs) x ↔ (IsMember (drop k xs) x ⊎ IsInSpan x r)) is
-    (subst (λ j. IsMember (r ∷ drop (suc i) xs) x ↔ (IsMember (drop j xs) x ⊎ IsInSpan x r)) (sym e)
-    (λ m. ⊎_elim (λ i. inr i) (λ o. inl o) m, λ m. ⊎_elim (λ o. inr o) (λ i. inl i) m)))

@@ -1,5 +1,5 @@
 -- Places in a list of segments that ascends.
-use Rattle.std.proofs.Common.{◌≡◌, ℕ, zero, suc, ◌<◌, ◌≤◌, ◌⊎◌, inl, inr, ◌↔◌, List, [], ◌∷◌, Some, None, length, take, drop, refl, sym, subst, arith, ⊎_elim, le_of_suc-le-suc, ap, zero-le}
+use Rattle.std.proofs.Common.{◌≡◌, ℕ, zero, suc, ◌<◌, ◌≤◌, ◌⊎◌, inl, inr, ◌↔◌, List, [], ◌∷◌, Some, None, length, take, drop, refl, sym, subst, arith, ⊎_elim, le_of_suc-le-suc, ap}
 use Rattle.std.specs.Prelude.{slice_get}
 use Rattle.id_groups.specs.Lists.{IsIn}
 use Rattle.segment_codec.specs.Record.{Segment}
@@ -75,14 +75,6 @@ none-behind [] zero le s i = i
 none-behind [] (suc n) le s i = i
 none-behind (x ∷ flats) zero le s i = absurd (omega arith)
 none-behind (x ∷ flats) (suc n) le s i = none-behind flats n (le_of_suc-le-suc le) s i
-
-pub halves-all : (flats : List Segment) (id n : ℕ) → n ≡ length flats → Halves flats id 0 n
-halves-all flats id n e = record {
-  order = zero-le;
-  within = omega arith;
-  before = λ s i. absurd i;
-  behind = λ s i. absurd (none-behind flats n (omega arith) s i);
-}
 
 module _ (flats : List Segment) (rising : AreRising flats) (id low middle high : ℕ) (s : Segment) (h : Halves flats id low high)
     (a : low ≤ middle) (b : middle < high) (e : slice_get flats middle ≡ Some s) where
