@@ -1,6 +1,6 @@
 //! Placing without recursion: an explicit stack of the commits that wait for their parents.
 
-ghost use Rattle.std.specs.Prelude.{◌≡◌, ℕ, ◌<◌, ◌≤◌, ◌^◌, List, length, drop, false, IfOk, OnOk, MatchOption, nat_eq};
+ghost use Rattle.std.specs.Prelude.{◌≡◌, ℕ, ◌<◌, ◌≤◌, ◌^◌, List, drop, false, IfOk, OnOk, MatchOption, nat_eq};
 ghost use Rattle.id_groups.specs.Lists.{IsIn, is_in};
 ghost use Rattle.commit_graph.specs.World.{Row as PlainRow};
 ghost use Rattle.assign_ids.specs.Placing.{place as placed, place_all};

@@ -1,6 +1,6 @@
 //! A payload, read as a whole.
 
-ghost use Rattle.std.specs.Prelude.{◌≡◌, ◌≤◌, ◌+◌, ◌*◌, ◌^◌, ℕ, List, length, IfSome, MatchOption};
+ghost use Rattle.std.specs.Prelude.{◌≡◌, ◌≤◌, ◌+◌, ◌*◌, ◌^◌, length, IfSome, MatchOption};
 ghost use Rattle.segment_codec.specs.Reading.{Gives};
 ghost use Rattle.batch_codec.specs.Payload.{Payload, payload_bytes};
 ghost use Rattle.segment_codec.specs.Turns.{place_behind};

@@ -1,6 +1,6 @@
 //! A payload that is being built, section by section.
 
-ghost use Rattle.std.specs.Prelude.{◌≡◌, ◌≤◌, ◌+◌, ◌++◌, Ok, [], ◌∷◌, length, OnOk, OnErr, IfOk};
+ghost use Rattle.std.specs.Prelude.{◌≡◌, ◌≤◌, ◌+◌, ◌++◌, Ok, ◌∷◌, length, OnOk, OnErr, IfOk};
 ghost use Rattle.std.specs.Int.{w16, w32, w64, to_be_bytes};
 ghost use Rattle.segment_codec.specs.Record.{IsSegment, HasFront, segment_bytes};
 ghost use Rattle.batch_codec.specs.Payload.{Payload, known_bytes, payload_bytes};

@@ -1,6 +1,6 @@
 //! Laws of the definitions.
 
-ghost use Rattle.std.specs.Prelude.{◌≡◌, ◌++◌, ℕ, List, length, [], ◌∷◌, take, drop, flat_map};
+ghost use Rattle.std.specs.Prelude.{◌≡◌, ℕ, List, length, [], ◌∷◌, take};
 ghost use Rattle.batch_codec.specs.Grammar.{AreLawful, MayFollow, IsPayload, AreMaximal, AreFlat};
 ghost use Rattle.batch_codec.specs.Examples.{chain_clone, short_name};
 ghost use Rattle.segment_codec.specs.Record.{Segment};

@@ -1,6 +1,6 @@
 //! What the sections of a payload lend.
 
-ghost use Rattle.std.specs.Prelude.{◌≡◌, ◌*◌, ◌<◌, ◌^◌, Some, length, flat_map, slice_get, slice_index};
+ghost use Rattle.std.specs.Prelude.{◌≡◌, ◌*◌, ◌<◌, Some, length, flat_map, slice_get, slice_index};
 ghost use Rattle.segment_codec.specs.Record.{segment_bytes};
 ghost use Rattle.batch_codec.specs.Lent.{segments_of, knowns_of, ids_of, names_of, known_of, payload_of};
 

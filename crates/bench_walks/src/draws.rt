@@ -1,6 +1,6 @@
 //! Places that are drawn.
 
-ghost use Rattle.std.specs.Prelude.{◌≡◌, ◌<◌, ◌≤◌, ◌^◌, ℕ};
+ghost use Rattle.std.specs.Prelude.{◌<◌};
 
 use id_groups::Id;
 

@@ -1,6 +1,6 @@
 //! Commands, and the lines that spell them.
 
-ghost use Rattle.std.specs.Prelude.{◌≡◌, ◌==◌, IfOk, MatchOption, position, ◌++◌, [], ◌∷◌, ◌<◌, ◌≤◌, length, List, ℕ, codes, OnOk};
+ghost use Rattle.std.specs.Prelude.{◌≡◌, ◌==◌, IfOk, position, ◌++◌, [], ◌∷◌, ◌<◌, length, List, ℕ, codes, OnOk};
 ghost use Rattle.std.specs.List.{AllZip};
 ghost use Rattle.outside.specs.Parts.{split_at};
 ghost use Rattle.id_groups.specs.Name.{Name as NameBytes, SpellsName};

@@ -4,7 +4,7 @@ ghost use Rattle.std.specs.Prelude.{◌≡◌, ◌≤◌, ◌+◌, ◌++◌, [],
 ghost use Rattle.id_groups.specs.Id.{id_text};
 ghost use Rattle.outside.specs.Counts.{HasCause};
 ghost use Rattle.outside.specs.Told.{WhereTold, TookFront, Puts};
-ghost use Rattle.dag_run.specs.Replies.{refusal_text, reply_text, reply_lines, lines_text, names_lines};
+ghost use Rattle.dag_run.specs.Replies.{refusal_text, reply_text, lines_text, names_lines};
 ghost use Rattle.dag_run.specs.Lines.{told_text};
 ghost use Rattle.dag_run.specs.Sending.{Sends};
 

@@ -1,7 +1,7 @@
 // How the record grows.
-ghost use Rattle.std.specs.Prelude.{◌≡◌, ◌≤◌, ◌<◌, ◌+◌, ◌^◌, ◌++◌, length, min, take, drop, ◌-◌, IfOk, OnOk, OnErr};
+ghost use Rattle.std.specs.Prelude.{◌≡◌, ◌≤◌, ◌<◌, ◌+◌, ◌^◌, length, ◌-◌, IfOk, OnOk, OnErr};
 ghost use Rattle.outside.specs.Counts.{Rose};
-ghost use Rattle.disk_trait.specs.Images.{moment_of, fresh_disk};
+ghost use Rattle.disk_trait.specs.Images.{fresh_disk};
 ghost use Rattle.disk_trait.specs.Calls.{overwritten, Passes, Writes, Syncs};
 ghost use Rattle.disk_memory.specs.Scenes.{Keeps};
 ghost use Rattle.disk_memory.specs.Tells.{history, tells};

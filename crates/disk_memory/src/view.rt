@@ -1,5 +1,5 @@
 // A moment of the disk, as its record gives it.
-ghost use Rattle.std.specs.Prelude.{◌≡◌, ◌≤◌, ◌<◌, ◌+◌, ℕ, length, min, slice_index, IfOk};
+ghost use Rattle.std.specs.Prelude.{◌≡◌, ◌<◌, length, min, slice_index, IfOk};
 ghost use Rattle.std.specs.List.{list_any};
 ghost use Rattle.disk_memory.specs.Scenes.{Scene, History, synced_scene, written_scene, done};
 ghost use Rattle.disk_memory.specs.Chosen.{IsChosen};

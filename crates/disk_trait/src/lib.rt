@@ -3,7 +3,7 @@
 //! A disk whose calls may fail, and which may crash at any moment: what it tells, what a crash may leave, and what
 //! each call changes of that.
 
-ghost use Rattle.std.specs.Prelude.{◌≡◌, ◌<◌, ◌≤◌, ◌++◌, ◌+◌, ◌-◌, ◌%◌, ℕ, List, [], ◌∷◌, Option, Some, IfOk, IfSome, OnOk, OnErr, length, min, take, drop, slice_index};
+ghost use Rattle.std.specs.Prelude.{◌≡◌, ◌<◌, ◌≤◌, ◌++◌, ◌+◌, ◌-◌, ◌%◌, ℕ, List, [], ◌∷◌, Option, IfOk, IfSome, OnOk, OnErr, length, min, take, drop, slice_index};
 ghost use Rattle.outside.specs.Counts.{HasCause};
 ghost use Rattle.disk_trait.specs.Images.{Told, IsImage, surely, IsSound, LeftAt, moment_of, last_moment, fresh_disk};
 ghost use Rattle.disk_trait.specs.Calls.{Passes, with_range, Writes, FailsToWrite, Syncs, OrRefuses, Succeeds, Goes};

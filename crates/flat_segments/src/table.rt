@@ -1,6 +1,6 @@
 //! The table of a log's master records.
 
-ghost use Rattle.std.specs.Prelude.{◌≡◌, ◌≤◌, ◌<◌, ◌^◌, ◌+◌, ◌++◌, List, ℕ, [], ◌∷◌, true, length, take, filter, nat_lt, OnOk, OnErr, Err};
+ghost use Rattle.std.specs.Prelude.{◌≡◌, ◌≤◌, ◌<◌, ◌^◌, ◌+◌, ◌++◌, List, ℕ, [], true, length, take, filter, nat_lt, OnOk, OnErr, Err};
 ghost use Rattle.segment_codec.specs.Record.{Segment};
 ghost use Rattle.flat_segments.specs.Maximal.{maximal, cut};
 ghost use Rattle.segment_codec.specs.Turns.{StandInTurn, IsFirstBroken};

@@ -1,6 +1,6 @@
 //! A view of a table, lent with the log's bytes.
 
-ghost use Rattle.std.specs.Prelude.{◌≡◌, ◌<◌, ◌≤◌, ◌^◌, ◌+◌, ◌-◌, ◌++◌, true, length};
+ghost use Rattle.std.specs.Prelude.{◌≡◌, ◌<◌, ◌^◌, ◌+◌, ◌-◌, ◌++◌, true, length};
 ghost use Rattle.segment_codec.specs.Flat.{is_lawful};
 ghost use Rattle.flat_segments.specs.Maximal.{begin_of};
 ghost use Rattle.flat_segments.specs.Runs.{flats_in};

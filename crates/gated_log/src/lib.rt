@@ -6,11 +6,11 @@
 //! of a payload in eight bytes, the greatest first, the payload, and the next gate. The log ends at its first closed
 //! gate, and bytes behind it mean nothing. A file of 0 or 1 bytes is a fresh log, whatever the byte is.
 
-ghost use Rattle.std.specs.Prelude.{◌≡◌, ◌≢◌, ◌⊎◌, ◌++◌, ◌^◌, ◌<◌, ◌≤◌, ◌↔◌, ◌+◌, ◌-◌, ℕ, List, [], ◌∷◌, length, take, drop, slice_index, slice_index_or, IfSome, IfOk, IfErr, OnOk, OnErr, IsTrue, vec_capacity};
+ghost use Rattle.std.specs.Prelude.{◌≡◌, ◌⊎◌, ◌++◌, ◌^◌, ◌<◌, ◌≤◌, ◌↔◌, ◌+◌, ◌-◌, ℕ, List, [], ◌∷◌, length, take, drop, slice_index, slice_index_or, IfSome, IfOk, IfErr, OnOk, OnErr, IsTrue, vec_capacity};
 ghost use Rattle.std.specs.List.{AllByRecursion};
 ghost use Rattle.disk_trait.specs.Calls.{Goes, Passes};
 ghost use Rattle.outside.specs.Counts.{Rose};
-ghost use Rattle.gated_log.specs.Log.{HasLength, IsLog, IsDamaged, batches, gates_of, log_length};
+ghost use Rattle.gated_log.specs.Log.{IsLog, IsDamaged, batches, gates_of, log_length};
 ghost use Rattle.gated_log.specs.Held.{Held, log_bytes, staged, room_of};
 ghost use Rattle.gated_log.specs.Holding.{IsOnDisk, IsLogWithin, KeepsOldOrNew, HasNew};
 ghost use Rattle.gated_log.specs.Commit.{Answers, Reserves};

@@ -1,6 +1,6 @@
 //! Laws of the definitions.
 
-ghost use Rattle.std.specs.Prelude.{◌≡◌, ◌<◌, ◌++◌, ◌↔◌, ℕ, List, [], ◌∷◌, codes, Bool, true, false, IsTrue, replicate, Some};
+ghost use Rattle.std.specs.Prelude.{◌≡◌, ◌++◌, ◌↔◌, ℕ, List, [], ◌∷◌, codes, Bool, true, false, IsTrue, replicate, Some};
 ghost use Rattle.id_groups.specs.Lists.{IsIn, is_in, IsFiltered};
 ghost use Rattle.id_groups.specs.Name.{Name as NameBytes, IsName, same_name, hex_text, SpellsName, name_of};
 ghost use Rattle.id_groups.specs.Id.{other_id, id_text};

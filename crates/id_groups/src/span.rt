@@ -1,6 +1,6 @@
 //! Spans of ids.
 
-ghost use Rattle.std.specs.Prelude.{◌≡◌, ◌≤◌, ◌<◌, ◌^◌};
+ghost use Rattle.std.specs.Prelude.{◌≡◌};
 ghost use Rattle.id_groups.specs.Span.{IsSpan};
 
 use crate::Id;

@@ -1,7 +1,7 @@
 //! Examples of the definitions, proved by computing.
 
-ghost use Rattle.std.specs.Prelude.{◌≡◌, ◌∷◌, [], ◌++◌, true, false, codes};
-ghost use Rattle.line_io.specs.Lines.{lines_of, whole_lines, without_carriage_return, is_empty_or_comment, is_silent};
+ghost use Rattle.std.specs.Prelude.{◌≡◌, ◌∷◌, [], true, false, codes};
+ghost use Rattle.line_io.specs.Lines.{lines_of, whole_lines, is_silent};
 
 /// Lines of some inputs: a carriage return directly before a line feed is no part of the line, a last line keeps its
 /// own, and a line counts only if it is whole within the limit.

@@ -1,12 +1,12 @@
 //! The lines of a source.
 
-ghost use Rattle.std.specs.Prelude.{◌≡◌, ◌<◌, ◌≤◌, ◌+◌, ◌-◌, ◌↔◌, [], ◌++◌, ◌∷◌, length, take, drop, MatchResult, MatchOption, position, ◌==◌, IfOk, OnOk, OnErr, ◌≢◌, IsTrue, IsOk, false, true};
+ghost use Rattle.std.specs.Prelude.{◌≡◌, ◌<◌, ◌≤◌, ◌+◌, ◌-◌, ◌↔◌, [], length, take, drop, MatchResult, MatchOption, position, ◌==◌, IfOk, OnOk, ◌≢◌, IsTrue, IsOk, false, true};
 ghost use Rattle.std.specs.Str.Lines.{strip_carriage_return};
 ghost use Rattle.std.specs.Io.KnownBytes.{Keeps};
 ghost use Rattle.outside.specs.Counts.{Rose, HasCause};
 ghost use Rattle.outside.specs.Parts.{HasNone};
 ghost use Rattle.outside.specs.Told.{WhereTold};
-ghost use Rattle.line_io.specs.Reading.{Reading, new_reading, window, is_over, budget};
+ghost use Rattle.line_io.specs.Reading.{Reading, new_reading, is_over, budget};
 ghost use Rattle.line_io.specs.Next.{NextLine, IsDone};
 ghost use Rattle.line_io.specs.Steps.{EndsAt, LendsLine, LendsRest, Fills, MakesSpace, turns, capacity};
 ghost use Rattle.line_io.specs.declared.lines.Line.{Line};

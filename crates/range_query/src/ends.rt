@@ -1,6 +1,6 @@
 //! The members without a child and those without a parent among the members.
 
-ghost use Rattle.std.specs.Prelude.{◌≡◌, ℕ, ◌↔◌, IfOk, ◌-◌, ◌≤◌, ◌^◌, min};
+ghost use Rattle.std.specs.Prelude.{ℕ, ◌↔◌, IfOk, ◌-◌, ◌≤◌, ◌^◌, min};
 ghost use Rattle.commit_graph.specs.Sets as sets;
 ghost use Rattle.segment_codec.specs.Table.{IsHeld};
 ghost use Rattle.span_set.specs.Members.{IsMember, IsCanonical};

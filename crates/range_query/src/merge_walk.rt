@@ -1,7 +1,7 @@
 //! The merges among the members of a set.
 
-ghost use Rattle.std.specs.Prelude.{◌≡◌, ℕ, ◌≤◌, ◌⊎◌, ◌↔◌, length, IfOk, OnOk, IsTrue, ◌-◌, ◌^◌, min};
-ghost use Rattle.id_groups.specs.Span.{IsSpan, IsInSpan};
+ghost use Rattle.std.specs.Prelude.{ℕ, ◌≤◌, ◌⊎◌, ◌↔◌, length, IfOk, OnOk, IsTrue, ◌-◌, ◌^◌, min};
+ghost use Rattle.id_groups.specs.Span.{IsInSpan};
 ghost use Rattle.commit_graph.specs.Sets as sets;
 ghost use Rattle.segment_codec.specs.Lent.{segment_of};
 ghost use Rattle.segment_codec.specs.Table.{IsHeld, parents_at};

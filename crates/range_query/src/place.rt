@@ -1,7 +1,6 @@
 //! Where a walk over the segments begins.
 
 ghost use Rattle.std.specs.Prelude.{◌≡◌, ℕ, ◌-◌, ◌<◌, ◌≤◌, ◌^◌, length, [], MatchOption, min};
-ghost use Rattle.id_groups.specs.Span.{IsSpan};
 ghost use Rattle.span_set.specs.Members.{IsMember, IsCanonical};
 ghost use Rattle.range_query.specs.Places.{IsPlace};
 

@@ -1,6 +1,6 @@
 //! What reaches the members of a set.
 
-ghost use Rattle.std.specs.Prelude.{◌≡◌, ℕ, ◌-◌, ◌<◌, ◌≤◌, ◌^◌, ◌⊎◌, ◌↔◌, length, drop, slice_index_or, IfOk, OnOk, min};
+ghost use Rattle.std.specs.Prelude.{ℕ, ◌-◌, ◌<◌, ◌≤◌, ◌^◌, ◌⊎◌, ◌↔◌, length, drop, slice_index_or, IfOk, OnOk, min};
 ghost use Rattle.commit_graph.specs.Sets as sets;
 ghost use Rattle.segment_codec.specs.Lent.{segment_of};
 ghost use Rattle.segment_codec.specs.Table.{IsHeld};

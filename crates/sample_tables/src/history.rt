@@ -1,6 +1,6 @@
 //! Histories that are drawn by a rule.
 
-ghost use Rattle.std.specs.Prelude.{◌≡◌, ◌+◌, ◌/◌, ◌<◌, ◌≤◌, ◌^◌, ◌++◌, ℕ, nat_lt, if◌then◌else◌, List, [], ◌∷◌, IfOk, OnOk, IfSome};
+ghost use Rattle.std.specs.Prelude.{◌≡◌, ◌+◌, ◌/◌, ◌<◌, ◌^◌, ◌++◌, ℕ, nat_lt, if◌then◌else◌, List, [], ◌∷◌, IfOk, OnOk, IfSome};
 ghost use Rattle.segment_codec.specs.Record.{Segment};
 ghost use Rattle.segment_codec.specs.Table.{parents_at};
 ghost use Rattle.sample_tables.specs.Drawn.{MayBegin, parents_begun, next_drawn, begin_by, history};

@@ -1,6 +1,6 @@
 //! Commits of the other group with the bytes of their records, and a sample that two such parts are joined to.
 
-ghost use Rattle.std.specs.Prelude.{◌≡◌, ◌+◌, ◌≤◌, ◌<◌, ◌^◌, ◌↔◌, ◌++◌, [], ◌∷◌, List, IsTrue, OnOk, OnErr, IfOk};
+ghost use Rattle.std.specs.Prelude.{◌≡◌, ◌+◌, ◌<◌, ◌^◌, ◌↔◌, ◌++◌, [], ◌∷◌, List, IsTrue, OnOk, OnErr};
 ghost use Rattle.segment_codec.specs.Record.{Segment};
 ghost use Rattle.flat_segments.specs.Maximal.{maximal, cut};
 ghost use Rattle.flat_segments.specs.Views.{master_flats, other_flats, master_count};

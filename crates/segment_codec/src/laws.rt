@@ -1,6 +1,6 @@
 //! Laws of the definitions.
 
-ghost use Rattle.std.specs.Prelude.{◌≡◌, ◌++◌, ◌^◌, ◌<◌, ◌+◌, ◌-◌, ◌↔◌, IsTrue, ℕ, List, [], ◌∷◌, length, replicate};
+ghost use Rattle.std.specs.Prelude.{◌≡◌, ◌++◌, ◌^◌, ◌+◌, ◌-◌, ◌↔◌, IsTrue, ℕ, List, [], ◌∷◌, length, replicate};
 ghost use Rattle.std.specs.List.{AllByRecursion};
 ghost use Rattle.segment_codec.specs.Number.{HasNumber, number_bytes};
 ghost use Rattle.segment_codec.specs.Record.{Segment, IsSegment, segment_bytes, head_bytes, parents_bytes};

@@ -1,8 +1,8 @@
 //! What a lent record says.
 
-ghost use Rattle.std.specs.Prelude.{◌≡◌, ◌≤◌, ◌<◌, ◌^◌, length, List, ℕ};
+ghost use Rattle.std.specs.Prelude.{◌≡◌, ◌≤◌, ◌<◌};
 ghost use Rattle.std.specs.Iterator.{YieldsFirst, item_count};
-ghost use Rattle.id_groups.specs.Id.{is_master_id, id_end};
+ghost use Rattle.id_groups.specs.Id.{is_master_id};
 ghost use Rattle.segment_codec.specs.Record.{IsSegment};
 ghost use Rattle.segment_codec.specs.Lent.{segment_of, parents_left};
 ghost use Rattle.segment_codec.specs.Turns.{is_only, goes_on};

@@ -1,6 +1,6 @@
 //! The answer of an expression over a table of segments.
 
-ghost use Rattle.std.specs.Prelude.{◌≡◌, ℕ, ◌+◌, ◌*◌, ◌≤◌, ◌<◌, ◌^◌, ◌⊎◌, ◌↔◌, List, [], ◌∷◌, IfOk, OnOk, IsTrue, length};
+ghost use Rattle.std.specs.Prelude.{◌≡◌, ℕ, ◌+◌, ◌*◌, ◌≤◌, ◌<◌, ◌^◌, ◌⊎◌, ◌↔◌, [], ◌∷◌, IfOk, OnOk, IsTrue, length};
 ghost use Rattle.id_groups.specs.Lists.{IsIn};
 ghost use Rattle.id_groups.specs.Name.{Name as NameBytes};
 ghost use Rattle.segment_codec.specs.Table.{IsHeld};
@@ -8,7 +8,7 @@ ghost use Rattle.span_set.specs.Members.{IsMember, ids_of};
 ghost use Rattle.ancestor_query.specs.Graph.{table_graph};
 ghost use Rattle.ancestor_query.specs.Counts.{count_met, EndsWhole};
 ghost use Rattle.set_query.specs.Built.{is_built, is_built_word, is_built_call};
-ghost use Rattle.set_query.specs.Expr.{Expr as Meant, One, Of, commits_in};
+ghost use Rattle.set_query.specs.Expr.{One, Of, commits_in};
 ghost use Rattle.set_query.specs.Ids.{with_ids};
 ghost use Rattle.set_query.specs.Meaning.{IsMember as IsMeant, named, made_of as made};
 ghost use Rattle.set_query.specs.Tree.{tree_in};

@@ -1,8 +1,8 @@
 //! Unions, intersections, differences and upper parts of sets, each by one walk over their spans.
 
-ghost use Rattle.std.specs.Prelude.{◌≡◌, ℕ, ◌+◌, ◌-◌, ◌<◌, ◌≤◌, ◌^◌, ◌⊎◌, ◌↔◌, length, take, slice_index_or, IfOk, OnOk, true, false, min, max};
-ghost use Rattle.id_groups.specs.Span.{IsSpan, IsInSpan};
-ghost use Rattle.span_set.specs.Members.{IsMember, IsCanonical, IsBelow, ids_of, width};
+ghost use Rattle.std.specs.Prelude.{◌≡◌, ℕ, ◌+◌, ◌-◌, ◌<◌, ◌≤◌, ◌⊎◌, ◌↔◌, length, take, slice_index_or, IfOk, true, false, min, max};
+ghost use Rattle.id_groups.specs.Span.{IsSpan};
+ghost use Rattle.span_set.specs.Members.{IsMember, IsCanonical, ids_of};
 
 use crate::set::IdSet;
 use id_groups::{ID_END, Id, IdSpan};

@@ -1,6 +1,6 @@
 //! Places in a list of spans that descends.
 
-ghost use Rattle.std.specs.Prelude.{◌≡◌, ℕ, ◌<◌, ◌≤◌, ◌^◌, ◌↔◌, IsTrue, length, take, drop};
+ghost use Rattle.std.specs.Prelude.{◌<◌, ◌≤◌, ◌↔◌, length, take, drop};
 ghost use Rattle.id_groups.specs.declared.span.IdSpan.{IdSpan as PlainSpan};
 ghost use Rattle.id_groups.specs.Span.{IsSpan};
 ghost use Rattle.span_set.specs.Members.{IsBelow, IsCanonical, AreBelow};

@@ -1,6 +1,6 @@
 //! Graphs of thousands of segments, each of one commit: whatever called itself for each of them would run out of stack.
 
-ghost use Rattle.std.specs.Prelude.{ℕ, IfOk};
+ghost use Rattle.std.specs.Prelude.{ℕ};
 ghost use Rattle.segment_codec.specs.Table.{IsHeld};
 ghost use Rattle.span_set.specs.Members.{IsMember};
 
