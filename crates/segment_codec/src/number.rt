@@ -1,9 +1,9 @@
 //! Numbers of variable length: seven bits a byte, the lowest first. Only the shortest form is a spelling.
 
-ghost use Rattle.std.specs.Prelude.{◌≡◌, ◌+◌, ◌*◌, ◌%◌, ◌<◌, ◌^◌, ◌++◌, ◌≤◌, ℕ, List, length, Some, IsTrue, ◌↔◌, MatchOption, OnOk, OnErr};
+ghost use Rattle.std.specs.Prelude.{◌≡◌, ◌+◌, ◌*◌, ◌%◌, ◌<◌, ◌^◌, ◌++◌, ◌≤◌, length, IsTrue, ◌↔◌, MatchOption, OnOk, OnErr};
 ghost use Rattle.segment_codec.specs.Number.{number_bytes};
 ghost use Rattle.segment_codec.specs.Record.{HasFront};
-ghost use Rattle.segment_codec.specs.Reading.{Gives, number_at, numbers_at};
+ghost use Rattle.segment_codec.specs.Reading.{Gives, number_at};
 
 use std::alloc::AllocError;
 
