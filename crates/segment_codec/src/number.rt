@@ -49,8 +49,7 @@ pub fn read_short(bytes: &[u8]) -> Option<(u64, &[u8])>
             Some((u64::from(*one % MORE) + 128 * high, rest))
         }
         [one, two, three, four, rest @ ..]
-            if *two >= MORE && *three >= MORE && ends_several(*four) =>
-        {
+            if *two >= MORE && *three >= MORE && ends_several(*four) => {
             let high = two_groups(*three, *four);
             Some((two_groups(*one, *two) + TWO_GROUPS * high, rest))
         }
