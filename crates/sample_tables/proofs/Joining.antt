@@ -11,10 +11,11 @@ use Rattle.flat_segments.specs.Placed.{Placed, Stand, segments_of}
 use Rattle.flat_segments.specs.Kept.{Kept, IsSectionOf, MayPush}
 use Rattle.flat_segments.specs.Views.{master_count}
 use Rattle.flat_segments.specs.Joined.{StandAs, MayJoin}
+use Rattle.flat_segments.proofs.Adding.{all-append}
 use Rattle.flat_segments.proofs.Callers.{few-flats}
 use Rattle.sample_tables.specs.Samples.{Written, next_segment}
 use Rattle.sample_tables.specs.Others.{OthersWritten, IsOthersOf, AreNear, MayPushOther, MayJoinSample}
-use Rattle.sample_tables.proofs.Pushing.{all-append, all-within, stand-longer, follow-few, follow-last}
+use Rattle.sample_tables.proofs.Pushing.{all-within, stand-longer, follow-few, follow-last}
 
 -- what stands behind the bytes is the record
 pub record-behind : (s : Segment) (bytes longer all back : List ℕ) (at : ℕ) → longer ≡ bytes ++ segment_bytes s → all ≡ longer → at ≡ length bytes → back ≡ drop at all → back ≡ segment_bytes s ++ []

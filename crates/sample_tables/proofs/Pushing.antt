@@ -9,11 +9,8 @@ use Rattle.segment_codec.specs.Table.{Follow}
 use Rattle.segment_codec.specs.Turns.{IsFirstBroken}
 use Rattle.flat_segments.specs.Placed.{Placed, placed, Stand, AreRecords, MasterMayStandAt}
 use Rattle.flat_segments.specs.Kept.{Kept, IsTableOf, MayExtend}
+use Rattle.flat_segments.proofs.Adding.{all-append}
 use Rattle.sample_tables.specs.Samples.{Written, IsSampleOf, next_segment, MayPush}
-
-pub all-append : {X : Type 0} (P : X → Type 0) (xs ys : List X) → AllByRecursion P xs → AllByRecursion P ys → AllByRecursion P (xs ++ ys)
-all-append P [] ys h k = k
-all-append P (x ∷ xs) ys h k = (h.0, all-append P xs ys h.1 k)
 
 pub all-within : (n m : ℕ) (records : List Placed) → n ≤ m → AllByRecursion (λ (r : Placed). r.place ≤ n) records → AllByRecursion (λ (r : Placed). r.place ≤ m) records
 all-within n m [] le h = tt
