@@ -5,8 +5,6 @@
 #[cfg(test)]
 mod asked;
 #[cfg(test)]
-mod chain;
-#[cfg(test)]
 mod compared;
 #[cfg(test)]
 mod draws;

@@ -1,0 +1,6 @@
+#![tactic(auto)]
+
+//! The queries over chains of many segments, against marks and arithmetic.
+
+#[cfg(test)]
+mod tests;
