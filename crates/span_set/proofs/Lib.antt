@@ -7,3 +7,4 @@ pub mod Order
 pub mod Overlaps
 pub mod Points
 pub mod Upper
+pub mod LastSpan

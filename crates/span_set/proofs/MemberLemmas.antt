@@ -1,6 +1,7 @@
 -- Members of lists of spans, and what an insert makes of them.
-use Rattle.std.proofs.Common.{◌≡◌, ℕ, zero, suc, ◌+◌, ◌<◌, ◌≤◌, ◌^◌, ◌⊎◌, inl, inr, ◌↔◌, List, [], ◌∷◌, ◌++◌, length, get_or, take, drop, min, max, sym, subst, ap, ◌∙◌, arith, ⊎_elim, le_of_suc-le-suc, zero-le}
-use Rattle.std.proofs.lemmas.List.{take-append-drop}
+use Rattle.std.proofs.Common.{◌≡◌, ℕ, zero, suc, ◌+◌, ◌<◌, ◌≤◌, ◌^◌, ◌⊎◌, inl, inr, ◌↔◌, List, [], ◌∷◌, ◌++◌, length, get_or, take, drop, min, max, sym, subst, ap, ◌∙◌, arith, ⊎_elim, le_of_suc-le-suc, zero-le, le_refl}
+use Rattle.std.proofs.Math.Seq.{take-length}
+use Rattle.std.proofs.lemmas.List.{take-append-drop, drop_all}
 use Rattle.id_groups.specs.declared.span.IdSpan.{IdSpan}
 use Rattle.id_groups.specs.Span.{IsSpan, IsInSpan}
 use Rattle.span_set.specs.Members.{IsBelow, IsMember, IsCanonical, AreBelow}
@@ -277,3 +278,18 @@ take-member-at xs i k t x lt e is = subst (λ s. IsMember (take k xs) x ↔ (IsM
 
 pub span-read : (xs : List IdSpan) (i : ℕ) (t : IdSpan) → IsCanonical xs → i < length xs → t ≡ get_or xs i t → IsSpan t
 span-read xs i t c lt is = subst IsSpan (sym is) (span-at xs i t c lt)
+
+-- one more span at the end
+pub push-canonical : (t : IdSpan) (xs : List IdSpan) → IsCanonical xs → IsSpan t → AreAbove t xs → IsCanonical (xs ++ t ∷ [])
+push-canonical t xs c st above =
+    let n = length xs in
+    let none = drop_all n xs (le_refl n) in
+    subst (λ l. IsCanonical (xs ++ t ∷ l)) none
+    (subst (λ l. IsCanonical (l ++ t ∷ drop n xs)) (take-length xs)
+    (insert-canonical t xs n n c st (le_refl n) (subst (AreAbove t) (sym (take-length xs)) above) (subst (AreBelow t) (sym none) tt)))
+
+pub push-members : (t : IdSpan) (xs : List IdSpan) (x : ℕ) → IsMember (xs ++ t ∷ []) x ↔ (IsMember xs x ⊎ IsInSpan x t)
+push-members t xs x =
+    let n = length xs in
+    subst (λ l. IsMember (xs ++ t ∷ l) x ↔ (IsMember xs x ⊎ IsInSpan x t)) (drop_all n xs (le_refl n))
+    (subst (λ l. IsMember (l ++ t ∷ drop n xs) x ↔ (IsMember xs x ⊎ IsInSpan x t)) (take-length xs) (insert-members t xs n x))

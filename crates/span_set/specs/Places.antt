@@ -1,5 +1,5 @@
 -- What a search for a place in a list of spans finds on either side of it.
-use Rattle.std.specs.Prelude.{ℕ, ◌<◌, ◌≤◌, List, [], ◌∷◌, ⊤}
+use Rattle.std.specs.Prelude.{◌≡◌, ℕ, ◌+◌, ◌^◌, ◌<◌, ◌≤◌, List, [], ◌∷◌, ⊤}
 use Rattle.id_groups.specs.declared.span.IdSpan.{IdSpan}
 use Rattle.span_set.specs.Members.{IsBelow}
 
@@ -27,3 +27,9 @@ BeginAbove id (s ∷ rest) = (id < s.low) × BeginAbove id rest
 abbrev pub BeginWithin : ℕ → List IdSpan → Type 0
 BeginWithin id [] = ⊤
 BeginWithin id (s ∷ rest) = (s.low ≤ id) × BeginWithin id rest
+
+-- the last span begins right above t, and doesn't begin the second group
+abbrev pub BeginsRightAbove : IdSpan → List IdSpan → Type 0
+BeginsRightAbove t [] = ⊥
+BeginsRightAbove t (s ∷ []) = (s.low ≡ t.high + 1) × (s.low ≡ 2 ^ 56 → ⊥)
+BeginsRightAbove t (s ∷ u ∷ rest) = BeginsRightAbove t (u ∷ rest)

@@ -1,10 +1,10 @@
 //! Places in a list of spans that descends.
 
-ghost use Rattle.std.specs.Prelude.{◌<◌, ◌≤◌, ◌↔◌, length, take, drop};
+ghost use Rattle.std.specs.Prelude.{◌<◌, ◌≤◌, ◌↔◌, length, take, drop, IsTrue};
 ghost use Rattle.id_groups.specs.declared.span.IdSpan.{IdSpan as PlainSpan};
 ghost use Rattle.id_groups.specs.Span.{IsSpan};
 ghost use Rattle.span_set.specs.Members.{IsBelow, IsCanonical, AreBelow};
-ghost use Rattle.span_set.specs.Places.{AreAbove, AreNotAbove, AreNotBelow, BeginAbove, BeginWithin};
+ghost use Rattle.span_set.specs.Places.{AreAbove, AreNotAbove, AreNotBelow, BeginAbove, BeginWithin, BeginsRightAbove};
 
 use id_groups::{FIRST_OTHER, Id, IdSpan};
 
@@ -35,6 +35,29 @@ pub(crate) fn count_not_below(spans: &[IdSpan], span: &IdSpan) -> usize
         return len;
     }
     spans.partition_point(|held| gap <= held.high.number())
+}
+
+/// Whether the lowest span begins right above `span`, in the same group.
+#[inline(always)]
+pub(crate) fn last_joins(spans: &[IdSpan], span: &IdSpan) -> bool
+    ensures { IsTrue result → BeginsRightAbove span.now spans.now }
+{
+    let len = spans.len();
+    if len == 0 {
+        return false;
+    }
+    let low = spans[len - 1].low.number();
+    low == span.high.number() + 1 && low != FIRST_OTHER
+}
+
+/// Whether all spans lie above `span` and none joins it.
+#[inline(always)]
+pub(crate) fn are_all_above(spans: &[IdSpan], span: &IdSpan) -> bool
+    requires { IsCanonical spans.now }
+    ensures { IsTrue result → AreAbove span.now spans.now }
+{
+    let len = spans.len();
+    len == 0 || span.high.number() < gap_below(&spans[len - 1])
 }
 
 /// How many spans lie above `span` without joining it, of which there are at most `to`.

@@ -6,7 +6,7 @@ ghost use Rattle.span_set.specs.Members.{IsMember, IsCanonical, IsGreatest, IsGr
 ghost use Rattle.span_set.specs.Down.{ids_left};
 
 use crate::ids_down::IdsDown;
-use crate::search::{count_above, count_begin_above, count_not_below};
+use crate::search::{are_all_above, count_above, count_begin_above, count_not_below, last_joins};
 use id_groups::{Id, IdSpan};
 use std::alloc::{AllocError, Global};
 use std::marker::Model;
@@ -60,8 +60,32 @@ impl IdSet {
 
     /// Adds the ids of the span, which are of one group. On want of memory the set stays as it was.
     /// Below all that is held, or joined to the lowest span, it takes constant time, amortised; elsewhere a binary search and a move of the spans below.
-    #[inline]
+    #[inline(never)]
     pub fn insert_span(&mut self, span: IdSpan) -> Result<(), AllocError>
+        requires { IsSpan span }
+        ensures members { OnOk result ((x : ℕ) → IsMember self.new x ↔ (IsMember self.old x ⊎ IsInSpan x span)) }
+        ensures canonical { IsCanonical self.new }
+        ensures unchanged { OnErr result (self.new ≡ self.old) }
+    {
+        if last_joins(&self.spans, &span) {
+            let last = self.spans.len() - 1;
+            let high = self.spans[last].high;
+            self.spans[last] = IdSpan {
+                low: span.low,
+                high,
+            };
+            return Ok(());
+        }
+        if are_all_above(&self.spans, &span) {
+            self.spans.push(span)?;
+            return Ok(());
+        }
+        self.insert_within(span)
+    }
+
+    /// The same, wherever the span stands.
+    #[inline(never)]
+    fn insert_within(&mut self, span: IdSpan) -> Result<(), AllocError>
         requires { IsSpan span }
         ensures members { OnOk result ((x : ℕ) → IsMember self.new x ↔ (IsMember self.old x ⊎ IsInSpan x span)) }
         ensures canonical { IsCanonical self.new }
