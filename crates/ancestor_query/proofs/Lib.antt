@@ -1,7 +1,7 @@
 pub mod Graphs
 pub mod Down
 pub mod Work
-pub mod Window
+pub mod WindowLemmas
 pub mod Counts
 pub mod Best
 pub mod Turns

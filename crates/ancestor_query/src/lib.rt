@@ -14,7 +14,7 @@ pub use floor::ancestors_above;
 pub use jump::best_jump;
 pub use laws::counts_spelled_out;
 pub use parent_set::parents;
-pub use work_list::WorkList;
+pub use work_list::{Window, WorkList};
 
 #[cfg(test)]
 mod tests;

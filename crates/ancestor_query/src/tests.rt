@@ -1,6 +1,6 @@
 //! Ids that wait, from the greatest down.
 
-use crate::WorkList;
+use crate::{Window, WorkList};
 use id_groups::{FIRST_OTHER, ID_END, Id, IdSpan};
 use segment_codec::read_segment;
 use span_set::IdSet;
@@ -121,4 +121,22 @@ fn a_window_moves_past_all_its_ids(rt: HostRuntime) -> Result<(), Fail> {
         &[(200, Some(199)), (1, Some(0)), (0, None), (200, None)],
     );
     Ok(())
+}
+
+#[test]
+fn a_window_keeps_what_fits(rt: HostRuntime) {
+    let mut window = Window::empty();
+    // nothing fits before the first slide
+    assert!(rt; !window.put(Id::master(5)));
+    window.slide(100);
+    // at the end, right below it, the last that fits and the first that doesn't
+    let cases = [(100, false), (99, true), (36, true), (35, false)];
+    for (number, fits) in cases {
+        assert_eq!(rt; window.put(Id::master(number)), fits);
+    }
+    assert_eq!(rt; window.greatest(), Some(Id::master(99)));
+    window.slide(99);
+    assert_eq!(rt; window.greatest(), Some(Id::master(36)));
+    window.slide(36);
+    assert_eq!(rt; window.greatest(), None);
 }

@@ -19,10 +19,10 @@ use std::marker::Model;
 /// How many ids a window reaches down from its end.
 const REACH: u64 = 64;
 
-/// Ids that lie less than 64 below an end, without memory of their own: bit j says that the id j + 1 below the end is
-/// among them.
+/// Ids that lie at most 64 below an end, without memory of their own: bit j says that the id j + 1 below the end is among
+/// them. Contracts see it as the list of its ids.
 #[derive(Drop)]
-struct Window {
+pub struct Window {
     bits: u64,
     end: u64,
 }
@@ -70,16 +70,16 @@ fn shifted_down(bits: u64, steps: u64) -> u64
 }
 
 impl Window {
-    /// No id, and none that would fit.
-    fn empty() -> Window
+    /// No id, and none that would fit before a `slide`.
+    pub fn empty() -> Window
         ensures { result ≡ [] }
     {
         Window { bits: 0, end: 0 }
     }
 
     /// Takes the id if it fits: whether it did.
-    #[inline]
-    fn put(&mut self, id: Id) -> bool
+    #[inline(always)]
+    pub fn put(&mut self, id: Id) -> bool
         ensures { Takes self.old self.new id result }
     {
         let number = id.number();
@@ -95,8 +95,8 @@ impl Window {
     }
 
     /// Ends below the bound from now on, and drops the ids at or above it. A window without ids may move up.
-    #[inline]
-    fn slide(&mut self, below: u64)
+    #[inline(always)]
+    pub fn slide(&mut self, below: u64)
         ensures keeps { Keeps self.old self.new below }
         ensures under { (x : ℕ) → IsIn x self.new → x < below }
     {
@@ -110,8 +110,8 @@ impl Window {
     }
 
     /// The greatest id; `None` exactly where there is none.
-    #[inline]
-    fn greatest(&self) -> Option<Id>
+    #[inline(always)]
+    pub fn greatest(&self) -> Option<Id>
         ensures { IsGreatestOf self.now result }
     {
         if self.bits == 0 {

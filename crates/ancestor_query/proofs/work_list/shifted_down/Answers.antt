@@ -1,5 +1,5 @@
 use Rattle.std.proofs.Common.{arith}
-use Rattle.ancestor_query.proofs.Window.{all-shifted}
+use Rattle.ancestor_query.proofs.WindowLemmas.{all-shifted}
 use Rattle.ancestor_query.proofs.work_list.shifted_down.Goals as goal
 
 pub returns-else-steps-lt-REACH : goal.returns-else-steps-lt-REACH

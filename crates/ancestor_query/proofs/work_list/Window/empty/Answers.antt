@@ -1,4 +1,4 @@
-use Rattle.ancestor_query.proofs.Window.{no-ids}
+use Rattle.ancestor_query.proofs.WindowLemmas.{no-ids}
 use Rattle.ancestor_query.proofs.work_list.Window.empty.Goals as goal
 
 pub returns : goal.returns

@@ -1,5 +1,5 @@
 use Rattle.std.proofs.Common.{arith}
-use Rattle.ancestor_query.proofs.Window.{none-left, low-under, top-is}
+use Rattle.ancestor_query.proofs.WindowLemmas.{none-left, low-under, top-is}
 use Rattle.ancestor_query.proofs.work_list.Window.greatest.Goals as goal
 
 pub returns-then-self-eq0 : goal.returns-then-self-eq0

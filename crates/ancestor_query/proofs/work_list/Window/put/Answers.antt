@@ -1,5 +1,5 @@
 use Rattle.std.proofs.Common.{arith, ◌-◌}
-use Rattle.ancestor_query.proofs.Window.{set-small, set-numbers, set-takes}
+use Rattle.ancestor_query.proofs.WindowLemmas.{set-small, set-numbers, set-takes}
 use Rattle.ancestor_query.proofs.work_list.Window.put.Goals as goal
 
 pub invariant_of-self : goal.invariant_of-self

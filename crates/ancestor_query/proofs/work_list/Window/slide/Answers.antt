@@ -1,5 +1,5 @@
 use Rattle.std.proofs.Common.{arith, refl}
-use Rattle.ancestor_query.proofs.Window.{none-left, emptied-keeps, moved-numbers, moved-small, moved-keeps, moved-under, all-under}
+use Rattle.ancestor_query.proofs.WindowLemmas.{none-left, emptied-keeps, moved-numbers, moved-small, moved-keeps, moved-under, all-under}
 use Rattle.ancestor_query.proofs.work_list.Window.slide.Goals as goal
 
 pub invariant_of-self-then-below-self : goal.invariant_of-self-then-below-self

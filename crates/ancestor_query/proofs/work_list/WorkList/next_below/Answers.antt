@@ -1,5 +1,5 @@
 use Rattle.std.specs.BinaryHeap.{heap_items}
-use Rattle.ancestor_query.proofs.Window.{both-peek}
+use Rattle.ancestor_query.proofs.WindowLemmas.{both-peek}
 use Rattle.ancestor_query.proofs.work_list.WorkList.next_below.Goals as goal
 
 pub returns : goal.returns

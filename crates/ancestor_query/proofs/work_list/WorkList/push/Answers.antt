@@ -1,6 +1,6 @@
 use Rattle.std.specs.BinaryHeap.{heap_items}
 use Rattle.ancestor_query.proofs.Work.{pushed}
-use Rattle.ancestor_query.proofs.Window.{near-pushed, far-pushed}
+use Rattle.ancestor_query.proofs.WindowLemmas.{near-pushed, far-pushed}
 use Rattle.ancestor_query.proofs.work_list.WorkList.push.Goals as goal
 
 pub returns-then-put-clause-all : goal.returns-then-put-clause-all
