@@ -26,7 +26,7 @@ module _ (flats : List Segment) (lawful : IsLawful flats) (set : List IdSpan) wh
   abbrev Desc : ℕ → Type 0
   Desc x = sets.descendants (table_graph flats) (IsMember set) x
 
-  pub desc-held : ((x : ℕ) → IsMember set x → IsHeld flats x) → (x : ℕ) → Desc x → IsHeld flats x
+  desc-held : ((x : ℕ) → IsMember set x → IsHeld flats x) → (x : ℕ) → Desc x → IsHeld flats x
   desc-held inside x d = go x d.0 d.2.0 d.1 d.2.1
     where
       go : (x m : ℕ) (walk : List ℕ) → IsMember set m → IsWalk (table_graph flats) x walk m → IsHeld flats x
@@ -38,7 +38,7 @@ module _ (flats : List Segment) (lawful : IsLawful flats) (set : List IdSpan) wh
 
   module _ (s : Segment) (i : IsIn s flats) where
     -- a walk from an id of the segment comes to a member in it, or to a parent of its lowest id
-    down : (walk : List ℕ) (x m : ℕ) → IsInSegment x s → IsMember set m → IsWalk (table_graph flats) x walk m
+    pub down : (walk : List ℕ) (x m : ℕ) → IsInSegment x s → IsMember set m → IsWalk (table_graph flats) x walk m
         → ((y : ℕ) × IsMember set y × (s.low ≤ y) × (y ≤ x)) ⊎ ((p : ℕ) × IsIn p s.parents × Desc p)
     down [] x m h sm e = inl (x, subst (IsMember set) (sym e) sm, h.0, le_refl x)
     down (p ∷ walk) x m h sm w =
@@ -56,14 +56,14 @@ module _ (flats : List Segment) (lawful : IsLawful flats) (set : List IdSpan) wh
         (le_or_lt x s.low)
 
     module _ (answer : List IdSpan) where
-      pub desc-part : ((p : ℕ) → IsIn p s.parents → Desc p → IsMember answer p) → (x : ℕ) → IsInSegment x s → Desc x → IsReachedIn answer set s s.high x
+      desc-part : ((p : ℕ) → IsIn p s.parents → Desc p → IsMember answer p) → (x : ℕ) → IsInSegment x s → Desc x → IsReachedIn answer set s x
       desc-part known x h d = ⊎_elim
           (λ r. (h.1, r.0, inr r.1, r.2, r.3))
           (λ r. (h.1, s.low, inl (refl, (r.0, r.1, known r.0 r.1 r.2)), le_refl s.low, h.0))
           (down d.2.0 x d.0 h d.1 d.2.1)
 
-      pub part-desc : ((p : ℕ) → IsMember answer p → Desc p) → (high : ℕ) → high ≤ s.high → (x : ℕ) → IsReachedIn answer set s high x → Desc x
-      part-desc sound high within x h =
+      part-desc : ((p : ℕ) → IsMember answer p → Desc p) → (x : ℕ) → IsReachedIn answer set s x → Desc x
+      part-desc sound x h =
           let y = h.1 in let from = h.3 in let le = h.4 in let top = h.0 in
           let r = reach-down flats lawful s i (x - y) x y (omega arith) from (omega arith) in
           ⊎_elim
@@ -75,8 +75,8 @@ module _ (flats : List Segment) (lawful : IsLawful flats) (set : List IdSpan) wh
           ))
           (λ m. (y, m, r)) h.2
 
-      pub reached-in : (high : ℕ) → high ≤ s.high → (x : ℕ) → IsReachedIn answer set s high x → IsInSegment x s
-      reached-in high within x h = let from = h.3 in let le = h.4 in let top = h.0 in (omega arith, omega arith)
+      reached-in : (x : ℕ) → IsReachedIn answer set s x → IsInSegment x s
+      reached-in x h = let from = h.3 in let le = h.4 in let top = h.0 in (omega arith, omega arith)
 
   -- the answer before any segment
   pub desc-none : (lowest place : ℕ) (answer : List IdSpan) → answer ≡ [] → IsPlace flats lowest place → ((x : ℕ) → IsMember set x → lowest ≤ x)
@@ -99,12 +99,12 @@ module _ (flats : List Segment) (lawful : IsLawful flats) (set : List IdSpan) wh
         let b = parent-below flats lawful s.low p (subst (IsIn p) (sym (parents-low flats lawful s i)) j) in let lt = b.0 in
         (exact p).1 (d, ⊎_elim (λ a. a) (λ o. let le = of-from flats k s p rising at o in absurd (omega arith)) (of-parts flats k p (held-of flats p b.1)))
 
-    pub desc-more : (next : ℕ) (after : List IdSpan) → next ≡ suc k → ((x : ℕ) → IsMember after x ↔ (IsMember before x ⊎ IsReachedIn before set s s.high x))
+    pub desc-more : (next : ℕ) (after : List IdSpan) → next ≡ suc k → ((x : ℕ) → IsMember after x ↔ (IsMember before x ⊎ IsReachedIn before set s x))
         → (x : ℕ) → IsMember after x ↔ (Desc x × IsOf (take next flats) x)
     desc-more next after n added x =
         let parts = subst (λ j. IsOf (take j flats) x ↔ (IsOf (take k flats) x ⊎ IsInSegment x s)) (sym n) (of-take flats k s x at) in (
           λ m. ⊎_elim (λ b. let h = (exact x).0 b in (h.0, parts.1 (inl h.1)))
-              (λ r. (part-desc s i before (λ p q. ((exact p).0 q).0) s.high (le_refl s.high) x r, parts.1 (inr (reached-in s i before s.high (le_refl s.high) x r)))) ((added x).0 m),
+              (λ r. (part-desc s i before (λ p q. ((exact p).0 q).0) x r, parts.1 (inr (reached-in s i before x r)))) ((added x).0 m),
           λ h. (added x).1 (⊎_elim (λ o. inl ((exact x).1 (h.0, o))) (λ j. inr (desc-part s i before known x j h.0)) (parts.0 h.1)),
         )
 

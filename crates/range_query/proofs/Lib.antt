@@ -7,3 +7,6 @@ pub mod Highests
 pub mod DescendantLemmas
 pub mod MergeLemmas
 pub mod RangeLemmas
+pub mod FallLemmas
+pub mod CutLemmas
+pub mod FallTurns

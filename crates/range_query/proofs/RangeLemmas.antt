@@ -1,8 +1,9 @@
--- What descends from one set and is in another, segment by segment.
-use Rattle.std.proofs.Common.{◌≡◌, ℕ, suc, ◌-◌, ◌<◌, ◌≤◌, ◌⊎◌, inl, inr, ◌↔◌, List, [], Some, length, take, sym, subst, arith, ⊎_elim, le_refl}
+-- Which ids of a descent descend from a set, segment by segment.
+use Rattle.std.proofs.Common.{◌≡◌, ℕ, zero, suc, ◌-◌, ◌<◌, ◌≤◌, ◌⊎◌, inl, inr, ◌↔◌, List, [], ◌∷◌, Some, length, get_or, take, drop, sym, subst, ap, ◌∙◌, arith, ⊎_elim, le_refl, le_of_suc-le-suc, refl}
 use Rattle.std.specs.Prelude.{slice_get}
 use Rattle.id_groups.specs.Lists.{IsIn}
 use Rattle.id_groups.specs.declared.span.IdSpan.{IdSpan}
+use Rattle.commit_graph.specs.Graph.{Reaches}
 use Rattle.commit_graph.specs.Sets as sets
 use Rattle.commit_graph.proofs.Walks.{reaches-self, reaches-parent, reaches-trans}
 use Rattle.segment_codec.specs.Record.{Segment}
@@ -12,9 +13,11 @@ use Rattle.span_set.specs.Members.{IsMember}
 use Rattle.ancestor_query.specs.Graph.{table_graph}
 use Rattle.ancestor_query.proofs.Graphs.{reach-down}
 use Rattle.range_query.specs.Places.{IsOf, IsPlace}
-use Rattle.range_query.specs.Parts.{StandBelow, IsCommonIn, IsClosedFrom}
+use Rattle.range_query.specs.Parts.{StandBelow, StandFrom, IsMetIn, IsMissedIn, IsClosedFrom}
+use Rattle.range_query.specs.Cuts.{IsCut, IsSettled}
+use Rattle.range_query.specs.declared.cut.Cut.{Cut}
 use Rattle.range_query.proofs.Rows.{at-in, held-of, of-parts, of-take, of-from, of-before, of-all, before-place}
-use Rattle.range_query.proofs.DescendantLemmas.{desc-held, desc-least, desc-part, part-desc, reached-in}
+use Rattle.range_query.proofs.DescendantLemmas.{desc-least, down}
 
 -- what is reached from a set and lies no lower than an id is closed from there on
 pub reached-closed : (flats : List Segment) (to below : List IdSpan) (lowest : ℕ)
@@ -22,88 +25,122 @@ pub reached-closed : (flats : List Segment) (to below : List IdSpan) (lowest : �
 reached-closed flats to below lowest down x y m r le =
     let h = ((down x).0 m).0 in (down y).1 ((h.0, h.1, reaches-trans (table_graph flats) h.0 x y h.2 r), le)
 
-abbrev pub Both : List Segment → List IdSpan → List IdSpan → ℕ → Type 0
-Both flats from below x = sets.descendants (table_graph flats) (IsMember from) x × IsMember below x
+-- what is missed of the descent in the segments before a place
+pub record Misses (flats : List Segment) (from below : List IdSpan) (k : ℕ) (missed : List IdSpan) : Type 0 where
+  pub sound : (x : ℕ) → IsMember missed x → sets.descendants (table_graph flats) (IsMember from) x → ⊥
+  pub gone : (x : ℕ) → IsMember missed x → IsOf (take k flats) x
+  pub whole : (x : ℕ) → IsMember below x → IsOf (take k flats) x → sets.descendants (table_graph flats) (IsMember from) x ⊎ IsMember missed x
 
 module _ (flats : List Segment) (lawful : IsLawful flats) (from : List IdSpan) (lowest : ℕ) (below : List IdSpan)
-    (least : (x : ℕ) → IsMember from x → lowest ≤ x) (closed : IsClosedFrom (table_graph flats) lowest below) where
-  -- the answer before any segment
-  pub both-none : (place : ℕ) (answer : List IdSpan) → answer ≡ [] → IsPlace flats lowest place → (x : ℕ) → IsMember answer x ↔ (Both flats from below x × IsOf (take place flats) x)
-  both-none place answer e p x = (
-    λ m. absurd (subst (λ l. IsMember l x) e m),
-    λ h. let lt = before-place flats lowest place place x p (le_refl place) h.1 in let le = desc-least flats lawful from lowest least x h.0.0 in absurd (omega arith),
-  )
+    (least : StandFrom lowest from) (over : StandFrom lowest below) (inside : (x : ℕ) → IsMember below x → IsHeld flats x)
+    (closed : IsClosedFrom (table_graph flats) lowest below) where
+  abbrev Desc : ℕ → Type 0
+  Desc x = sets.descendants (table_graph flats) (IsMember from) x
 
-  module _ (k : ℕ) (s : Segment) (at : slice_get flats k ≡ Some s) (before : List IdSpan)
-      (exact : (x : ℕ) → IsMember before x ↔ (Both flats from below x × IsOf (take k flats) x)) where
+  -- an id of the descent stands before a place or from it on
+  placed : (k x : ℕ) → IsMember below x → IsOf (take k flats) x ⊎ IsOf (drop k flats) x
+  placed k x b = of-parts flats k x (held-of flats x (inside x b))
+
+  -- what reaches an id that descends does so too
+  desc-up : (x y : ℕ) → Reaches (table_graph flats) x y → Desc y → Desc x
+  desc-up x y r d = (d.0, d.1, reaches-trans (table_graph flats) x y d.0 r d.2)
+
+  -- nothing is missed before the place of the lowest id
+  pub misses-none : (place : ℕ) (missed : List IdSpan) → missed ≡ [] → IsPlace flats lowest place → Misses flats from below place missed
+  misses-none place missed e p = record {
+    sound = λ x m d. subst (λ l. IsMember l x) e m;
+    gone = λ x m. absurd (subst (λ l. IsMember l x) e m);
+    whole = λ x b o. let lt = before-place flats lowest place place x p (le_refl place) o in let le = over x b in absurd (omega arith);
+  }
+
+  module _ (k : ℕ) (s : Segment) (at : slice_get flats k ≡ Some s) (before : List IdSpan) (h : Misses flats from below k before) where
     i : IsIn s flats
     i = at-in flats k s at
 
     rising : AreRising flats
     rising = lawful-rising flats lawful
 
-    -- a parent that descends is in the answer, where an id of the segment is in the other set
-    known : (x : ℕ) → IsInSegment x s → IsMember below x → (p : ℕ) → IsIn p s.parents → sets.descendants (table_graph flats) (IsMember from) p → IsMember before p
-    known x h b p j d =
-        let own = subst (IsIn p) (sym (parents-low flats lawful s i)) j in
-        let up = parent-below flats lawful s.low p own in let lt = up.0 in
-        let low = h.0 in
-        let walk = reaches-trans (table_graph flats) x s.low p (reach-down flats lawful s i (x - s.low) x s.low (omega arith) (le_refl s.low) h.1)
-        (reaches-parent (table_graph flats) s.low p p own (reaches-self (table_graph flats) p)) in
-        (exact p).1 (
-          (d, closed x p b walk (desc-least flats lawful from lowest least p d)),
-          ⊎_elim (λ a. a) (λ o. let le = of-from flats k s p rising at o in absurd (omega arith)) (of-parts flats k p (held-of flats p up.1)),
-        )
+    pub misses-over : StandBelow s.low before
+    misses-over x m = of-before flats k s x rising at (h.gone x m)
 
-    common-part : (x : ℕ) → IsInSegment x s → Both flats from below x → IsCommonIn before from below s x
-    common-part x h d =
-        let r = desc-part flats lawful from s i before (known x h d.1) x h d.0 in
-        (x, d.1, h.1, (le_refl x, r.1, r.2, r.3, r.4))
+    -- an id of the descent that lies below the segment descends or is missed
+    under : (x : ℕ) → IsMember below x → x < s.low → Desc x ⊎ IsMember before x
+    under x b lt = h.whole x b (⊎_elim (λ a. a) (λ o. let le = of-from flats k s x rising at o in absurd (omega arith)) (placed k x b))
 
-    part-common : (x : ℕ) → IsCommonIn before from below s x → Both flats from below x × IsInSegment x s
-    part-common x h =
-        let y = h.0 in let le = h.3.0 in
-        let d = part-desc flats lawful from s i before (λ p m. ((exact p).0 m).0.0) y h.2 x h.3 in
-        let j = reached-in flats lawful from s i before y h.2 x h.3 in
-        ((d, closed y x h.1 (reach-down flats lawful s i (y - x) y x (omega arith) j.0 h.2) (desc-least flats lawful from lowest least x d)), j)
+    -- an id of the segment that descends is met
+    desc-met : (x : ℕ) → IsInSegment x s → Desc x → IsMetIn before from lowest s x
+    desc-met x j d = ⊎_elim
+        (λ r. (r.0, inr r.1, r.2, r.3))
+        (λ r. (s.low, inl (refl, (r.0, r.1, desc-least flats lawful from lowest least r.0 r.2, λ m. h.sound r.0 m r.2)), le_refl s.low, j.0))
+        (down flats lawful from s i d.2.0 x d.0 j d.1 d.2.1)
 
-    pub both-more : (next : ℕ) (after : List IdSpan) → next ≡ suc k → ((x : ℕ) → IsMember after x ↔ (IsMember before x ⊎ IsCommonIn before from below s x))
-        → (x : ℕ) → IsMember after x ↔ (Both flats from below x × IsOf (take next flats) x)
-    both-more next after n added x =
-        let parts = subst (λ j. IsOf (take j flats) x ↔ (IsOf (take k flats) x ⊎ IsInSegment x s)) (sym n) (of-take flats k s x at) in (
-          λ m. ⊎_elim (λ b. let h = (exact x).0 b in (h.0, parts.1 (inl h.1))) (λ r. let p = part-common x r in (p.0, parts.1 (inr p.1))) ((added x).0 m),
-          λ h. (added x).1 (⊎_elim (λ o. inl ((exact x).1 (h.0, o))) (λ j. inr (common-part x j h.0)) (parts.0 h.1)),
-        )
+    -- an id of the descent in the segment that is met descends
+    met-desc : (x : ℕ) → IsInSegment x s → IsMember below x → IsMetIn before from lowest s x → Desc x
+    met-desc x j b t =
+        let y = t.0 in let low = t.2 in let le = t.3 in let top = j.1 in
+        let r = reach-down flats lawful s i (x - y) x y (omega arith) low top in
+        ⊎_elim
+        (λ e. let p = e.1.0 in
+        let own = subst (IsIn p) (sym (ap (λ z. (table_graph flats).parents z) e.0 ∙ parents-low flats lawful s i)) e.1.1 in
+        let way = reaches-trans (table_graph flats) x y p r (reaches-parent (table_graph flats) y p p own (reaches-self (table_graph flats) p)) in
+        let same : y ≡ s.low = e.0 in
+        let lt : p < s.low = let b = (parent-below flats lawful y p own).0 in omega arith in
+        ⊎_elim (λ d. desc-up x p way d) (λ m. absurd (e.1.3 m)) (under p (closed x p b way e.1.2) lt))
+        (λ m. (y, m, r)) t.1
 
-    pub both-over : StandBelow s.low before
-    both-over x m = of-before flats k s x rising at ((exact x).0 m).1
+    pub misses-more : (next : ℕ) (after : List IdSpan) → next ≡ suc k
+        → ((x : ℕ) → IsMember before x → IsMember after x)
+        → ((x : ℕ) → IsMember after x → IsMember before x ⊎ IsMissedIn before from lowest s x)
+        → ((x : ℕ) → IsMember below x → IsInSegment x s → IsMember after x ⊎ IsMetIn before from lowest s x)
+        → Misses flats from below next after
+    misses-more next after n kept sound whole = record {
+      sound = λ x m d. ⊎_elim (λ a. h.sound x a d) (λ a. a.1 (desc-met x a.0 d)) (sound x m);
+      gone = λ x m. (parts x).1 (⊎_elim (λ a. inl (h.gone x a)) (λ a. inr a.0) (sound x m));
+      whole = λ x b o. ⊎_elim
+          (λ a. ⊎_elim (λ d. inl d) (λ m. inr (kept x m)) (h.whole x b a))
+          (λ j. ⊎_elim (λ m. inr m) (λ t. inl (met-desc x j b t)) (whole x b j))
+          ((parts x).0 o);
+    }
+      where
+        parts : (x : ℕ) → IsOf (take next flats) x ↔ (IsOf (take k flats) x ⊎ IsInSegment x s)
+        parts x = subst (λ j. IsOf (take j flats) x ↔ (IsOf (take k flats) x ⊎ IsInSegment x s)) (sym n) (of-take flats k s x at)
 
-    -- where the segment begins above all of the other set nothing is left
-    pub both-stop : ((x : ℕ) → IsMember from x → IsHeld flats x) → (greatest : ℕ) → ((x : ℕ) → IsMember below x → x ≤ greatest) → greatest < s.low
-        → (x : ℕ) → IsMember before x ↔ Both flats from below x
-    both-stop inside greatest most over x = (
-      λ m. ((exact x).0 m).0,
-      λ d. (exact x).1 (
-        d,
-        ⊎_elim (λ a. a) (λ o. let le = of-from flats k s x rising at o in let top = most x d.1 in absurd (omega arith))
-            (of-parts flats k x (held-of flats x (desc-held flats lawful from inside x d.0))),
-      ),
-    )
+    -- where the segment begins above all of the descent nothing is left
+    pub misses-stop : (greatest : ℕ) → ((x : ℕ) → IsMember below x → x ≤ greatest) → greatest < s.low → (x : ℕ) → IsMember below x → Desc x ⊎ IsMember before x
+    misses-stop greatest most out x b = let le = most x b in under x b (omega arith)
 
-  pub both-whole : ((x : ℕ) → IsMember from x → IsHeld flats x) → (k : ℕ) (answer : List IdSpan) → length flats ≤ k
-      → ((x : ℕ) → IsMember answer x ↔ (Both flats from below x × IsOf (take k flats) x)) → (x : ℕ) → IsMember answer x ↔ Both flats from below x
-  both-whole inside k answer all exact x = (
-    λ m. ((exact x).0 m).0,
-    λ d. (exact x).1 (d, ⊎_elim (λ a. a) (λ o. absurd (of-all flats k x all o)) (of-parts flats k x (held-of flats x (desc-held flats lawful from inside x d.0)))),
-  )
+    -- where a cut is settled all that is left descends
+    pub misses-settled : (cuts : List Cut) → ((c : Cut) → IsIn c cuts → IsCut (table_graph flats) (IsMember below) c) → IsSettled before lowest cuts s.low
+        → (x : ℕ) → IsMember below x → Desc x ⊎ IsMember before x
+    misses-settled cuts all t x b = ⊎_elim
+        (λ a. h.whole x b a)
+        (λ o. let place = t.2 in let start = t.4 in
+        let from = of-from flats k s x rising at o in
+        let way = all t.0 t.1 t.3 x b (omega arith) in
+        let y = way.0 in let low = way.2 in let lt = way.3 in
+        inl (desc-up x y way.1 (⊎_elim
+        (λ d. d)
+        (λ m. let less = t.5 y m in absurd (omega arith))
+        (under y (closed x y b way.1 (omega arith)) (omega arith)))))
+        (placed k x b)
 
--- both are what descends from one set and is reached by the other
-pub both-range : (flats : List Segment) → IsLawful flats → (from to : List IdSpan) (lowest : ℕ) (below found answer : List IdSpan) → ((x : ℕ) → IsMember from x → lowest ≤ x)
+  pub misses-whole : (k : ℕ) (missed : List IdSpan) → length flats ≤ k → Misses flats from below k missed → (x : ℕ) → IsMember below x → Desc x ⊎ IsMember missed x
+  misses-whole k missed all h x b = h.whole x b (⊎_elim (λ a. a) (λ o. absurd (of-all flats k x all o)) (placed k x b))
+
+-- the cut at a place of a list is one of the list
+pub cut-at : (cuts : List Cut) (k : ℕ) (d : Cut) → k < length cuts → IsIn (get_or cuts k d) cuts
+cut-at [] k d lt = absurd (omega arith)
+cut-at (c ∷ cuts) zero d lt = inl refl
+cut-at (c ∷ cuts) (suc k) d lt = inr (cut-at cuts k d (le_of_suc-le-suc lt))
+
+-- what is in the descent and isn't missed is the range
+pub range-exact : (flats : List Segment) → IsLawful flats → (from to : List IdSpan) (lowest : ℕ) (below missed answer : List IdSpan) → ((x : ℕ) → IsMember from x → lowest ≤ x)
     → ((x : ℕ) → IsMember below x ↔ (sets.ancestors (table_graph flats) (IsMember to) x × (lowest ≤ x)))
-    → ((x : ℕ) → IsMember found x ↔ (sets.descendants (table_graph flats) (IsMember from) x × IsMember below x))
-    → ((x : ℕ) → IsMember answer x ↔ IsMember found x)
+    → ((x : ℕ) → IsMember missed x → sets.descendants (table_graph flats) (IsMember from) x → ⊥)
+    → ((x : ℕ) → IsMember below x → sets.descendants (table_graph flats) (IsMember from) x ⊎ IsMember missed x)
+    → ((x : ℕ) → IsMember answer x ↔ (IsMember below x × (IsMember missed x → ⊥)))
     → (x : ℕ) → IsMember answer x ↔ sets.range (table_graph flats) (IsMember from) (IsMember to) x
-both-range flats lawful from to lowest below found answer least down both same x = (
-  λ m. let h = (both x).0 ((same x).0 m) in (h.0, ((down x).0 h.1).0),
-  λ h. (same x).1 ((both x).1 (h.0, (down x).1 (h.1, desc-least flats lawful from lowest least x h.0))),
+range-exact flats lawful from to lowest below missed answer least down sound whole same x = (
+  λ m. let h = (same x).0 m in (⊎_elim (λ d. d) (λ n. absurd (h.1 n)) (whole x h.0), ((down x).0 h.0).0),
+  λ h. (same x).1 ((down x).1 (h.1, desc-least flats lawful from lowest least x h.0), λ m. sound x m h.0),
 )

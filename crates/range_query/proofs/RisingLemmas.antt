@@ -1,5 +1,5 @@
 -- Lists of spans that ascend: one more at the end, the last one joined, and a search.
-use Rattle.std.proofs.Common.{◌≡◌, ℕ, zero, suc, ◌+◌, ◌<◌, ◌≤◌, ◌^◌, ◌⊎◌, inl, inr, ◌↔◌, List, [], ◌∷◌, ◌++◌, length, get_or, take, drop, sym, subst, ◌∙◌, arith, true, false, ⊎_elim, le_of_suc-le-suc, suc-le-suc, zero-le, le_refl}
+use Rattle.std.proofs.Common.{◌≡◌, ℕ, zero, suc, ◌+◌, ◌<◌, ◌≤◌, ◌^◌, ◌⊎◌, inl, inr, ◌↔◌, List, [], ◌∷◌, ◌++◌, length, get_or, take, drop, sym, subst, ap, ◌∙◌, arith, true, false, ⊎_elim, le_of_suc-le-suc, suc-le-suc, zero-le, le_refl}
 use Rattle.std.specs.Prelude.{slice_set, nat_lt}
 use Rattle.std.specs.List.{AllWithin}
 use Rattle.std.specs.List.Sorted.{IsPartitionedBy}
@@ -120,6 +120,15 @@ last-holds xs k a b x r e is also le =
     let same : b ≡ a = also ∙ get_or_default xs k b a (omega arith) ∙ sym is in (
       λ top. member-at xs k a x (omega arith) (subst (λ (s : IdSpan). IsInSpan x s) is (le, subst (λ (s : IdSpan). x ≤ s.high) same top)),
       λ m. subst (λ (s : IdSpan). x ≤ s.high) (sym also) (last-top xs k b x r e m),
+    )
+
+-- whether all stand below a bound is told by the last span
+pub last-under : (xs : List IdSpan) (k : ℕ) (d : IdSpan) (bound : ℕ) → IsRising xs → length xs ≡ suc k → d ≡ get_or xs k d
+    → (d.high < bound → (x : ℕ) → IsMember xs x → x < bound) × (((x : ℕ) → IsMember xs x → x < bound) → d.high < bound)
+last-under xs k d bound r e is =
+    let top = ap (λ (s : IdSpan). s.high) is in let o = (span-at xs k d r (omega arith)).order in (
+      λ lt x m. let le = last-top xs k d x r e m in omega arith,
+      λ all. let lt = all (get_or xs k d).high (member-at xs k d (get_or xs k d).high (omega arith) (o, le_refl _)) in omega arith,
     )
 
 below-point : (id n : ℕ) (xs : List IdSpan) → AllWithin (λ (s : IdSpan). nat_lt s.high id ≡ true) xs 0 n → (x : ℕ) → IsMember (take n xs) x → x < id

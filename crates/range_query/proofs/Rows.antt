@@ -172,6 +172,17 @@ at-drop [] k s e = absurd (none-some s e)
 at-drop (t ∷ rest) zero s e = inl (sym (some-same t s e))
 at-drop (t ∷ rest) (suc k) s e = at-drop rest k s e
 
+-- what stands from a place on is the segment there or stands behind it
+pub at-or-behind : (flats : List Segment) (k n : ℕ) (s t : Segment) → n ≡ suc k → slice_get flats k ≡ Some s → IsIn t (drop k flats) → (t ≡ s) ⊎ IsIn t (drop n flats)
+at-or-behind flats k n s t e at i = subst (λ m. (t ≡ s) ⊎ IsIn t (drop m flats)) (sym e) (go flats k at i)
+  where
+    go : (flats : List Segment) (k : ℕ) → slice_get flats k ≡ Some s → IsIn t (drop k flats) → (t ≡ s) ⊎ IsIn t (drop (suc k) flats)
+    go [] zero e i = absurd i
+    go [] (suc k) e i = absurd i
+    go (x ∷ rest) zero e (inl same) = let q = some-same x s e in inl (cc)
+    go (x ∷ rest) zero e (inr i) = inr i
+    go (x ∷ rest) (suc k) e i = go rest k e i
+
 -- the segments behind a place lie above the one there
 pub after-at : (flats : List Segment) (k n : ℕ) (s t : Segment) → AreRising flats → n ≡ suc k → slice_get flats k ≡ Some s → IsIn t (drop n flats) → s.high < t.low
 after-at flats k n s t r e at i = go flats k r at (subst (λ j. IsIn t (drop j flats)) e i)

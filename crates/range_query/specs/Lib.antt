@@ -1,3 +1,6 @@
 pub mod Places
 pub mod Parts
 pub mod Rising
+pub mod Tails
+pub mod Cuts
+pub mod Falls

@@ -5,6 +5,7 @@ use Rattle.id_groups.specs.declared.span.IdSpan.{IdSpan}
 use Rattle.id_groups.specs.Span.{IsInSpan}
 use Rattle.commit_graph.specs.Graph.{Graph, Reaches}
 use Rattle.segment_codec.specs.Record.{Segment}
+use Rattle.segment_codec.specs.Table.{IsInSegment}
 use Rattle.span_set.specs.Members.{IsMember}
 
 -- a parent of the segment's lowest id is a member
@@ -31,13 +32,21 @@ StandBelow low spans = (x : ℕ) → IsMember spans x → x < low
 abbrev pub Enters : List IdSpan → List IdSpan → Segment → ℕ → Type 0
 Enters answer spans s y = ((y ≡ s.low) × HasParentIn answer s) ⊎ IsMember spans y
 
--- an id of the segment at or above such a one, up to a highest one
-abbrev pub IsReachedIn : List IdSpan → List IdSpan → Segment → ℕ → ℕ → Type 0
-IsReachedIn answer spans s high x = (x ≤ high) × (y : ℕ) × Enters answer spans s y × (s.low ≤ y) × (y ≤ x)
+-- an id of the segment at or above such a one
+abbrev pub IsReachedIn : List IdSpan → List IdSpan → Segment → ℕ → Type 0
+IsReachedIn answer spans s x = (x ≤ s.high) × (y : ℕ) × Enters answer spans s y × (s.low ≤ y) × (y ≤ x)
 
--- such an id with a member of another set at it or above it in the segment
-abbrev pub IsCommonIn : List IdSpan → List IdSpan → List IdSpan → Segment → ℕ → Type 0
-IsCommonIn answer spans below s x = (y : ℕ) × IsMember below y × (y ≤ s.high) × IsReachedIn answer spans s y x
+-- a parent of the segment's lowest id, no lower than a lowest one, that isn't missed
+abbrev pub LacksParent : List IdSpan → ℕ → Segment → Type 0
+LacksParent missed lowest s = (p : ℕ) × IsIn p s.parents × (lowest ≤ p) × (IsMember missed p → ⊥)
+
+-- an id of the segment, or one below it in the segment, that is a member or has such a parent
+abbrev pub IsMetIn : List IdSpan → List IdSpan → ℕ → Segment → ℕ → Type 0
+IsMetIn missed spans lowest s x = (y : ℕ) × (((y ≡ s.low) × LacksParent missed lowest s) ⊎ IsMember spans y) × (s.low ≤ y) × (y ≤ x)
+
+-- an id of the segment that isn't
+abbrev pub IsMissedIn : List IdSpan → List IdSpan → ℕ → Segment → ℕ → Type 0
+IsMissedIn missed spans lowest s x = IsInSegment x s × (IsMetIn missed spans lowest s x → ⊥)
 
 -- a set with all that its members reach, from a lowest id on
 abbrev pub IsClosedFrom : Graph ℕ → ℕ → List IdSpan → Type 0

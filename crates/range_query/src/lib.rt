@@ -4,10 +4,13 @@
 
 mod between;
 mod child_walk;
+mod cut;
+mod downward;
 mod ends;
 mod merge_walk;
 mod place;
 mod rising;
+mod tail;
 mod upward;
 
 pub use between::range;

@@ -1,10 +1,10 @@
 //! Ids that are gathered from the lowest up.
 
-ghost use Rattle.std.specs.Prelude.{◌≡◌, ℕ, ◌+◌, ◌<◌, ◌^◌, ◌⊎◌, ◌↔◌, [], OnOk, IfOk, IsTrue};
+ghost use Rattle.std.specs.Prelude.{◌≡◌, ℕ, ◌+◌, ◌<◌, ◌≤◌, ◌^◌, ◌⊎◌, ◌↔◌, [], OnOk, IfOk, IsTrue};
 ghost use Rattle.id_groups.specs.Span.{IsSpan, IsInSpan};
 ghost use Rattle.segment_codec.specs.Lent.{segment_of};
 ghost use Rattle.span_set.specs.Members.{IsMember, IsCanonical};
-ghost use Rattle.range_query.specs.Parts.{HasParentIn, StandBelow};
+ghost use Rattle.range_query.specs.Parts.{HasParentIn, LacksParent, StandBelow};
 
 use id_groups::{FIRST_OTHER, Id, IdSpan};
 use segment_codec::SegmentRef;
@@ -67,6 +67,30 @@ impl Rising {
         Ok(())
     }
 
+    /// Adds the ids from `low` to before `end`, which are of one group and lie above all that are held; there may be none.
+    pub(crate) fn push_between(&mut self, low: u64, end: u64) -> Result<(), AllocError>
+        requires group { low < 2 ^ 56 → end ≤ 2 ^ 56 }
+        requires bound { end ≤ 2 ^ 57 }
+        requires over { StandBelow low self.old }
+        ensures { OnOk result ((x : ℕ) → IsMember self.new x ↔ (IsMember self.old x ⊎ ((low ≤ x) × (x < end)))) }
+    {
+        if low < end {
+            return self.push(IdSpan {
+                low: Id::from_number(low),
+                high: Id::from_number(end - 1),
+            });
+        }
+        Ok(())
+    }
+
+    /// Whether all that are held lie below the bound.
+    pub(crate) fn ends_below(&self, bound: u64) -> bool
+        ensures { IsTrue result ↔ StandBelow bound self.now }
+    {
+        let n = self.spans.len();
+        n == 0 || self.spans[n - 1].high.number() < bound
+    }
+
     /// Whether the id is held, by a binary search.
     fn search(&self, id: Id) -> bool
         ensures { IsTrue result ↔ IsMember self.now id }
@@ -96,6 +120,19 @@ impl Rising {
         let mut rest = segment.parents();
         'parents: while let Some(parent) = rest.next() {
             if self.contains(parent) {
+                return true;
+            }
+        }
+        false
+    }
+
+    /// Whether a parent of the segment's lowest id, no lower than `lowest`, isn't held.
+    pub(crate) fn lacks_parent_of(&self, segment: SegmentRef<'_>, lowest: Id) -> bool
+        ensures { IsTrue result ↔ LacksParent self.now lowest (segment_of segment.entry) }
+    {
+        let mut rest = segment.parents();
+        'parents: while let Some(parent) = rest.next() {
+            if lowest.number() <= parent.number() && !self.contains(parent) {
                 return true;
             }
         }

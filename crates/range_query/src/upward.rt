@@ -17,7 +17,7 @@ use span_set::IdSet;
 use std::alloc::{AllocError, Global};
 
 /// How many of the first `left` spans don't end below the id.
-fn skip_below(spans: &[IdSpan], left: usize, id: Id) -> usize
+pub(crate) fn skip_below(spans: &[IdSpan], left: usize, id: Id) -> usize
     requires { left ≤ length spans.now }
     ensures within { result ≤ length spans.now }
     ensures passed { StandBelow id (drop left spans.now) → StandBelow id (drop result spans.now) }
@@ -28,6 +28,30 @@ fn skip_below(spans: &[IdSpan], left: usize, id: Id) -> usize
         to -= 1;
     }
     to
+}
+
+/// The least member among the segment's ids up to `high`. The spans from `left` on end below the segment, the others don't.
+pub(crate) fn least_in(
+    spans: &[IdSpan],
+    left: usize,
+    segment: SegmentRef<'_>,
+    high: Id,
+) -> Option<Id>
+    requires canonical { IsCanonical spans.now }
+    requires within { left ≤ length spans.now }
+    requires passed { StandBelow (segment_of segment).low (drop left spans.now) }
+    requires stop { (d : _) → 0 < left → (segment_of segment).low ≤ (slice_index_or spans.now (left - 1) d).high }
+    ensures { Lowest (IsMember spans.now) (segment_of segment.entry).low high result }
+{
+    if left == 0 {
+        return None;
+    }
+    let least = spans[left - 1].low.number();
+    let low = least.max(segment.low().number());
+    if low > high.number() {
+        return None;
+    }
+    Some(Id::from_number(low))
 }
 
 /// The lowest id of the segment that is in the answer, up to `high`: its lowest where a parent of that is held so far,
@@ -49,38 +73,29 @@ fn lowest_in(
     if answer.has_parent_of(segment) {
         return Some(segment.low());
     }
-    if left == 0 {
-        return None;
-    }
-    let least = spans[left - 1].low.number();
-    let low = least.max(segment.low().number());
-    if low > high.number() {
-        return None;
-    }
-    Some(Id::from_number(low))
+    least_in(spans, left, segment, high)
 }
 
-/// Adds the ids of the segment up to `high` that reach a member: those from its lowest that does. The spans of the set
+/// Adds the ids of the segment that reach a member: those from its lowest that does. The spans of the set
 /// from `left` on end below the segment; it answers from which one on they do.
-pub(crate) fn add_part(
+fn add_part(
     answer: &mut Rising,
     set: &IdSet,
     left: usize,
     segment: SegmentRef<'_>,
-    high: Id,
 ) -> Result<usize, AllocError>
     requires within { left ≤ length set.now }
     requires passed { StandBelow (segment_of segment).low (drop left set.now) }
     requires over { StandBelow (segment_of segment).low answer.old }
-    requires upper { (segment_of segment).low ≤ high }
-    requires group { (segment_of segment).low < 2 ^ 56 → high < 2 ^ 56 }
+    requires group { (segment_of segment).low < 2 ^ 56 → (segment_of segment).high < 2 ^ 56 }
     ensures within { IfOk result (λ to. to ≤ length set.now) }
     ensures passed { IfOk result (λ to. StandBelow (segment_of segment.entry).low (drop to set.now)) }
     ensures stop { IfOk result (λ to. (d : _) → 0 < to → (segment_of segment.entry).low ≤ (slice_index_or set.now (to - 1) d).high) }
-    ensures members { OnOk result ((x : ℕ) → IsMember answer.new x ↔ (IsMember answer.old x ⊎ IsReachedIn answer.old set.now (segment_of segment.entry) high x)) }
+    ensures members { OnOk result ((x : ℕ) → IsMember answer.new x ↔ (IsMember answer.old x ⊎ IsReachedIn answer.old set.now (segment_of segment.entry) x)) }
 {
     let spans = set.spans();
     let to = skip_below(spans, left, segment.low());
+    let high = segment.high();
     let Some(low) = lowest_in(answer, spans, to, segment, high) else {
         return Ok(to);
     };
@@ -109,7 +124,7 @@ pub fn descendants<T: SegmentTable>(
     let mut left = set.spans().len();
     'up: for k in from..table.flat_count() {
         let segment = table.flat_at(k, steps);
-        left = add_part(&mut answer, set, left, segment, segment.high())?;
+        left = add_part(&mut answer, set, left, segment)?;
     }
     let found = answer.to_set(alloc)?;
     Ok(found)

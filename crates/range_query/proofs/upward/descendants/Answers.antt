@@ -1,7 +1,6 @@
-use Rattle.std.proofs.Common.{arith, ℕ, ◌+◌, ◌<◌, ◌≤◌, ◌^◌, ◌⊎◌, ◌↔◌, sym, subst, ap, length}
+use Rattle.std.proofs.Common.{arith, ℕ, ◌+◌, ◌≤◌, subst, ap, length}
 use Rattle.segment_codec.specs.Lent.{segment_of}
 use Rattle.span_set.specs.Members.{IsMember}
-use Rattle.range_query.specs.Parts.{IsReachedIn}
 use Rattle.range_query.proofs.Rows.{at-drop}
 use Rattle.range_query.proofs.ChildLemmas.{group-at}
 use Rattle.range_query.proofs.DescendantLemmas.{desc-none, desc-more, desc-whole, stand-over, below-on, stand-none}
@@ -35,8 +34,7 @@ pub add_part-requires-clause-group : goal.add_part-requires-clause-group
 add_part-requires-clause-group g c =
     let flats = g.T.SegmentTable.flats c.args.table.now in
     let lawful = g.met.T.SegmentTable.lawful c.args.table.now in
-    let s = segment_of c.flat_at-segment.result in
-    subst (λ h. s.low < 2 ^ 56 → h < 2 ^ 56) (sym c.high.ensures) (group-at flats lawful c.args.set.now c.up.k s c.flat_at-segment.ensures.found)
+    group-at flats lawful c.args.set.now c.up.k (segment_of c.flat_at-segment.result) c.flat_at-segment.ensures.found
 
 pub up-preserved : goal.up-preserved
 up-preserved g c =
@@ -48,7 +46,7 @@ up-preserved g c =
       counted = let k = c.flat_at-segment.ensures.tick in let b = c.up.invariant.counted in omega arith;
       passed = below-on flats lawful c.up.k s c.flat_at-segment.ensures.found (c.up.k + 1) _ (omega arith) c.in_ok-left.ensures.passed;
       exact = desc-more flats lawful c.args.set.now c.up.k s c.flat_at-segment.ensures.found c.up.answer c.up.invariant.exact (c.up.k + 1) c.add_part.new.answer (omega arith)
-          (subst (λ h. (x : ℕ) → IsMember c.add_part.new.answer x ↔ (IsMember c.up.answer x ⊎ IsReachedIn c.up.answer c.args.set.now s h x)) c.high.ensures c.in_ok-left.ensures.members);
+          c.in_ok-left.ensures.members;
     }
 
 pub returns-clause-members : goal.returns-clause-members

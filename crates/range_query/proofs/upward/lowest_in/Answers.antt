@@ -1,27 +1,8 @@
-use Rattle.std.proofs.Common.{arith, ◌≡◌, ◌∙◌, ◌≤◌, ◌-◌, max, true≢false, sym, subst, ap}
-use Rattle.id_groups.specs.declared.span.IdSpan.{IdSpan}
+use Rattle.std.proofs.Common.{◌∙◌, true≢false, sym}
 use Rattle.segment_codec.specs.Lent.{segment_of}
-use Rattle.range_query.specs.Parts.{Enters}
-use Rattle.range_query.specs.Rising.{IsLowest}
-use Rattle.range_query.proofs.Lowests.{lowest-none, lowest-some}
+use Rattle.range_query.proofs.Lowests.{lowest-enters}
 use Rattle.range_query.proofs.upward.lowest_in.Goals as goal
 
-pub returns-then-low-number : goal.returns-then-low-number
-returns-then-low-number c =
-    let some = c.if-left-eq0.false in
-    let s = segment_of c.args.segment in
-    let own = ap (λ (t : IdSpan). t.low) c.index-spans-left.is in
-    let low : c.max-low.result ≡ max c.index-spans-left.result.low s.low = omega (arith, c.max-low.ensures, c.number-least.ensures.number, c.number.ensures.number, c.low-2.ensures) in
-    lowest-none c.args.answer.now c.args.spans.now c.args.left (c.args.left - 1) c.index-spans-left.result s c.max-low.result c.requires.canonical (omega arith) c.requires.within
-    c.index-spans-left.is c.requires.passed (λ h. true≢false (sym (c.has_parent_of.ensures.1 h) ∙ c.if-has_parent_of.false)) low c.args.high (omega arith)
-
 pub returns : goal.returns
-returns c =
-    let some = c.if-left-eq0.false in
-    let s = segment_of c.args.segment in
-    let own = ap (λ (t : IdSpan). t.low) c.index-spans-left.is in
-    let low : c.max-low.result ≡ max c.index-spans-left.result.low s.low = omega (arith, c.max-low.ensures, c.number-least.ensures.number, c.number.ensures.number, c.low-2.ensures) in
-    let under : c.max-low.result ≤ c.args.high = omega arith in
-    subst (IsLowest (Enters c.args.answer.now c.args.spans.now s) s.low c.args.high) (sym c.from_number.ensures)
-    (lowest-some c.args.answer.now c.args.spans.now c.args.left (c.args.left - 1) c.index-spans-left.result s c.max-low.result c.requires.canonical (omega arith) c.requires.within
-    c.index-spans-left.is c.requires.passed (λ h. true≢false (sym (c.has_parent_of.ensures.1 h) ∙ c.if-has_parent_of.false)) low c.args.high (c.requires.stop c.index-spans-left.result (omega arith)) under)
+returns c = lowest-enters c.args.answer.now c.args.spans.now (segment_of c.args.segment) c.args.high c.least_in.result
+    (λ h. true≢false (sym (c.has_parent_of.ensures.1 h) ∙ c.if-has_parent_of.false)) c.least_in.ensures
