@@ -6,7 +6,7 @@ use Rattle.commit_graph.specs.Graph.{Graph, Reaches}
 use Rattle.range_query.specs.Parts.{StandBelow}
 use Rattle.range_query.specs.declared.cut.Cut.{Cut}
 
--- each id with P at or above the id of the cut reaches one from the least to before the place; nothing is said where the least is 0
+-- each id with P at or above the cut reaches one from the least to before the cut; nothing is said where the least is 0
 abbrev pub IsCut : Graph ℕ → (ℕ → Type 0) → Cut → Type 0
 IsCut g P c = 0 < c.least → (x : ℕ) → P x → c.at ≤ x → (y : ℕ) × Reaches g x y × (c.least ≤ y) × (y < c.at)
 

@@ -107,7 +107,6 @@ fn add_missed(
     requires within_below { passed.below ≤ length below.now }
     requires passed { StandBelow (segment_of segment).low (drop passed.from from.now) }
     requires begun { BeginWithin (segment_of segment).high (drop passed.below below.now) }
-    requires least { StandFrom lowest below.now }
     requires over { StandBelow (segment_of segment).low missed.old }
     requires group { (segment_of segment).low < 2 ^ 56 → (segment_of segment).high < 2 ^ 56 }
     ensures within_from { IfOk result (λ to. to.from ≤ length from.now) }
@@ -124,7 +123,7 @@ fn add_missed(
     let left = skip_below(from.spans(), passed.from, segment.low());
     if let Some(high) = highest_in(below.spans(), at, segment) {
         let end = end_of_missed(missed, from.spans(), left, lowest, segment, high);
-        missed.push_between(segment.low().number().max(lowest.number()), end)?;
+        missed.push_between(segment.low().number(), end)?;
     }
     Ok(Passed {
         from: left,

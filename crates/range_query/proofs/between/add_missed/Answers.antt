@@ -1,4 +1,4 @@
-use Rattle.std.proofs.Common.{arith, ◌≡◌, ◌<◌, ◌≤◌, inl, inr, max, ⊎_elim, sym, subst}
+use Rattle.std.proofs.Common.{arith, ◌≡◌, ◌<◌, ◌≤◌, inl, inr, ⊎_elim, sym, subst}
 use Rattle.segment_codec.specs.Lent.{segment_of}
 use Rattle.segment_codec.proofs.Tables.{le_or_lt}
 use Rattle.span_set.specs.Members.{IsMember}
@@ -8,7 +8,7 @@ use Rattle.range_query.proofs.between.add_missed.Goals as goal
 pub returns-in_ok-push_between-clause-sound : goal.returns-in_ok-push_between-clause-sound
 returns-in_ok-push_between-clause-sound c = λ x m.
     let top = c.in-Some.ensures.to in let e = c.end_of_missed-end.ensures.top in
-    let low : c.max.result ≡ max c.args.segment.low c.args.lowest = omega (arith, c.max.ensures, c.number.ensures.number, c.number-in-Some.ensures.number, c.low-in-Some.ensures) in
+    let low : c.number.result ≡ c.args.segment.low = omega (arith, c.number.ensures.number, c.low-in-Some.ensures) in
     ⊎_elim
     (λ o. inl o)
     (λ p. let a = p.0 in let b = p.1 in inr (
@@ -19,8 +19,8 @@ returns-in_ok-push_between-clause-sound c = λ x m.
 
 pub returns-in_ok-push_between-clause-whole : goal.returns-in_ok-push_between-clause-whole
 returns-in_ok-push_between-clause-whole c = λ x b j.
-    let low : c.max.result ≡ max c.args.segment.low c.args.lowest = omega (arith, c.max.ensures, c.number.ensures.number, c.number-in-Some.ensures.number, c.low-in-Some.ensures) in
-    let over = c.requires.least x b in let from = j.0 in
+    let low : c.number.result ≡ c.args.segment.low = omega (arith, c.number.ensures.number, c.low-in-Some.ensures) in
+    let from = j.0 in
     let top = c.in-Some.ensures.highest x (subst (λ l. IsMember l x) (sym c.spans-3.ensures.same) b) j.1 in
     ⊎_elim
     (λ (le : c.end_of_missed-end.result ≤ x).
