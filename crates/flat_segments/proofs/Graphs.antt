@@ -15,16 +15,16 @@ use Rattle.flat_segments.proofs.Cutting.{rise-filter, maximal-begins}
 
 -- ---- parents
 
-at-low : (s : Segment) (x : ℕ) → x ≡ s.low → parents_in (Some s) x ≡ s.parents
+pub at-low : (s : Segment) (x : ℕ) → x ≡ s.low → parents_in (Some s) x ≡ s.parents
 at-low s x e = ap (λ b. cond b s.parents ((x - 1) ∷ [])) (eq-eqb x s.low e)
 
-over-low : (s : Segment) (x : ℕ) → (x ≡ s.low → ⊥) → parents_in (Some s) x ≡ (x - 1) ∷ []
+pub over-low : (s : Segment) (x : ℕ) → (x ≡ s.low → ⊥) → parents_in (Some s) x ≡ (x - 1) ∷ []
 over-low s x n = ap (λ b. cond b s.parents ((x - 1) ∷ [])) (ne_eqb x s.low n)
 
-here : (s : Segment) (rest : List Segment) (x : ℕ) → IsInSegment x s → parents_at (s ∷ rest) x ≡ parents_in (Some s) x
+pub here : (s : Segment) (rest : List Segment) (x : ℕ) → IsInSegment x s → parents_at (s ∷ rest) x ≡ parents_in (Some s) x
 here s rest x i = ap (λ o. parents_in o x) (found-head s rest x i)
 
-behind : (s : Segment) (rest : List Segment) (x : ℕ) → (IsInSegment x s → ⊥) → parents_at (s ∷ rest) x ≡ parents_at rest x
+pub behind : (s : Segment) (rest : List Segment) (x : ℕ) → (IsInSegment x s → ⊥) → parents_at (s ∷ rest) x ≡ parents_at rest x
 behind s rest x n = ap (λ o. parents_in o x) (found-behind s rest x n)
 
 abbrev begins : Segment → Bool

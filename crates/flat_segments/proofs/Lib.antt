@@ -10,3 +10,4 @@ pub mod Sections
 pub mod Graphs
 pub mod Callers
 pub mod Singles
+pub mod ByParentsLemmas

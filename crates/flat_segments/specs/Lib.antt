@@ -6,3 +6,4 @@ pub mod Runs
 pub mod Views
 pub mod Joined
 pub mod Single
+pub mod ByParents

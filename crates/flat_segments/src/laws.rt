@@ -7,6 +7,7 @@ ghost use Rattle.segment_codec.specs.Table.{Follow, parents_at};
 ghost use Rattle.segment_codec.specs.Flat.{IsFlat};
 ghost use Rattle.segment_codec.specs.Turns.{goes_on};
 ghost use Rattle.flat_segments.specs.Maximal.{maximal, cut};
+ghost use Rattle.flat_segments.specs.ByParents.{AreSegmentsOf};
 
 /// The maximal segments of records have the records' ids, each with the same parents, and none goes on from the id
 /// before it.
@@ -31,4 +32,13 @@ pub fn segments_spelled_out()
         ≡ record { low = 0; high = 3; level = 0; parents = [] } ∷ record { low = 4; high = 4; level = 0; parents = 3 ∷ 1 ∷ [] } ∷ [] }
     ensures cut { cut 3 (record { low = 0; high = 3; level = 0; parents = [] } ∷ record { low = 4; high = 4; level = 0; parents = 3 ∷ 1 ∷ [] } ∷ [])
         ≡ record { low = 0; high = 2; level = 0; parents = [] } ∷ [] }
+{}
+
+/// The segments of ids by their parents are one list: the maximal ones of records, cut or not.
+pub fn segments_by_parents()
+    ensures one { (parents : ℕ → List ℕ) (first end : ℕ) (a b : List Segment) → AreSegmentsOf parents first end a → AreSegmentsOf parents first end b → a ≡ b }
+    ensures maximal { (end : ℕ) (records : List Segment) → AllByRecursion IsFlat records → Follow 0 end records
+        → AreSegmentsOf (parents_at records) 0 end (maximal end records) }
+    ensures cut { (below end : ℕ) (records : List Segment) → AllByRecursion IsFlat records → Follow 0 end records → below ≤ end
+        → AreSegmentsOf (parents_at records) 0 below (cut below (maximal end records)) }
 {}

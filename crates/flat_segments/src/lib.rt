@@ -15,7 +15,7 @@ mod table;
 mod view;
 
 pub use fault::FlatFault;
-pub use laws::{cut_segments, maximal_segments, segments_spelled_out};
+pub use laws::{cut_segments, maximal_segments, segments_by_parents, segments_spelled_out};
 pub use section::Section;
 pub use table::FlatTable;
 pub use view::FlatView;
