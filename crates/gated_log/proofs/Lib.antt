@@ -8,3 +8,4 @@ pub mod LoadCalls
 pub mod Stages
 pub mod Commits
 pub mod Rooms
+pub mod Counted

@@ -56,3 +56,11 @@ pub record IsStarted (log : Held) (old new : Told) : Type 0 where
   pub closed : new.now ≡ surely (0 ∷ [])
   pub payloads : HasPayloads log.limit new log.payloads
   pub on_disk : IsOnDisk log new
+
+-- so many calls at most
+abbrev pub WithinCalls : ℕ → Told → Told → Type 0
+WithinCalls calls old new = moment_of new ≤ moment_of old + 2 * calls
+
+-- so many calls, of which a sync was one and none wrote
+abbrev pub IsUnwritten : ℕ → Told → Told → Type 0
+IsUnwritten calls old new = (moment_of new ≡ moment_of old + 2 * calls) × (new.bytes ≡ old.bytes) × (new.now ≡ surely old.bytes)

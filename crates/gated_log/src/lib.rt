@@ -14,7 +14,7 @@ ghost use Rattle.gated_log.specs.Log.{IsLog, IsDamaged, batches, gates_of, log_l
 ghost use Rattle.gated_log.specs.Held.{Held, log_bytes, staged, room_of};
 ghost use Rattle.gated_log.specs.Holding.{IsOnDisk, IsLogWithin, KeepsOldOrNew, HasNew};
 ghost use Rattle.gated_log.specs.Commit.{Answers, Reserves};
-ghost use Rattle.gated_log.specs.Load.{Loads, KeepsImages, KeepsPayloads, IsLoaded, IsLogOf, OnlyReads, after_reads, IsFresh, IsStarted};
+ghost use Rattle.gated_log.specs.Load.{Loads, KeepsImages, KeepsPayloads, IsLoaded, IsLogOf, OnlyReads, after_reads, IsFresh, IsStarted, WithinCalls, IsUnwritten};
 
 mod errors;
 mod scan;
@@ -130,6 +130,9 @@ impl Log {
         ensures images { Goes KeepsImages (D.told disk.old) (D.told disk.new) }
         ensures moments { (payloads : List (List ℕ)) → Goes (KeepsPayloads limit payloads) (D.told disk.old) (D.told disk.new) }
         ensures done { IfOk result (λ log. Goes (IsLoaded log) (D.told disk.old) (D.told disk.new)) }
+        ensures calls { Goes (WithinCalls 4) (D.told disk.old) (D.told disk.new) }
+        ensures too_large { (size : _) → result ≡ Err (LoadLog.TooLarge size) → Goes (IsUnwritten 2) (D.told disk.old) (D.told disk.new) }
+        ensures damaged { (at : _) → result ≡ Err (LoadLog.Damaged at) → Goes (IsUnwritten 3) (D.told disk.old) (D.told disk.new) }
         ensures later { D.faults disk.old ≤ D.faults disk.new }
         ensures cause { (fault : _) → result ≡ Err (LoadLog.Disk fault) → Rose (D.faults disk.old) (D.faults disk.new) }
     {
@@ -169,6 +172,8 @@ impl Log {
         ensures limit { IfOk result (λ log. log.limit ≡ limit) }
         ensures ok { OnOk result (Goes Passes (D.told disk.old) (D.told disk.new)) }
         ensures reads { Goes (λ old new. (new ≡ old) ⊎ Passes old new) (D.told disk.old) (D.told disk.new) }
+        ensures damaged { (at : _) → result ≡ Err (LoadLog.Damaged at) → Goes Passes (D.told disk.old) (D.told disk.new) }
+        ensures fits { (size : _) → result ≡ Err (LoadLog.TooLarge size) → ⊥ }
         ensures later { D.faults disk.old ≤ D.faults disk.new }
         ensures cause { (fault : _) → result ≡ Err (LoadLog.Disk fault) → Rose (D.faults disk.old) (D.faults disk.new) }
     {
@@ -186,6 +191,7 @@ impl Log {
         ensures err { IfErr result (λ e. (e ≡ LoadLog.Memory) ⊎ ((fault : _) × (e ≡ LoadLog.Disk fault))) }
         ensures ok { IfOk result (λ log. Goes (IsStarted log) (D.told disk.old) (D.told disk.new)) }
         ensures moments { (payloads : List (List ℕ)) → Goes (KeepsPayloads limit payloads) (D.told disk.old) (D.told disk.new) }
+        ensures calls { Goes (WithinCalls 2) (D.told disk.old) (D.told disk.new) }
         ensures later { D.faults disk.old ≤ D.faults disk.new }
         ensures cause { (fault : _) → result ≡ Err (LoadLog.Disk fault) → Rose (D.faults disk.old) (D.faults disk.new) }
     {
@@ -201,6 +207,7 @@ impl Log {
         requires limit { (1 ≤ limit) × (limit ≤ 2 ^ 32) }
         ensures loads { Loads limit bytes.items result }
         ensures limit { IfOk result (λ log. log.limit ≡ limit) }
+        ensures fits { (size : _) → result ≡ Err (LoadLog.TooLarge size) → ⊥ }
         ensures no_call { (fault : _) → result ≡ Err (LoadLog.Disk fault) → ⊥ }
     {
         if bytes.len() <= 1 {
@@ -273,6 +280,7 @@ impl Log {
         requires { IfSome (D.told disk.old) (IsOnDisk self) }
         ensures answers { Answers self payload.now result }
         ensures moments { Goes (KeepsOldOrNew self payload.now) (D.told disk.old) (D.told disk.new) }
+        ensures calls { Goes (WithinCalls 4) (D.told disk.old) (D.told disk.new) }
         ensures done { (log : _) (clock : _) → result ≡ Committed.Done log clock → Goes (HasNew log clock) (D.told disk.old) (D.told disk.new) }
         ensures full { (log : _) (limit : _) → result ≡ Committed.Full log limit → disk.new ≡ disk.old }
         ensures memory { (log : _) → result ≡ Committed.Memory log → disk.new ≡ disk.old }
