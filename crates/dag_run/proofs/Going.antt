@@ -5,7 +5,7 @@ use Rattle.std.proofs.lemmas.Bool.{ltb-true, ltb-false}
 use Rattle.outside.specs.Told.{TookFront}
 use Rattle.line_io.specs.Lines.{lines_of, whole_lines}
 use Rattle.line_io.specs.Reading.{Reading, new_reading, is_over, lines_left, whole_left}
-use Rattle.line_io.specs.Next.{NextLine, IsLine, Gives}
+use Rattle.line_io.specs.Next.{NextLine, IsLine, Gives, IsReadOut}
 use Rattle.line_io.specs.declared.lines.Line.{Line}
 use Rattle.line_io.specs.declared.lines.LineFault.{LineFault}
 use Rattle.line_io.specs.declared.lines.LineFault.TheVariants.{Read, Limit}
@@ -143,3 +143,7 @@ goes-cut limits st next before old new mid after taken was now kind (Some reply)
       h.reads.all ∙ ap (λ ls. h.done ++ ls) line.2,
       (h.replies, st, reply, next, put.0, h.run, step.0, step.1, put.1 ∙ ap (λ t. t ++ take put.0 (reply_text reply)) h.out),
     )
+
+-- where the source came to its end, none of the input is left
+pub out-line : (old new : Reading) (mid after : List ℕ) → IsReadOut old mid → (IsReadOut old mid → IsReadOut new after) → IsReadOut new after
+out-line old new mid after was next = next was

@@ -74,6 +74,7 @@ fn run<I: Source, O: Sink>(
     ensures ends { WhereTold (I.left input.old) (I.left input.new) (λ bytes left.
         WhereTold (O.taken output.old) (O.taken output.new) (EndsAs result limits bytes left)) }
     ensures limit { WhereTold (I.left input.old) (I.left input.new) (λ bytes left. LimitHolds result limits bytes) }
+    ensures read { result ≡ Ok tt → WhereTold (I.left input.old) (I.left input.new) (λ bytes left. left ≡ []) }
     ensures memory { result ≡ Err Stop.Memory → (input.new ≡ input.old) × (output.new ≡ output.old) }
     ensures source { result ≡ Err Stop.Source → Rose (I.faults input.old) (I.faults input.new) }
     ensures sink { result ≡ Err Stop.Sink → Rose (O.faults output.old) (O.faults output.new) }
@@ -121,6 +122,7 @@ pub fn run_lines<I: Source, O: Sink>(
     ensures output { WhereTold (I.left input.old) (I.left input.new) (λ bytes left.
         WhereTold (O.taken output.old) (O.taken output.new) (StatusMeans limits result.status bytes left)) }
     ensures limit { WhereTold (I.left input.old) (I.left input.new) (λ bytes left. LimitMeans limits result.status bytes) }
+    ensures read { result.status ≡ 0 → WhereTold (I.left input.old) (I.left input.new) (λ bytes left. left ≡ []) }
     ensures untouched { result.status ≡ 7 → (input.new ≡ input.old) × (output.new ≡ output.old) }
     ensures source { result.status ≡ 5 → Rose (I.faults input.old) (I.faults input.new) }
     ensures sink { result.status ≡ 6 → Rose (O.faults output.old) (O.faults output.new) }
@@ -153,6 +155,7 @@ pub fn top<I: Source, O: Sink>(
     ensures output { WhereTold (I.left input.old) (I.left input.new) (λ bytes left.
         WhereTold (O.taken output.old) (O.taken output.new) (StatusMeans standard result.status bytes left)) }
     ensures limit { WhereTold (I.left input.old) (I.left input.new) (λ bytes left. LimitMeans standard result.status bytes) }
+    ensures read { result.status ≡ 0 → WhereTold (I.left input.old) (I.left input.new) (λ bytes left. left ≡ []) }
     ensures untouched { (result.status ≡ 2) ⊎ (result.status ≡ 7) → (input.new ≡ input.old) × (output.new ≡ output.old) }
     ensures source { result.status ≡ 5 → Rose (I.faults input.old) (I.faults input.new) }
     ensures sink { result.status ≡ 6 → Rose (O.faults output.old) (O.faults output.new) }

@@ -3,12 +3,13 @@ use Rattle.std.proofs.Common.{ℕ, ◌<◌, ◌≤◌, ◌+◌, ◌≡◌, ◌�
 use Rattle.std.specs.Prelude.{◌||◌, if◌then◌else◌, map}
 use Rattle.std.specs.Str.Lines.{strip_carriage_return}
 use Rattle.std.proofs.lemmas.List.{take_all}
+use Rattle.std.proofs.lemmas.Bool.{eqb-true}
 use Rattle.std.proofs.lemmas.Bool.Decides.{nat_tests}
 use Rattle.outside.specs.Parts.{cut_at, HasNone}
 use Rattle.outside.proofs.PartsLemmas.{cut-part, cut-rest, none-append}
 use Rattle.line_io.specs.Lines.{without_carriage_return, last_line}
 use Rattle.line_io.specs.Reading.{Reading, coming, window, is_over, lines_left, whole_left, budget}
-use Rattle.line_io.specs.Next.{IsLine, NextLine, IsDone}
+use Rattle.line_io.specs.Next.{IsLine, NextLine, IsDone, IsReadOut}
 use Rattle.line_io.specs.Steps.{EndsAt, LendsLine, LendsRest, Fills, MakesSpace, capacity}
 use Rattle.line_io.specs.declared.lines.Line.{Line}
 use Rattle.line_io.specs.declared.lines.Line.TheVariants.{Text, TooLong}
@@ -283,3 +284,10 @@ done-rest now new s last none under ended lent e =
       no_line = λ left. (ended-empty now.room new.text left).0;
       within = λ left. (ended-empty now.room new.text left).1;
     })
+
+-- what comes at the end is nothing
+pub fills-out : (old new : Reading) (before after : List ℕ) → Fills old new before after → IsReadOut new after
+fills-out old new before after f ended = f.end (eqb-true (length f.came) 0 (sym (ap (λ (r : Reading). r.ended) f.now) ∙ ended))
+
+pub out-kept : (old now new : Reading) (before after : List ℕ) → new.ended ≡ now.ended → (IsReadOut old before → IsReadOut now after) → IsReadOut old before → IsReadOut new after
+out-kept old now new before after same h was e = h was (sym same ∙ e)

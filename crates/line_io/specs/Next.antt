@@ -37,3 +37,7 @@ NextLine (Ok None) old before new after = (lines_left old before ≡ []) × (is_
 NextLine (Err Limit) old before new after = (lines_left old before ≡ []) × (is_over old before ≡ true)
 NextLine (Err Read) old before new after =
     (old.ended ≡ false) × (came : List ℕ) × (before ≡ came ++ after) × (whole_left old came ≡ [])
+
+-- where the source came to its end, none of its bytes is left
+abbrev pub IsReadOut : Reading → List ℕ → Type 0
+IsReadOut reading left = reading.ended ≡ true → left ≡ []

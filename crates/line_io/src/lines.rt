@@ -7,7 +7,7 @@ ghost use Rattle.outside.specs.Counts.{Rose, HasCause};
 ghost use Rattle.outside.specs.Parts.{HasNone};
 ghost use Rattle.outside.specs.Told.{WhereTold};
 ghost use Rattle.line_io.specs.Reading.{Reading, new_reading, is_over, budget};
-ghost use Rattle.line_io.specs.Next.{NextLine, IsDone};
+ghost use Rattle.line_io.specs.Next.{NextLine, IsDone, IsReadOut};
 ghost use Rattle.line_io.specs.Steps.{EndsAt, LendsLine, LendsRest, Fills, MakesSpace, turns, capacity};
 ghost use Rattle.line_io.specs.declared.lines.Line.{Line};
 
@@ -279,6 +279,8 @@ impl Lines {
         ensures silent { self.old.ended ≡ true → source.new ≡ source.old }
         ensures no_text { result ≢ Ok (Some Line.Text) → self.new.text ≡ [] }
         ensures done { result ≡ Ok None → IsDone self.new }
+        ensures end { OnOk result (WhereTold (S.left source.old) (S.left source.new)
+            (λ before after. IsReadOut self.old before → IsReadOut self.new after)) }
         ensures read { result ≡ Err LineFault.Read → Rose (S.faults source.old) (S.faults source.new) }
     {
         self.clear_text();

@@ -2,7 +2,7 @@
 
 //! The program `segdag`: answers command lines of standard input on standard output.
 
-ghost use Rattle.std.specs.Prelude.{◌≡◌, ◌⊎◌, ◌<◌, ◌≤◌, ◌^◌, ◌↔◌, length, map, string_bytes};
+ghost use Rattle.std.specs.Prelude.{◌≡◌, ◌⊎◌, ◌<◌, ◌≤◌, ◌^◌, ◌↔◌, [], length, map, string_bytes};
 ghost use Rattle.outside.specs.Counts.{Rose};
 ghost use Rattle.outside.specs.Told.{WhereTold};
 ghost use Rattle.dag_run.specs.Ends.{StatusMeans, LimitMeans};
@@ -27,6 +27,7 @@ fn answer<I: Source, O: Sink>(alloc: Global, words: &[String], input: &mut I, ou
     ensures output { WhereTold (I.left input.old) (I.left input.new) (λ bytes left.
         WhereTold (O.taken output.old) (O.taken output.new) (StatusMeans standard result bytes left)) }
     ensures limit { WhereTold (I.left input.old) (I.left input.new) (λ bytes left. LimitMeans standard result bytes) }
+    ensures read { result ≡ 0 → WhereTold (I.left input.old) (I.left input.new) (λ bytes left. left ≡ []) }
     ensures untouched { (result ≡ 2) ⊎ (result ≡ 7) → (input.new ≡ input.old) × (output.new ≡ output.old) }
     ensures source { result ≡ 5 → Rose (I.faults input.old) (I.faults input.new) }
     ensures sink { result ≡ 6 → Rose (O.faults output.old) (O.faults output.new) }

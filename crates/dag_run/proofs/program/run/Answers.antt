@@ -1,7 +1,7 @@
 use Rattle.std.proofs.Common.{◌≡◌, rules, refl}
 use Rattle.std.proofs.lemmas.Result.{err_from_is_err_and}
 use Rattle.outside.proofs.ToldLemmas.{WhereTold-same, WhereTold-join}
-use Rattle.dag_run.proofs.Going.{sees-start, goes-start, goes-line, sees-line, goes-fault, goes-cut}
+use Rattle.dag_run.proofs.Going.{sees-start, goes-start, goes-line, sees-line, goes-fault, goes-cut, out-line}
 use Rattle.dag_run.proofs.EndLemmas.{both, both-sees}
 use Rattle.dag_run.proofs.program.run.Goals as goal
 
@@ -10,6 +10,7 @@ lines-init g c = record {
   sees = WhereTold-same (g.I.Source.left c.args.input.now) _ (λ before. rw c.in_ok-lines.ensures (sees-start c.args.limits before));
   told = WhereTold-same (g.I.Source.left c.args.input.now) _
       (λ before. WhereTold-same (g.O.Sink.taken c.args.output.now) _ (λ taken. rw (c.in_ok-lines.ensures, c.empty-rows.ensures) (goes-start c.args.limits before taken)));
+  out = WhereTold-same (g.I.Source.left c.args.input.now) _ (λ before. rw c.in_ok-lines.ensures (λ e. cc e));
   source_later = search rules;
   sink_later = search rules;
 }
@@ -30,6 +31,7 @@ lines-preserved g c = record {
       (λ before mid after taken was now h next put. goes-line c.args.limits c.lines.rows c.execute-reply.new.rows before c.lines.lines c.next.new.self mid after taken was now c.in-Some.kind c.execute-reply.result
       (λ line is. c.execute-reply.ensures line (rw c.text.ensures is)) h next put)
       c.lines.invariant.told (rw c.in-Some.is at c.in_ok-kind.ensures.line) c.in_ok-put_reply.ensures.bytes;
+  out = WhereTold-join _ _ _ _ _ _ (λ before mid after was next. out-line c.lines.lines c.next.new.self mid after was next) c.lines.invariant.out c.in_ok-kind.ensures.end;
   source_later = search rules;
   sink_later = search rules;
 }

@@ -1,9 +1,10 @@
-use Rattle.std.proofs.Common.{◌⊎◌, inl, inr, lt_of_le_of_lt, Bool, rules, arith, ◌≡◌, ℕ, List, refl, sym, ◌∙◌, true, false}
+use Rattle.std.proofs.Common.{◌⊎◌, inl, inr, lt_of_le_of_lt, Bool, rules, arith, ◌≡◌, ℕ, List, refl, sym, ◌∙◌, ap, true, false}
+use Rattle.line_io.specs.Reading.{Reading}
 use Rattle.std.specs.Prelude.{◌||◌}
 use Rattle.std.proofs.lemmas.Result.{err_from_is_err_and}
 use Rattle.outside.specs.Parts.{HasNone}
 use Rattle.outside.proofs.ToldLemmas.{WhereTold-same, WhereTold-join, WhereTold-map, WhereTold-keeps}
-use Rattle.line_io.proofs.NextLemmas.{skips-start, next-found, next-limit, skips-space, space-free, space-same, space-budget, space-fewer, skips-fill, next-read, next-rest, done-rest}
+use Rattle.line_io.proofs.NextLemmas.{skips-start, next-found, next-limit, skips-space, space-free, space-same, space-budget, space-fewer, skips-fill, next-read, next-rest, done-rest, fills-out, out-kept}
 use Rattle.line_io.proofs.lines.Lines.next.Goals as goal
 use Rattle.line_io.proofs.lines.Lines.next.Goals.{then-make_space, else-make_space}
 
@@ -16,6 +17,7 @@ first-free (inr h) free going = h
 pub turns-init : goal.turns-init
 turns-init g c = record {
   told = WhereTold-same (g.S.Source.left c.args.source.now) _ (λ before. rw c.clear_text.ensures (skips-start c.args.self.now before));
+  out = WhereTold-same (g.S.Source.left c.args.source.now) _ (λ before. rw c.clear_text.ensures (λ h. h));
   later = search rules;
   no_more = rw c.clear_text.ensures (omega arith);
   fewer = λ e. cc e;
@@ -79,6 +81,9 @@ turns-preserved g c =
           (skips-space c.args.self.now before c.turns.self space mid c.turns.is_skipping c.make_space.result h free made)
           (kept.0 ∙ under) (kept.1 ∙ going) fill))
           c.turns.invariant.told c.in_ok-fill.ensures.bytes;
+      out = WhereTold-join (g.S.Source.left c.args.source.now) (g.S.Source.left c.turns.source) (g.S.Source.left c.fill.new.source) _ _ _
+          (λ before mid after h fill was. fills-out space c.fill.new.self mid after fill)
+          c.turns.invariant.out c.in_ok-fill.ensures.bytes;
       later = search rules;
       no_more = omega (arith, c.in_ok-fill.ensures.budget, space-budget c.make_space.result c.turns.self space made, c.turns.invariant.no_more);
       fewer = λ e. lt_of_le_of_lt c.in_ok-fill.ensures.budget
@@ -102,3 +107,17 @@ returns-in_err-fill-clause-line g c =
     (λ before mid after h still. next-read c.args.self.now before space mid after (c.make_space.result || c.turns.is_skipping)
     (skips-space c.args.self.now before c.turns.self space mid c.turns.is_skipping c.make_space.result h free made) space_free (kept.1 ∙ going) still)
     c.turns.invariant.told (WhereTold-keeps _ _ c.in_err-fill.ensures.bytes))
+
+pub returns-in-Some-clause-end : goal.returns-in-Some-clause-end
+returns-in-Some-clause-end g c =
+    let rest = rw c.line_length.ensures.same at c.take_line.ensures.rest in
+    WhereTold-map _ _ _ _
+    (λ before after h. out-kept c.args.self.now c.turns.self c.take_line.new.self before after (ap (λ (r : Reading). r.ended) rest) h)
+    c.turns.invariant.out
+
+pub returns-then-is_ended-clause-end : goal.returns-then-is_ended-clause-end
+returns-then-is_ended-clause-end g c =
+    let rest = rw c.in_default.ensures.same at c.take_rest.ensures.rest in
+    WhereTold-map _ _ _ _
+    (λ before after h. out-kept c.args.self.now c.turns.self c.take_rest.new.self before after (ap (λ (r : Reading). r.ended) rest) h)
+    c.turns.invariant.out
