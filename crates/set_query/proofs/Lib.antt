@@ -5,3 +5,4 @@ pub mod Marks
 pub mod Reading
 pub mod OneSpelling
 pub mod Ids
+pub mod Closing

@@ -15,6 +15,8 @@ ghost use Rattle.set_query.specs.declared.words.Call.TheVariants.{Parents, Ances
 ghost use Rattle.set_query.specs.declared.words.PairCall.TheVariants.{Union};
 ghost use Rattle.set_query.specs.declared.words.Word.TheVariants.{All};
 ghost use Rattle.segment_codec.specs.Examples.{small_table};
+ghost use Rattle.segment_codec.specs.Record.{Segment};
+ghost use Rattle.segment_codec.specs.Table.{IsLawful};
 ghost use Rattle.ancestor_query.specs.Graph.{table_graph};
 
 /// An expression has one answer.
@@ -31,6 +33,13 @@ pub fn answers_computed()
 pub fn answers_renamed()
     ensures { (f : ℕ → Name) (g : Graph ℕ) (h : Graph Name) (e : Expr ℕ) (ids : List ℕ) → IsRenaming f g h → IsClosed g → IsClosed h
         → AreAllIn (commits_in e) g.down → IsAnswer g e ids → IsAnswer h (renamed f e) (map f ids) }
+{}
+
+/// The graph of a world and that of a lawful table have the parents of what they have, and no others: so `answers_renamed`
+/// holds between the two.
+pub fn graphs_are_closed()
+    ensures world { (w : World Name) → IsWorld w → IsClosed (graph_of same_name w) }
+    ensures table { (flats : List Segment) → IsLawful flats → IsClosed (table_graph flats) }
 {}
 
 /// A text spells at most one expression.

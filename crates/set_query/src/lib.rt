@@ -12,8 +12,8 @@ mod words;
 pub use evaluation::{Answer, eval};
 pub use expr::Expr;
 pub use laws::{
-    answers_computed, answers_renamed, expressions_spelled_out, ids_for_names, one_answer,
-    one_expression,
+    answers_computed, answers_renamed, expressions_spelled_out, graphs_are_closed, ids_for_names,
+    one_answer, one_expression,
 };
 pub use parse::ExprFault;
 pub use tree::Tree;
