@@ -31,6 +31,7 @@ pub fn ancestors<T: SegmentTable>(
     ensures canonical { IfOk result IsCanonical }
     ensures few { IfOk result (λ r. steps.new.taken ≤ steps.old.taken + 8 * (1 + count_met r (T.flats table.now))) }
     ensures one { IfOk result (λ r. (x : ℕ) → IsOnly x set.now → EndsWhole (T.ending_at table.now) x → steps.new.taken ≤ steps.old.taken + 8) }
+    ensures looked { IfOk result (λ r. (x : ℕ) → IsMember r x → min (steps.old.taken + 8) (2 ^ 64 - 1) ≤ steps.new.taken) }
     ensures counted { min steps.old.taken (2 ^ 64 - 1) ≤ steps.new.taken }
 {
     ancestors_above(alloc, table, set, Id::master(0), steps)

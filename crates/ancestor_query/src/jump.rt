@@ -36,6 +36,7 @@ pub fn best_jump<'a, T: SegmentTable>(table: &'a T, id: Id, steps: &mut Steps) -
     ensures best { IsBest (T.flats table.now) (T.ending_at table.now) 8 id (segment_of result) }
     ensures few { steps.new.taken ≤ steps.old.taken + 8 }
     ensures counted { min steps.old.taken (2 ^ 64 - 1) ≤ steps.new.taken }
+    ensures looked { min (steps.old.taken + 8) (2 ^ 64 - 1) ≤ steps.new.taken }
 {
     let mut best = table.flat(id, steps).unwrap();
     'levels: for level in 1..LEVEL_END {

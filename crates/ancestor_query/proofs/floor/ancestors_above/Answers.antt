@@ -10,6 +10,7 @@ visit-init g c = record {
       (g.met.T.SegmentTable.lawful c.args.table.now) (λ level id s e. g.met.T.SegmentTable.endings c.args.table.now level id s e) c.requires
       c.empty-work.result c.empty-answer.result c.empty-work.ensures c.empty-answer.ensures;
   counted = omega arith;
+  looked = λ x m. absurd (subst (λ spans. IsMember spans x) c.empty-answer.ensures m);
   canonical = subst IsCanonical (sym c.empty-answer.ensures) tt;
 }
 
@@ -32,6 +33,7 @@ visit-preserved g c = record {
       c.in_ok-push_all.ensures.all c.in_ok-insert_span.ensures.members
       c.number-low.result (c.number-low.ensures.number ∙ c.low.ensures) c.best_jump-segment.new.steps.taken c.best_jump-segment.ensures.few;
   counted = let b = c.best_jump-segment.ensures.counted in let k = c.visit.invariant.counted in omega arith;
+  looked = λ x m. (let b = c.best_jump-segment.ensures.looked in let k = c.visit.invariant.counted in omega arith);
   canonical = c.in_ok-insert_span.ensures.canonical;
 }
 

@@ -1,4 +1,4 @@
-use Rattle.std.proofs.Common.{◌≤◌, ◌-◌, ◌^◌, min}
+use Rattle.std.proofs.Common.{ℕ, ◌≤◌, ◌+◌, ◌-◌, ◌^◌, min}
 use Rattle.span_set.specs.Members.{IsMember, IsCanonical}
 use Rattle.ancestor_query.proofs.Turns.{Going}
 use Rattle.ancestor_query.proofs.floor.ancestors_above.Given as goal
@@ -7,6 +7,7 @@ abbrev pub invariant-visit : goal.invariant-visit
 invariant-visit g l = record {
   going : Going (g.T.SegmentTable.flats l.table) (g.T.SegmentTable.ending_at l.table) (IsMember l.set) l.fn.floor l.fn.steps.taken l.frontier l.work l.answer l.steps.taken;
   counted : min l.fn.steps.taken (2 ^ 64 - 1) ≤ l.steps.taken;
+  looked : (x : ℕ) → IsMember l.answer x → min (l.fn.steps.taken + 8) (2 ^ 64 - 1) ≤ l.steps.taken;
   canonical : IsCanonical l.answer;
 }
 

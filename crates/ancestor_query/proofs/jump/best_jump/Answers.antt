@@ -10,6 +10,7 @@ levels-init g c =
     record {
       best = best-start flats (g.T.SegmentTable.ending_at c.args.table.now) c.args.id (g.met.T.SegmentTable.lawful c.args.table.now) (segment_of c.unwrap-best.result) found;
       counted = let t = c.flat.ensures.tick in omega arith;
+      looked = let t = c.flat.ensures.tick in omega arith;
       few = let t = c.flat.ensures.tick in omega arith;
     }
 
@@ -21,5 +22,6 @@ levels-preserved g c =
       best = best-next flats (g.T.SegmentTable.ending_at c.args.table.now) c.args.id lawful c.levels.level _ refl (segment_of c.levels.best) c.ending-other.result (segment_of c.lower-best.result) c.levels.invariant.best
           c.ending-other.ensures.found (λ s e. g.met.T.SegmentTable.endings c.args.table.now c.levels.level c.args.id s e) c.lower-best.ensures;
       counted = let t = c.ending-other.ensures.tick in let f = c.levels.invariant.counted in omega arith;
+      looked = let t = c.ending-other.ensures.tick in let f = c.levels.invariant.looked in omega arith;
       few = let t = c.ending-other.ensures.tick in let f = c.levels.invariant.few in omega arith;
     }

@@ -7,5 +7,6 @@ abbrev pub invariant-levels : goal.invariant-levels
 invariant-levels g l = record {
   best : IsBest (g.T.SegmentTable.flats l.table) (g.T.SegmentTable.ending_at l.table) l.level l.id (segment_of l.best);
   counted : min l.fn.steps.taken (2 ^ 64 - 1) ≤ l.steps.taken;
+  looked : min (l.fn.steps.taken + l.level) (2 ^ 64 - 1) ≤ l.steps.taken;
   few : l.steps.taken ≤ l.fn.steps.taken + l.level;
 }
