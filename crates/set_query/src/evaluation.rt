@@ -1,6 +1,6 @@
 //! The answer of an expression over a table of segments.
 
-ghost use Rattle.std.specs.Prelude.{◌≡◌, ℕ, ◌+◌, ◌*◌, ◌≤◌, ◌<◌, ◌^◌, ◌⊎◌, ◌↔◌, [], ◌∷◌, IfOk, OnOk, IsTrue, length};
+ghost use Rattle.std.specs.Prelude.{min, ◌-◌, ◌≡◌, ℕ, ◌+◌, ◌*◌, ◌≤◌, ◌<◌, ◌^◌, ◌⊎◌, ◌↔◌, [], ◌∷◌, IfOk, OnOk, IsTrue, length};
 ghost use Rattle.id_groups.specs.Lists.{IsIn};
 ghost use Rattle.id_groups.specs.Name.{Name as NameBytes};
 ghost use Rattle.segment_codec.specs.Table.{IsHeld};
@@ -65,6 +65,7 @@ pub fn eval<T: SegmentTable>(
     requires held { (x : ℕ) → IsIn x ids.now → IsHeld (T.flats table.now) x }
     ensures members { IfOk result (λ a. (x : ℕ) → IsMember a.set x ↔ IsMeant (table_graph (T.flats table.now)) (with_ids (tree_of expr.now) ids.now) x) }
     ensures few { (name : NameBytes) → tree_of expr.now ≡ Of Call.Ancestors (One name) → IfOk result (λ a. a.steps ≤ 8 * (1 + count_met a.set (T.flats table.now))) }
+    ensures looked { (name : NameBytes) → tree_of expr.now ≡ Of Call.Ancestors (One name) → IfOk result (λ a. (x : ℕ) → IsMember a.set x → 8 ≤ a.steps) }
     ensures one { (name : NameBytes) (x : ℕ) → tree_of expr.now ≡ Of Call.Ancestors (One name) → ids.now ≡ x ∷ [] → EndsWhole (T.ending_at table.now) x → IfOk result (λ a. a.steps ≤ 8) }
 {
     let mut steps = Steps::new();
@@ -84,6 +85,7 @@ fn answer_with<T: SegmentTable>(
     ensures members { IfOk result (λ a. (x : ℕ) → IsMember a.set x ↔ IsMeant (table_graph (T.flats table.now)) (with_ids (tree_of expr.now) ids.now) x) }
     ensures counted { IfOk result (λ a. a.steps ≡ steps.new.taken) }
     ensures few { (name : NameBytes) → tree_of expr.now ≡ Of Call.Ancestors (One name) → IfOk result (λ a. steps.new.taken ≤ steps.old.taken + 8 * (1 + count_met a.set (T.flats table.now))) }
+    ensures looked { (name : NameBytes) → tree_of expr.now ≡ Of Call.Ancestors (One name) → IfOk result (λ a. (x : ℕ) → IsMember a.set x → min (steps.old.taken + 8) (2 ^ 64 - 1) ≤ steps.new.taken) }
     ensures one { (name : NameBytes) (x : ℕ) → tree_of expr.now ≡ Of Call.Ancestors (One name) → ids.now ≡ x ∷ [] → EndsWhole (T.ending_at table.now) x → OnOk result (steps.new.taken ≤ steps.old.taken + 8) }
 {
     let set = members_of(alloc, table, expr.tree(), ids, steps)?;
@@ -107,6 +109,7 @@ fn members_of<T: SegmentTable>(
     ensures members { IfOk result (λ r. (x : ℕ) → IsMember r x ↔ IsMeant (table_graph (T.flats table.now)) (with_ids (tree_in tree.now) ids.now) x) }
     ensures quiet { (name : NameBytes) → tree_in tree.now ≡ One name → OnOk result (steps.new.taken ≡ steps.old.taken) }
     ensures few { (name : NameBytes) → tree_in tree.now ≡ Of Call.Ancestors (One name) → IfOk result (λ r. steps.new.taken ≤ steps.old.taken + 8 * (1 + count_met r (T.flats table.now))) }
+    ensures looked { (name : NameBytes) → tree_in tree.now ≡ Of Call.Ancestors (One name) → IfOk result (λ r. (x : ℕ) → IsMember r x → min (steps.old.taken + 8) (2 ^ 64 - 1) ≤ steps.new.taken) }
     ensures one { (name : NameBytes) (x : ℕ) → tree_in tree.now ≡ Of Call.Ancestors (One name) → ids.now ≡ x ∷ [] → EndsWhole (T.ending_at table.now) x → OnOk result (steps.new.taken ≤ steps.old.taken + 8) }
 {
     match tree {
@@ -177,6 +180,7 @@ fn made_of<T: SegmentTable>(
     requires held { (x : ℕ) → IsMember set.now x → IsHeld (T.flats table.now) x }
     ensures members { IfOk result (λ r. (x : ℕ) → IsMember r x ↔ made (table_graph (T.flats table.now)) call (IsMember set.now) x) }
     ensures few { call ≡ Call.Ancestors → IfOk result (λ r. steps.new.taken ≤ steps.old.taken + 8 * (1 + count_met r (T.flats table.now))) }
+    ensures looked { call ≡ Call.Ancestors → IfOk result (λ r. (x : ℕ) → IsMember r x → min (steps.old.taken + 8) (2 ^ 64 - 1) ≤ steps.new.taken) }
     ensures one { (x : ℕ) → call ≡ Call.Ancestors → ((y : ℕ) → IsMember set.now y ↔ (y ≡ x)) → EndsWhole (T.ending_at table.now) x → OnOk result (steps.new.taken ≤ steps.old.taken + 8) }
 {
     match call {
