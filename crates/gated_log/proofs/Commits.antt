@@ -1,9 +1,11 @@
 -- From the code of a commit to its stages.
-use Rattle.std.proofs.Common.{◌≡◌, ◌≢◌, ℕ, zero, suc, Bool, true, false, true≢false, ◌≤◌, ◌<◌, ◌+◌, ◌-◌, ◌^◌, List, [], ◌∷◌, ◌++◌, length, take, drop, Option, IfSome, refl, sym, ◌∙◌, ap, subst, arith, length-append, append_assoc, drop_at, lit<}
+use Rattle.std.proofs.Common.{◌≡◌, ◌≢◌, inl, inr, ℕ, zero, suc, Bool, true, false, true≢false, ◌≤◌, ◌<◌, ◌+◌, ◌-◌, ◌^◌, List, [], ◌∷◌, ◌++◌, length, take, drop, Option, IfSome, refl, sym, ◌∙◌, ap, subst, arith, length-append, append_assoc, drop_at, lit<}
 use Rattle.std.proofs.lemmas.List.{append-nil, take_rest}
 use Rattle.std.proofs.Math.ListN.{set}
 use Rattle.std.proofs.Math.Seq.{set-append_seam}
 use Rattle.std.specs.List.{AllByRecursion}
+use Rattle.disk_trait.proofs.Telling.{goes-then, goes-map}
+use Rattle.gated_log.specs.Commit.{CommitsInPart}
 use Rattle.disk_trait.specs.Images.{IsSound, Told, moment_of}
 use Rattle.disk_trait.specs.Calls.{Passes, Writes, FailsToWrite, Syncs, Succeeds, OrRefuses, Goes}
 use Rattle.gated_log.specs.Log.{batches, HasLength, gates_of}
@@ -124,6 +126,41 @@ module _ (log : Held) (payload : List ℕ) (n : ℕ) (piece : List ℕ) (a : Opt
   pub done : (new : Held) (clock : ℕ) (b c d e : Option Told) → Goes (Succeeds (Writes n piece)) a b → Goes (Succeeds Syncs) b c → Goes (Succeeds (Writes (n - 1) (1 ∷ []))) c d → Goes (Succeeds Syncs) d e
       → new.payloads ≡ log.payloads ++ payload ∷ [] → new.gate ≡ 0 → new.limit ≡ log.limit → IfSome e (λ t. clock ≡ moment_of t) → Goes (HasNew new clock) a e
   done new clock b c d e w x y z ps gate limit ticks = at_end log payload s.fits new clock a e (after_4 b c d e w x y z) ps gate limit ticks
+
+module _ (log : Held) (payload : List ℕ) (n : ℕ) (piece : List ℕ) (a : Option Told) (s : Start log payload n piece a) where
+  abbrev end : ℕ
+  end = length (log_bytes log)
+
+  before-end : n - 1 ≡ end - 1
+  before-end = ap (λ k. k - 1) s.end
+
+  writes : (b : Option Told) → Goes (Succeeds (Writes n piece)) a b → Goes (Succeeds (Writes end (staged payload))) a b
+  writes b w = subst (λ k. Goes (Succeeds (Writes k (staged payload))) a b) s.end (subst (λ l. Goes (Succeeds (Writes n l)) a b) s.behind w)
+
+  abbrev IsSure : Told → Told → Type 0
+  IsSure x z = (y : Told) × Succeeds (Writes end (staged payload)) x y × Succeeds Syncs y z
+
+  sure-so : (b c : Option Told) → Goes (Succeeds (Writes n piece)) a b → Goes (Succeeds Syncs) b c → Goes IsSure a c
+  sure-so b c w x = goes-then (Succeeds (Writes end (staged payload))) (Succeeds Syncs) IsSure a b c (λ t u v f g. (u, f, g)) (writes b w) x
+
+  pub cut_1 : (b : Option Told) → Goes (OrRefuses (FailsToWrite n piece)) a b → Goes (CommitsInPart log payload) a b
+  cut_1 b w = goes-map (OrRefuses (FailsToWrite end (staged payload))) (CommitsInPart log payload) a b (λ t u f. inl f)
+      (subst (λ k. Goes (OrRefuses (FailsToWrite k (staged payload))) a b) s.end (subst (λ l. Goes (OrRefuses (FailsToWrite n l)) a b) s.behind w))
+
+  pub cut_2 : (b c : Option Told) → Goes (Succeeds (Writes n piece)) a b → Goes (OrRefuses Passes) b c → Goes (CommitsInPart log payload) a c
+  cut_2 b c w x = goes-then (Succeeds (Writes end (staged payload))) (OrRefuses Passes) (CommitsInPart log payload) a b c (λ t u v f g. inr (u, f, inl g)) (writes b w) x
+
+  pub cut_3 : (b c d : Option Told) → Goes (Succeeds (Writes n piece)) a b → Goes (Succeeds Syncs) b c → Goes (OrRefuses (FailsToWrite (n - 1) (1 ∷ []))) c d → Goes (CommitsInPart log payload) a d
+  cut_3 b c d w x y = goes-then IsSure (OrRefuses (FailsToWrite (end - 1) (1 ∷ []))) (CommitsInPart log payload) a c d
+      (λ t u v f g. inr (f.0, f.1, inr (u, f.2, inl g))) (sure-so b c w x) (subst (λ k. Goes (OrRefuses (FailsToWrite k (1 ∷ []))) c d) before-end y)
+
+  abbrev IsOpen : Told → Told → Type 0
+  IsOpen x z = (y : Told) × IsSure x y × Succeeds (Writes (end - 1) (1 ∷ [])) y z
+
+  pub cut_4 : (b c d e : Option Told) → Goes (Succeeds (Writes n piece)) a b → Goes (Succeeds Syncs) b c → Goes (Succeeds (Writes (n - 1) (1 ∷ []))) c d → Goes (OrRefuses Passes) d e → Goes (CommitsInPart log payload) a e
+  cut_4 b c d e w x y z = goes-then IsOpen (OrRefuses Passes) (CommitsInPart log payload) a d e
+      (λ t u v f g. inr (f.1.0, f.1.1, inr (f.0, f.1.2, inr (u, f.2, g))))
+      (goes-then IsSure (Succeeds (Writes (end - 1) (1 ∷ []))) IsOpen a c d (λ t u v f g. (u, f, g)) (sure-so b c w x) (subst (λ k. Goes (Succeeds (Writes k (1 ∷ []))) c d) before-end y)) z
 
 pub done_parts : (a b : Held) (m n : ℕ) → Done a m ≡ Done b n → (a ≡ b) × (m ≡ n)
 done_parts a b m n e = (cc, cc)

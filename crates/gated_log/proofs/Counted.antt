@@ -1,7 +1,7 @@
 -- How many calls were made.
-use Rattle.std.proofs.Common.{◌≡◌, ◌⊎◌, ℕ, suc, ◌+◌, ◌*◌, ◌≤◌, List, [], ◌∷◌, length, Option, Some, None, IfSome, OnOk, OnErr, Result, Ok, Err, refl, sym, ◌∙◌, ap, subst, arith, ⊎_elim}
-use Rattle.disk_trait.specs.Images.{Unsynced, Told, IsSound, moment_of, surely}
-use Rattle.disk_trait.specs.Calls.{after_call, Passes, Writes, FailsToWrite, Syncs, Succeeds, OrRefuses, Goes, with_range, overwritten, IsTorn}
+use Rattle.std.proofs.Common.{◌≡◌, ℕ, ◌+◌, ◌≤◌, List, length, Option, ◌∙◌, ap, arith, ⊎_elim}
+use Rattle.disk_trait.specs.Images.{Unsynced, Told, moment_of, surely}
+use Rattle.disk_trait.specs.Calls.{after_call, Passes, Writes, FailsToWrite, Syncs, Succeeds, OrRefuses, Goes, with_range, overwritten}
 use Rattle.disk_trait.proofs.Moments.{moment-call}
 use Rattle.disk_trait.proofs.Telling.{goes-then, goes-map, goes-same}
 use Rattle.gated_log.specs.Load.{WithinCalls, IsUnwritten}

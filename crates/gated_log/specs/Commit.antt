@@ -1,6 +1,8 @@
 -- What a commit and a reserve answer, by cases that exclude each other.
-use Rattle.std.specs.Prelude.{◌≡◌, ◌<◌, ◌≤◌, ◌+◌, ℕ, List, [], ◌∷◌, ◌++◌, length, Result, Ok, Err}
-use Rattle.gated_log.specs.Held.{Held, log_bytes, longer}
+use Rattle.std.specs.Prelude.{◌≡◌, ◌<◌, ◌≤◌, ◌⊎◌, ◌+◌, ◌-◌, ℕ, List, [], ◌∷◌, ◌++◌, length, Result, Ok, Err}
+use Rattle.disk_trait.specs.Images.{Told}
+use Rattle.disk_trait.specs.Calls.{Passes, Writes, FailsToWrite, Syncs, Succeeds, OrRefuses}
+use Rattle.gated_log.specs.Held.{Held, log_bytes, longer, staged}
 use Rattle.gated_log.specs.declared.Committed.{Committed}
 use Rattle.gated_log.specs.declared.Committed.TheVariants.{Done, Full, Memory, Disk}
 use Rattle.gated_log.specs.declared.ReserveFault.{ReserveFault}
@@ -21,3 +23,18 @@ Reserves old size new (Ok done) =
     (length (log_bytes old) + size + 9 ≤ old.limit) × (length (log_bytes old) + size + 9 ≤ new.room) × (new ≡ record old { room = new.room })
 Reserves old size new (Err faults.Full) = (old.limit < length (log_bytes old) + size + 9) × (new ≡ old)
 Reserves old size new (Err faults.Memory) = (length (log_bytes old) + size + 9 ≤ old.limit) × (new ≡ old)
+
+-- The gate is written open and made sure of, and one of the two calls failed, the last that was made.
+abbrev pub OpensInPart : ℕ → Told → Told → Type 0
+OpensInPart gate old new =
+    OrRefuses (FailsToWrite gate (1 ∷ [])) old new
+    ⊎ ((open_ : Told) × Succeeds (Writes gate (1 ∷ [])) old open_ × OrRefuses Passes open_ new)
+
+-- The calls of a commit up to one that failed, the last that was made: what is behind the gate is written and made sure of, and
+-- then the gate is.
+abbrev pub CommitsInPart : Held → List ℕ → Told → Told → Type 0
+CommitsInPart log payload old new =
+    let end = length (log_bytes log) in
+    OrRefuses (FailsToWrite end (staged payload)) old new
+    ⊎ ((written : Told) × Succeeds (Writes end (staged payload)) old written
+    × (OrRefuses Passes written new ⊎ ((sure : Told) × Succeeds Syncs written sure × OpensInPart (end - 1) sure new)))

@@ -13,7 +13,7 @@ ghost use Rattle.outside.specs.Counts.{Rose};
 ghost use Rattle.gated_log.specs.Log.{IsLog, IsDamaged, batches, gates_of, log_length};
 ghost use Rattle.gated_log.specs.Held.{Held, log_bytes, staged, room_of};
 ghost use Rattle.gated_log.specs.Holding.{IsOnDisk, IsLogWithin, KeepsOldOrNew, HasNew};
-ghost use Rattle.gated_log.specs.Commit.{Answers, Reserves};
+ghost use Rattle.gated_log.specs.Commit.{Answers, Reserves, CommitsInPart};
 ghost use Rattle.gated_log.specs.Load.{Loads, KeepsImages, KeepsPayloads, IsLoaded, IsLogOf, OnlyReads, after_reads, IsFresh, IsStarted, WithinCalls, IsUnwritten};
 
 mod errors;
@@ -282,6 +282,7 @@ impl Log {
         ensures moments { Goes (KeepsOldOrNew self payload.now) (D.told disk.old) (D.told disk.new) }
         ensures calls { Goes (WithinCalls 4) (D.told disk.old) (D.told disk.new) }
         ensures done { (log : _) (clock : _) → result ≡ Committed.Done log clock → Goes (HasNew log clock) (D.told disk.old) (D.told disk.new) }
+        ensures stopped { (fault : _) → result ≡ Committed.Disk fault → Goes (CommitsInPart self payload.now) (D.told disk.old) (D.told disk.new) }
         ensures full { (log : _) (limit : _) → result ≡ Committed.Full log limit → disk.new ≡ disk.old }
         ensures memory { (log : _) → result ≡ Committed.Memory log → disk.new ≡ disk.old }
         ensures later { D.faults disk.old ≤ D.faults disk.new }
