@@ -1,18 +1,19 @@
 //! A payload, read as a whole.
 
-ghost use Rattle.std.specs.Prelude.{◌≡◌, ◌≤◌, ◌+◌, ◌*◌, ◌^◌, length, IfSome, MatchOption};
+ghost use Rattle.std.specs.Prelude.{◌≡◌, ◌<◌, ◌≤◌, ◌+◌, ◌*◌, ◌^◌, ℕ, slice_index, length, IfSome, MatchOption};
 ghost use Rattle.segment_codec.specs.Reading.{Gives};
 ghost use Rattle.batch_codec.specs.Payload.{Payload, payload_bytes};
 ghost use Rattle.segment_codec.specs.Turns.{place_behind};
 ghost use Rattle.batch_codec.specs.Grammar.{IsPayload};
 ghost use Rattle.batch_codec.specs.Reading.{others_at, parts_at, ends_fit, payload_at};
-ghost use Rattle.batch_codec.specs.Lent.{segments_of, others_of, payload_of, HasPlaces};
+ghost use Rattle.batch_codec.specs.Lent.{segments_of, others_of, payload_of, payload_in, HasPlaces};
 
 use crate::counts::read_counts;
 use crate::fixed::read_u32;
-use crate::lent::{BatchRef, NameSlice, SegmentSlice};
+use crate::lent::{NameSlice, Parts, SegmentSlice};
 use crate::rules::has_kind;
 use crate::section::{read_heads, read_known, read_names, read_section};
+use crate::whole::BatchRef;
 use id_groups::FIRST_OTHER;
 
 /// The most ids of the group of others.
@@ -23,10 +24,26 @@ impl<'a> BatchRef<'a> {
     pub fn read(payload: &'a [u8]) -> Option<BatchRef<'a>>
         ensures found { IfSome result (λ b. IsPayload (payload_of b) × (payload.now ≡ payload_bytes 1 (payload_of b))) }
         ensures only { (p : Payload) → IsPayload p → payload.now ≡ payload_bytes 1 p → MatchOption result ⊥ (λ b. payload_of b ≡ p) }
-        ensures places { IfSome result HasPlaces }
+        ensures places { IfSome result (λ b. HasPlaces b.parts) }
     {
-        read_payload(payload)
+        let parts = read_payload(payload)?;
+        Some(BatchRef { parts, payload })
     }
+
+    /// That it is a payload in the grammar, whose sections stand where they say, for proofs of what is done with it.
+    pub fn is_payload(&self)
+        ensures payload { IsPayload (payload_of self.now) }
+        ensures places { HasPlaces self.now.parts }
+    {
+        are_bytes(self.payload);
+    }
+}
+
+/// That these are bytes, for proofs of what is read of them. Nothing is done.
+fn are_bytes(bytes: &[u8])
+    ensures { (i : ℕ) → slice_index bytes.now i < 256 }
+{
+    let _count = bytes.len();
 }
 
 /// The sections of the other ids, the place behind their records, and the rest.
@@ -51,11 +68,11 @@ fn read_others<'a>(
 
 /// The payload, and the places behind its two sections of records.
 #[tactic(auto, unfolding(crate::specs::Reading::parts_at))]
-fn read_parts<'a>(payload: &'a [u8]) -> Option<(BatchRef<'a>, u64, u64)>
-    ensures exact { Gives (λ r. payload_of r.0) result (parts_at payload.now) }
-    ensures master { IfSome result (λ r. r.1 ≡ place_behind (payload_of r.0).before (payload_of r.0).master) }
-    ensures others { IfSome result (λ r. r.2 ≡ place_behind (2 ^ 56) (payload_of r.0).others) }
-    ensures counts { IfSome result (λ r. (payload_of r.0).before ≤ (payload_of r.0).after) }
+fn read_parts<'a>(payload: &'a [u8]) -> Option<(Parts<'a>, u64, u64)>
+    ensures exact { Gives (λ r. payload_in r.0) result (parts_at payload.now) }
+    ensures master { IfSome result (λ r. r.1 ≡ place_behind (payload_in r.0).before (payload_in r.0).master) }
+    ensures others { IfSome result (λ r. r.2 ≡ place_behind (2 ^ 56) (payload_in r.0).others) }
+    ensures counts { IfSome result (λ r. (payload_in r.0).before ≤ (payload_in r.0).after) }
     ensures places { IfSome result (λ r. HasPlaces r.0) }
 {
     let total = payload.len();
@@ -67,7 +84,7 @@ fn read_parts<'a>(payload: &'a [u8]) -> Option<(BatchRef<'a>, u64, u64)>
     if !rest.is_empty() {
         return None;
     }
-    let batch = BatchRef {
+    let batch = Parts {
         kind: counts.kind,
         before: counts.before,
         after: counts.after,
@@ -81,10 +98,10 @@ fn read_parts<'a>(payload: &'a [u8]) -> Option<(BatchRef<'a>, u64, u64)>
 }
 
 /// Whether the records end where the groups do.
-fn ends_where_groups_do(batch: &BatchRef<'_>, master_end: u64, others_end: u64) -> bool
-    requires master { master_end ≡ place_behind (payload_of batch.now).before (payload_of batch.now).master }
-    requires others { others_end ≡ place_behind (2 ^ 56) (payload_of batch.now).others }
-    ensures { result ≡ ends_fit (payload_of batch.now) }
+fn ends_where_groups_do(batch: &Parts<'_>, master_end: u64, others_end: u64) -> bool
+    requires master { master_end ≡ place_behind (payload_in batch.now).before (payload_in batch.now).master }
+    requires others { others_end ≡ place_behind (2 ^ 56) (payload_in batch.now).others }
+    ensures { result ≡ ends_fit (payload_in batch.now) }
 {
     master_end == batch.after
         && batch.other_names.len() <= MOST_OTHERS
@@ -92,8 +109,8 @@ fn ends_where_groups_do(batch: &BatchRef<'_>, master_end: u64, others_end: u64) 
 }
 
 #[tactic(auto, unfolding(crate::specs::Reading::payload_at))]
-fn read_payload<'a>(payload: &'a [u8]) -> Option<BatchRef<'a>>
-    ensures exact { Gives payload_of result (payload_at payload.now) }
+fn read_payload<'a>(payload: &'a [u8]) -> Option<Parts<'a>>
+    ensures exact { Gives payload_in result (payload_at payload.now) }
     ensures places { IfSome result HasPlaces }
 {
     let (batch, master_end, others_end) = read_parts(payload)?;

@@ -44,9 +44,9 @@ pub struct KnownRef<'a> {
     pub name: NameRef<'a>,
 }
 
-/// A payload in the grammar.
+/// The sections of a payload.
 #[derive(Clone, Copy)]
-pub struct BatchRef<'a> {
+pub struct Parts<'a> {
     pub(crate) kind: u8,
     pub(crate) before: u64,
     pub(crate) after: u64,

@@ -11,10 +11,12 @@ mod lent;
 mod rules;
 mod section;
 mod sections;
+mod whole;
 
 pub use building::BatchBuild;
 pub use laws::{lawful_payloads, payloads_are_spelled, sections_by_records};
-pub use lent::{BatchRef, KnownRef, KnownSlice, NameSlice, SegmentSlice};
+pub use lent::{KnownRef, KnownSlice, NameSlice, SegmentSlice};
+pub use whole::BatchRef;
 
 #[cfg(test)]
 mod tests;

@@ -5,9 +5,9 @@ ghost use Rattle.id_groups.specs.Lists.{is_in};
 ghost use Rattle.std.specs.Prelude.{nat_eq};
 ghost use Rattle.segment_codec.specs.Lent.{segment_of, parents_left};
 ghost use Rattle.batch_codec.specs.Reading.{are_known, knows_merge, knows_segment, knows_needed, flush_fits, clone_fits, kind_fits};
-ghost use Rattle.batch_codec.specs.Lent.{segments_of, ids_of, payload_of};
+ghost use Rattle.batch_codec.specs.Lent.{segments_of, ids_of, payload_in};
 
-use crate::lent::{BatchRef, KnownSlice, SegmentSlice};
+use crate::lent::{KnownSlice, Parts, SegmentSlice};
 use segment_codec::{Parents, SegmentRef, read_segment};
 
 /// The kind of a flush.
@@ -97,17 +97,17 @@ fn knows_what_is_needed(known: KnownSlice<'_>, section: SegmentSlice<'_>) -> boo
     true
 }
 
-fn is_flush(batch: &BatchRef<'_>) -> bool
-    requires { (payload_of batch.now).before ≤ (payload_of batch.now).after }
-    ensures { result ≡ flush_fits (payload_of batch.now) }
+fn is_flush(batch: &Parts<'_>) -> bool
+    requires { (payload_in batch.now).before ≤ (payload_in batch.now).after }
+    ensures { result ≡ flush_fits (payload_in batch.now) }
 {
     u64::from(batch.known.len()) == batch.after - batch.before
         && batch.heads.len() == 0
         && (batch.after > 0 || batch.other_names.len() > 0)
 }
 
-fn is_clone(batch: &BatchRef<'_>) -> bool
-    ensures { result ≡ clone_fits (payload_of batch.now) }
+fn is_clone(batch: &Parts<'_>) -> bool
+    ensures { result ≡ clone_fits (payload_in batch.now) }
 {
     batch.before == 0
         && batch.after > 0
@@ -116,9 +116,9 @@ fn is_clone(batch: &BatchRef<'_>) -> bool
 }
 
 /// Whether the payload keeps the rules of its kind.
-pub fn has_kind(batch: &BatchRef<'_>) -> bool
-    requires { (payload_of batch.now).before ≤ (payload_of batch.now).after }
-    ensures { result ≡ kind_fits (payload_of batch.now) }
+pub fn has_kind(batch: &Parts<'_>) -> bool
+    requires { (payload_in batch.now).before ≤ (payload_in batch.now).after }
+    ensures { result ≡ kind_fits (payload_in batch.now) }
 {
     match batch.kind {
         FLUSH => is_flush(batch),

@@ -6,7 +6,8 @@ ghost use Rattle.batch_codec.specs.Lent.{segments_of, knowns_of, ids_of, names_o
 
 use crate::counts::VERSION;
 use crate::fixed::{front_u64, piece};
-use crate::lent::{BatchRef, KnownRef, KnownSlice, NameSlice, SegmentSlice};
+use crate::lent::{KnownRef, KnownSlice, NameSlice, SegmentSlice};
+use crate::whole::BatchRef;
 use id_groups::{Id, NameRef};
 
 impl<'a> SegmentSlice<'a> {
@@ -120,60 +121,60 @@ impl<'a> BatchRef<'a> {
     pub fn kind(&self) -> u8
         ensures { result ≡ (payload_of self.now).kind }
     {
-        self.kind
+        self.parts.kind
     }
 
     /// The size of the master group before.
     pub fn before(&self) -> u64
         ensures { result ≡ (payload_of self.now).before }
     {
-        self.before
+        self.parts.before
     }
 
     /// The size of the master group after.
     pub fn after(&self) -> u64
         ensures { result ≡ (payload_of self.now).after }
     {
-        self.after
+        self.parts.after
     }
 
     /// The records of the new master ids.
     pub fn master_segments(&self) -> SegmentSlice<'a>
         ensures segments { segments_of result ≡ (payload_of self.now).master }
-        ensures start { result.start ≡ self.now.master.start }
+        ensures start { result.start ≡ self.now.parts.master.start }
     {
-        self.master
+        self.parts.master
     }
 
     /// The new known ids.
     pub fn known(&self) -> KnownSlice<'a>
         ensures known { knowns_of result ≡ (payload_of self.now).known }
-        ensures start { result.start ≡ self.now.known.start }
+        ensures start { result.start ≡ self.now.parts.known.start }
     {
-        self.known
+        self.parts.known
     }
 
     /// The heads of the remote that was cloned.
     pub fn heads(&self) -> NameSlice<'a>
         ensures names { names_of result ≡ (payload_of self.now).heads }
-        ensures start { result.start ≡ self.now.heads.start }
+        ensures start { result.start ≡ self.now.parts.heads.start }
     {
-        self.heads
+        self.parts.heads
     }
 
     /// The records of all other ids.
     pub fn other_segments(&self) -> SegmentSlice<'a>
         ensures segments { segments_of result ≡ (payload_of self.now).others }
-        ensures start { result.start ≡ self.now.others.start }
+        ensures start { result.start ≡ self.now.parts.others.start }
     {
-        self.others
+        self.parts.others
     }
 
     /// The names of all other ids, in their order.
     pub fn other_names(&self) -> NameSlice<'a>
         ensures names { names_of result ≡ (payload_of self.now).other_names }
-        ensures start { result.start ≡ self.now.other_names.start }
+        ensures start { result.start ≡ self.now.parts.other_names.start }
     {
-        self.other_names
+        self.parts.other_names
     }
 }

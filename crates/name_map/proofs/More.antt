@@ -6,11 +6,11 @@ use Rattle.std.proofs.lemmas.List.Concat.{flat_map-append}
 use Rattle.segment_codec.proofs.Numbers.{some_is}
 use Rattle.id_groups.specs.Lists.{IsIn, AreDistinct}
 use Rattle.id_groups.specs.Name.{Name}
-use Rattle.batch_codec.specs.declared.lent.BatchRef.{BatchRef}
+use Rattle.batch_codec.specs.declared.whole.BatchRef.{BatchRef}
 use Rattle.batch_codec.specs.Payload.{Known, Payload, known_ids, known_names, payload_bytes, known_start, known_bytes}
 use Rattle.batch_codec.specs.Grammar.{IsPayload}
 use Rattle.batch_codec.specs.Reading.{ids_ascend}
-use Rattle.batch_codec.specs.Lent.{payload_of}
+use Rattle.batch_codec.specs.Lent.{HasPlaces, payload_of}
 use Rattle.batch_codec.proofs.Ascending.{ascend-parts, ascend-wider, increasing-ascend}
 use Rattle.batch_codec.proofs.Meanings.{ascend-length}
 use Rattle.batch_codec.proofs.Entries.{knowns-size}
@@ -18,7 +18,7 @@ use Rattle.name_index.specs.Index.{NamedPlace, IsIndexOf, names_in}
 use Rattle.name_map.specs.Part.{PlainPart, IsPart, upward}
 use Rattle.name_map.specs.Added.{Placed, payloads_of, known_of, named_from, names_from, named_of, start_of}
 use Rattle.name_map.specs.Map.{PlainMap, IsMapOf, part_of, parts_of, names_with}
-use Rattle.name_map.specs.Adding.{Apart, Meet, OthersFit, MayStand}
+use Rattle.name_map.specs.Adding.{Apart, Meet, OthersFit}
 use Rattle.name_map.proofs.Lists.{in-append, in-left, distinct-left, distinct-right, distinct-apart, distinct-join}
 use Rattle.name_map.proofs.Orders.{follow-more, count-more}
 use Rattle.name_map.proofs.Standing.{names-from, names-known, known-stand, payload-fits}
@@ -159,14 +159,14 @@ own-fit old p ks others known same h apart =
 
 -- ---- the map with a payload more
 
-pub batch-start : (at : ℕ) (b : BatchRef) (start : ℕ) → MayStand at b → start ≡ b.known.start → start ≡ known_start (payload_of b)
-batch-start at b start h e = e ∙ h.places.known
+pub batch-start : (b : BatchRef) (start : ℕ) → HasPlaces b.parts → start ≡ b.parts.known.start → start ≡ known_start (payload_of b)
+batch-start b start h e = e ∙ h.known
 
-pub batch-room : (at : ℕ) (b : BatchRef) (start : ℕ) → MayStand at b → start ≡ b.known.start → at + start + 28 * length (payload_of b).known < 2 ^ 63
-batch-room at b start h e =
-    let place = batch-start at b start h e in
-    let room = h.room in
-    omega (arith, place, room, known-room (payload_of b) h.payload)
+pub batch-room : (at : ℕ) (b : BatchRef) (start : ℕ) → HasPlaces b.parts → IsPayload (payload_of b) → at + length (payload_bytes 1 (payload_of b)) < 2 ^ 63 → start ≡ b.parts.known.start
+    → at + start + 28 * length (payload_of b).known < 2 ^ 63
+batch-room at b start h whole room e =
+    let place = batch-start b start h e in
+    omega (arith, place, room, known-room (payload_of b) whole)
 
 pub batch-counts : (p : Payload) (known masters : ℕ) → IsPayload p → known ≤ masters → p.before ≡ masters → known + length p.known ≤ p.after
 batch-counts p known masters h le e = let up = h.counts.grows in omega (arith, le, e, up, ids-few p h)

@@ -1,22 +1,14 @@
 -- What a payload that is added must be, and how its names may meet others.
-use Rattle.std.specs.Prelude.{◌<◌, ◌+◌, ◌^◌, ℕ, List, length}
+use Rattle.std.specs.Prelude.{ℕ, List}
 use Rattle.id_groups.specs.Lists.{IsIn, AreDistinct}
 use Rattle.id_groups.specs.Name.{Name}
-use Rattle.batch_codec.specs.declared.lent.BatchRef.{BatchRef}
-use Rattle.batch_codec.specs.Payload.{payload_bytes}
-use Rattle.batch_codec.specs.Grammar.{IsPayload}
-use Rattle.batch_codec.specs.Lent.{payload_of, HasPlaces}
+use Rattle.batch_codec.specs.declared.whole.BatchRef.{BatchRef}
+use Rattle.batch_codec.specs.Lent.{payload_of}
 use Rattle.name_index.specs.declared.index.IndexFault.{IndexFault}
 use Rattle.name_index.specs.declared.index.IndexFault.TheVariants.{Double as IndexDouble, Memory as IndexMemory}
 use Rattle.name_map.specs.declared.fault.MapFault.{MapFault}
 use Rattle.name_map.specs.declared.fault.MapFault.TheVariants.{Double, Memory}
 use Rattle.name_map.specs.Added.{Placed}
-
--- a lent payload in the grammar, its sections where they say, that stands at a place below the end of places
-pub record MayStand (at : ℕ) (batch : BatchRef) : Type 0 where
-  pub payload : IsPayload (payload_of batch)
-  pub places : HasPlaces batch
-  pub room : at + length (payload_bytes 1 (payload_of batch)) < 2 ^ 63
 
 -- the payload at its place
 abbrev pub placed : ℕ → BatchRef → Placed

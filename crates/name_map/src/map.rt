@@ -1,12 +1,13 @@
 //! The map, and its look-ups.
 
-ghost use Rattle.std.specs.Prelude.{◌≡◌, ◌≤◌, ◌^◌, ◌∷◌, ◌++◌, List, [], OnOk, OnErr};
+ghost use Rattle.std.specs.Prelude.{◌≡◌, ◌<◌, ◌≤◌, ◌+◌, ◌^◌, length, ◌∷◌, ◌++◌, List, [], OnOk, OnErr};
 ghost use Rattle.id_groups.specs.Lists.{AreDistinct};
 ghost use Rattle.batch_codec.specs.Lent.{payload_of};
+ghost use Rattle.batch_codec.specs.Payload.{payload_bytes};
 ghost use Rattle.name_map.specs.declared.fault.MapFault.TheVariants.{Double as FaultDouble};
 ghost use Rattle.name_map.specs.Added.{Placed, AllStand, known_of, payloads_of};
 ghost use Rattle.name_map.specs.Map.{IsMapOf, IsIdOf, count_known, NamesAs, names_with};
-ghost use Rattle.name_map.specs.Adding.{MayStand, placed};
+ghost use Rattle.name_map.specs.Adding.{placed};
 
 use crate::adding::{add_part, check_others};
 use crate::fault::MapFault;
@@ -66,12 +67,13 @@ impl NameMap {
     /// before stand in `bytes`. It begins with the master id behind theirs. `Double` comes exactly where two of these
     /// are the same: all known names, those of the payload among them, and its other names. A refusal changes nothing.
     pub fn add_batch(&mut self, bytes: &[u8], batch: &BatchRef<'_>, at: u64) -> Result<(), MapFault>
-        requires batch { MayStand at batch.now }
+        requires room { at + length (payload_bytes 1 (payload_of batch.now)) < 2 ^ 63 }
         requires follows { (payload_of batch.now).before ≡ self.old.masters }
         ensures added { (added : List Placed) → IsMapOf self.old added → AllStand bytes.now added → OnOk result (IsMapOf self.new (added ++ placed at batch.now ∷ []) × AreDistinct (names_with (payloads_of added) (payload_of batch.now))) }
         ensures double { (added : List Placed) → IsMapOf self.old added → AllStand bytes.now added → result ≡ Err FaultDouble → AreDistinct (names_with (payloads_of added) (payload_of batch.now)) → ⊥ }
         ensures unchanged { OnErr result (self.new ≡ self.old) }
     {
+        batch.is_payload();
         let known = batch.known();
         let part = Part::of_batch(self.alloc, batch, at + known.start(), self.known)?;
         check_others(self.alloc, &self.index, bytes, batch)?;

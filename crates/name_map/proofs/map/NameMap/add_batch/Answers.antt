@@ -15,17 +15,17 @@ use Rattle.name_map.proofs.map.NameMap.add_batch.Goals as goal
 
 pub overflow_add-at : goal.overflow_add-at
 overflow_add-at c =
-    let room = batch-room c.args.at c.args.batch.now c.start.result c.requires.batch (c.start.ensures ∙ c.known-known.ensures.start) in
+    let room = batch-room c.args.at c.args.batch.now c.start.result c.is_payload.ensures.places c.is_payload.ensures.payload c.requires.room (c.start.ensures ∙ c.known-known.ensures.start) in
     omega (arith, room)
 
 pub of_batch-requires-clause-places : goal.of_batch-requires-clause-places
-of_batch-requires-clause-places c = batch-room c.args.at c.args.batch.now c.start.result c.requires.batch (c.start.ensures ∙ c.known-known.ensures.start)
+of_batch-requires-clause-places c = batch-room c.args.at c.args.batch.now c.start.result c.is_payload.ensures.places c.is_payload.ensures.payload c.requires.room (c.start.ensures ∙ c.known-known.ensures.start)
 
 pub of_batch-requires-clause-counts : goal.of_batch-requires-clause-counts
 of_batch-requires-clause-counts c =
     let p = payload_of c.args.batch.now in
-    let most = c.requires.batch.payload.counts.master in
-    let counts = batch-counts p c.self.inside.known c.self.inside.masters c.requires.batch.payload c.self.invariant (c.requires.follows ∙ sym (ap (λ (m : PlainMap). m.masters) c.self.view_is)) in
+    let most = c.is_payload.ensures.payload.counts.master in
+    let counts = batch-counts p c.self.inside.known c.self.inside.masters c.is_payload.ensures.payload c.self.invariant (c.requires.follows ∙ sym (ap (λ (m : PlainMap). m.masters) c.self.view_is)) in
     omega (arith, most, counts)
 
 pub returns-in_err-check_others-clause-double : goal.returns-in_err-check_others-clause-double
@@ -47,7 +47,7 @@ returns-in_err-add_part-clause-double c = λ added is stand e distinct.
 pub invariant_of-self-2 : goal.invariant_of-self-2
 invariant_of-self-2 c =
     let p = payload_of c.args.batch.now in
-    let counts = batch-counts p c.self.inside.known c.self.inside.masters c.requires.batch.payload c.self.invariant (c.requires.follows ∙ sym (ap (λ (m : PlainMap). m.masters) c.self.view_is)) in
+    let counts = batch-counts p c.self.inside.known c.self.inside.masters c.is_payload.ensures.payload c.self.invariant (c.requires.follows ∙ sym (ap (λ (m : PlainMap). m.masters) c.self.view_is)) in
     let after = c.after-self-inside.ensures in let from = c.from.ensures in let len = c.len.ensures in
     let size = ap (length {A = Known}) c.known-known.ensures.known in
     omega (arith, counts, after, from, len, size)
@@ -60,7 +60,7 @@ returns-clause-added c = λ added is stand.
     let view = c.self.view_is in
     let before = subst (λ (m : PlainMap). IsIndexOf m.index (named_of added)) (sym view) is.index in
     let standing = names-stand c.args.bytes.now added is.follow stand in
-    let start = batch-start c.args.at b c.start.result c.requires.batch (c.start.ensures ∙ c.known-known.ensures.start) in
+    let start = batch-start b c.start.result c.is_payload.ensures.places (c.start.ensures ∙ c.known-known.ensures.start) in
     let rank = ap (λ (m : PlainMap). m.known) view in
     let part = c.in_ok-part.ensures ∙ part-is c.self.inside.known (c.args.at + c.start.result) a (ap (λ (n : ℕ). c.args.at + n) start) ∙ ap (λ (n : ℕ). part_of n a) rank in
     let parts =
@@ -71,7 +71,7 @@ returns-clause-added c = λ added is stand.
     let size = ap (length {A = Known}) c.known-known.ensures.known in
     let from = c.from.ensures in let len = c.len.ensures in
     let new : PlainMap = record { parts = c.add_part.new.parts.items; index = c.add_part.new.index; masters = c.after-self-inside.result; known = c.self.inside.known + c.from.result } in (
-      map-more c.args.self.now new added a is c.requires.batch.payload c.requires.follows parts whole c.after-self-inside.ensures (omega (arith, rank, from, len, size)),
+      map-more c.args.self.now new added a is c.is_payload.ensures.payload c.requires.follows parts whole c.after-self-inside.ensures (omega (arith, rank, from, len, size)),
       subst (λ (z : List Name). AreDistinct z) (sym (names-with added p))
           (all-distinct (names_in (named_of added)) (known_names p) p.other_names
           (index-distinct (named_of added) c.in_ok-part.part.start (knowns_of c.known-known.result) p c.known-known.ensures.known index.distinct)

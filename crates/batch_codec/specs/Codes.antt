@@ -1,0 +1,23 @@
+-- Codes of payloads, for what a lent one keeps.
+use Rattle.std.specs.Prelude.{ℕ, List, refl}
+use Rattle.std.specs.Coded.{Coded, code_by, coded×, coded_list, coded_ℕ}
+use Rattle.id_groups.specs.Name.{Name}
+use Rattle.segment_codec.specs.Record.{Segment}
+use Rattle.batch_codec.specs.Payload.{Known, Payload}
+
+abbrev pub coded_name : Coded Name
+coded_name = coded_list coded_ℕ
+
+abbrev pub coded_segment : Coded Segment
+coded_segment = code_by (ℕ × (ℕ × (ℕ × List ℕ))) (coded× coded_ℕ (coded× coded_ℕ (coded× coded_ℕ (coded_list coded_ℕ))))
+    (λ s. (s.low, (s.high, (s.level, s.parents)))) (λ p. record { low = p.0; high = p.1.0; level = p.1.1.0; parents = p.1.1.1 }) (λ _. refl)
+
+abbrev pub coded_known : Coded Known
+coded_known = code_by (ℕ × Name) (coded× coded_ℕ coded_name) (λ k. (k.id, k.name)) (λ p. record { id = p.0; name = p.1 }) (λ _. refl)
+
+abbrev pub coded_payload : Coded Payload
+coded_payload = code_by ((ℕ × (ℕ × ℕ)) × ((List Segment × List Known) × (List Name × (List Segment × List Name))))
+    (coded× (coded× coded_ℕ (coded× coded_ℕ coded_ℕ)) (coded× (coded× (coded_list coded_segment) (coded_list coded_known)) (coded× (coded_list coded_name) (coded× (coded_list coded_segment) (coded_list coded_name)))))
+    (λ p. ((p.kind, (p.before, p.after)), ((p.master, p.known), (p.heads, (p.others, p.other_names)))))
+    (λ t. record { kind = t.0.0; before = t.0.1.0; after = t.0.1.1; master = t.1.0.0; known = t.1.0.1; heads = t.1.1.0; others = t.1.1.1.0; other_names = t.1.1.1.1 })
+    (λ _. refl)

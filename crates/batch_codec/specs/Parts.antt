@@ -1,0 +1,43 @@
+-- What is seen of the sections of a payload that is lent.
+use Rattle.std.specs.Prelude.{◌≡◌, ℕ, List}
+use Rattle.id_groups.specs.Name.{Name}
+use Rattle.segment_codec.specs.Record.{Segment}
+use Rattle.batch_codec.specs.declared.lent.SegmentSlice.{SegmentSlice}
+use Rattle.batch_codec.specs.declared.lent.KnownSlice.{KnownSlice}
+use Rattle.batch_codec.specs.declared.lent.NameSlice.{NameSlice}
+use Rattle.batch_codec.specs.declared.lent.Parts.{Parts}
+use Rattle.batch_codec.specs.Payload.{Known, Payload, master_start, known_start, heads_start, others_start, names_start}
+use Rattle.batch_codec.specs.Reading.{segments_in, knowns_in, names_in, ids_in}
+
+abbrev pub segments_of : SegmentSlice → List Segment
+segments_of s = segments_in s.count s.bytes.now
+
+abbrev pub knowns_of : KnownSlice → List Known
+knowns_of s = knowns_in s.count s.bytes.now
+
+abbrev pub ids_of : KnownSlice → List ℕ
+ids_of s = ids_in s.count s.bytes.now
+
+abbrev pub names_of : NameSlice → List Name
+names_of s = names_in s.count s.bytes.now
+
+-- the payload of these sections
+abbrev pub payload_in : Parts → Payload
+payload_in b = record {
+  kind = b.kind;
+  before = b.before;
+  after = b.after;
+  master = segments_of b.master;
+  known = knowns_of b.known;
+  heads = names_of b.heads;
+  others = segments_of b.others;
+  other_names = names_of b.other_names;
+}
+
+-- each section says the place at which it stands
+pub record HasPlaces (b : Parts) : Type 0 where
+  pub master : b.master.start ≡ master_start
+  pub known : b.known.start ≡ known_start (payload_in b)
+  pub heads : b.heads.start ≡ heads_start (payload_in b)
+  pub others : b.others.start ≡ others_start (payload_in b)
+  pub other_names : b.other_names.start ≡ names_start (payload_in b)
