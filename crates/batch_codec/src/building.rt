@@ -113,7 +113,8 @@ fn append_record(
 impl BatchBuild {
     /// A payload of this kind, 1 for a flush and 2 for a clone, and with the sizes of the master group before and after.
     pub fn new(alloc: Global, kind: u8, before: u64, after: u64) -> Result<BatchBuild, AllocError>
-        ensures { IfOk result (λ b. IsBuilt b (empty_payload kind before after)) }
+        ensures built { IfOk result (λ b. IsBuilt b (empty_payload kind before after)) }
+        ensures count { IfOk result (λ b. b.other_count ≡ 0) }
     {
         Ok(BatchBuild {
             front: front_of(alloc, kind, before, after)?,

@@ -142,6 +142,17 @@ fn rules_across_records_are_tested(rt: HostRuntime) {
     assert!(rt; BatchRef::read(&bytes).is_none());
 }
 
+#[test]
+fn a_longer_number_is_none(rt: HostRuntime) {
+    // the span 1 of the one record of `CHAIN`, in two bytes
+    let mut longer = [0u8; 89];
+    longer[..46].copy_from_slice(&CHAIN[..46]);
+    longer[46] = 0x81;
+    longer[48..].copy_from_slice(&CHAIN[47..]);
+    assert_eq!(rt; CHAIN[46], 1);
+    assert!(rt; BatchRef::read(&longer).is_none());
+}
+
 fn name(last: u8) -> Name
     ensures { result ≡ replicate 19 0 ++ last ∷ [] }
 {

@@ -177,6 +177,15 @@ fn double_names_are_refused(rt: HostRuntime) -> Result<(), Fail> {
     let two = [name_of(2)];
     assert!(rt; !add_flush(alloc, &mut map, &mut log, &[name_of(1), name_of(1)], &[])?);
     assert!(rt; !add_flush(alloc, &mut map, &mut log, &one, &one)?);
+    assert!(rt;
+        !add_flush(
+            alloc,
+            &mut map,
+            &mut log,
+            &[],
+            &[name_of(0xa1), name_of(0xa1)]
+        )?
+    );
     assert!(rt; !add_flush(alloc, &mut map, &mut log, &one, &[name_of(2), name_of(2)])?);
     assert!(rt; add_flush(alloc, &mut map, &mut log, &one, &two)?);
     assert!(rt; !add_flush(alloc, &mut map, &mut log, &one, &[])?);

@@ -5,7 +5,7 @@ use Rattle.batch_codec.proofs.tests.a_clone_is_built.Goals as goal
 
 pub finish-requires : goal.finish-requires
 finish-requires g c =
-    let a0 : IsBuilt c.in_ok-build.build (empty_payload 2 0 10) = c.in_ok-build.ensures in
+    let a0 : IsBuilt c.in_ok-build.build (empty_payload 2 0 10) = c.in_ok-build.ensures.built in
     let a1 = c.in_ok-segment.ensures.ok (empty_payload 2 0 10) a0 in
     let a2 = c.in_ok-known.ensures.ok _ a1 in
     let a3 = c.in_ok-head.ensures.ok _ a2 in
