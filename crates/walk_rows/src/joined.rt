@@ -6,7 +6,7 @@ use crate::draws::{Draws, drawn, drawn_parents, graph_of};
 use crate::plain::{Graph, Query, bit, sample_of};
 use flat_segments::FlatView;
 use id_groups::Id;
-use sample_tables::{OtherSample, held_id};
+use sample_tables::{OtherSample, Sample, held_id};
 use segment_codec::SegmentTable;
 use set_query::ExprFault;
 use std::alloc::{AllocError, Global};
@@ -256,26 +256,51 @@ fn has_exactly<T: SegmentTable>(table: &T, masters: u64, others: u64) -> bool {
         && held_id(table, Id::other(others % 64)) == None
 }
 
+/// What goes wrong over a view of the master group that both sections are joined to.
+fn wrong_joined(
+    alloc: Global,
+    draws: &mut Draws,
+    graph: &Graph,
+    sample: &Sample,
+    others: &OtherSample,
+    pending: &OtherSample,
+    below: u64,
+) -> Result<Option<Wrong>, Fail> {
+    if !sample.may_join(below, others, pending) {
+        return Ok(Some(Wrong::Joined));
+    }
+    let view = sample.joined(below, others, pending);
+    if !has_exactly(&view, below, graph.count().saturating_sub(below)) {
+        return Ok(Some(Wrong::Joined));
+    }
+    Ok(wrong_over(alloc, draws, &view, graph, below)?)
+}
+
+/// What goes wrong over these rows, of which the first are master's and so many stand in the section behind them.
+fn wrong_behind(
+    alloc: Global,
+    draws: &mut Draws,
+    sample: &Sample,
+    rows: &[Vec<u64>],
+    below: u64,
+    others: u64,
+) -> Result<Option<Wrong>, Fail> {
+    let graph = graph_of(alloc, rows)?;
+    let middle = below.saturating_add(others);
+    let end = rows.len() as u64;
+    let others = part_of(alloc, rows, below, below, middle)?.ok_or("the commits come in turn")?;
+    let pending = part_of(alloc, rows, below, middle, end)?.ok_or("the commits come in turn")?;
+    wrong_joined(alloc, draws, &graph, sample, &others, &pending, below)
+}
+
 /// What goes wrong over a drawn graph of this shape.
 fn wrong_with(alloc: Global, draws: &mut Draws, shape: Shape) -> Result<Option<Wrong>, Fail> {
     let masters = drawn(alloc, draws, shape.drawn)?;
     let below = cut_from(&masters, shape.least);
-    let middle = below.saturating_add(shape.others);
-    let end = middle.saturating_add(shape.pending);
     let more = shape.others.saturating_add(shape.pending);
     let rows = drawn_behind(alloc, draws, &masters, below, more)?;
-    let graph = graph_of(alloc, &rows)?;
     let sample = sample_of(alloc, &masters)?.ok_or("the parents are those of commits")?;
-    let others = part_of(alloc, &rows, below, below, middle)?.ok_or("the commits come in turn")?;
-    let pending = part_of(alloc, &rows, below, middle, end)?.ok_or("the commits come in turn")?;
-    if !sample.may_join(below, &others, &pending) {
-        return Ok(Some(Wrong::Joined));
-    }
-    let view = sample.joined(below, &others, &pending);
-    if !has_exactly(&view, below, more) {
-        return Ok(Some(Wrong::Joined));
-    }
-    Ok(wrong_over(alloc, draws, &view, &graph, below)?)
+    wrong_behind(alloc, draws, &sample, &rows, below, shape.others)
 }
 
 #[test]
