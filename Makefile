@@ -1,12 +1,16 @@
 # The quick start and the gate.
 RT ?= rt
 
-.PHONY: run test
+.PHONY: run try test
 
-# Proves the program, builds it and runs it on the sample.
+# Proves the program, builds it and runs it on the sample: some ten minutes the first time.
 run:
 	cd crates/segdag && $(RT) run -- log -- run < stdin
 
+# Runs the program on the sample without its proofs, in half a minute: `proved=no` stands in the last line.
+try:
+	cd crates/segdag && $(RT) try -- log -- run < stdin
+
 # The gate: each proof, each must-fail edit, each test and each program.
 test:
-	rt ci
+	$(RT) ci
