@@ -11,6 +11,9 @@ run:
 try:
 	cd crates/segdag && $(RT) try -- log -- run < stdin
 
-# The gate: each proof, each must-fail edit, each test and each program.
+# The gate: each proof, each must-fail edit, each test and each program. Behind it what no contract can say of the compiler and of
+# the built program.
 test:
 	$(RT) ci
+	RT="$(RT)" sh tests/must_not_compile.sh
+	sh tests/words.sh

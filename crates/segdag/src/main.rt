@@ -87,8 +87,7 @@ fn end(rt: &HostRuntime, status: u8) -> ExitCode
     if status == NO_USAGE {
         eprintln!(rt;
             "usage: segdag LOG [REMOTE]... -- MODE [--cache N] [--size N] [--start N]"
-        )
-        .ok();
+        ).ok();
     }
     ExitCode::from(status)
 }
