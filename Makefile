@@ -1,12 +1,19 @@
 # The quick start and the gate.
 RT ?= rt
 
-.PHONY: run test
+.PHONY: run try test
 
-# Proves the program, builds it and runs it on the sample.
+# Proves the program, builds it and runs it on the sample: some ten minutes the first time.
 run:
 	cd crates/segdag && $(RT) run -- log -- run < stdin
 
-# The gate: each proof, each must-fail edit, each test and each program.
+# Runs the program on the sample without its proofs, in half a minute: `proved=no` stands in the last line.
+try:
+	cd crates/segdag && $(RT) try -- log -- run < stdin
+
+# The gate: each proof, each must-fail edit, each test and each program. Behind it what no contract can say of the compiler and of
+# the built program.
 test:
-	rt ci
+	$(RT) ci
+	RT="$(RT)" sh tests/must_not_compile.sh
+	sh tests/words.sh

@@ -4,3 +4,4 @@ pub mod NumberLemmas
 pub mod Orders
 pub mod Frames
 pub mod Drawn
+pub mod ByNames

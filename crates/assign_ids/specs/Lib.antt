@@ -1,3 +1,4 @@
 pub mod Placing
 pub mod Numbers
+pub mod Names
 pub mod Progress

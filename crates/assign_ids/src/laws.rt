@@ -1,12 +1,13 @@
 //! What placing means: each commit once, behind its parents, and exactly what the heads reach.
 
-ghost use Rattle.std.specs.Prelude.{◌≡◌, ◌<◌, ◌≤◌, ◌↔◌, ◌++◌, ℕ, List, [], ◌∷◌, true, false, nat_eq, reverse};
+ghost use Rattle.std.specs.Prelude.{◌≡◌, ◌<◌, ◌≤◌, ◌↔◌, ◌++◌, ℕ, List, [], ◌∷◌, true, false, map, nat_eq, reverse};
 ghost use Rattle.id_groups.specs.Lists.{IsIn, is_in, AreAllIn, AreDistinct};
 ghost use Rattle.id_groups.specs.Name.{Name as NameBytes, same_name};
 ghost use Rattle.commit_graph.specs.World.{Row as PlainRow, IsHistory};
 ghost use Rattle.commit_graph.specs.Graph.{Reaches};
 ghost use Rattle.assign_ids.specs.Placing.{place, place_all};
 ghost use Rattle.assign_ids.specs.Numbers.{AreBelow, HaveOlderParents, others_of, rows_below, order_of, graph_below};
+ghost use Rattle.assign_ids.specs.Names.{AreNodes, AreNumbered};
 ghost use Rattle.assign_ids.specs.declared.graph.Node.{Node as PlainNode};
 ghost use Rattle.assign_ids.specs.declared.graph.Node.TheVariants.{Placed, Other};
 
@@ -57,6 +58,15 @@ pub fn rows_placed_behind_parents()
     ensures { (rows : List (PlainRow NameBytes)) (row : PlainRow NameBytes) (order : List NameBytes) → IsHistory [] rows → IsIn row rows
         → is_in same_name row.name order ≡ false
         → place same_name (reverse rows) order row.name ≡ place_all same_name (reverse rows) order row.parents ++ row.name ∷ [] }
+{}
+
+/// Placing by names, from the names of master on, is placing by numbers: the commits of a history that aren't in master
+/// have numbers, and their parents in master are passed over.
+pub fn placed_by_names()
+    ensures { (rows : List (PlainRow NameBytes)) (masters : List NameBytes) (n : ℕ) (name : ℕ → NameBytes) (parents : ℕ → List PlainNode)
+        (heads : List NameBytes) (nodes : List PlainNode)
+        → IsHistory [] rows → AreNumbered rows masters n name parents → HaveOlderParents parents → AreNodes masters n name heads nodes
+        → place_all same_name (reverse rows) masters heads ≡ masters ++ map name (order_of parents n (others_of nodes)) }
 {}
 
 /// The commit 3 merges 2 and 1, both children of 0: its parents move from left to right and 0 once, and a head in front

@@ -10,7 +10,8 @@ mod walk;
 pub use graph::{Node, ParentsOf};
 pub use laws::{
     exactly_ancestors, more_rows, order_spelled_out, parents_first, placed_before,
-    placed_behind_parents, placed_once, rows_placed_before, rows_placed_behind_parents,
+    placed_behind_parents, placed_by_names, placed_once, rows_placed_before,
+    rows_placed_behind_parents,
 };
 pub use walk::place;
 

@@ -9,15 +9,19 @@ use Rattle.batch_codec.specs.declared.lent.Parts.{Parts}
 use Rattle.batch_codec.specs.Payload.{Known, Payload, master_start, known_start, heads_start, others_start, names_start}
 use Rattle.batch_codec.specs.Reading.{segments_in, knowns_in, names_in, ids_in}
 
+-- the records of a section
 abbrev pub segments_of : SegmentSlice → List Segment
 segments_of s = segments_in s.count s.bytes.now
 
+-- the known ids with their names
 abbrev pub knowns_of : KnownSlice → List Known
 knowns_of s = knowns_in s.count s.bytes.now
 
+-- the known ids alone
 abbrev pub ids_of : KnownSlice → List ℕ
 ids_of s = ids_in s.count s.bytes.now
 
+-- the names of a section
 abbrev pub names_of : NameSlice → List Name
 names_of s = names_in s.count s.bytes.now
 

@@ -44,7 +44,8 @@ pub struct KnownRef<'a> {
     pub name: NameRef<'a>,
 }
 
-/// The sections of a payload.
+/// The sections of a payload, as they were read one after another. That together they are one in the grammar, each at its
+/// place, is what `BatchRef` keeps of them.
 #[derive(Clone, Copy)]
 pub struct Parts<'a> {
     pub(crate) kind: u8,

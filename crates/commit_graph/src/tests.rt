@@ -1,7 +1,9 @@
 //! Small worlds, drawn as tables: what is found in them, and where walks lead.
 
-ghost use Rattle.std.specs.Prelude.{IsSome};
+ghost use Rattle.std.specs.Prelude.{◌<◌, ◌^◌, IsSome, IsTrue, length};
+ghost use Rattle.id_groups.specs.Lists.{AreAllIn};
 ghost use Rattle.commit_graph.specs.Ids.{row_at};
+ghost use Rattle.commit_graph.specs.World.{names_of, rows_of};
 
 use crate::{ParentNames, Row, World, first_ancestor, reaches};
 use id_groups::{Id, Name};
@@ -67,6 +69,49 @@ fn id(rt: &impl Abort, world: &World, last: u8) -> Id
         Some(id) => id,
         None => panic!(rt; "no commit {last}"),
     }
+}
+
+/// Whether the world has commits of these names.
+fn has_all(world: &World, names: &[Name]) -> bool
+    ensures { IsTrue result → AreAllIn names.now (names_of (rows_of world.now)) }
+{
+    match names {
+        [] => true,
+        [name] => world.find(name).is_some(),
+        [name, other] => world.find(name).is_some() && world.find(other).is_some(),
+        _ => false,
+    }
+}
+
+/// Puts a commit behind the others, if its name is new and its parents are there, and says whether that was so.
+fn put(world: &mut World, drawn: Drawn) -> Result<bool, AllocError> {
+    let row = row(drawn);
+    if world.find(row.name()).is_some() || world.others_count() > 99 {
+        return Ok(false);
+    }
+    if !has_all(world, row.parents()) {
+        return Ok(false);
+    }
+    world.push_other(row)?;
+    Ok(true)
+}
+
+#[test]
+fn a_day_is_put_behind_nothing(rt: HostRuntime) -> Result<(), Fail> {
+    let mut world = World::empty(rt.alloc());
+    for drawn in DAY {
+        assert!(rt; put(&mut world, drawn)?);
+        assert!(rt; !put(&mut world, drawn)?);
+    }
+    assert!(rt; !put(&mut world, [7, 8, 0])?);
+    assert_eq!(rt; world.master_count(), 0);
+    assert_eq!(rt; world.others_count(), 6);
+    assert_eq!(rt; world.find(&name(5)), Some(Id::other(4)));
+    for (x, y, want) in [(5, 2, true), (5, 3, false), (6, 1, true)] {
+        let found = reaches(rt.alloc(), &world, id(&rt, &world, x), id(&rt, &world, y))?;
+        assert_eq!(rt; found, want, "from {x} to {y}");
+    }
+    Ok(())
 }
 
 #[test]

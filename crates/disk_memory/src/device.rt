@@ -1,5 +1,5 @@
 // The calls of a disk.
-ghost use Rattle.std.specs.Prelude.{◌≡◌, ◌≤◌, ◌<◌, ◌+◌, ◌-◌, ◌/◌, ◌%◌, ◌↔◌, ◌++◌, length, min, take, drop, Some, IfOk, OnOk, OnErr, IsErr, IsTrue};
+ghost use Rattle.std.specs.Prelude.{◌≡◌, ◌≤◌, ◌<◌, ◌+◌, ◌-◌, ◌/◌, ◌%◌, ◌↔◌, ◌++◌, length, min, take, drop, refl, Some, IfOk, OnOk, OnErr, IsErr, IsTrue};
 ghost use Rattle.outside.specs.Counts.{HasCause};
 ghost use Rattle.disk_trait.specs.Images.{moment_of, last_moment};
 ghost use Rattle.disk_trait.specs.Calls.{Passes, Writes, FailsToWrite, Syncs, Succeeds, OrRefuses};
@@ -38,14 +38,19 @@ impl MemoryDisk {
 }
 
 impl Disk for MemoryDisk {
+    ghost bytes = { λ d. Some (tells d).bytes };
+
     ghost told = { λ d. Some (tells d) };
 
     ghost faults = { λ d. d.faults };
+
+    ghost tells = { λ d. refl };
 
     ghost sound = { λ d. d.sound };
 
     fn size(&mut self) -> Result<u64, DiskFault>
         ensures size { IfOk result (λ n. n ≡ length (tells self.old).bytes) }
+        ensures still { Some (tells self.new).bytes ≡ Some (tells self.old).bytes }
         ensures ok { OnOk result (Succeeds Passes (tells self.old) (tells self.new)) }
         ensures err { OnErr result (OrRefuses Passes (tells self.old) (tells self.new)) }
         ensures cause { HasCause self.old.faults self.new.faults result }
@@ -69,6 +74,7 @@ impl Disk for MemoryDisk {
         ensures bound { IfOk result (λ n. n ≤ length out.old) }
         ensures count { IfOk result (λ n. n ≡ min (length out.old) (length (tells self.old).bytes - at)) }
         ensures bytes { IfOk result (λ n. out.new ≡ take n (drop at (tells self.old).bytes) ++ drop n out.old) }
+        ensures still { Some (tells self.new).bytes ≡ Some (tells self.old).bytes }
         ensures ok { OnOk result (Succeeds Passes (tells self.old) (tells self.new)) }
         ensures err { OnErr result (OrRefuses Passes (tells self.old) (tells self.new)) }
         ensures cause { HasCause self.old.faults self.new.faults result }
@@ -116,6 +122,7 @@ impl Disk for MemoryDisk {
     }
 
     fn sync(&mut self) -> Result<(), DiskFault>
+        ensures still { Some (tells self.new).bytes ≡ Some (tells self.old).bytes }
         ensures ok { OnOk result (Succeeds Syncs (tells self.old) (tells self.new)) }
         ensures err { OnErr result (OrRefuses Passes (tells self.old) (tells self.new)) }
         ensures cause { HasCause self.old.faults self.new.faults result }

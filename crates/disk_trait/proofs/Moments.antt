@@ -93,5 +93,10 @@ joined P a b c f s = record {
     either (suc m) zero = inr (omega arith)
     either (suc m) (suc n) = ⊎_elim (λ (h : m ≤ n). inl (omega (arith, h))) (λ (h : n ≤ m). inr (omega (arith, h))) (either m n)
 
+-- a claim that follows at each of the moments since
+pub mapped : (P Q : ℕ → List ℕ → Type 0) (a b : Told) → ((moment : ℕ) (image : List ℕ) → moment_of a ≤ moment → moment ≤ moment_of b → P moment image → Q moment image) → SureSince P a b → SureSince Q a b
+mapped P Q a b f s = record { later = s.later; past = s.past; since = λ m image lo hi left. f m image lo hi (s.since m image lo hi left) }
+
+-- a claim that follows at each moment
 pub weakened : (P Q : ℕ → List ℕ → Type 0) (a b : Told) → ((moment : ℕ) (image : List ℕ) → P moment image → Q moment image) → SureSince P a b → SureSince Q a b
 weakened P Q a b f s = record { later = s.later; past = s.past; since = λ m image lo hi left. f m image (s.since m image lo hi left) }

@@ -1,5 +1,6 @@
 -- What is told, from one disk to the next.
-use Rattle.std.proofs.Common.{Option, Some, None, IfSome}
+use Rattle.std.proofs.Common.{◌≡◌, List, ℕ, Option, Some, None, IfSome, subst}
+use Rattle.outside.specs.Told.{WhereTold}
 use Rattle.disk_trait.specs.Images.{Told}
 use Rattle.disk_trait.specs.Calls.{Goes}
 
@@ -49,3 +50,21 @@ pub if_back : (R : Told → Told → Type 0) (F G : Told → Type 0) (a b : Opti
 if_back R F G None b f r h = tt
 if_back R F G (Some x) None f r h = absurd r
 if_back R F G (Some x) (Some y) f r h = f x y r h
+
+-- what a step leaves
+pub goes-new : (R : Told → Told → Type 0) (G : Told → Type 0) (a b : Option Told) → ((x y : Told) → R x y → G y) → Goes R a b → IfSome b G
+goes-new R G None None f r = tt
+goes-new R G None (Some y) f r = absurd r
+goes-new R G (Some x) None f r = tt
+goes-new R G (Some x) (Some y) f r = f x y r
+
+-- a step, in the words of all that may tell
+pub goes-told : (R : Told → Told → Type 0) (a b : Option Told) → Goes R a b → WhereTold a b R
+goes-told R None b r = tt
+goes-told R (Some x) None r = r
+goes-told R (Some x) (Some y) r = r
+
+-- what holds of the bytes that a read gives holds of those of an honest disk
+pub of_told : (F : List ℕ → Type 0) (bytes : Option (List ℕ)) (a : Option Told) → IfSome a (λ t. bytes ≡ Some t.bytes) → IfSome bytes F → IfSome a (λ t. F t.bytes)
+of_told F bytes None e h = tt
+of_told F bytes (Some t) e h = subst (λ o. IfSome o F) e h

@@ -3,7 +3,7 @@
 //! A disk whose calls may fail, and which may crash at any moment: what it tells, what a crash may leave, and what
 //! each call changes of that.
 
-ghost use Rattle.std.specs.Prelude.{◌≡◌, ◌<◌, ◌≤◌, ◌++◌, ◌+◌, ◌-◌, ◌%◌, ℕ, List, [], ◌∷◌, Option, IfOk, IfSome, OnOk, OnErr, length, min, take, drop, slice_index};
+ghost use Rattle.std.specs.Prelude.{◌≡◌, ◌<◌, ◌≤◌, ◌++◌, ◌+◌, ◌-◌, ◌%◌, ℕ, List, [], ◌∷◌, Option, Some, IfOk, IfSome, OnOk, OnErr, length, min, take, drop, slice_index};
 ghost use Rattle.outside.specs.Counts.{HasCause};
 ghost use Rattle.disk_trait.specs.Images.{Told, IsImage, surely, IsSound, LeftAt, moment_of, last_moment, fresh_disk};
 ghost use Rattle.disk_trait.specs.Calls.{Passes, with_range, Writes, FailsToWrite, Syncs, OrRefuses, Succeeds, Goes};
@@ -17,6 +17,10 @@ pub struct DiskFault;
 /// Its clock counts the calls of the other four that have begun and those that have returned. At 2^62 each of them
 /// is refused, and changes nothing.
 pub trait Disk {
+    /// The bytes that a read gives now, where it tells them. It may do so without being honest: then its size, its reads
+    /// and its syncs leave them as they are, and what a write makes of them isn't known.
+    ghost bytes: { Self → Option (List ℕ) };
+
     /// What it tells, where it is honest.
     ghost told: { Self → Option Told };
 
@@ -25,7 +29,8 @@ pub trait Disk {
 
     /// How many bytes it has.
     fn size(&mut self) -> Result<u64, DiskFault>
-        ensures size { IfOk result (λ n. IfSome (told self.old) (λ t. n ≡ length t.bytes)) }
+        ensures size { IfOk result (λ n. IfSome (bytes self.old) (λ b. n ≡ length b)) }
+        ensures still { bytes self.new ≡ bytes self.old }
         ensures ok { OnOk result (Goes (Succeeds Passes) (told self.old) (told self.new)) }
         ensures err { OnErr result (Goes (OrRefuses Passes) (told self.old) (told self.new)) }
         ensures cause { HasCause (faults self.old) (faults self.new) result };
@@ -33,8 +38,9 @@ pub trait Disk {
     /// Fills the front of `out` with the bytes from a place on, all that there are, and answers how many.
     fn read(&mut self, at: u64, out: &mut [u8]) -> Result<usize, DiskFault>
         ensures bound { IfOk result (λ n. n ≤ length out.old) }
-        ensures count { IfOk result (λ n. IfSome (told self.old) (λ t. n ≡ min (length out.old) (length t.bytes - at))) }
-        ensures bytes { IfOk result (λ n. IfSome (told self.old) (λ t. out.new ≡ take n (drop at t.bytes) ++ drop n out.old)) }
+        ensures count { IfOk result (λ n. IfSome (bytes self.old) (λ b. n ≡ min (length out.old) (length b - at))) }
+        ensures bytes { IfOk result (λ n. IfSome (bytes self.old) (λ b. out.new ≡ take n (drop at b) ++ drop n out.old)) }
+        ensures still { bytes self.new ≡ bytes self.old }
         ensures ok { OnOk result (Goes (Succeeds Passes) (told self.old) (told self.new)) }
         ensures err { OnErr result (Goes (OrRefuses Passes) (told self.old) (told self.new)) }
         ensures cause { HasCause (faults self.old) (faults self.new) result };
@@ -48,6 +54,7 @@ pub trait Disk {
 
     /// Makes sure of all that was written.
     fn sync(&mut self) -> Result<(), DiskFault>
+        ensures still { bytes self.new ≡ bytes self.old }
         ensures ok { OnOk result (Goes (Succeeds Syncs) (told self.old) (told self.new)) }
         ensures err { OnErr result (Goes (OrRefuses Passes) (told self.old) (told self.new)) }
         ensures cause { HasCause (faults self.old) (faults self.new) result };
@@ -57,6 +64,9 @@ pub trait Disk {
         ensures moment { IfSome (told self.now) (λ t. result ≡ moment_of t) }
         ensures even { result % 2 ≡ 0 }
         ensures bound { result ≤ last_moment };
+
+    /// An honest disk tells the bytes that a read gives.
+    ghost tells: { (disk : Self) → IfSome (told disk) (λ t. bytes disk ≡ Some t.bytes) };
 
     /// What a read gives is one of the lists that a crash now may leave, the moment is even, and none is past the last.
     ghost sound: { (disk : Self) → IfSome (told disk) IsSound };

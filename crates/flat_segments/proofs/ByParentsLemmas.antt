@@ -1,14 +1,14 @@
 -- The segments of ids by their parents are one list, and those of a table are it.
-use Rattle.std.proofs.Common.{◌≡◌, ◌≢◌, ℕ, ◌+◌, ◌-◌, ◌<◌, ◌≤◌, ◌^◌, ◌⊎◌, inl, inr, Bool, true, false, true≢false, not, List, [], ◌∷◌, Some, cond, min, refl, sym, subst, ap, ◌∙◌, arith, ⊎_elim, zero-le}
+use Rattle.std.proofs.Common.{◌≡◌, ◌≢◌, ℕ, ◌+◌, ◌-◌, ◌<◌, ◌≤◌, ◌⊎◌, inl, inr, Bool, true, false, true≢false, not, List, [], ◌∷◌, cond, min, refl, sym, subst, ap, ◌∙◌, arith, zero-le}
 use Rattle.std.specs.Prelude.{filter, nat_lt}
 use Rattle.std.specs.List.{AllByRecursion}
 use Rattle.segment_codec.specs.Record.{Segment}
-use Rattle.segment_codec.specs.Table.{IsInSegment, parents_in, parents_at, Follow}
+use Rattle.segment_codec.specs.Table.{IsInSegment, parents_at, Follow}
 use Rattle.segment_codec.specs.Flat.{IsFlat}
 use Rattle.segment_codec.specs.Turns.{goes_on}
 use Rattle.segment_codec.proofs.Tables.{le_or_lt, follow-ends}
 use Rattle.segment_codec.proofs.Turns.{goes-on-decided}
-use Rattle.flat_segments.specs.Maximal.{begin_of, up_to, maximal, cut}
+use Rattle.flat_segments.specs.Maximal.{up_to, maximal, cut}
 use Rattle.flat_segments.specs.ByParents.{IsSegmentFrom, AreSegmentsOf}
 use Rattle.flat_segments.proofs.Graphs.{at-low, over-low, here, behind, maximal-ids, maximal-parents, maximal-apart, cut-ids, cut-parents}
 
@@ -63,16 +63,17 @@ by-parents P first end [] f l a same = f
 by-parents P first end (s ∷ more) f l a same =
     let low = f.0 in let order = f.1 in let up = follow-ends (s.high + 1) end more f.2 in
     let at : s.parents ≡ P first =
-        sym (here s more first (omega (arith, low), order) ∙ at-low s first (sym low)) ∙ same first (omega arith) (omega (arith, order, up)) in
-    (record {
-      low = low;
-      order = order;
-      flat = l.0;
-      own = at;
-      begins = (λ e. true≢false (sym (goes-on-decided s (at ∙ e ∙ ap (λ n. (n - 1) ∷ []) (sym low))) ∙ a.0));
-      goes_on = (λ x over within. sym (same x (omega (arith, over)) (omega (arith, within, up))) ∙ here s more x (omega (arith, over, low), within) ∙ over-low s x (λ e. absurd (omega (arith, e, low, over))));
-    },
-    by-parents P (s.high + 1) end more f.2 l.1 a.1 (λ x le lt. sym (behind s more x (λ (i : IsInSegment x s). let b = i.1 in absurd (omega (arith, b, le)))) ∙ same x (omega (arith, le, order)) lt))
+    sym (here s more first (omega (arith, low), order) ∙ at-low s first (sym low)) ∙ same first (omega arith) (omega (arith, order, up)) in (
+      record {
+        low = low;
+        order = order;
+        flat = l.0;
+        own = at;
+        begins = (λ e. true≢false (sym (goes-on-decided s (at ∙ e ∙ ap (λ n. (n - 1) ∷ []) (sym low))) ∙ a.0));
+        goes_on = (λ x over within. sym (same x (omega (arith, over)) (omega (arith, within, up))) ∙ here s more x (omega (arith, over, low), within) ∙ over-low s x (λ e. absurd (omega (arith, e, low, over))));
+      },
+      by-parents P (s.high + 1) end more f.2 l.1 a.1 (λ x le lt. sym (behind s more x (λ (i : IsInSegment x s). let b = i.1 in absurd (omega (arith, b, le)))) ∙ same x (omega (arith, le, order)) lt),
+    )
 
 -- ---- maximal segments, cut
 

@@ -9,3 +9,4 @@ pub mod Stages
 pub mod Commits
 pub mod Rooms
 pub mod Counted
+pub mod Fresh

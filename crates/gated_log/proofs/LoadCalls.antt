@@ -257,18 +257,19 @@ start_done size (Some x) (Some y) None (Ok log) s w h le = absurd w
 start_done size (Some x) (Some y) (Some z) (Ok log) s w h le = started_at log x y z s (omega (arith, h, le)) w
 
 -- what starting answers, of the bytes that were there
-pub start_answers : (limit size : ℕ) (c : Option Told) (r : Result Held LoadLog) → IfSome c (λ t. size ≡ length t.bytes) → size ≤ 1 → 1 ≤ limit
+pub start_answers : (limit size : ℕ) (c : Option (List ℕ)) (r : Result Held LoadLog) → IfSome c (λ b. size ≡ length b) → size ≤ 1 → 1 ≤ limit
     → IfOk r (λ log. (log.payloads ≡ []) × (log.gate ≡ 0) × (log.limit ≡ limit)) → IfErr r (λ e. (e ≡ Memory) ⊎ ((fault : DiskFault) × (e ≡ Disk fault)))
-    → IfSome c (λ t. Loads limit t.bytes r)
+    → IfSome c (λ b. Loads limit b r)
 start_answers limit size None r h le least ok err = tt
 start_answers limit size (Some t) (Ok log) h le least ok err = record {
   most = ok.2;
+  fits = omega (arith, h, le, least);
   is_log = inl (omega (arith, h, le), ok.0);
   begins = λ long. absurd (omega (arith, h, le, long));
   fresh = λ _. (ok.0, ok.1);
 }
-start_answers limit size (Some t) (Err e) h le least ok (inl memory) = subst (λ x. Loads limit t.bytes (Err x)) (sym memory) (omega (arith, h, le, least))
-start_answers limit size (Some t) (Err e) h le least ok (inr (fault, disk)) = subst (λ x. Loads limit t.bytes (Err x)) (sym disk) tt
+start_answers limit size (Some t) (Err e) h le least ok (inl memory) = subst (λ x. Loads limit t (Err x)) (sym memory) (omega (arith, h, le, least))
+start_answers limit size (Some t) (Err e) h le least ok (inr (fault, disk)) = subst (λ x. Loads limit t (Err x)) (sym disk) tt
 
 -- ---- reading
 -- the whole of the bytes came
@@ -282,12 +283,12 @@ all_read bytes before new old items n len size cap room is count so cut =
     cut ∙ ap (λ l. take n (take len (l ++ drop (length new) old))) filled
     ∙ ap (take n) (take_at bytes (drop (length new) old) len (omega (arith, cap, is))) ∙ all
 
-pub read_whole : (a : Option Told) (before new old items : List ℕ) (n len size : ℕ) → len ≡ size → length before ≡ len → IfSome a (λ t. size ≡ length t.bytes) → IfSome a (λ t. n ≡ min (length before) (length t.bytes - 0))
-    → IfSome a (λ t. new ≡ take n t.bytes ++ drop n before) → items ≡ take n (take len (new ++ drop (length new) old)) → IfSome a (λ t. items ≡ t.bytes)
+pub read_whole : (a : Option (List ℕ)) (before new old items : List ℕ) (n len size : ℕ) → len ≡ size → length before ≡ len → IfSome a (λ b. size ≡ length b) → IfSome a (λ b. n ≡ min (length before) (length b - 0))
+    → IfSome a (λ b. new ≡ take n b ++ drop n before) → items ≡ take n (take len (new ++ drop (length new) old)) → IfSome a (λ b. items ≡ b)
 read_whole None before new old items n len size cap room is count so cut = tt
-read_whole (Some t) before new old items n len size cap room is count so cut = all_read t.bytes before new old items n len size cap room is count so cut
+read_whole (Some t) before new old items n len size cap room is count so cut = all_read t before new old items n len size cap room is count so cut
 
-pub read_answers : (limit : ℕ) (items : List ℕ) (a : Option Told) (r : Result Held LoadLog) → IfSome a (λ t. items ≡ t.bytes) → Loads limit items r → IfSome a (λ t. Loads limit t.bytes r)
+pub read_answers : (limit : ℕ) (items : List ℕ) (a : Option (List ℕ)) (r : Result Held LoadLog) → IfSome a (λ b. items ≡ b) → Loads limit items r → IfSome a (λ b. Loads limit b r)
 read_answers limit items None r h l = tt
 read_answers limit items (Some t) r h l = subst (λ b. Loads limit b r) h l
 

@@ -21,6 +21,7 @@ loaded bytes d gates items limit room end c same is long fits most =
       w.0,
       record {
         most = refl;
+        fits = fits;
         is_log = subst (λ l. IsLog bytes l) (sym w.1) (is_log bytes c.payloads c.gate c.behind c.lengths c.closed whole);
         begins = λ _. (fits, c.behind, split ∙ ap (λ l. l ++ c.behind) (sym items_are ∙ w.0.whole));
         fresh = λ short. absurd (omega (arith, short, long));

@@ -4,7 +4,7 @@ use Rattle.std.proofs.lemmas.List.{get_or-map, length-map}
 use Rattle.std.proofs.lemmas.Nat.{from_be_bytes-to_be_bytes_8}
 use Rattle.std.specs.List.{AllByRecursion}
 use Rattle.std.specs.Int.{w64, to_be_bytes, from_be_bytes}
-use Rattle.gated_log.specs.Log.{batch, batches, HasLength, gates_of, log_length}
+use Rattle.gated_log.specs.Log.{batch, batches, HasLength, gates_of, log_length, StandBehind}
 use Rattle.gated_log.specs.Held.{length_behind, payload_behind, payloads_at, gate_of, IsWhole}
 
 -- one payload more has its gate behind the others' batches
@@ -17,7 +17,7 @@ gates_of-push n (q ∷ ps) p = ap (λ l. n ∷ l) (gates_of-push (n + 9 + length
 length-batch : (p : List ℕ) → length (batch p) ≡ 9 + length p
 length-batch p = omega (arith, length-append (to_be_bytes w64 (length p)) p)
 
-body-behind : (bytes front p rest : List ℕ) (at : ℕ) → bytes ≡ front ++ (batch p ++ rest) → at ≡ length front → drop (at + 9) bytes ≡ p ++ rest
+pub body-behind : (bytes front p rest : List ℕ) (at : ℕ) → bytes ≡ front ++ (batch p ++ rest) → at ≡ length front → drop (at + 9) bytes ≡ p ++ rest
 body-behind bytes front p rest at is here =
     let field = to_be_bytes w64 (length p) in
     let head = front ++ (1 ∷ field) in
@@ -96,6 +96,17 @@ stands front (p ∷ ps) rest n (suc k) here below =
 pub payload-stands : (ps : List (List ℕ)) (gate k : ℕ) → k < length ps
     → take (length (get_or ps k [])) (drop (get_or (gates_of 0 ps) k 0 + 9) (batches ps ++ gate ∷ [])) ≡ get_or ps k []
 payload-stands ps gate k below = stands [] ps (gate ∷ []) 0 k refl below
+
+stand-from : (front : List ℕ) (ps : List (List ℕ)) (rest : List ℕ) (n : ℕ) → n ≡ length front → StandBehind n ps (front ++ (batches ps ++ rest))
+stand-from front [] rest n here = tt
+stand-from front (p ∷ ps) rest n here = (
+  ap (take (length p)) (body-behind (front ++ (batches (p ∷ ps) ++ rest)) front p (batches ps ++ rest) n (first-batch _ front p ps rest refl) here) ∙ take_at p (batches ps ++ rest) (length p) refl,
+  subst (StandBehind (n + 9 + length p) ps) (sym (moved _ front p ps rest refl)) (stand-from (front ++ batch p) ps rest (n + 9 + length p) (next-front front p n here)),
+)
+
+-- the payloads stand one behind the other
+pub stand-behind : (ps : List (List ℕ)) (gate : ℕ) → StandBehind 0 ps (batches ps ++ gate ∷ [])
+stand-behind ps gate = stand-from [] ps (gate ∷ []) 0 refl
 
 pub length-log : (ps : List (List ℕ)) (gate : ℕ) → length (batches ps ++ gate ∷ []) ≡ log_length ps
 length-log [] gate = refl

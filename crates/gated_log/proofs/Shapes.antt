@@ -1,12 +1,12 @@
 -- The bytes of a log in memory and on the disk.
-use Rattle.std.proofs.Common.{◌≡◌, ◌≢◌, inl, inr, ℕ, zero, suc, ◌≤◌, ◌+◌, ◌-◌, ◌*◌, ◌^◌, List, [], ◌∷◌, ◌++◌, length, get_or, refl, sym, ◌∙◌, ap, subst, arith, length-append, append_assoc}
+use Rattle.std.proofs.Common.{◌≡◌, ◌≢◌, inl, inr, ℕ, zero, suc, ◌≤◌, ◌+◌, ◌-◌, ◌*◌, ◌^◌, List, [], ◌∷◌, ◌++◌, length, get_or, take, refl, sym, ◌∙◌, ap, subst, arith, length-append, append_assoc, take_at}
 use Rattle.std.proofs.lemmas.List.{append-nil}
 use Rattle.std.proofs.Math.Seq.{get_or-append_seam}
 use Rattle.std.specs.List.{AllByRecursion}
 use Rattle.std.specs.Int.{w64, to_be_bytes}
-use Rattle.gated_log.specs.Log.{IsLog, batch, batches, HasLength, gates_of}
+use Rattle.gated_log.specs.Log.{IsLog, batch, batches, HasLength, gates_of, StandsFrom}
 use Rattle.gated_log.specs.Held.{payloads_at, gate_of, IsWhole, staged}
-use Rattle.gated_log.proofs.Places.{payloads_at-gates}
+use Rattle.gated_log.proofs.Places.{payloads_at-gates, body-behind}
 
 pub length-staged : (payload : List ℕ) → length (staged payload) ≡ length payload + 9
 length-staged payload = omega (arith, length-append (to_be_bytes w64 (length payload)) (payload ++ 0 ∷ []), length-append payload (0 ∷ []))
@@ -15,6 +15,14 @@ length-staged payload = omega (arith, length-append (to_be_bytes w64 (length pay
 pub batches-push : (ps : List (List ℕ)) (p rest : List ℕ) → batches (ps ++ p ∷ []) ++ rest ≡ batches ps ++ (batch p ++ rest)
 batches-push [] p rest = ap (λ l. l ++ rest) (append-nil (batch p))
 batches-push (q ∷ ps) p rest = append_assoc (batch q) (batches (ps ++ p ∷ [])) rest ∙ ap (λ l. batch q ++ l) (batches-push ps p rest) ∙ sym (append_assoc (batch q) (batches ps) (batch p ++ rest))
+
+-- a payload that is put behind others stands behind their batches, its gate and its length
+pub stands-last : (ps : List (List ℕ)) (p : List ℕ) (gate : ℕ) → StandsFrom (length (batches ps ++ gate ∷ []) + 8) p (batches (ps ++ p ∷ []) ++ 0 ∷ [])
+stands-last ps p gate =
+    let place : length (batches ps) + 9 ≡ length (batches ps ++ gate ∷ []) + 8 = omega (arith, length-append (batches ps) (gate ∷ [])) in
+    let bytes = batches (ps ++ p ∷ []) ++ 0 ∷ [] in
+    subst (λ n. StandsFrom n p bytes) place
+    (ap (take (length p)) (body-behind bytes (batches ps) p (0 ∷ []) (length (batches ps)) (batches-push ps p (0 ∷ [])) refl) ∙ take_at p (0 ∷ []) (length p) refl)
 
 -- where the gate is opened, what was staged is a batch and a closed gate
 pub opened : (ps : List (List ℕ)) (p rest : List ℕ) → batches ps ++ 1 ∷ (staged p ++ rest) ≡ batches (ps ++ p ∷ []) ++ 0 ∷ rest

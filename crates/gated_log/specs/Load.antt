@@ -1,5 +1,5 @@
 -- What loading answers, and what it does to a disk.
-use Rattle.std.specs.Prelude.{◌≡◌, ◌<◌, ◌≤◌, ◌+◌, ◌*◌, ℕ, List, [], ◌∷◌, ◌++◌, length, replicate, Result, Ok, Err, ⊤}
+use Rattle.std.specs.Prelude.{◌≡◌, ◌<◌, ◌≤◌, ◌⊎◌, ◌+◌, ◌*◌, ℕ, List, [], ◌∷◌, ◌++◌, length, replicate, Result, Ok, Err, ⊤}
 use Rattle.disk_trait.specs.Images.{Told, IsImage, moment_of, surely}
 use Rattle.disk_trait.specs.Since.{SureSince}
 use Rattle.gated_log.specs.Log.{IsLog, IsDamaged}
@@ -11,6 +11,7 @@ use Rattle.gated_log.specs.declared.LoadLog.TheVariants.{Damaged, TooLarge, Disk
 -- the log of these bytes; that of a fresh file has the one byte 0, whatever byte the file has
 pub record IsLogOf (limit : ℕ) (bytes : List ℕ) (log : Held) : Type 0 where
   pub most : log.limit ≡ limit
+  pub fits : length bytes ≤ limit
   pub is_log : IsLog bytes log.payloads
   pub begins : 2 ≤ length bytes → Begins log bytes
   pub fresh : length bytes ≤ 1 → (log.payloads ≡ []) × (log.gate ≡ 0)
@@ -26,6 +27,14 @@ Loads limit bytes (Err (Disk fault)) = ⊤
 -- where the file isn't fresh, a crash at each moment since leaves no list that it might not have left before
 abbrev pub KeepsImages : Told → Told → Type 0
 KeepsImages old new = 2 ≤ length old.bytes → SureSince (λ moment. IsImage old.now) old new
+
+-- A crash at each moment since leaves a list that it might have left before, or a file of at most one byte where there was one.
+abbrev pub LeavesOldOrFresh : Told → Told → Type 0
+LeavesOldOrFresh old new = SureSince (λ moment image. IsImage old.now image ⊎ ((length old.bytes ≤ 1) × (length image ≤ 1))) old new
+
+-- a crash at each moment since leaves a file of at most one byte
+abbrev pub LeavesFresh : Told → Told → Type 0
+LeavesFresh old new = SureSince (λ moment image. length image ≤ 1) old new
 
 -- where the payloads are these whatever a crash leaves, they stay so at each moment since
 abbrev pub KeepsPayloads : ℕ → List (List ℕ) → Told → Told → Type 0

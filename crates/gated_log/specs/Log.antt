@@ -1,5 +1,5 @@
 -- The bytes of a log: payloads behind open gates, and a closed gate.
-use Rattle.std.specs.Prelude.{◌≡◌, ◌≢◌, ◌<◌, ◌≤◌, ◌⊎◌, ◌^◌, ◌+◌, ℕ, List, [], ◌∷◌, ◌++◌, length, take, flat_map}
+use Rattle.std.specs.Prelude.{◌≡◌, ◌≢◌, ◌<◌, ◌≤◌, ◌⊎◌, ◌^◌, ◌+◌, ℕ, List, [], ◌∷◌, ◌++◌, length, take, drop, flat_map, ⊤}
 use Rattle.std.specs.List.{AllByRecursion}
 use Rattle.std.specs.Int.{w64, to_be_bytes, from_be_bytes}
 
@@ -43,3 +43,12 @@ log_length (payload ∷ payloads) = 9 + length payload + log_length payloads
 abbrev pub gates_of : ℕ → List (List ℕ) → List ℕ
 gates_of at [] = []
 gates_of at (payload ∷ payloads) = at ∷ gates_of (at + 9 + length payload) payloads
+
+-- the payload's bytes are there from that place on
+abbrev pub StandsFrom : ℕ → List ℕ → List ℕ → Type 0
+StandsFrom place payload bytes = take (length payload) (drop place bytes) ≡ payload
+
+-- the first payload stands nine places behind that one, and each further one nine places behind the end of the one before
+abbrev pub StandBehind : ℕ → List (List ℕ) → List ℕ → Type 0
+StandBehind end [] bytes = ⊤
+StandBehind end (payload ∷ payloads) bytes = StandsFrom (end + 9) payload bytes × StandBehind (end + 9 + length payload) payloads bytes

@@ -10,11 +10,11 @@ ghost use Rattle.std.specs.Prelude.{◌≡◌, ◌⊎◌, ◌++◌, ◌^◌, ◌
 ghost use Rattle.std.specs.List.{AllByRecursion};
 ghost use Rattle.disk_trait.specs.Calls.{Goes, Passes};
 ghost use Rattle.outside.specs.Counts.{Rose};
-ghost use Rattle.gated_log.specs.Log.{IsLog, IsDamaged, batches, gates_of, log_length};
+ghost use Rattle.gated_log.specs.Log.{IsLog, IsDamaged, batches, gates_of, log_length, StandsFrom, StandBehind};
 ghost use Rattle.gated_log.specs.Held.{Held, log_bytes, staged, room_of};
 ghost use Rattle.gated_log.specs.Holding.{IsOnDisk, IsLogWithin, KeepsOldOrNew, HasNew};
 ghost use Rattle.gated_log.specs.Commit.{Answers, Reserves, CommitsInPart};
-ghost use Rattle.gated_log.specs.Load.{Loads, KeepsImages, KeepsPayloads, IsLoaded, IsLogOf, OnlyReads, after_reads, IsFresh, IsStarted, WithinCalls, IsUnwritten};
+ghost use Rattle.gated_log.specs.Load.{Loads, LeavesOldOrFresh, LeavesFresh, KeepsImages, KeepsPayloads, IsLoaded, IsLogOf, OnlyReads, after_reads, IsFresh, IsStarted, WithinCalls, IsUnwritten};
 
 mod errors;
 mod scan;
@@ -125,9 +125,10 @@ impl Log {
     /// The calls are sync, size, and then one read, or for a fresh file one write and one sync.
     pub fn load<D: Disk>(alloc: Global, disk: &mut D, limit: u64) -> Result<Log, LoadLog>
         requires { (1 ≤ limit) × (limit ≤ 2 ^ 32) }
-        ensures answers { IfSome (D.told disk.old) (λ t. Loads limit t.bytes result) }
+        ensures answers { IfSome (D.bytes disk.old) (λ bytes. Loads limit bytes result) }
         ensures limit { IfOk result (λ log. log.limit ≡ limit) }
         ensures images { Goes KeepsImages (D.told disk.old) (D.told disk.new) }
+        ensures fresh { Goes LeavesOldOrFresh (D.told disk.old) (D.told disk.new) }
         ensures moments { (payloads : List (List ℕ)) → Goes (KeepsPayloads limit payloads) (D.told disk.old) (D.told disk.new) }
         ensures done { IfOk result (λ log. Goes (IsLoaded log) (D.told disk.old) (D.told disk.new)) }
         ensures calls { Goes (WithinCalls 4) (D.told disk.old) (D.told disk.new) }
@@ -150,7 +151,7 @@ impl Log {
     /// Reads what is on the disk, in one read, and writes nothing.
     pub fn peek<D: Disk>(alloc: Global, disk: &mut D, limit: u64) -> Result<Log, LoadLog>
         requires { (1 ≤ limit) × (limit ≤ 2 ^ 32) }
-        ensures answers { IfSome (D.told disk.old) (λ t. Loads limit t.bytes result) }
+        ensures answers { IfSome (D.bytes disk.old) (λ bytes. Loads limit bytes result) }
         ensures limit { IfOk result (λ log. log.limit ≡ limit) }
         ensures reads { Goes (OnlyReads 2) (D.told disk.old) (D.told disk.new) }
         ensures done { OnOk result (Goes (λ old new. new ≡ after_reads 2 old) (D.told disk.old) (D.told disk.new)) }
@@ -167,8 +168,8 @@ impl Log {
     // Reads all of the disk's bytes.
     fn read_all<D: Disk>(alloc: Global, disk: &mut D, size: u64, limit: u64) -> Result<Log, LoadLog>
         requires limits { (1 ≤ limit) × (limit ≤ 2 ^ 32) × (size ≤ limit) }
-        requires size { IfSome (D.told disk.old) (λ t. size ≡ length t.bytes) }
-        ensures answers { IfSome (D.told disk.old) (λ t. Loads limit t.bytes result) }
+        requires size { IfSome (D.bytes disk.old) (λ bytes. size ≡ length bytes) }
+        ensures answers { IfSome (D.bytes disk.old) (λ bytes. Loads limit bytes result) }
         ensures limit { IfOk result (λ log. log.limit ≡ limit) }
         ensures ok { OnOk result (Goes Passes (D.told disk.old) (D.told disk.new)) }
         ensures reads { Goes (λ old new. (new ≡ old) ⊎ Passes old new) (D.told disk.old) (D.told disk.new) }
@@ -190,6 +191,7 @@ impl Log {
         ensures log { IfOk result (λ log. (log.payloads ≡ []) × (log.gate ≡ 0) × (log.limit ≡ limit)) }
         ensures err { IfErr result (λ e. (e ≡ LoadLog.Memory) ⊎ ((fault : _) × (e ≡ LoadLog.Disk fault))) }
         ensures ok { IfOk result (λ log. Goes (IsStarted log) (D.told disk.old) (D.told disk.new)) }
+        ensures fresh { Goes LeavesFresh (D.told disk.old) (D.told disk.new) }
         ensures moments { (payloads : List (List ℕ)) → Goes (KeepsPayloads limit payloads) (D.told disk.old) (D.told disk.new) }
         ensures calls { Goes (WithinCalls 2) (D.told disk.old) (D.told disk.new) }
         ensures later { D.faults disk.old ≤ D.faults disk.new }
@@ -242,6 +244,8 @@ impl Log {
     pub fn bytes<'a>(&'a self) -> &'a [u8]
         ensures bytes { result.now ≡ log_bytes self.now }
         ensures log { IsLogWithin self.now.limit self.now.payloads result.now }
+        ensures size { length result.now ≡ log_length self.now.payloads }
+        ensures places { StandBehind 0 self.now.payloads result.now }
     {
         &self.bytes
     }
@@ -282,6 +286,7 @@ impl Log {
         ensures moments { Goes (KeepsOldOrNew self payload.now) (D.told disk.old) (D.told disk.new) }
         ensures calls { Goes (WithinCalls 4) (D.told disk.old) (D.told disk.new) }
         ensures done { (log : _) (clock : _) → result ≡ Committed.Done log clock → Goes (HasNew log clock) (D.told disk.old) (D.told disk.new) }
+        ensures place { (log : _) (clock : _) → result ≡ Committed.Done log clock → StandsFrom (length (log_bytes self) + 8) payload.now (log_bytes log) }
         ensures stopped { (fault : _) → result ≡ Committed.Disk fault → Goes (CommitsInPart self payload.now) (D.told disk.old) (D.told disk.new) }
         ensures full { (log : _) (limit : _) → result ≡ Committed.Full log limit → disk.new ≡ disk.old }
         ensures memory { (log : _) → result ≡ Committed.Memory log → disk.new ≡ disk.old }
@@ -354,7 +359,7 @@ pub fn logs_are_exact()
 
 /// Each payload stands nine places behind its gate, in a log of its length.
 pub fn payloads_stand()
-    ensures place { (payloads : List (List ℕ)) (gate k : ℕ) → k < length payloads → let payload = slice_index_or payloads k [] in
-        take (length payload) (drop (slice_index (gates_of 0 payloads) k + 9) (batches payloads ++ gate ∷ [])) ≡ payload }
+    ensures place { (payloads : List (List ℕ)) (gate k : ℕ) → k < length payloads
+        → StandsFrom (slice_index (gates_of 0 payloads) k + 9) (slice_index_or payloads k []) (batches payloads ++ gate ∷ []) }
     ensures size { (payloads : List (List ℕ)) (gate : ℕ) → length (batches payloads ++ gate ∷ []) ≡ log_length payloads }
 {}

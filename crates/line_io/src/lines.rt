@@ -244,6 +244,8 @@ impl Lines {
     /// Moves bytes of the source behind the held ones, as far as they have room, or comes to its end.
     fn fill<S: Source>(&mut self, source: &mut S) -> Result<(), SourceFault>
         requires space { length self.old.held < capacity }
+        // the source isn't called while a whole line is held
+        requires no_line { HasNone 10 self.old.held }
         requires no_text { self.old.text ≡ [] }
         requires below_limit { self.old.over ≡ false }
         requires going_on { self.old.ended ≡ false }

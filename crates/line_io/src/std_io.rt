@@ -1,8 +1,10 @@
 //! The source and the sink over a reader and a writer of std.
 
-ghost use Rattle.std.specs.Prelude.{◌≡◌};
+ghost use Rattle.std.specs.Prelude.{◌≡◌, ◌<◌, length, OnOk};
 ghost use Rattle.std.specs.Io.{ReadsAtMost, WritesAtMost};
 ghost use Rattle.std.specs.Io.KnownBytes.{ReadConsumes, WriteAppends};
+ghost use Rattle.outside.specs.Counts.{HasCause};
+ghost use Rattle.outside.specs.Told.{Puts};
 
 use crate::{Sink, SinkFault, Source, SourceFault};
 use std::io::{ErrorKind, Read, Write};
@@ -52,6 +54,17 @@ impl<R: Drop> StdSource<R> {
     {
         StdSource { inner, faults: 0 }
     }
+
+    /// Counts a fault exactly where the reader failed. Its end, a count of 0, is none.
+    fn note(&mut self, given: Result<usize, SourceFault>)
+        ensures inner { self.new.inner ≡ self.old.inner }
+        ensures given { OnOk given (self.new.faults ≡ self.old.faults) }
+        ensures failed { HasCause self.old.faults self.new.faults given }
+    {
+        if given.is_err() {
+            self.faults = self.faults.saturating_add(1);
+        }
+    }
 }
 
 impl<R: Read + Drop> Source for StdSource<R> {
@@ -59,14 +72,17 @@ impl<R: Read + Drop> Source for StdSource<R> {
 
     ghost faults = { λ s. s.faults };
 
-    fn fill(&mut self, out: &mut [u8]) -> Result<usize, SourceFault> {
-        match read_uninterrupted(&mut self.inner, out) {
-            Ok(count) => Ok(count),
-            Err(_) => {
-                self.faults = self.faults.saturating_add(1);
-                Err(SourceFault)
-            }
-        }
+    /// What the reader gives is the answer, 0 at its end; no fault is counted where it gives anything.
+    fn fill(&mut self, out: &mut [u8]) -> Result<usize, SourceFault>
+        requires room { 0 < length out.old }
+        ensures bound { ReadsAtMost result out.new }
+        ensures bytes { ReadConsumes (R.remaining self.old.inner) (R.remaining self.new.inner) result out.new }
+        ensures cause { HasCause self.old.faults self.new.faults result }
+        ensures counted { OnOk result (self.new.faults ≡ self.old.faults) }
+    {
+        let given = read_uninterrupted(&mut self.inner, out);
+        self.note(given);
+        given
     }
 }
 
@@ -92,7 +108,11 @@ impl<W: Write + Drop> Sink for StdSink<W> {
 
     ghost faults = { λ s. s.faults };
 
-    fn put(&mut self, piece: &[u8]) -> Result<(), SinkFault> {
+    fn put(&mut self, piece: &[u8]) -> Result<(), SinkFault>
+        ensures bytes { Puts (W.contents self.old.inner) (W.contents self.new.inner) result piece.now }
+        ensures cause { HasCause self.old.faults self.new.faults result }
+        ensures counted { OnOk result (self.new.faults ≡ self.old.faults) }
+    {
         let mut at = 0;
         'writes: while at < piece.len() {
             match write_uninterrupted(&mut self.inner, &piece[at..]) {

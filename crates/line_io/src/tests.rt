@@ -2,7 +2,7 @@
 
 ghost use Rattle.std.specs.Prelude.{◌<◌};
 
-use crate::{Line, LineFault, Lines, MemorySink, MemorySource, Sink, SinkFault};
+use crate::{Line, LineFault, Lines, MemorySink, MemorySource, Sink, SinkFault, Source, StdSource};
 use std::alloc::{AllocError, Global};
 use std::test::Fail;
 
@@ -108,5 +108,16 @@ fn a_sink_fails_at_the_calls_that_are_named(rt: HostRuntime) -> Result<(), Fail>
     assert_eq!(rt; sink.put(b"defgh"), Err(SinkFault));
     assert_eq!(rt; sink.put(b"ij"), Ok(()));
     assert_eq!(rt; sink.bytes(), b"abcdeij".as_slice());
+    Ok(())
+}
+
+#[test]
+fn the_end_of_a_reader_is_no_fault(rt: HostRuntime) -> Result<(), Fail> {
+    let mut source = StdSource::new(b"abc".as_slice());
+    let mut out = [0; 2];
+    for want in [2, 1, 0, 0] {
+        assert_eq!(rt; source.fill(&mut out), Ok(want));
+    }
+    assert_eq!(rt; out, *b"cb");
     Ok(())
 }

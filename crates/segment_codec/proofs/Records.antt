@@ -1,5 +1,5 @@
 -- A record that is read is the one that was written, and what was written is read again.
-use Rattle.std.proofs.Common.{◌≡◌, ℕ, zero, suc, ◌-◌, ◌^◌, ◌<◌, ◌≤◌, Bool, true, false, cond, ltb, leb, eqb, ◌||◌, List, [], ◌∷◌, ◌++◌, length, take, drop, get_or, Some, None, refl, sym, ap, subst, ◌∙◌, append_assoc, ⊎_elim, arith, lit≤}
+use Rattle.std.proofs.Common.{◌≡◌, ℕ, zero, suc, ◌-◌, ◌^◌, ◌<◌, ◌≤◌, Bool, true, false, cond, ltb, leb, eqb, ◌||◌, List, [], ◌∷◌, ◌++◌, length, take, drop, Some, None, refl, sym, ap, subst, ◌∙◌, append_assoc, ⊎_elim, arith, lit≤}
 use Rattle.std.specs.List.{flat_map}
 use Rattle.std.specs.Int.{w64, from_be_bytes, to_be_bytes}
 use Rattle.std.proofs.lemmas.Bool.{and_parts, or_cases, ltb-true, ltb-false, leb-true, le-leb, lt-ltb, le-ltb, eqb-true, eq-eqb, ne_eqb}
@@ -218,12 +218,3 @@ one-record s t x y hs ht e =
     let a : Segment × List ℕ = (s, x) in let b : Segment × List ℕ = (t, y) in
     let same = some_is a b (sym (record_again s x hs) ∙ ap record_at e ∙ record_again t y ht) in
     (ap (λ (z : Segment × List ℕ). z.0) same, ap (λ (z : Segment × List ℕ). z.1) same)
-
--- the highest id stands at the third byte
-pub high-at : (s : Segment) (rest bytes : List ℕ) → IsSegment s → bytes ≡ segment_bytes s ++ rest
-    → from_be_bytes w64 (get_or bytes 2 0 ∷ get_or bytes 3 0 ∷ get_or bytes 4 0 ∷ get_or bytes 5 0 ∷ get_or bytes 6 0 ∷ get_or bytes 7 0 ∷ get_or bytes 8 0 ∷ get_or bytes 9 0 ∷ []) ≡ s.high
-unfolding segment_bytes
-high-at s rest bytes h e =
-    let k : id_end ≤ 2 ^ 64 = lit≤ tt in let valid = h.valid in
-    ap (λ (b : List ℕ). from_be_bytes w64 (get_or b 2 0 ∷ get_or b 3 0 ∷ get_or b 4 0 ∷ get_or b 5 0 ∷ get_or b 6 0 ∷ get_or b 7 0 ∷ get_or b 8 0 ∷ get_or b 9 0 ∷ [])) e
-    ∙ from_be_bytes-to_be_bytes_8 s.high (omega (arith, k, valid))

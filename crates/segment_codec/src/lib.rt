@@ -16,7 +16,7 @@ mod writing;
 
 pub use laws::{numbers_are_spelled, records_are_spelled, segments_go_on, tables_spelled_out};
 pub use lent::{Parents, SegmentRef};
-pub use reading::{read_high, read_segment};
+pub use reading::read_segment;
 pub use steps::Steps;
 pub use table::{Bounds, SegmentTable};
 pub use writing::write_segment;

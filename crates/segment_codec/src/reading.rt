@@ -1,8 +1,7 @@
 //! Records, read from bytes that begin with one.
 
-ghost use Rattle.std.specs.Prelude.{◌≡◌, ◌≤◌, ◌<◌, ◌^◌, ◌++◌, List, ℕ, length, take, drop, IfSome, MatchOption};
+ghost use Rattle.std.specs.Prelude.{◌≡◌, ◌<◌, ◌^◌, ◌++◌, List, ℕ, IfSome, MatchOption};
 ghost use Rattle.std.specs.List.{AllByRecursion};
-ghost use Rattle.std.specs.Int.{w64, from_be_bytes};
 ghost use Rattle.id_groups.specs.Lists.{is_in};
 ghost use Rattle.segment_codec.specs.Record.{Segment, IsSegment, segment_bytes};
 ghost use Rattle.segment_codec.specs.Reading.{Gives, numbers_at, are_distinct, ascend_from, are_in_order, record_at};
@@ -106,15 +105,4 @@ fn read_record<'a>(bytes: &'a [u8]) -> Option<(SegmentRef<'a>, &'a [u8])>
         parents: parents.rest,
     };
     Some((segment, rest))
-}
-
-/// The highest id of the record in front, read from its place without the rest of the record.
-pub fn read_high(bytes: &[u8]) -> u64
-    requires { 10 ≤ length bytes.now }
-    ensures number { result ≡ from_be_bytes w64 (take 8 (drop 2 bytes.now)) }
-    ensures high { (s : Segment) (rest : List ℕ) → IsSegment s → bytes.now ≡ segment_bytes s ++ rest → result ≡ s.high }
-{
-    u64::from_be_bytes([
-        bytes[2], bytes[3], bytes[4], bytes[5], bytes[6], bytes[7], bytes[8], bytes[9],
-    ])
 }

@@ -1,6 +1,8 @@
-use Rattle.std.proofs.Common.{◌≡◌, ◌≤◌, ◌+◌, length, IfSome, vec_capacity, sym, ◌∙◌, ap, subst, arith}
+use Rattle.std.proofs.Common.{◌≡◌, ◌≤◌, ◌+◌, [], ◌∷◌, ◌++◌, length, IfSome, vec_capacity, sym, ◌∙◌, ap, ap₂, subst, arith}
 use Rattle.disk_trait.specs.Images.{moment_of}
-use Rattle.gated_log.specs.Held.{Held, room_of}
+use Rattle.gated_log.specs.Log.{batches, StandsFrom}
+use Rattle.gated_log.specs.Held.{Held, room_of, log_bytes}
+use Rattle.gated_log.proofs.Shapes.{stands-last}
 use Rattle.gated_log.proofs.Stages.{kept_at_start}
 use Rattle.gated_log.proofs.Commits.{done_parts, reads, start, allowed, fails_1, fails_2, fails_3, fails_4, cut_1, cut_2, cut_3, cut_4, allowed_2, kept, done, whole_at_end, fits_by_test}
 use Rattle.gated_log.proofs.Log.commit.Goals as goal
@@ -98,6 +100,17 @@ returns-clause-done g c = λ log clock same.
     done c.args.self c.args.payload.now c.len-end.result _ (g.D.Disk.told c.args.disk.now) s log clock (g.D.Disk.told c.write.new.self) (g.D.Disk.told c.sync.new.self) (g.D.Disk.told c.write-2.new.self) (g.D.Disk.told c.sync-2.new.self) c.in_default-write.ensures.ok c.in_default-sync.ensures.ok c.in_default-write-2.ensures.ok c.in_default-sync-2.ensures.ok
     (sym (ap (λ (l : Held). l.payloads) parts.0) ∙ e.1) (sym (ap (λ (l : Held). l.gate) parts.0) ∙ e.2) (sym (ap (λ (l : Held). l.limit) parts.0) ∙ r.most)
     (subst (λ n. IfSome (g.D.Disk.told c.sync-2.new.self) (λ t. n ≡ moment_of t)) parts.1 c.clock.ensures.moment)
+
+pub returns-clause-place : goal.returns-clause-place
+returns-clause-place g c = λ log clock same.
+    let r = reads c.self.inside.gates.items c.self.inside.bytes.items c.self.inside.limit (room_of (vec_capacity c.self.inside.bytes) (vec_capacity c.self.inside.gates) (length c.self.inside.gates.items)) c.args.self c.self.view_is c.self.invariant in
+    let size : c.len-end.result ≡ length c.self.inside.bytes.items = omega (arith, c.self.inside.bytes.ok.0) in
+    let room : length c.self.inside.bytes.items + length c.args.payload.now + 9 ≤ c.self.inside.limit = fits_by_test c.self.inside.limit (length c.self.inside.bytes.items) (length c.args.payload.now) c.len-end.result c.is_full.result c.if-is_full.false c.is_full.ensures size in
+    let e = whole_at_end c.self.inside.gates.items c.self.inside.bytes.items c.args.payload.now c.stage.new.gates.items c.stage.new.bytes.items c.self.inside.limit c.args.self c.len-end.result r room c.in_default.ensures.ok.0 c.in_default.ensures.ok.1 size in
+    let parts = done_parts _ log _ clock same in
+    subst (λ b. StandsFrom (length (log_bytes c.args.self) + 8) c.args.payload.now b)
+    (sym (ap₂ (λ ps gate. batches ps ++ gate ∷ []) (sym (ap (λ (l : Held). l.payloads) parts.0) ∙ e.1) (sym (ap (λ (l : Held). l.gate) parts.0) ∙ e.2)))
+    (stands-last c.args.self.payloads c.args.payload.now c.args.self.gate)
 
 pub returns-in-Err-write-clause-stopped : goal.returns-in-Err-write-clause-stopped
 returns-in-Err-write-clause-stopped g c = λ fault is.

@@ -1,5 +1,8 @@
-use Rattle.std.proofs.Common.{[], arith}
-use Rattle.gated_log.proofs.LoadCalls.{sync_fails, size_fails, sized, sized_keeps, images_kept, payloads_kept, start_images, start_keeps, read_keeps, size_is, read_done}
+use Rattle.std.proofs.Common.{◌≡◌, length, [], arith}
+use Rattle.disk_trait.proofs.Telling.{of_told}
+use Rattle.gated_log.specs.Load.{Loads}
+use Rattle.gated_log.proofs.LoadCalls.{sync_fails, size_fails, sized, sized_keeps, images_kept, payloads_kept, start_images, start_keeps, read_keeps, size_is, read_done, start_done}
+use Rattle.gated_log.proofs.Fresh.{old_kept, fresh_started}
 use Rattle.gated_log.proofs.Log.load.Goals as goal
 
 pub returns-in_err-sync-clause-moments : goal.returns-in_err-sync-clause-moments
@@ -15,7 +18,7 @@ pub returns-then-size-limit-clause-images : goal.returns-then-size-limit-clause-
 returns-then-size-limit-clause-images g c = images_kept (g.D.Disk.told c.args.disk.now) (g.D.Disk.told c.size.new.self) (sized_keeps (g.D.Disk.told c.args.disk.now) (g.D.Disk.told c.size.new.self) (sized (g.D.Disk.told c.args.disk.now) (g.D.Disk.told c.sync.new.self) (g.D.Disk.told c.size.new.self) (g.met.D.Disk.sound c.args.disk.now) c.in_ok-sync.ensures.ok c.in_ok-size.ensures.ok))
 
 pub returns-then-size-le1-clause-images : goal.returns-then-size-le1-clause-images
-returns-then-size-le1-clause-images g c = start_images c.args.limit c.in_ok-size.size (g.D.Disk.told c.args.disk.now) (g.D.Disk.told c.size.new.self) (g.D.Disk.told c.start.new.disk) (sized (g.D.Disk.told c.args.disk.now) (g.D.Disk.told c.sync.new.self) (g.D.Disk.told c.size.new.self) (g.met.D.Disk.sound c.args.disk.now) c.in_ok-sync.ensures.ok c.in_ok-size.ensures.ok) (c.start.ensures.moments []) (size_is c.in_ok-size.size (g.D.Disk.told c.sync.new.self) (g.D.Disk.told c.size.new.self) c.in_ok-size.ensures.ok c.in_ok-size.ensures.size) (omega arith)
+returns-then-size-le1-clause-images g c = start_images c.args.limit c.in_ok-size.size (g.D.Disk.told c.args.disk.now) (g.D.Disk.told c.size.new.self) (g.D.Disk.told c.start.new.disk) (sized (g.D.Disk.told c.args.disk.now) (g.D.Disk.told c.sync.new.self) (g.D.Disk.told c.size.new.self) (g.met.D.Disk.sound c.args.disk.now) c.in_ok-sync.ensures.ok c.in_ok-size.ensures.ok) (c.start.ensures.moments []) (size_is c.in_ok-size.size (g.D.Disk.told c.sync.new.self) (g.D.Disk.told c.size.new.self) c.in_ok-size.ensures.ok (of_told (λ b. c.in_ok-size.size ≡ length b) (g.D.Disk.bytes c.sync.new.self) (g.D.Disk.told c.sync.new.self) (g.met.D.Disk.tells c.sync.new.self) c.in_ok-size.ensures.size)) (omega arith)
 
 pub returns-then-size-le1-clause-moments : goal.returns-then-size-le1-clause-moments
 returns-then-size-le1-clause-moments g c = λ ps. start_keeps c.args.limit ps (g.D.Disk.told c.args.disk.now) (g.D.Disk.told c.size.new.self) (g.D.Disk.told c.start.new.disk) (sized (g.D.Disk.told c.args.disk.now) (g.D.Disk.told c.sync.new.self) (g.D.Disk.told c.size.new.self) (g.met.D.Disk.sound c.args.disk.now) c.in_ok-sync.ensures.ok c.in_ok-size.ensures.ok) (c.start.ensures.moments ps)
@@ -27,4 +30,21 @@ pub returns-clause-moments : goal.returns-clause-moments
 returns-clause-moments g c = λ ps. payloads_kept c.args.limit ps (g.D.Disk.told c.args.disk.now) (g.D.Disk.told c.read_all.new.disk) (read_keeps (g.D.Disk.told c.args.disk.now) (g.D.Disk.told c.size.new.self) (g.D.Disk.told c.read_all.new.disk) (sized (g.D.Disk.told c.args.disk.now) (g.D.Disk.told c.sync.new.self) (g.D.Disk.told c.size.new.self) (g.met.D.Disk.sound c.args.disk.now) c.in_ok-sync.ensures.ok c.in_ok-size.ensures.ok) c.read_all.ensures.reads)
 
 pub returns-clause-done : goal.returns-clause-done
-returns-clause-done g c = read_done c.args.limit c.in_ok-size.size (g.D.Disk.told c.args.disk.now) (g.D.Disk.told c.size.new.self) (g.D.Disk.told c.read_all.new.disk) c.read_all.result (sized (g.D.Disk.told c.args.disk.now) (g.D.Disk.told c.sync.new.self) (g.D.Disk.told c.size.new.self) (g.met.D.Disk.sound c.args.disk.now) c.in_ok-sync.ensures.ok c.in_ok-size.ensures.ok) c.read_all.ensures.ok (size_is c.in_ok-size.size (g.D.Disk.told c.sync.new.self) (g.D.Disk.told c.size.new.self) c.in_ok-size.ensures.ok c.in_ok-size.ensures.size) (omega arith) (omega arith) c.read_all.ensures.answers
+returns-clause-done g c = read_done c.args.limit c.in_ok-size.size (g.D.Disk.told c.args.disk.now) (g.D.Disk.told c.size.new.self) (g.D.Disk.told c.read_all.new.disk) c.read_all.result (sized (g.D.Disk.told c.args.disk.now) (g.D.Disk.told c.sync.new.self) (g.D.Disk.told c.size.new.self) (g.met.D.Disk.sound c.args.disk.now) c.in_ok-sync.ensures.ok c.in_ok-size.ensures.ok) c.read_all.ensures.ok (size_is c.in_ok-size.size (g.D.Disk.told c.sync.new.self) (g.D.Disk.told c.size.new.self) c.in_ok-size.ensures.ok (of_told (λ b. c.in_ok-size.size ≡ length b) (g.D.Disk.bytes c.sync.new.self) (g.D.Disk.told c.sync.new.self) (g.met.D.Disk.tells c.sync.new.self) c.in_ok-size.ensures.size)) (omega arith) (omega arith) (of_told (λ b. Loads c.args.limit b c.read_all.result) (g.D.Disk.bytes c.size.new.self) (g.D.Disk.told c.size.new.self) (g.met.D.Disk.tells c.size.new.self) c.read_all.ensures.answers)
+
+pub returns-in_err-size-clause-fresh : goal.returns-in_err-size-clause-fresh
+returns-in_err-size-clause-fresh g c = old_kept (g.D.Disk.told c.args.disk.now) (g.D.Disk.told c.size.new.self) (size_fails (g.D.Disk.told c.args.disk.now) (g.D.Disk.told c.sync.new.self) (g.D.Disk.told c.size.new.self) (g.met.D.Disk.sound c.args.disk.now) c.in_ok-sync.ensures.ok c.in_err-size.ensures.err)
+
+pub returns-then-size-limit-clause-fresh : goal.returns-then-size-limit-clause-fresh
+returns-then-size-limit-clause-fresh g c = old_kept (g.D.Disk.told c.args.disk.now) (g.D.Disk.told c.size.new.self) (sized_keeps (g.D.Disk.told c.args.disk.now) (g.D.Disk.told c.size.new.self) (sized (g.D.Disk.told c.args.disk.now) (g.D.Disk.told c.sync.new.self) (g.D.Disk.told c.size.new.self) (g.met.D.Disk.sound c.args.disk.now) c.in_ok-sync.ensures.ok c.in_ok-size.ensures.ok))
+
+pub returns-then-size-le1-clause-fresh : goal.returns-then-size-le1-clause-fresh
+returns-then-size-le1-clause-fresh g c = fresh_started c.in_ok-size.size (g.D.Disk.told c.args.disk.now) (g.D.Disk.told c.size.new.self) (g.D.Disk.told c.start.new.disk) (sized (g.D.Disk.told c.args.disk.now) (g.D.Disk.told c.sync.new.self) (g.D.Disk.told c.size.new.self) (g.met.D.Disk.sound c.args.disk.now) c.in_ok-sync.ensures.ok c.in_ok-size.ensures.ok)
+    (size_is c.in_ok-size.size (g.D.Disk.told c.sync.new.self) (g.D.Disk.told c.size.new.self) c.in_ok-size.ensures.ok (of_told (λ b. c.in_ok-size.size ≡ length b) (g.D.Disk.bytes c.sync.new.self) (g.D.Disk.told c.sync.new.self) (g.met.D.Disk.tells c.sync.new.self) c.in_ok-size.ensures.size)) (omega arith) c.start.ensures.fresh
+
+pub returns-then-size-le1-clause-done : goal.returns-then-size-le1-clause-done
+returns-then-size-le1-clause-done g c = start_done c.in_ok-size.size (g.D.Disk.told c.args.disk.now) (g.D.Disk.told c.size.new.self) (g.D.Disk.told c.start.new.disk) c.start.result (sized (g.D.Disk.told c.args.disk.now) (g.D.Disk.told c.sync.new.self) (g.D.Disk.told c.size.new.self) (g.met.D.Disk.sound c.args.disk.now) c.in_ok-sync.ensures.ok c.in_ok-size.ensures.ok)
+    c.start.ensures.ok (size_is c.in_ok-size.size (g.D.Disk.told c.sync.new.self) (g.D.Disk.told c.size.new.self) c.in_ok-size.ensures.ok (of_told (λ b. c.in_ok-size.size ≡ length b) (g.D.Disk.bytes c.sync.new.self) (g.D.Disk.told c.sync.new.self) (g.met.D.Disk.tells c.sync.new.self) c.in_ok-size.ensures.size)) (omega arith)
+
+pub returns-clause-fresh : goal.returns-clause-fresh
+returns-clause-fresh g c = old_kept (g.D.Disk.told c.args.disk.now) (g.D.Disk.told c.read_all.new.disk) (read_keeps (g.D.Disk.told c.args.disk.now) (g.D.Disk.told c.size.new.self) (g.D.Disk.told c.read_all.new.disk) (sized (g.D.Disk.told c.args.disk.now) (g.D.Disk.told c.sync.new.self) (g.D.Disk.told c.size.new.self) (g.met.D.Disk.sound c.args.disk.now) c.in_ok-sync.ensures.ok c.in_ok-size.ensures.ok) c.read_all.ensures.reads)

@@ -1,0 +1,42 @@
+#!/bin/sh
+# What the built program makes of its words: those that are no usage end it with status 2 and one line on standard error, and a
+# usage without any input with status 0. Neither writes anything on standard output.
+set -eu
+cd "$(dirname "$0")/.."
+program=crates/segdag/out/segdag
+if [ ! -x "$program" ]; then
+    echo "words: $program isn't built, so this isn't tried; make run builds it"
+    exit 0
+fi
+
+told=$(mktemp)
+trap 'rm -f "$told"' EXIT
+
+# The status is the first word, the number of lines on standard error the second; the program's words are those behind.
+ends() {
+    wanted=$1
+    lines=$2
+    shift 2
+    status=0
+    out=$("$program" "$@" < /dev/null 2> "$told") || status=$?
+    if [ "$status" != "$wanted" ] || [ -n "$out" ] || [ "$(wc -l < "$told")" -ne "$lines" ]; then
+        echo "words: '$*' ended with $status, '$out' and these lines on standard error:"
+        cat "$told"
+        exit 1
+    fi
+}
+
+ends 2 1
+ends 2 1 log
+ends 2 1 log run
+ends 2 1 -- run
+ends 2 1 log --
+ends 2 1 log -- walk
+ends 2 1 log -- run run
+ends 2 1 log remote -- Run
+ends 2 1 -- log -- run
+ends 2 1 "$(printf '\377')" -- run
+ends 0 0 log -- run
+ends 0 0 log remote other -- run
+ends 0 0 run -- run
+echo "words: all end as they must"
