@@ -1,6 +1,6 @@
 #!/usr/bin/env python3
-"""What crates/bench_walks has to print for histories of so many commits, by the bits of what each commit reaches.
-Usage: bench/walks_expected.py [COMMITS] > crates/bench_walks/stdout"""
+"""What `bench walks --size COMMITS` has to print, by the bits of what each commit reaches: the last lines of
+crates/bench/stdout, for 1,000 commits. Usage: bench/walks_expected.py [COMMITS]"""
 import bisect
 import sys
 
@@ -61,12 +61,12 @@ def report(name, merges, branches, count):
     parents_of = lambda bits: sum(1 << p for p in {p for c in places(bits) for p in rows[c]})
     begun = [i for i in range(count) if rows[i] != [i - 1]]
     head = count - 1
-    print(f'{name}, {count} commits')
-    print(f'drawn and put into a table: {count}')
+    print(f'{name}:')
+    print(f'commits drawn and put into a table: {count}')
     print(f'flat_at, all segments: {len(begun)}')
     print('flat_at, all parents of segments:', sum(len(rows[i]) for i in begun))
     draws = Draws()
-    print('flat, random ids:', sum(draws.below(count) in set(begun) for _ in range(count)))
+    print('flat, a random id for each commit:', sum(draws.below(count) in set(begun) for _ in range(count)))
     print('ancestors of the head:', size(reach[head]))
     at = head
     for _ in range(count // 10):
@@ -76,13 +76,13 @@ def report(name, merges, branches, count):
     for _ in range(100):
         later, earlier = draws.pair(count, 'anywhere')
         pairs += reach[later] >> earlier & 1
-    print('is_ancestor, random pairs:', pairs)
+    print('is_ancestor, 100 random pairs:', pairs)
     print('parents(all):', size(parents_of(2**count - 1)))
     for whose, place in (('a low id', 10), ('a middle id', count // 2)):
         above = begun[bisect.bisect_right(begun, place) - 1:]
+        print(f'of {whose}:')
         print('flat_at, the segments above:', len(above))
         print('flat_at, the parents of these:', sum(len(rows[i]) for i in above))
-        print(f'of {whose}:')
         print('children:', sum(place in parents for parents in rows))
         above = [i for i in range(count) if reach[i] >> place & 1]
         print('descendants:', len(above))
@@ -94,7 +94,7 @@ def report(name, merges, branches, count):
             only += size(reach[later] & ~reach[earlier])
             common = reach[later] & reach[earlier]
             last += size(common & ~parents_of(common))
-        print(f'{apart} pairs:\nsets alone: {2 * times}\nonly: {only}\ngca: {last}')
+        print(f'{times} {apart} pairs:\nsets alone: {2 * times}\nonly: {only}\ngca: {last}')
     draws = Draws()
     ten = {draws.below(count) for _ in range(10)}
     common = -1

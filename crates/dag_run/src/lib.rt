@@ -25,6 +25,3 @@ pub use program::{run_lines, top};
 pub use reply::{Counts, Limit, Refusal, Reply};
 pub use report::{Moments, Report};
 pub use words::{Split, split_words};
-
-#[cfg(test)]
-mod tests;

@@ -1,7 +1,8 @@
 #![tactic(auto)]
 
 //! Runs of command lines as data: the standard input holds cases, each behind a line that begins with `==`. The replies to
-//! the lines of each case go to the standard output, behind the case's own line.
+//! the lines of each case go to the standard output, behind the case's own line. Reading a case takes one carriage return off
+//! the end of each of its lines, and running it the next.
 
 ghost use Rattle.std.specs.Prelude.{◌<◌};
 
@@ -10,6 +11,9 @@ use line_io::{Line, LineFault, Lines, MemorySource, Sink, SinkFault, StdSink, St
 use std::alloc::{AllocError, AllocFailed, Global};
 use std::io;
 use std::process::ExitCode;
+
+#[cfg(test)]
+mod tests;
 
 /// Why the cases weren't all run.
 #[derive(Clone, Copy)]

@@ -1,0 +1,11 @@
+//! How a work is told.
+
+use std::io::{self, Eprint, Print};
+use std::time::Instant;
+
+/// Tells what was done and what it gave on the output, and how long it took on the error output.
+pub fn told(rt: &HostRuntime, what: &str, start: Instant, gave: u64) -> io::Result<()> {
+    let time = start.elapsed(rt)?;
+    eprintln!(rt; "{what}: {} us", time.as_micros())?;
+    println!(rt; "{what}: {gave}")
+}

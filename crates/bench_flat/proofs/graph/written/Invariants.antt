@@ -1,5 +1,0 @@
-use Rattle.bench_flat.proofs.Building.{Built}
-use Rattle.bench_flat.proofs.graph.written.Given as goal
-
-abbrev pub invariant-records : goal.invariant-records
-invariant-records l = Built l.records.items l.k

@@ -1,5 +1,0 @@
-use Rattle.std.proofs.Common.{length}
-use Rattle.bench_names.proofs.names.count_found.Given as goal
-
-abbrev pub decreases-names : goal.decreases-names
-decreases-names l = length l.rest

@@ -1,5 +1,0 @@
-use Rattle.bench_placing.proofs.Drawn.{IsEnough}
-use Rattle.bench_placing.proofs.history.are_below.Given as goal
-
-abbrev pub invariant-parents : goal.invariant-parents
-invariant-parents l = IsEnough l.number l.parents l.i
