@@ -45,7 +45,10 @@ longer P id next only h =
 begun : (P : ℕ → List ℕ) (id : ℕ) (next : Segment) → is_only id next.parents ≡ false → IsPartFrom P (id + 1) next → IsSegmentFrom P (id + 1) next
 begun P id next not_only h =
     record {
-      low = h.low; order = h.order; flat = h.flat; own = h.own;
+      low = h.low;
+      order = h.order;
+      flat = h.flat;
+      own = h.own;
       begins = λ e.
           let low = h.low in
           let here : next.low - 1 ≡ id = omega (arith, low) in

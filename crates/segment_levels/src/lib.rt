@@ -5,5 +5,6 @@
 mod laws;
 
 pub use laws::{
-    groups_are_greatest, heads_by_ids, levels_are_headed, levels_nest, levels_stay, segments_of_graph,
+    groups_are_greatest, heads_by_ids, levels_are_headed, levels_nest, levels_stay,
+    segments_of_graph,
 };
