@@ -24,12 +24,7 @@ pub struct Growing {
 }
 
 /// Adds some batches of so many records each.
-pub fn grow(
-    growing: Growing,
-    log: &[u8],
-    batch: u32,
-    times: u32,
-) -> Result<Growing, FlatFault> {
+pub fn grow(growing: Growing, log: &[u8], batch: u32, times: u32) -> Result<Growing, FlatFault> {
     let Growing {
         mut sample,
         mut place,

@@ -118,7 +118,12 @@ fn show_look_ups<R: Print + Eprint + Clock, T: SegmentTable>(
     eprintln!(rt; " {what}")?;
     let start = Instant::now(rt)?;
     let found = count_ends(table, LOOK_UPS);
-    show(rt, "seven million look-ups above the flat level", start, found)?;
+    show(
+        rt,
+        "seven million look-ups above the flat level",
+        start,
+        found,
+    )?;
     let start = Instant::now(rt)?;
     let found = count_flat(table, LOOK_UPS);
     show(rt, "a million look-ups of an id", start, found)?;
@@ -126,7 +131,12 @@ fn show_look_ups<R: Print + Eprint + Clock, T: SegmentTable>(
     let Ok(walked) = walk(alloc, table, LAST) else {
         return println!(rt; "no memory");
     };
-    show(rt, "ancestors of the last id, look-ups", start, walked.steps)?;
+    show(
+        rt,
+        "ancestors of the last id, look-ups",
+        start,
+        walked.steps,
+    )?;
     println!(rt; "  ids: {}", walked.count)
 }
 
@@ -159,7 +169,7 @@ fn run<R: Print + Eprint + Clock>(
     let flat = table.view(&records, table.count());
     show_look_ups(rt, alloc, &view, "with levels")?;
     show_look_ups(rt, alloc, &flat, "without levels")?;
-    show_pairs(rt, alloc, &view, "with levels", 1000)?;
+    show_pairs(rt, alloc, &view, "with levels", 100)?;
     show_pairs(rt, alloc, &flat, "without levels", 20)?;
     show_batches(rt, alloc, &records, 250)?;
     show_batches(rt, alloc, &records, 1)

@@ -139,12 +139,7 @@ fn push_segment(
 }
 
 /// Adds the commits from one to before another, in as few segments as may be.
-fn push_piece(
-    sample: &mut Sample,
-    rows: &[Parents],
-    from: u64,
-    to: u64,
-) -> Result<(), AllocError> {
+fn push_piece(sample: &mut Sample, rows: &[Parents], from: u64, to: u64) -> Result<(), AllocError> {
     let mut low = from;
     for next in from.saturating_add(1)..=to {
         if next == to || !parents_of(rows, next).goes_on(next) {
@@ -161,8 +156,7 @@ fn write_log(
     rows: &[Parents],
     most: u64,
     seed: u64,
-) -> Result<(Sample, Vec<usize>), AllocError>
-{
+) -> Result<(Sample, Vec<usize>), AllocError> {
     let count = rows.len() as u64;
     let mut sample = Sample::empty(alloc);
     let mut ends = Vec::new(alloc);
@@ -171,7 +165,10 @@ fn write_log(
     for _piece in 0..count {
         if from < count {
             random = next_random(random);
-            let to = count.min(from.saturating_add(1).saturating_add((random >> 33) % most.max(1)));
+            let to = count.min(
+                from.saturating_add(1)
+                    .saturating_add((random >> 33) % most.max(1)),
+            );
             push_piece(&mut sample, rows, from, to)?;
             ends.push(sample.bytes().len())?;
             from = to;

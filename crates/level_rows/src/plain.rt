@@ -135,7 +135,9 @@ fn is_right(
     is_within: bool,
 ) -> Result<bool, AllocError> {
     match (ends, found) {
-        (Some(range), Some(segment)) if is_within => is_level_of(alloc, rows, segment, range, level),
+        (Some(range), Some(segment)) if is_within => is_level_of(
+            alloc, rows, segment, range, level,
+        ),
         (Some(_), None) => Ok(!is_within),
         (None, None) => Ok(true),
         _ => Ok(false),

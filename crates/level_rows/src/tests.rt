@@ -90,7 +90,10 @@ const COUNTED: [Counted; 6] = [
     // each level has fifteen fewer than the one below, and one more is missing on the first
     ((Shape::Roots, 122, 1), &[122, 106, 91, 76, 61, 46, 31, 16]),
     // no ninth level comes
-    ((Shape::Roots, 2000, 700), &[2000, 1984, 1969, 1954, 1939, 1924, 1909, 1894]),
+    (
+        (Shape::Roots, 2000, 700),
+        &[2000, 1984, 1969, 1954, 1939, 1924, 1909, 1894],
+    ),
 ];
 
 fn has_counts(sample: &LevelSample, counts: &[u32]) -> bool {

@@ -11,11 +11,14 @@ new-requires c =
     let count = c.view-flat.ensures.count in
     let end = ap (λ (v : Grown). v.table.end) c.self.view_is in
     let le = c.requires in
-    let stand = subst (λ (z : List ℕ). Stand z g.records) (sym c.deref.ensures.value) g.stand in
-    (c.self.inside.table, g.records, record {
-      table_of = g.table_of;
-      small = g.small;
-      levels_of = g.levels_of;
-      flats = c.view-flat.ensures.master ∙ c.view-flat.ensures.flats g.records g.table_of stand ∙ ap (λ n. cut n (flats_of c.self.inside.table g.records)) (sym count);
-      below = omega (arith, count, end, le);
-    })
+    let stand = subst (λ (z : List ℕ). Stand z g.records) (sym c.deref.ensures.value) g.stand in (
+      c.self.inside.table,
+      g.records,
+      record {
+        table_of = g.table_of;
+        small = g.small;
+        levels_of = g.levels_of;
+        flats = c.view-flat.ensures.master ∙ c.view-flat.ensures.flats g.records g.table_of stand ∙ ap (λ n. cut n (flats_of c.self.inside.table g.records)) (sym count);
+        below = omega (arith, count, end, le);
+      },
+    )
