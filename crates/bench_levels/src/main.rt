@@ -30,7 +30,7 @@ use std::time::Instant;
 
 const SEGMENTS: u64 = 400_000;
 
-const LOOK_UPS: u64 = 1_000_000;
+const LOOK_UPS: u64 = 100_000;
 
 const IDS: u64 = 4 * SEGMENTS;
 
@@ -176,15 +176,10 @@ fn show_look_ups<R: Print + Eprint + Clock, T: SegmentTable>(
     name_part(rt, "look-ups", what, LOOK_UPS)?;
     let start = Instant::now(rt)?;
     let found = count_ends(table, LOOK_UPS);
-    show(
-        rt,
-        "seven million look-ups above the flat level",
-        start,
-        found,
-    )?;
+    show(rt, "as many on each of seven levels", start, found)?;
     let start = Instant::now(rt)?;
     let found = count_flat(table, LOOK_UPS);
-    show(rt, "a million look-ups of an id", start, found)?;
+    show(rt, "as many of an id", start, found)?;
     show_walk(rt, alloc, table)
 }
 
@@ -203,8 +198,8 @@ fn show_views<R: Print + Eprint + Clock>(
     let flat = table.view(records, table.count());
     show_look_ups(rt, alloc, &view, "with levels")?;
     show_look_ups(rt, alloc, &flat, "without levels")?;
-    show_pairs(rt, alloc, &view, "with levels", 100)?;
-    show_pairs(rt, alloc, &flat, "without levels", 20)
+    show_pairs(rt, alloc, &view, "with levels", 5)?;
+    show_pairs(rt, alloc, &flat, "without levels", 2)
 }
 
 /// Makes the levels of a table.
