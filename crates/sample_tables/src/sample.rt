@@ -57,6 +57,13 @@ impl Sample {
         self.table.count()
     }
 
+    /// The bytes of the records.
+    pub fn bytes(&self) -> &[u8]
+        ensures { result.now ≡ self.now.bytes }
+    {
+        &self.bytes
+    }
+
     /// Whether so many commits more may come, of which the first has these parents and each other the one before it.
     pub fn may_push(&self, parents: &[Id], count: u64) -> bool
         ensures { IsTrue result ↔ MayPush self.now.table.end parents.now count }

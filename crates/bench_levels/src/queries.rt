@@ -1,0 +1,72 @@
+//! Queries about pairs of commits.
+
+use crate::graph::next_random;
+use ancestor_query::ancestors;
+use common_ancestor::{gca, only};
+use id_groups::Id;
+use sample_tables::held_ids;
+use segment_codec::{SegmentTable, Steps};
+use std::alloc::{AllocError, Global};
+
+/// What is asked of two commits.
+#[derive(Clone, Copy)]
+pub enum Question {
+    /// The ancestors of the first.
+    Ancestors,
+    /// Those of the first and not of the second.
+    Only,
+    /// The greatest that both reach.
+    Gca,
+}
+
+/// How many ids the answer has.
+fn ask<T: SegmentTable>(
+    alloc: Global,
+    table: &T,
+    question: Question,
+    first: Id,
+    second: Id,
+) -> Result<u64, AllocError> {
+    let one = held_ids(alloc, table, &[first])?;
+    let mut steps = Steps::new();
+    let found = match question {
+        Question::Ancestors => ancestors(alloc, table, &one, &mut steps)?,
+        Question::Only => {
+            let other = held_ids(alloc, table, &[second])?;
+            only(alloc, table, &one, &other, &mut steps)?
+        }
+        Question::Gca => {
+            let both = held_ids(alloc, table, &[first, second])?;
+            gca(alloc, table, &both, &mut steps)?
+        }
+    };
+    Ok(found.count())
+}
+
+/// How many ids the answers about so many pairs have together. The second of a pair lies at most so far below the first.
+pub fn ask_pairs<T: SegmentTable>(
+    alloc: Global,
+    table: &T,
+    question: Question,
+    ids: u64,
+    reach: u64,
+    count: u64,
+) -> Result<u64, AllocError> {
+    let mut random = 7;
+    let mut sum = 0u64;
+    for _k in 0..count {
+        random = next_random(random);
+        let first = (random >> 30) % ids.max(1);
+        random = next_random(random);
+        let second = first.saturating_sub((random >> 30) % reach.max(1));
+        let found = ask(
+            alloc,
+            table,
+            question,
+            Id::master(first % (1 << 32)),
+            Id::master(second % (1 << 32)),
+        )?;
+        sum = sum.saturating_add(found);
+    }
+    Ok(sum)
+}
