@@ -7,7 +7,7 @@ use Rattle.id_groups.proofs.Listing.{filtered_once}
 use Rattle.commit_graph.specs.World.{Row, World, rows_of, with_pending}
 use Rattle.commit_graph.specs.Graph.{graph_of}
 use Rattle.commit_graph.specs.Ids.{id_in, parent_ids}
-use Rattle.segment_rules.specs.Levels.{level_counts}
+use Rattle.segment_rules.specs.Levels.{level_counts_of}
 use Rattle.set_query.specs.Expr.{Expr, commits_in}
 use Rattle.set_query.specs.Meaning.{IsMember, IsAnswer}
 use Rattle.change_rules.specs.declared.Limits.{Limits}
@@ -105,7 +105,7 @@ OwnAnswer limits b p w m (Count e) reply b' p' =
     (names : List Name) × IsAnswer (graph_of same_name (with_pending b p)) e names × (reply ≡ Counted (length names)) × Has b p b' p'
 OwnAnswer limits b p w m (IdOf name) reply b' p' = (reply ≡ Identified (id_in same_name (with_pending b p) name)) × Has b p b' p'
 OwnAnswer limits b p w m Status reply b' p' = (reply ≡ Sizes (length b.master) (length b.others) (length p)) × Has b p b' p'
-OwnAnswer limits b p w m Levels reply b' p' = (reply ≡ LevelSizes (level_counts (parent_ids same_name w w.master))) × Has b p b' p'
+OwnAnswer limits b p w m Levels reply b' p' = (reply ≡ LevelSizes (level_counts_of (parent_ids same_name w w.master))) × Has b p b' p'
 OwnAnswer limits b p w m Clone reply b' p' =
     (rows : List (Row Name)) × (m ≡ Some rows)
     × MatchOption (first_some (taking limits w rows Clone))

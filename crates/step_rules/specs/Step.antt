@@ -5,7 +5,7 @@ use Rattle.std.specs.Option.{option_map}
 use Rattle.id_groups.specs.Name.{Name, same_name}
 use Rattle.commit_graph.specs.World.{World}
 use Rattle.commit_graph.specs.Ids.{id_in, parent_ids}
-use Rattle.segment_rules.specs.Levels.{level_counts}
+use Rattle.segment_rules.specs.Levels.{level_counts_of}
 use Rattle.set_query.specs.Expr.{Expr}
 use Rattle.set_query.specs.Meaning.{IsAnswer}
 use Rattle.change_rules.specs.declared.Limits.{Limits}
@@ -80,7 +80,7 @@ Told st s (IdOf name) reply st' = (reply ≡ Identified (id_in same_name (view_o
 Told st s Status reply st' =
     (reply ≡ Sizes (length (base_of st s).master) (length (base_of st s).others) (length (pending_of st s))) × (st' ≡ st)
 Told st s Levels reply st' =
-    (reply ≡ LevelSizes (level_counts (parent_ids same_name st.stored st.stored.master))) × (st' ≡ st)
+    (reply ≡ LevelSizes (level_counts_of (parent_ids same_name st.stored st.stored.master))) × (st' ≡ st)
 Told st s _ reply st' = ⊥
 
 -- The names that a query prints: those that aren't stored have to be asked, unless they are in the cache at the start of the
