@@ -29,6 +29,7 @@ use Rattle.change_rules.specs.Change.{flush_change, clone_change}
 use Rattle.change_rules.specs.Tables.{StandFor}
 use Rattle.change_rules.specs.Holding.{HoldPayloads}
 use Rattle.change_rules.proofs.Lawful.{change-follows, history-distinct}
+use Rattle.change_rules.proofs.Alone.{IsPlain, segments-cover, segments-plain}
 
 -- ids that rise from least on, below end
 abbrev pub Rises : ℕ → ℕ → List ℕ → Type 0
@@ -244,13 +245,9 @@ map-filter f x (k ∷ ks) i = by_test (f k) i (map-filter f x ks)
     by_test true (inr j) rec = inr (rec j)
     by_test false j rec = inr (rec j)
 
-module _ (r : World Name) (named : IsNamedWorld (master_alone r)) (some : 0 < length r.master) (fits : length r.master ≤ 16777216) (few : length (heads_of r) ≤ 65535) where
+module _ (r : World Name) (named : IsNamedWorld (master_alone r)) where
   whole_rows : rows_of (master_alone r) ≡ r.master
   whole_rows = append-nil r.master
-
-  -- as for a flush of these rows over nothing
-  pub like : IsPayload (flush_change empty_world (master_alone r))
-  like = (change-follows [] empty_world (master_alone r) tt (record { count = refl; master = refl; known = tt; others = refl; names = refl }) named r.master refl fits zero-le (subst (λ l. 0 < length l) (sym whole_rows) some)).whole
 
   abbrev pub segments : List Segment
   segments = master_segments r
@@ -274,7 +271,7 @@ module _ (r : World Name) (named : IsNamedWorld (master_alone r)) (some : 0 < le
   ids-rise = rises-range kept 0 (length r.master) (length r.master) (omega arith)
 
   pub follow : Follow 0 (length r.master) segments
-  follow = like.cover.master
+  follow = segments-cover r named
 
   pub highest-rise : Rises 0 (length r.master) highest
   highest-rise = follow-rises 0 (length r.master) segments follow
@@ -290,8 +287,8 @@ module _ (r : World Name) (named : IsNamedWorld (master_alone r)) (some : 0 < le
   segment-known s i =
       let high = in-map (λ (s : Segment). s.high) s segments i in
       let below = (rises-in 0 (length r.master) highest highest-rise s.high high).1 in
-      let lows = each (λ (s : Segment). AllByRecursion (λ q. q < s.low) s.parents) segments like.parents.master s i in
-      let flat = (each (λ (s : Segment). IsSegment s × (s.level ≡ 0)) segments like.cover.flat_master s i).0.ascending in (
+      let lows = (each IsPlain segments (segments-plain r named) s i).below in
+      let flat = (each IsPlain segments (segments-plain r named) s i).ascending in (
         stored-in s.high below (or_left (is_in nat_eq s.high highest) _ (is-there s.high highest high)),
         all-in (grammar.merge_parents s.parents) (known_ids (clone_change r)) (λ p j.
             let low = each (λ q. q < s.low) s.parents lows p (merged-in p s.parents j) in
@@ -318,41 +315,46 @@ module _ (r : World Name) (named : IsNamedWorld (master_alone r)) (some : 0 < le
       in-names : (x : Name) → IsIn x (head_names (clone_change r)) → IsIn x (known_names (clone_change r))
       in-names x i = map-filter (λ (k : Known). last_one k.id) x (clone_change r).known i
 
-  payload : IsPayload (clone_change r)
-  payload = record {
-    counts = record { grows = zero-le; master = fits; others = zero-le };
-    cover = record { flat_master = like.cover.flat_master; flat_others = tt; master = follow; others = refl };
-    parents = record { master = like.parents.master; others = tt };
-    maximal = record { master = like.maximal.master; others = tt };
-    known = record {
-      ascend = subst IsStrictlyIncreasing (sym ids-are) (ascend-increasing 0 (length r.master) (stored_ids r) (rises-ascend 0 (length r.master) (stored_ids r) ids-rise));
-      within = subst (AllByRecursion (λ id. (0 ≤ id) × (id < length r.master))) (sym ids-are) (all-each (λ id. (0 ≤ id) × (id < length r.master)) (stored_ids r) (λ x i. rises-in 0 (length r.master) (stored_ids r) ids-rise x i));
-    };
-    by_kind = inr (record { kind = refl; first = refl; something = some; no_others = refl; known = all-each (λ (s : Segment). IsIn s.high (known_ids (clone_change r)) × AreAllIn (grammar.merge_parents s.parents) (known_ids (clone_change r))) segments segment-known });
-    heads_fit = (let k : 65536 ≤ 2 ^ 16 = lit≤ tt in omega (arith, few, k));
-    names = all-each IsName (known_names (clone_change r)) name-is;
-    head_names = all-each IsName (heads_of r) head-is;
-    other_names = tt;
-  }
+  module _ (some : 0 < length r.master) (fits : length r.master ≤ 16777216) (few : length (heads_of r) ≤ 65535) where
+    -- as for a flush of these rows over nothing
+    like : IsPayload (flush_change empty_world (master_alone r))
+    like = (change-follows [] empty_world (master_alone r) tt (record { count = refl; master = refl; known = tt; others = refl; names = refl }) named r.master refl fits zero-le (subst (λ l. 0 < length l) (sym whole_rows) some)).whole
 
-  pub clone-follows : MayFollow [] (clone_change r)
-  clone-follows = record {
-    whole = payload;
-    count = refl;
-    clone_first = λ e. refl;
-    clone_heads = λ e. heads-same;
-    distinct = subst AreDistinct (sym (append-nil (known_names (clone_change r) ++ []) ∙ append-nil (known_names (clone_change r))))
-        (pick-distinct r (subst (λ l. AreDistinct (names_of l)) whole_rows (history-distinct [] (rows_of (master_alone r)) named.world).0) 0 (stored_ids r) ids-rise);
-  }
+    payload : IsPayload (clone_change r)
+    payload = record {
+      counts = record { grows = zero-le; master = fits; others = zero-le };
+      cover = record { flat_master = like.cover.flat_master; flat_others = tt; master = follow; others = refl };
+      parents = record { master = like.parents.master; others = tt };
+      maximal = record { master = like.maximal.master; others = tt };
+      known = record {
+        ascend = subst IsStrictlyIncreasing (sym ids-are) (ascend-increasing 0 (length r.master) (stored_ids r) (rises-ascend 0 (length r.master) (stored_ids r) ids-rise));
+        within = subst (AllByRecursion (λ id. (0 ≤ id) × (id < length r.master))) (sym ids-are) (all-each (λ id. (0 ≤ id) × (id < length r.master)) (stored_ids r) (λ x i. rises-in 0 (length r.master) (stored_ids r) ids-rise x i));
+      };
+      by_kind = inr (record { kind = refl; first = refl; something = some; no_others = refl; known = all-each (λ (s : Segment). IsIn s.high (known_ids (clone_change r)) × AreAllIn (grammar.merge_parents s.parents) (known_ids (clone_change r))) segments segment-known });
+      heads_fit = (let k : 65536 ≤ 2 ^ 16 = lit≤ tt in omega (arith, few, k));
+      names = all-each IsName (known_names (clone_change r)) name-is;
+      head_names = all-each IsName (heads_of r) head-is;
+      other_names = tt;
+    }
 
-  pub clone-stands : StandFor (clone_change r ∷ []) (master_alone r)
-  clone-stands = record {
-    count = refl;
-    master = ap parents_listed (append-nil segments) ∙ flat-keeps 0 (parent_ids same_name (master_alone r) r.master);
-    known = subst (AllByRecursion (λ (k : Known). slice_get (names_of r.master) k.id ≡ Some k.name)) (sym (append-nil (clone_change r).known)) (pick-names r 0 (stored_ids r) ids-rise);
-    others = refl;
-    names = refl;
-  }
+    pub clone-follows : MayFollow [] (clone_change r)
+    clone-follows = record {
+      whole = payload;
+      count = refl;
+      clone_first = λ e. refl;
+      clone_heads = λ e. heads-same;
+      distinct = subst AreDistinct (sym (append-nil (known_names (clone_change r) ++ []) ∙ append-nil (known_names (clone_change r))))
+          (pick-distinct r (subst (λ l. AreDistinct (names_of l)) whole_rows (history-distinct [] (rows_of (master_alone r)) named.world).0) 0 (stored_ids r) ids-rise);
+    }
 
-  pub clone-held : HoldPayloads (clone_change r ∷ []) (master_alone r)
-  clone-held = record { lawful = (clone-follows, tt); stand = clone-stands; world = named }
+    pub clone-stands : StandFor (clone_change r ∷ []) (master_alone r)
+    clone-stands = record {
+      count = refl;
+      master = ap parents_listed (append-nil segments) ∙ flat-keeps 0 (parent_ids same_name (master_alone r) r.master);
+      known = subst (AllByRecursion (λ (k : Known). slice_get (names_of r.master) k.id ≡ Some k.name)) (sym (append-nil (clone_change r).known)) (pick-names r 0 (stored_ids r) ids-rise);
+      others = refl;
+      names = refl;
+    }
+
+    pub clone-held : HoldPayloads (clone_change r ∷ []) (master_alone r)
+    clone-held = record { lawful = (clone-follows, tt); stand = clone-stands; world = named }

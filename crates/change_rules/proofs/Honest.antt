@@ -16,7 +16,8 @@ use Rattle.remote_rules.specs.CloneData.{KnownName, first_false, first_of, first
 use Rattle.remote_rules.specs.Known.{master_alone}
 use Rattle.remote_rules.specs.Honest.{clone_data_of, named_ids, stored_ids, heads_of, master_segments}
 use Rattle.change_rules.proofs.Lawful.{history-distinct}
-use Rattle.change_rules.proofs.Cloned.{Rises, as_known, kept, like, ids-rise, follow, highest-rise, segment-known, is-there, in-filter, in-range, filter-back, same-merge, rises-lower, rises-in}
+use Rattle.change_rules.proofs.Alone.{segments-plain, segments-maximal}
+use Rattle.change_rules.proofs.Cloned.{Rises, as_known, kept, ids-rise, follow, highest-rise, segment-known, is-there, in-filter, in-range, filter-back, same-merge, rises-lower, rises-in}
 use Rattle.change_rules.proofs.Unbroken.{none-false, segments-fit, names-fit, heads-fit, picked-length}
 
 behind-all : (place end : ℕ) (ss : List Segment) → Follow place end ss → place_behind place ss ≡ end
@@ -39,26 +40,26 @@ all-there : (xs ys : List ℕ) → AreAllIn xs ys → list_all (λ id. is_in nat
 all-there [] ys h = refl
 all-there (x ∷ xs) ys h = both_true (is_in nat_eq x ys) (list_all (λ id. is_in nat_eq id ys) xs) (is-there x ys h.0) (all-there xs ys h.1)
 
-module _ (r : World Name) (named : IsNamedWorld (master_alone r)) (some : 0 < length r.master) (fits : length r.master ≤ 16777216) (few : length (heads_of r) ≤ 65535) where
+module _ (r : World Name) (named : IsNamedWorld (master_alone r)) where
   distinct : AreDistinct (names_of r.master)
   distinct = subst (λ l. AreDistinct (names_of l)) (append-nil r.master) (history-distinct [] (rows_of (master_alone r)) named.world).0
 
   rising : Rises 0 (length r.master) (stored_ids r)
-  rising = ids-rise r named some fits few
+  rising = ids-rise r named
 
   heads-rise : Rises 0 (length r.master) (head_ids (master_segments r))
-  heads-rise = rises-filter (λ id. not (is_in nat_eq id (flat_map (λ (s : Segment). s.parents) (master_segments r)))) 0 (length r.master) (map (λ (s : Segment). s.high) (master_segments r)) (highest-rise r named some fits few)
+  heads-rise = rises-filter (λ id. not (is_in nat_eq id (flat_map (λ (s : Segment). s.parents) (master_segments r)))) 0 (length r.master) (map (λ (s : Segment). s.high) (master_segments r)) (highest-rise r named)
 
   head-stored : (h : ℕ) → IsIn h (head_ids (master_segments r)) → IsIn h (stored_ids r)
   head-stored h i =
       let high = filter-back _ h (map (λ (s : Segment). s.high) (master_segments r)) i in
-      let below = (rises-in 0 (length r.master) (map (λ (s : Segment). s.high) (master_segments r)) (highest-rise r named some fits few) h high).1 in
-      in-filter (kept r named some fits few) h (range_with_len 0 (length r.master)) (in-range 0 (length r.master) h zero-le (omega (arith, below)))
+      let below = (rises-in 0 (length r.master) (map (λ (s : Segment). s.high) (master_segments r)) (highest-rise r named) h high).1 in
+      in-filter (kept r named) h (range_with_len 0 (length r.master)) (in-range 0 (length r.master) h zero-le (omega (arith, below)))
       (or_left (is_in nat_eq h (map (λ (s : Segment). s.high) (master_segments r))) _ (is-there h (map (λ (s : Segment). s.high) (master_segments r)) high))
 
   needed : has_needed_names (clone_data_of r) ≡ true
   needed = in-all-true (λ (s : Segment). list_all (λ id. is_in nat_eq id (map (λ (k : KnownName). k.id) (named_ids r (stored_ids r)))) (s.high ∷ clones.merge_parents s.parents)) (master_segments r) (λ s i.
-      let known = segment-known r named some fits few s i in
+      let known = segment-known r named s i in
       all-there (s.high ∷ clones.merge_parents s.parents) (map (λ (k : KnownName). k.id) (named_ids r (stored_ids r))) (
         subst (IsIn s.high) (same-ids (named_ids r (stored_ids r))) known.0,
         subst₂ AreAllIn (sym (same-merge s.parents)) (same-ids (named_ids r (stored_ids r))) known.1,
@@ -69,10 +70,9 @@ module _ (r : World Name) (named : IsNamedWorld (master_alone r)) (some : 0 < le
 
   pub never-broken : first_broken (clone_data_of r) ≡ None
   never-broken =
-      let whole = like r named some fits few in
       let headed = length (master_segments r) + length (named_ids r (stored_ids r)) in
-      let place = behind-all 0 (length r.master) (master_segments r) (follow r named some fits few) in
-      ap₂ first_of (none-false 0 (segments_fit 0 (master_segments r)) (segments-fit (length r.master) (master_segments r) (follow r named some fits few) whole.cover.flat_master whole.maximal.master))
+      let place = behind-all 0 (length r.master) (master_segments r) (follow r named) in
+      ap₂ first_of (none-false 0 (segments_fit 0 (master_segments r)) (segments-fit (length r.master) (master_segments r) (follow r named) (segments-plain r named) (segments-maximal r named)))
       (ap₂ first_of (ap (λ n. first_false (length (master_segments r)) (names_fit n [] (named_ids r (stored_ids r)))) place ∙ none-false (length (master_segments r)) (names_fit (length r.master) [] (named_ids r (stored_ids r))) (names-fit r distinct (stored_ids r) rising))
       (ap₂ first_of (none-false headed (has_needed_names (clone_data_of r) ∷ []) (needed, tt))
       (ap₂ first_of (none-false headed (heads_fit (named_ids r (stored_ids r)) (head_ids (master_segments r)) (heads_of r)) (heads-fit r distinct (stored_ids r) (head_ids (master_segments r)) 0 rising heads-rise head-stored))

@@ -25,20 +25,20 @@ use Rattle.change_rules.proofs.Changes.{flat-snoc, names-length, place-front}
 
 -- Flat segments: each fact of an id and its parents is one of the segments' lowest ids.
 
-abbrev AllFrom : (ℕ → List ℕ → Type 0) → ℕ → List (List ℕ) → Type 0
+abbrev pub AllFrom : (ℕ → List ℕ → Type 0) → ℕ → List (List ℕ) → Type 0
 AllFrom Q first [] = Unit {0}
 AllFrom Q first (parents ∷ more) = Q first parents × AllFrom Q (first + 1) more
 
-record IsSpanOf (Q : ℕ → List ℕ → Type 0) (end : ℕ) (s : Span) : Type 0 where
-  up : s.low ≤ s.high
-  in_bounds : s.high < end
-  own : Q s.low s.parents
+pub record IsSpanOf (Q : ℕ → List ℕ → Type 0) (end : ℕ) (s : Span) : Type 0 where
+  pub up : s.low ≤ s.high
+  pub in_bounds : s.high < end
+  pub own : Q s.low s.parents
 
-abbrev CoverSpans : ℕ → ℕ → List Span → Type 0
+abbrev pub CoverSpans : ℕ → ℕ → List Span → Type 0
 CoverSpans first end [] = first ≡ end
 CoverSpans first end (s ∷ more) = (s.low ≡ first) × (first ≤ s.high) × CoverSpans (s.high + 1) end more
 
-abbrev AreMaxSpans : List Span → Type 0
+abbrev pub AreMaxSpans : List Span → Type 0
 AreMaxSpans [] = Unit {0}
 AreMaxSpans (s ∷ more) = AllByRecursion (λ (t : Span). t.parents ≢ (t.low - 1) ∷ []) more
 
@@ -71,28 +71,28 @@ with-max id end parents (next ∷ more) c h = pick (pointwise nat_eq next.parent
       h,
     )
 
-flat-cover : (first end : ℕ) (ps : List (List ℕ)) → first + length ps ≡ end → CoverSpans first end (flat_segments first ps)
+pub flat-cover : (first end : ℕ) (ps : List (List ℕ)) → first + length ps ≡ end → CoverSpans first end (flat_segments first ps)
 flat-cover first end [] e = omega (arith, e)
 flat-cover first end (p ∷ more) e = with-cover first end p (flat_segments (first + 1) more) (flat-cover (first + 1) end more (omega (arith, e)))
 
-flat-spans : (Q : ℕ → List ℕ → Type 0) (end first : ℕ) (ps : List (List ℕ)) → first + length ps ≡ end → AllFrom Q first ps → AllByRecursion (IsSpanOf Q end) (flat_segments first ps)
+pub flat-spans : (Q : ℕ → List ℕ → Type 0) (end first : ℕ) (ps : List (List ℕ)) → first + length ps ≡ end → AllFrom Q first ps → AllByRecursion (IsSpanOf Q end) (flat_segments first ps)
 flat-spans Q end first [] e h = tt
 flat-spans Q end first (p ∷ more) e h = with-spans Q end first p (flat_segments (first + 1) more) (omega (arith, e)) h.0
     (flat-cover (first + 1) end more (omega (arith, e))) (flat-spans Q end (first + 1) more (omega (arith, e)) h.1)
 
-flat-max : (first end : ℕ) (ps : List (List ℕ)) → first + length ps ≡ end → AreMaxSpans (flat_segments first ps)
+pub flat-max : (first end : ℕ) (ps : List (List ℕ)) → first + length ps ≡ end → AreMaxSpans (flat_segments first ps)
 flat-max first end [] e = tt
 flat-max first end (p ∷ more) e = with-max first end p (flat_segments (first + 1) more) (flat-cover (first + 1) end more (omega (arith, e))) (flat-max (first + 1) end more (omega (arith, e)))
 
-all-records : (P : Span → Type 0) (R : Segment → Type 0) (spans : List Span) → ((s : Span) → P s → R (flat_record s)) → AllByRecursion P spans → AllByRecursion R (map flat_record spans)
+pub all-records : (P : Span → Type 0) (R : Segment → Type 0) (spans : List Span) → ((s : Span) → P s → R (flat_record s)) → AllByRecursion P spans → AllByRecursion R (map flat_record spans)
 all-records P R [] f h = tt
 all-records P R (s ∷ spans) f h = (f s h.0, all-records P R spans f h.1)
 
-record-cover : (first end : ℕ) (spans : List Span) → CoverSpans first end spans → Follow first end (map flat_record spans)
+pub record-cover : (first end : ℕ) (spans : List Span) → CoverSpans first end spans → Follow first end (map flat_record spans)
 record-cover first end [] h = h
 record-cover first end (s ∷ more) h = (h.0, h.1, record-cover (s.high + 1) end more h.2)
 
-record-max : (spans : List Span) → AreMaxSpans spans → AreMaximal (map flat_record spans)
+pub record-max : (spans : List Span) → AreMaxSpans spans → AreMaximal (map flat_record spans)
 record-max [] h = tt
 record-max (s ∷ more) h = all-records (λ t. t.parents ≢ (t.low - 1) ∷ []) (λ t. t.parents ≢ (t.low - 1) ∷ []) more (λ t k. k) h
 
@@ -218,20 +218,24 @@ known-in (p ∷ payloads) x i = ⊎_elim
 
 -- Numbers of the two groups.
 
-in-master : (n m : ℕ) → n < m → m ≤ 16777216 → n < 2 ^ 56
-in-master n m lt le = let k : 16777216 ≤ 2 ^ 56 = lit≤ tt in omega (arith, k, lt, le)
+in-master : (n m : ℕ) → n < m → m ≤ 2 ^ 56 → n < 2 ^ 56
+in-master n m lt le = omega (arith, lt, le)
 
-groups-apart : (a b k m : ℕ) → a < m → m ≤ 16777216 → b ≡ 2 ^ 56 + k → a ≡ b → ⊥
-groups-apart a b k m lt le e same = let l : 16777216 ≤ 2 ^ 56 = lit≤ tt in absurd (omega (arith, l, lt, le, e, same))
+pub within-group : (n : ℕ) → n ≤ 16777216 → n ≤ 2 ^ 56
+within-group n le = let k : 16777216 ≤ 2 ^ 56 = lit≤ tt in omega (arith, k, le)
+
+groups-apart : (a b k m : ℕ) → a < m → m ≤ 2 ^ 56 → b ≡ 2 ^ 56 + k → a ≡ b → ⊥
+groups-apart a b k m lt le e same = absurd (omega (arith, lt, le, e, same))
 
 -- what holds of the parents of an id, and of those of one of the others
-abbrev MayHave : ℕ → List ℕ → Type 0
+abbrev pub MayHave : ℕ → List ℕ → Type 0
 MayHave id parents = AllByRecursion (λ p. p < id) parents × AreDistinct parents × (length parents ≤ 8)
 
 abbrev OthersMayHave : ℕ → ℕ → List ℕ → Type 0
 OthersMayHave after id parents = MayHave id parents × (2 ^ 56 ≤ id) × AllByRecursion (λ p. (p < after) ⊎ ((2 ^ 56 ≤ p) × (p < id))) parents
 
-module _ (new : World Name) (fits : length new.master ≤ 16777216) where
+-- where there are others, the master group has its ids apart from theirs
+module _ (new : World Name) (apart : (x : Name) → IsIn x (names_of new.others) → length new.master ≤ 2 ^ 56) where
   id-master : (x : Name) → IsIn x (names_of new.master) → id_in same_name new x ≡ place_of same_name x (names_of new.master)
   id-master x i = ap (λ b. if b then place_of same_name x (names_of new.master) else 2 ^ 56 + place_of same_name x (names_of new.others))
       (there same_name same_name-exact same_name-self x (names_of new.master) i)
@@ -252,10 +256,10 @@ module _ (new : World Name) (fits : length new.master ≤ 16777216) where
   id-same x y i j e = ⊎_elim
       (λ a. ⊎_elim
       (λ b. place-same x y (names_of new.master) a b (sym (id-master x a) ∙ e ∙ id-master y b))
-      (λ b. absurd (groups-apart (id_in same_name new x) (id_in same_name new y) _ (length new.master) (below-after x a) fits (id-other y b) e))
+      (λ b. absurd (groups-apart (id_in same_name new x) (id_in same_name new y) _ (length new.master) (below-after x a) (apart y (other-in y j b)) (id-other y b) e))
       (where-in y (names_of new.master)))
       (λ a. ⊎_elim
-      (λ b. absurd (groups-apart (id_in same_name new y) (id_in same_name new x) _ (length new.master) (below-after y b) fits (id-other x a) (sym e)))
+      (λ b. absurd (groups-apart (id_in same_name new y) (id_in same_name new x) _ (length new.master) (below-after y b) (apart x (other-in x i a)) (id-other x a) (sym e)))
       (λ b. place-same x y (names_of new.others) (other-in x i a) (other-in y j b)
       (let f : 2 ^ 56 + place_of same_name x (names_of new.others) ≡ 2 ^ 56 + place_of same_name y (names_of new.others) = sym (id-other x a) ∙ e ∙ id-other y b in omega (arith, f)))
       (where-in y (names_of new.master)))
@@ -271,7 +275,7 @@ module _ (new : World Name) (fits : length new.master ≤ 16777216) where
   others-there : (x : Name) → IsIn x (names_of new.others) → IsIn x (names_of (rows_of new))
   others-there x i = subst (IsIn x) (sym (map-append (λ r. r.name) new.master new.others)) (in-right x (names_of new.master) (names_of new.others) i)
 
-  master-from : (front rows : List (Row Name)) → new.master ≡ front ++ rows → IsHistory (names_of front) rows → AllFrom MayHave (length front) (parent_ids same_name new rows)
+  pub master-from : (front rows : List (Row Name)) → new.master ≡ front ++ rows → IsHistory (names_of front) rows → AllFrom MayHave (length front) (parent_ids same_name new rows)
   master-from front [] e h = tt
   master-from front (r ∷ rows) e h =
       let names : names_of new.master ≡ names_of front ++ names_of (r ∷ rows) = ap names_of e ∙ map-append (λ q. q.name) front (r ∷ rows) in
@@ -306,7 +310,7 @@ module _ (new : World Name) (fits : length new.master ≤ 16777216) where
         (
           (
             all-map-in (id_in same_name new) (λ p. p < 2 ^ 56 + length front) r.parents
-                (λ x i. ⊎_elim (λ lt. let k = in-master (id_in same_name new x) (length new.master) lt fits in omega (arith, k)) (λ p. p.1) (place x i)),
+                (λ x i. ⊎_elim (λ lt. let k = in-master (id_in same_name new x) (length new.master) lt (apart r.name (subst (IsIn r.name) (sym names) (in-right r.name (names_of front) (names_of (r ∷ rows)) (inl refl)))) in omega (arith, k)) (λ p. p.1) (place x i)),
             ids-distinct r.parents stands h.0.distinct,
             subst (λ n. n ≤ 8) (sym (length-map r.parents (id_in same_name new))) h.0.few,
           ),
@@ -320,8 +324,8 @@ module _ (new : World Name) (fits : length new.master ≤ 16777216) where
       )
 
   -- flat segments with such parents have a spelling
-  master-segment : (s : Span) → IsSpanOf MayHave (length new.master) s → IsSegment (flat_record s) × ((flat_record s).level ≡ 0)
-  master-segment s h =
+  master-segment : length new.master ≤ 2 ^ 56 → (s : Span) → IsSpanOf MayHave (length new.master) s → IsSegment (flat_record s) × ((flat_record s).level ≡ 0)
+  master-segment fits s h =
       let high : s.high < 2 ^ 56 = in-master s.high (length new.master) h.in_bounds fits in
       let up = h.up in
       let low : s.low < 2 ^ 56 = omega (arith, up, high) in (
@@ -369,6 +373,9 @@ module _ (payloads : List Payload) (old new : World Name) (lawful : AreLawful []
     other_names = names_of new.others;
   }
 
+  group : (x : Name) → IsIn x (names_of new.others) → length new.master ≤ 2 ^ 56
+  group x i = within-group (length new.master) fits
+
   size : length new.master ≡ length old.master + length rest
   size = ap length grown ∙ length-append old.master rest
 
@@ -385,26 +392,26 @@ module _ (payloads : List Payload) (old new : World Name) (lawful : AreLawful []
   others-few = subst (λ n. n ≤ 65536) (sym (names-length new.others)) few
 
   master-spans : AllByRecursion (IsSpanOf MayHave (length new.master)) (flat_segments (length old.master) (parent_ids same_name new rest))
-  master-spans = flat-spans MayHave (length new.master) (length old.master) (parent_ids same_name new rest) master-size (master-from new fits old.master rest grown history)
+  master-spans = flat-spans MayHave (length new.master) (length old.master) (parent_ids same_name new rest) master-size (master-from new group old.master rest grown history)
 
   others-spans : AllByRecursion (IsSpanOf (OthersMayHave (length new.master)) (2 ^ 56 + length (names_of new.others))) (flat_segments (2 ^ 56) (parent_ids same_name new new.others))
   others-spans = flat-spans (OthersMayHave (length new.master)) (2 ^ 56 + length (names_of new.others)) (2 ^ 56) (parent_ids same_name new new.others) others-size
-      (others-from new fits [] new.others refl
+      (others-from new group [] new.others refl
       (subst (λ l. IsHistory l new.others) (sym (append-nil (names_of new.master))) (history-rest [] new.master new.others named.world)))
 
   known-size : length old.master + length (names_of rest) ≡ length new.master
   known-size = let a = names-length rest in let b = size in omega (arith, a, b)
 
   rest-there : (x : Name) → IsIn x (names_of rest) → IsIn x (names_of (rows_of new))
-  rest-there x i = master-there new fits x (subst (IsIn x) (sym (ap names_of grown ∙ map-append (λ r. r.name) old.master rest)) (in-right x (names_of old.master) (names_of rest) i))
+  rest-there x i = master-there new group x (subst (IsIn x) (sym (ap names_of grown ∙ map-append (λ r. r.name) old.master rest)) (in-right x (names_of old.master) (names_of rest) i))
 
   payload : IsPayload (change rest)
   payload = record {
     counts = record { grows = (let e = size in omega (arith, e)); master = fits; others = others-few };
     cover = record {
-      flat_master = all-records (IsSpanOf MayHave (length new.master)) (λ s. IsSegment s × (s.level ≡ 0)) (flat_segments (length old.master) (parent_ids same_name new rest)) (master-segment new fits) master-spans;
+      flat_master = all-records (IsSpanOf MayHave (length new.master)) (λ s. IsSegment s × (s.level ≡ 0)) (flat_segments (length old.master) (parent_ids same_name new rest)) (master-segment new group (within-group (length new.master) fits)) master-spans;
       flat_others = all-records (IsSpanOf (OthersMayHave (length new.master)) (2 ^ 56 + length (names_of new.others))) (λ s. IsSegment s × (s.level ≡ 0)) (flat_segments (2 ^ 56) (parent_ids same_name new new.others))
-          (others-segment new fits (length (names_of new.others)) others-few) others-spans;
+          (others-segment new group (length (names_of new.others)) others-few) others-spans;
       master = record-cover (length old.master) (length new.master) (flat_segments (length old.master) (parent_ids same_name new rest)) (flat-cover (length old.master) (length new.master) (parent_ids same_name new rest) master-size);
       others = record-cover (2 ^ 56) (2 ^ 56 + length (names_of new.others)) (flat_segments (2 ^ 56) (parent_ids same_name new new.others)) (flat-cover (2 ^ 56) (2 ^ 56 + length (names_of new.others)) (parent_ids same_name new new.others) others-size);
     };
@@ -429,7 +436,7 @@ module _ (payloads : List Payload) (old new : World Name) (lawful : AreLawful []
     heads_fit = lit< tt;
     names = subst (AllByRecursion IsName) (sym (names-known (length old.master) (names_of rest))) (all-each IsName (names_of rest) (λ x i. name-of new named x (rest-there x i)));
     head_names = tt;
-    other_names = all-each IsName (names_of new.others) (λ x i. name-of new named x (others-there new fits x i));
+    other_names = all-each IsName (names_of new.others) (λ x i. name-of new named x (others-there new group x i));
   }
     where
       some-rows : (a b : ℕ) → 0 < a + b → (0 < a) ⊎ (0 < b)

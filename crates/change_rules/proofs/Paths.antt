@@ -1,15 +1,12 @@
--- From the commits that a remote may name a path leads to each commit.
-use Rattle.std.proofs.Common.{◌≡◌, ◌≤◌, ◌<◌, suc, inl, inr, List, [], ◌∷◌, length, Some, refl, sym, ap, subst, ◌∙◌, arith, zero-le, ⊎_elim}
+-- From the commits that a remote may name a path leads to each commit that a head reaches.
+use Rattle.std.proofs.Common.{◌≡◌, ◌≤◌, suc, inl, inr, List, [], ◌∷◌, length, Some, refl, sym, ap, subst, ◌∙◌, arith, zero-le, ⊎_elim}
 use Rattle.std.specs.Option.{option_and_then}
 use Rattle.id_groups.specs.Lists.{IsIn}
 use Rattle.id_groups.specs.Name.{Name}
-use Rattle.commit_graph.specs.World.{World, IsNamedWorld, names_of}
+use Rattle.commit_graph.specs.World.{World}
 use Rattle.commit_graph.specs.Graph.{Graph, IsWalk, first_of_list}
 use Rattle.commit_graph.proofs.Walks.{reaches-self, reaches-parent, reaches-trans}
-use Rattle.remote_rules.specs.Known.{Path, IsReached, IsPathTo, master_alone, master_graph}
-use Rattle.remote_rules.specs.Honest.{heads_of}
-use Rattle.change_rules.specs.Standard.{standard, most_heads}
-use Rattle.change_rules.proofs.Reached.{all-reached}
+use Rattle.remote_rules.specs.Known.{Path, IsReached, IsPathTo, master_graph}
 
 along : (g : Graph Name) (heads : List Name) (more : List Name) (y x : Name) → IsReached g heads y → (path : Path) × IsPathTo g heads y (Some path) → IsWalk g y more x → (path : Path) × IsPathTo g heads x (Some path)
 along g heads [] y x r p walk = subst (λ z. (path : Path) × IsPathTo g heads z (Some path)) walk p
@@ -27,8 +24,6 @@ along g heads (q ∷ more) y x r p walk = along g heads more q x next (step (g.p
         let long : 2 ≤ length (g.parents y) = subst (λ l. 2 ≤ length l) (sym e) (let z : 0 ≤ length rest = zero-le in omega (arith, z)) in
         (record { from = q; back = 0 }, (inr (y, r, long, walk.0), refl))
 
-pub paths-there : (r : World Name) → IsNamedWorld (master_alone r) → 0 < length r.master → length r.master ≤ standard.master → length (heads_of r) ≤ most_heads → (x : Name) → IsIn x (names_of r.master)
-    → (path : Path) × IsPathTo (master_graph r) (heads_of r) x (Some path)
-paths-there r named some fits few x i =
-    let h = all-reached r named some fits few x i in
-    along (master_graph r) (heads_of r) h.3.0 h.0 x (h.0, h.1, h.2, reaches-self (master_graph r) h.0) (record { from = h.0; back = 0 }, (inl (h.1, h.2), refl)) h.3.1
+pub paths-there : (r : World Name) (heads : List Name) (x : Name) → IsReached (master_graph r) heads x → (path : Path) × IsPathTo (master_graph r) heads x (Some path)
+paths-there r heads x h =
+    along (master_graph r) heads h.3.0 h.0 x (h.0, h.1, h.2, reaches-self (master_graph r) h.0) (record { from = h.0; back = 0 }, (inl (h.1, h.2), refl)) h.3.1

@@ -29,9 +29,8 @@ use Rattle.change_rules.proofs.Lawful.{history-distinct}
 use Rattle.commit_graph.proofs.Places.{id-in-master}
 use Rattle.commit_graph.proofs.Down.{in-down}
 use Rattle.commit_graph.proofs.Naming.{each}
-use Rattle.change_rules.proofs.Cloned.{Rises, in-flat, get-some, get-name, one-place, pick-next, follow, highest-rise, is-there, in-filter, in-range, filter-back, rises-lower, like}
-use Rattle.change_rules.specs.Standard.{standard, most_heads}
-
+use Rattle.change_rules.proofs.Alone.{IsPlain, segments-plain}
+use Rattle.change_rules.proofs.Cloned.{Rises, in-flat, get-some, get-name, one-place, pick-next, follow, highest-rise, is-there, in-filter, in-range, filter-back, rises-lower}
 abbrev or_this : {X : Type 0} → X → Option X → X
 or_this d None = d
 or_this d (Some x) = x
@@ -251,7 +250,7 @@ none-inside first end (u ∷ ss) f s t (inr i) (inl d) le lt =
     absurd (omega (arith, a, b, le))
 none-inside first end (u ∷ ss) f s t (inr i) (inr j) le lt = none-inside (u.high + 1) end ss f.2 s t i j le lt
 
-module _ (r : World Name) (named : IsNamedWorld (master_alone r)) (some : 0 < length r.master) (fits : length r.master ≤ 16777216) (few : length (heads_of r) ≤ 65535) where
+module _ (r : World Name) (named : IsNamedWorld (master_alone r)) where
   abbrev w : World Name
   w = master_alone r
 
@@ -265,7 +264,7 @@ module _ (r : World Name) (named : IsNamedWorld (master_alone r)) (some : 0 < le
   distinct = (history-distinct [] r.master history).0
 
   in-order : Follow 0 (length r.master) (master_segments r)
-  in-order = follow r named some fits few
+  in-order = follow r named
 
   -- the segments list each row's parents
   listed : parents_listed (master_segments r) ≡ parent_ids same_name w r.master
@@ -328,7 +327,7 @@ module _ (r : World Name) (named : IsNamedWorld (master_alone r)) (some : 0 < le
           by_test true f =
               let s = in-flat-back (λ (s : Segment). s.parents) j (master_segments r) (known-there j _ f) in
               let row = lowest-row s.0 s.1 in
-              let below = each (λ q. q < s.0.low) s.0.parents (each (λ (s : Segment). AllByRecursion (λ q. q < s.low) s.parents) (master_segments r) (like r named some fits few).parents.master s.0 s.1) j s.2 in
+              let below = each (λ q. q < s.0.low) s.0.parents (each IsPlain (master_segments r) (segments-plain r named) s.0 s.1).below j s.2 in
               (s.0.low, row.0, below, row.1, parent-by-id row.0 (row-in r.master s.0.low row.0 row.1) j q e (subst (IsIn j) (sym row.2) s.2))
           by_test false f =
               let high = subst (λ n. IsIn n (map (λ (s : Segment). s.high) (master_segments r))) (sym e2) (in-map-on (λ (s : Segment). s.high) at.0 (master_segments r) at.1) in
@@ -355,7 +354,7 @@ module _ (r : World Name) (named : IsNamedWorld (master_alone r)) (some : 0 < le
       (subst (λ l. IsIn x (map (λ (k : KnownName). k.name) l)) (pick-next r y ids o.0 o.1) i)
 
   heads-rise : Rises 0 (length r.master) (head_ids (master_segments r))
-  heads-rise = rises-some (λ id. not (is_in nat_eq id (flat_map (λ (s : Segment). s.parents) (master_segments r)))) 0 (length r.master) (map (λ (s : Segment). s.high) (master_segments r)) (highest-rise r named some fits few)
+  heads-rise = rises-some (λ id. not (is_in nat_eq id (flat_map (λ (s : Segment). s.parents) (master_segments r)))) 0 (length r.master) (map (λ (s : Segment). s.high) (master_segments r)) (highest-rise r named)
 
   -- every commit is reached by a head
   reached : (fuel j : ℕ) (q : Row Name) → length r.master ≤ j + fuel → slice_get r.master j ≡ Some q → j < length r.master → IsReached g (heads_of r) q.name
@@ -472,16 +471,16 @@ module _ (r : World Name) (named : IsNamedWorld (master_alone r)) (some : 0 < le
       by_test true f = picked-in 0 (head_ids (master_segments r)) heads-rise id row (known-there id (head_ids (master_segments r)) f) e
       by_test false f = let c = child id row e (index-below r.master id row e) f in absurd (none c.1 (row-in r.master c.0 c.1 c.3) c.4)
 
-pub known-stored : (r : World Name) → IsNamedWorld (master_alone r) → 0 < length r.master → length r.master ≤ standard.master → length (heads_of r) ≤ most_heads → (id : ℕ) (row : Row Name) → slice_get r.master id ≡ Some row
+pub known-stored : (r : World Name) → IsNamedWorld (master_alone r) → (id : ℕ) (row : Row Name) → slice_get r.master id ≡ Some row
     → IsIn id (stored_ids r) ↔ (IsKnownTo (master_graph r) (heads_of r) row.name ⊎ IsIn id (map (λ s. s.high) (master_segments r)))
-known-stored r named some fits few id row e = (known-then r named some fits few id row e, stored-then r named some fits few id row e)
+known-stored r named id row e = (known-then r named id row e, stored-then r named id row e)
 
-pub all-reached : (r : World Name) → IsNamedWorld (master_alone r) → 0 < length r.master → length r.master ≤ standard.master → length (heads_of r) ≤ most_heads → (x : Name) → IsIn x (names_of r.master)
+pub all-reached : (r : World Name) → IsNamedWorld (master_alone r) → (x : Name) → IsIn x (names_of r.master)
     → IsReached (master_graph r) (heads_of r) x
-all-reached r named some fits few x i = heads-reach r named some fits few x i
+all-reached r named x i = heads-reach r named x i
 
-pub heads-are : (r : World Name) → IsNamedWorld (master_alone r) → 0 < length r.master → length r.master ≤ standard.master → length (heads_of r) ≤ most_heads → (row : Row Name) → IsIn row r.master
+pub heads-are : (r : World Name) → IsNamedWorld (master_alone r) → (row : Row Name) → IsIn row r.master
     → IsIn row.name (heads_of r) ↔ ((child : Row Name) → IsIn child r.master → IsIn row.name child.parents → ⊥)
-heads-are r named some fits few row i =
+heads-are r named row i =
     let at = row-at r.master row i in
-    (head-then r named some fits few at.0 row at.1, then-head r named some fits few at.0 row at.1)
+    (head-then r named at.0 row at.1, then-head r named at.0 row at.1)

@@ -10,12 +10,13 @@ use Rattle.std.proofs.lemmas.Map.Views.{exact_unsigned_eq}
 use Rattle.commit_graph.specs.World.{Row, World, names_of}
 use Rattle.commit_graph.proofs.Naming.{each}
 use Rattle.commit_graph.proofs.Histories.{in-append}
-use Rattle.segment_codec.specs.Record.{Segment, IsSegment}
+use Rattle.segment_codec.specs.Record.{Segment}
 use Rattle.segment_codec.specs.Table.{Follow}
 use Rattle.segment_codec.specs.Turns.{goes_on, is_only}
 use Rattle.batch_codec.specs.Grammar.{AreMaximal}
 use Rattle.remote_rules.specs.CloneData.{KnownName, are_distinct, segment_fits, segments_fit, name_fits, names_fit, names_at, heads_fit, first_false}
 use Rattle.remote_rules.specs.Honest.{named_ids}
+use Rattle.change_rules.proofs.Alone.{IsPlain}
 use Rattle.change_rules.proofs.Cloned.{Rises, get-some, get-name, one-place, pick-next}
 
 abbrev or_this : {X : Type 0} → X → Option X → X
@@ -34,16 +35,16 @@ distinct-true : (xs : List ℕ) → AreDistinct xs → are_distinct xs ≡ true
 distinct-true [] h = refl
 distinct-true (x ∷ xs) h = both_true _ _ (true_not (is_in nat_eq x xs) (λ e. h.0 (found nat_eq exact_unsigned_eq (λ z. eq-eqb z z refl) x xs e))) (distinct-true xs h.1)
 
-fits-true : (s : Segment) → IsSegment s → goes_on s ≡ false → segment_fits s.low s ≡ true
+fits-true : (s : Segment) → IsPlain s → goes_on s ≡ false → segment_fits s.low s ≡ true
 fits-true s seg e =
     both_true _ _ (both_true _ _ (both_true _ _ (both_true _ _ (eq-eqb s.low s.low refl) (le-leb s.low s.high seg.ascending)) (distinct-true s.parents seg.distinct))
     (in-all-true (λ p. nat_lt p s.low) s.parents (λ p i. lt-ltb p s.low (each (λ p. p < s.low) s.parents seg.below p i)))) (ap not e)
 
 -- segments that follow one another, of which none goes on, break no rule
-all-fit : (place end : ℕ) (ss : List Segment) → Follow place end ss → AllByRecursion (λ s. IsSegment s × (s.level ≡ 0)) ss → AllByRecursion (λ s. goes_on s ≡ false) ss
+all-fit : (place end : ℕ) (ss : List Segment) → Follow place end ss → AllByRecursion IsPlain ss → AllByRecursion (λ s. goes_on s ≡ false) ss
     → AllByRecursion (λ b. b ≡ true) (segments_fit place ss)
 all-fit place end [] f g h = tt
-all-fit place end (s ∷ ss) f g h = (subst (λ n. segment_fits n s ≡ true) f.0 (fits-true s g.0.0 h.0), all-fit (s.high + 1) end ss f.2 g.1 h.1)
+all-fit place end (s ∷ ss) f g h = (subst (λ n. segment_fits n s ≡ true) f.0 (fits-true s g.0 h.0), all-fit (s.high + 1) end ss f.2 g.1 h.1)
 
 -- a list that isn't the one number
 not-only : (n : ℕ) (xs : List ℕ) → xs ≢ n ∷ [] → is_only n xs ≡ false
@@ -60,9 +61,9 @@ none-goes [] h = tt
 none-goes (s ∷ ss) h = (not-only (s.low - 1) s.parents h.0, none-goes ss h.1)
 
 -- the first segment of a master has no parents
-pub segments-fit : (end : ℕ) (ss : List Segment) → Follow 0 end ss → AllByRecursion (λ s. IsSegment s × (s.level ≡ 0)) ss → AreMaximal ss → AllByRecursion (λ b. b ≡ true) (segments_fit 0 ss)
+pub segments-fit : (end : ℕ) (ss : List Segment) → Follow 0 end ss → AllByRecursion IsPlain ss → AreMaximal ss → AllByRecursion (λ b. b ≡ true) (segments_fit 0 ss)
 segments-fit end [] f g m = tt
-segments-fit end (s ∷ ss) f g m = all-fit 0 end (s ∷ ss) f g (first s.parents g.0.0.below, none-goes ss m)
+segments-fit end (s ∷ ss) f g m = all-fit 0 end (s ∷ ss) f g (first s.parents g.0.below, none-goes ss m)
   where
     first : (ps : List ℕ) → AllByRecursion (λ p. p < s.low) ps → is_only (s.low - 1) ps ≡ false
     first [] h = refl

@@ -87,32 +87,32 @@ pub fn clones_are_held()
         → HoldPayloads (clone_change r ∷ []) (master_alone r) }
 {}
 
-/// What an honest remote tells of its master, within the bounds of the format, breaks no rule of clone data.
+/// What an honest remote tells of its master breaks no rule of clone data, however large it is.
 pub fn honest_never_broken()
-    ensures { (r : World NameBytes) → IsNamedWorld (master_alone r) → 0 < length r.master → length r.master ≤ standard.master → length (heads_of r) ≤ most_heads → first_broken (clone_data_of r) ≡ None }
+    ensures { (r : World NameBytes) → IsNamedWorld (master_alone r) → first_broken (clone_data_of r) ≡ None }
 {}
 
 /// Some head of a master group reaches each of its commits.
 pub fn heads_reach_all()
-    ensures { (r : World NameBytes) → IsNamedWorld (master_alone r) → 0 < length r.master → length r.master ≤ standard.master → length (heads_of r) ≤ most_heads
+    ensures { (r : World NameBytes) → IsNamedWorld (master_alone r)
         → (x : NameBytes) → IsIn x (names_of r.master) → IsReached (master_graph r) (heads_of r) x }
 {}
 
 /// The ids whose names an honest clone stores are those of the commits that may be named, and the highest of the segments.
 pub fn stored_ids_are_known()
-    ensures { (r : World NameBytes) → IsNamedWorld (master_alone r) → 0 < length r.master → length r.master ≤ standard.master → length (heads_of r) ≤ most_heads
+    ensures { (r : World NameBytes) → IsNamedWorld (master_alone r)
         → (id : ℕ) (row : Row NameBytes) → slice_get r.master id ≡ Some row
         → IsIn id (stored_ids r) ↔ (IsKnownTo (master_graph r) (heads_of r) row.name ⊎ IsIn id (map (λ s. s.high) (master_segments r))) }
 {}
 
-/// To each commit of a master group there is a path, so that an honest remote has an answer to the question for it.
+/// To each commit that one of some heads reaches there is a path from these heads, so that an honest remote has an answer to the
+/// question for it, also from heads that its master has outgrown.
 pub fn paths_are_there()
-    ensures { (r : World NameBytes) → IsNamedWorld (master_alone r) → 0 < length r.master → length r.master ≤ standard.master → length (heads_of r) ≤ most_heads
-        → (x : NameBytes) → IsIn x (names_of r.master) → (path : Path) × IsPathTo (master_graph r) (heads_of r) x (Some path) }
+    ensures { (r : World NameBytes) (heads : List NameBytes) (x : NameBytes) → IsReached (master_graph r) heads x → (path : Path) × IsPathTo (master_graph r) heads x (Some path) }
 {}
 
 /// The heads that an honest remote tells are the commits of its master that are no parent there.
 pub fn heads_have_no_children()
-    ensures { (r : World NameBytes) → IsNamedWorld (master_alone r) → 0 < length r.master → length r.master ≤ standard.master → length (heads_of r) ≤ most_heads → (row : Row NameBytes) → IsIn row r.master
+    ensures { (r : World NameBytes) → IsNamedWorld (master_alone r) → (row : Row NameBytes) → IsIn row r.master
         → IsIn row.name (heads_of r) ↔ ((child : Row NameBytes) → IsIn child r.master → IsIn row.name child.parents → ⊥) }
 {}
