@@ -10,7 +10,7 @@ use Rattle.segment_codec.specs.Record.{Segment}
 use Rattle.segment_rules.specs.Flat.{flat_segments_of}
 use Rattle.remote_rules.specs.CloneData.{CloneData, KnownName, head_ids, merge_parents}
 use Rattle.remote_rules.specs.Mirror.{Mirror}
-use Rattle.remote_rules.specs.Known.{master_alone}
+use Rattle.remote_rules.specs.Known.{master_alone, master_world}
 
 -- the flat segments of the master group
 abbrev pub master_segments : World Name → List Segment
@@ -37,11 +37,11 @@ heads_of r = map (λ k. k.name) (named_ids r (head_ids (master_segments r)))
 abbrev pub clone_data_of : World Name → CloneData
 clone_data_of r = record { segments = master_segments r; names = named_ids r (stored_ids r); heads = heads_of r }
 
--- what holds of a remote that tells this world: it is a world, and the clone data that it tells are those of the world
-pub record IsHonest (cloned : Option CloneData) (r : World Name) : Type 0 where
-  pub world : IsNamedWorld r
-  pub clone : MatchOption cloned ⊤ (λ told. told ≡ clone_data_of r)
+-- what holds of a remote that tells these master rows: they are a world, and the clone data that it tells are those of the world
+pub record IsHonest (cloned : Option CloneData) (rows : List (Row Name)) : Type 0 where
+  pub world : IsNamedWorld (master_world rows)
+  pub clone : MatchOption cloned ⊤ (λ told. told ≡ clone_data_of (master_world rows))
 
--- what holds of each remote between two calls: where it tells a world it is honest
+-- what holds of each remote between two calls: where it tells its master it is honest
 abbrev pub IsSound : Mirror → Type 0
-IsSound m = MatchOption m.world ⊤ (IsHonest m.cloned)
+IsSound m = MatchOption m.master ⊤ (IsHonest m.cloned)

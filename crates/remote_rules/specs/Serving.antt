@@ -10,19 +10,19 @@ use Rattle.remote_rules.specs.Honest.{IsHonest}
 -- it is honest, and each master row of the world below the cloned count is a row of its own master, with the same parents
 abbrev pub Serves : ℕ → World Name → Mirror → Type 0
 Serves cloned w m =
-    (r : World Name) × (m.world ≡ Some r) × IsHonest m.cloned r × ((row : Row Name) → IsIn row (take cloned w.master) → IsIn row r.master)
+    (rows : List (Row Name)) × (m.master ≡ Some rows) × IsHonest m.cloned rows × ((row : Row Name) → IsIn row (take cloned w.master) → IsIn row rows)
 
 -- its master begins with the world's rows below the cloned count, in their order
 abbrev pub BeginsWith : ℕ → World Name → Mirror → Type 0
 BeginsWith cloned w m =
-    (r : World Name) × (m.world ≡ Some r) × IsHonest m.cloned r × (more : List (Row Name)) × (r.master ≡ take cloned w.master ++ more)
+    (rows : List (Row Name)) × (m.master ≡ Some rows) × IsHonest m.cloned rows × (more : List (Row Name)) × (rows ≡ take cloned w.master ++ more)
 
 -- settled mirrors with the same rows of master, in whatever order
 abbrev pub AreAlike : List Mirror → Type 0
 AreAlike mirrors =
     AllByRecursion (λ (m : Mirror). m.settled ≡ true) mirrors
-    × ((m n : Mirror) (q r : World Name) → IsIn m mirrors → IsIn n mirrors → m.world ≡ Some q → n.world ≡ Some r
-    → (row : Row Name) → IsIn row q.master → IsIn row r.master)
+    × ((m n : Mirror) (q r : List (Row Name)) → IsIn m mirrors → IsIn n mirrors → m.master ≡ Some q → n.master ≡ Some r
+    → (row : Row Name) → IsIn row q → IsIn row r)
 
 -- What is asked of the mirrors of a run over a world, of which so many commits were cloned: each serves it, and over an empty
 -- master they are at most one, or alike.

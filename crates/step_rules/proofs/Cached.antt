@@ -1,18 +1,17 @@
 -- The cache has the rows' names, and the mirrors stay sound.
-use Rattle.std.proofs.Common.{◌≡◌, ◌≤◌, ◌<◌, ◌+◌, ◌&&◌, ◌||◌, ◌^◌, not, Bool, true, false, ℕ, zero, suc, inl, inr, List, [], ◌∷◌, ◌++◌, length, map, drop, nat_eq, nat_lt, Option, Some, None, slice_get, refl, sym, ap, ap₂, subst, subst₂, ◌∙◌, if◌then◌else◌, ⊎_elim, true≢false, is_some, append-nil, MatchOption, arith, length-append}
+use Rattle.std.proofs.Common.{◌≡◌, ◌<◌, ◌+◌, ◌&&◌, ◌||◌, ◌^◌, not, Bool, true, false, ℕ, zero, suc, inl, inr, List, [], ◌∷◌, ◌++◌, length, map, drop, nat_eq, nat_lt, Option, Some, None, slice_get, refl, sym, ap, ap₂, subst, subst₂, ◌∙◌, if◌then◌else◌, ⊎_elim, true≢false, is_some, append-nil, MatchOption, arith, length-append}
 use Rattle.std.proofs.lemmas.Bool.{ltb-true, lt-ltb}
 use Rattle.std.proofs.lemmas.List.{map-append}
 use Rattle.std.proofs.lemmas.Grind.{flat_map-append}
 use Rattle.std.proofs.lemmas.Map.Views.{exact_unsigned_eq}
 use Rattle.std.specs.List.{AllByRecursion}
-use Rattle.id_groups.specs.Lists.{IsIn, is_in, AreDistinct}
+use Rattle.id_groups.specs.Lists.{IsIn, is_in}
 use Rattle.id_groups.specs.Name.{Name, same_name}
 use Rattle.id_groups.proofs.Names.{same_name-exact, same_name-self}
 use Rattle.id_groups.proofs.Listing.{found, and_true, both_true}
 use Rattle.commit_graph.specs.World.{Row, World, GrowsMaster, names_of}
 use Rattle.commit_graph.specs.Ids.{id_in, place_of}
 use Rattle.commit_graph.proofs.Histories.{in-append}
-use Rattle.commit_graph.proofs.Naming.{each, all-each}
 use Rattle.batch_codec.specs.Payload.{Payload, Known}
 use Rattle.change_rules.specs.Lazy.{is_lazy}
 use Rattle.change_rules.specs.Tables.{known_in}
@@ -20,7 +19,7 @@ use Rattle.change_rules.specs.Change.{flush_change, known_from}
 use Rattle.remote_rules.specs.CloneData.{KnownName}
 use Rattle.remote_rules.specs.Mirror.{Mirror}
 use Rattle.step_rules.specs.declared.Refusal.{Refusal}
-use Rattle.step_rules.specs.State.{Stored, Outside, IsCached, IsOutside, with_stored, on_newest}
+use Rattle.step_rules.specs.State.{Stored, Outside, Cache, HasAtMost, IsLazyName, IsOutside, with_stored, on_newest}
 use Rattle.step_rules.specs.Worlds.{same_world, after_change}
 use Rattle.step_rules.specs.Asked.{found_as}
 use Rattle.step_rules.specs.Tests.{Test, plain, named}
@@ -83,10 +82,10 @@ lazy-on payloads w v more id e h =
 
 -- what may be found in a world that was stored is a lazy commit of the one stored now, with its name
 module _ (st : Stored) (w : World Name) (grown : GrowsMaster w st.stored) where
-  pub found-cached : (name : Name) (k : KnownName) → IsIn k (found_as st w name) → IsCached st k
+  pub found-cached : (name : Name) (k : KnownName) → IsIn k (found_as st w name) → IsLazyName st k
   found-cached name k i = by_test (is_in same_name name (names_of w.master) && is_lazy st.payloads w (id_in same_name w name)) refl i
     where
-      here : (is_in same_name name (names_of w.master) && is_lazy st.payloads w (id_in same_name w name)) ≡ true → IsCached st (record { id = id_in same_name w name; name = name })
+      here : (is_in same_name name (names_of w.master) && is_lazy st.payloads w (id_in same_name w name)) ≡ true → IsLazyName st (record { id = id_in same_name w name; name = name })
       here e =
           let parts = and_true (is_in same_name name (names_of w.master)) _ e in
           let there = found same_name same_name-exact same_name-self name (names_of w.master) parts.0 in
@@ -98,8 +97,8 @@ module _ (st : Stored) (w : World Name) (grown : GrowsMaster w st.stored) where
           )
 
       by_test : (b : Bool) → (is_in same_name name (names_of w.master) && is_lazy st.payloads w (id_in same_name w name)) ≡ b
-          → IsIn k (if b then record { id = id_in same_name w name; name = name } ∷ [] else []) → IsCached st k
-      by_test true e (inl f) = subst (IsCached st) (sym f) (here e)
+          → IsIn k (if b then record { id = id_in same_name w name; name = name } ∷ [] else []) → IsLazyName st k
+      by_test true e (inl f) = subst (IsLazyName st) (sym f) (here e)
       by_test true e (inr j) = absurd j
       by_test false e j = absurd j
 
@@ -130,7 +129,7 @@ is-in-append n (x ∷ xs) ys e f = let parts = neither (nat_eq n x) (is_in nat_e
 
 -- the new known names of a change are of ids from the old count on
 module _ (st : Stored) (new : World Name) (payload : Payload) (grown : GrowsMaster st.stored new) (late : (n : ℕ) → n < length st.stored.master → is_in nat_eq n (map (λ (k : Known). k.id) payload.known) ≡ false) where
-  cached-next : (k : KnownName) → IsCached st k → IsCached (with_stored st new payload) k
+  cached-next : (k : KnownName) → IsLazyName st k → IsLazyName (with_stored st new payload) k
   cached-next k h =
       let parts = and_true (nat_lt k.id (length st.stored.master)) _ h.0 in
       let below = ltb-true k.id (length st.stored.master) parts.0 in
@@ -144,10 +143,10 @@ module _ (st : Stored) (new : World Name) (payload : Payload) (grown : GrowsMast
             (get-front (names_of st.stored.master) (names_of grown.0) k.id k.name h.1),
       )
 
-  pub cached-change : (s : ℕ) (k : KnownName) → IsCached st k → IsCached (after_change st s new payload) k
+  pub cached-change : (s : ℕ) (k : KnownName) → IsLazyName st k → IsLazyName (after_change st s new payload) k
   cached-change s k h = by_test (same_world new st.stored)
     where
-      by_test : (b : Bool) → IsCached (if b then on_newest st s [] else on_newest (with_stored st new payload) s []) k
+      by_test : (b : Bool) → IsLazyName (if b then on_newest st s [] else on_newest (with_stored st new payload) s []) k
       by_test true = h
       by_test false = cached-next k h
 
@@ -156,17 +155,15 @@ pub flush-late : (old new : World Name) (n : ℕ) → n < length old.master → 
 flush-late old new n lt = known-not-lower (length old.master) (names_of (drop (length old.master) new.master)) n lt
 
 -- the outside after a command, whose cache goes on by names that are right
-pub outside-kept : (st now : Stored) (old new : Outside) (mirrors : List Mirror) (gained : List KnownName) → IsOutside st old → AreSound mirrors → ((k : KnownName) → IsIn k gained → IsCached st k)
-    → ((k : KnownName) → IsCached st k → IsCached now k) → GoesOutside old mirrors gained new → IsOutside now new
+pub outside-kept : (st now : Stored) (old new : Outside) (mirrors : List Mirror) (gained : List KnownName) → IsOutside st old → AreSound mirrors → ((k : KnownName) → IsIn k gained → IsLazyName st k)
+    → ((k : KnownName) → IsLazyName st k → IsLazyName now k) → GoesOutside old mirrors gained new → IsOutside now new
 outside-kept st now old new mirrors [] h sound right on g = record {
-  ids = subst (λ l. AreDistinct (map (λ (k : KnownName). k.id) l)) (sym g.cache) h.ids;
-  few = subst₂ (λ l n. length l ≤ n) (sym g.cache) (sym g.room) h.few;
-  names = all-each (IsCached now) new.cache (λ k i. on k (each (IsCached st) old.cache h.names k (subst (IsIn k) g.cache i)));
+  few = subst₂ (λ c n. HasAtMost n c) (sym g.cache) (sym g.room) h.few;
+  names = λ id name e. on (record { id = id; name = name }) (h.names id name (subst (λ (c : Cache). c id ≡ Some name) g.cache e));
   mirrors = subst AreSound (sym g.mirrors_are) sound;
 }
 outside-kept st now old new mirrors (x ∷ gained) h sound right on g = record {
-  ids = g.cache.ids;
-  few = subst (λ n. length new.cache ≤ n) (sym g.room) g.cache.few;
-  names = all-each (IsCached now) new.cache (λ k i. on k (⊎_elim (λ j. each (IsCached st) old.cache h.names k j) (λ j. right k j) (g.cache.from k i)));
+  few = subst (λ n. HasAtMost n new.cache) (sym g.room) g.cache.few;
+  names = λ id name e. on (record { id = id; name = name }) (⊎_elim (λ j. h.names id name j) (λ j. right (record { id = id; name = name }) j) (g.cache.from id name e));
   mirrors = subst AreSound (sym g.mirrors_are) sound;
 }

@@ -31,7 +31,7 @@ use Rattle.change_rules.proofs.Changes.{names-length}
 use Rattle.remote_rules.specs.CloneData.{KnownName}
 use Rattle.remote_rules.specs.Mirror.{Mirror}
 use Rattle.remote_rules.specs.Calls.{IsCloned, IsPulled}
-use Rattle.remote_rules.specs.Known.{master_alone}
+use Rattle.remote_rules.specs.Known.{master_alone, master_world}
 use Rattle.remote_rules.specs.Honest.{heads_of}
 use Rattle.change_rules.proofs.Cloned.{clone-held}
 use Rattle.commit_graph.proofs.Naming.{named-by}
@@ -260,8 +260,8 @@ module _ (limits : Limits) (fair : AreLimits limits) (st : State) (s : ℕ) (sta
       makes r named (inl g) = by_tests r named (first_some (pull_tests limits st.store r)) refl g
       makes r named (inr m) = same-held st'.store m.1
 
-      by_end : (o : Option MirrorFault) → MatchOption o ((r : World Name) × Answered new r × Pulls limits st.store s r reply st'.store) (λ fault. IsRefused st.store (refusal_for fault) reply st'.store) → AreSound new → IsHeld limits st'.store
-      by_end None g k = makes g.0 (front-sound new g.0 k g.1) g.2
+      by_end : (o : Option MirrorFault) → MatchOption o ((rows : List (Row Name)) × Answered new rows × Pulls limits st.store s (master_world rows) reply st'.store) (λ fault. IsRefused st.store (refusal_for fault) reply st'.store) → AreSound new → IsHeld limits st'.store
+      by_end None g k = makes (master_world g.0) (front-sound new g.0 k g.1) g.2
       by_end (Some x) g k = same-held st'.store g.1
 
   -- nothing is stored before a clone
@@ -322,8 +322,8 @@ module _ (limits : Limits) (fair : AreLimits limits) (st : State) (s : ℕ) (sta
       makes r named (inl g) = by_tests r named (first_some (clone_tests limits st.store r)) refl g
       makes r named (inr m) = same-held st'.store m.1
 
-      by_end : (o : Option MirrorFault) → MatchOption o ((r : World Name) × Answered new r × Clones limits st.store s r reply st'.store) (λ fault. IsRefused st.store (refusal_for fault) reply st'.store) → AreSound new → IsHeld limits st'.store
-      by_end None g k = makes g.0 (front-sound new g.0 k g.1) g.2
+      by_end : (o : Option MirrorFault) → MatchOption o ((rows : List (Row Name)) × Answered new rows × Clones limits st.store s (master_world rows) reply st'.store) (λ fault. IsRefused st.store (refusal_for fault) reply st'.store) → AreSound new → IsHeld limits st'.store
+      by_end None g k = makes (master_world g.0) (front-sound new g.0 k g.1) g.2
       by_end (Some x) g k = same-held st'.store g.1
 
   answers-held : (verb : Verb) (mirrors : List Mirror) (found : List KnownName) (reply : Reply) (st' : State) → first_some (refusals limits (base_of st.store s) (pending_of st.store s) w verb) ≡ None

@@ -3,14 +3,14 @@ use Rattle.std.proofs.Common.{◌≡◌, ◌≤◌, ℕ, suc, Bool, true, false,
 use Rattle.std.specs.List.{AllZip}
 use Rattle.id_groups.specs.Lists.{IsIn}
 use Rattle.id_groups.specs.Name.{Name}
-use Rattle.commit_graph.specs.World.{World, GrowsMaster}
+use Rattle.commit_graph.specs.World.{Row, World}
 use Rattle.commit_graph.proofs.Histories.{in-append}
 use Rattle.commit_graph.proofs.Down.{in-left, in-right}
 use Rattle.commit_graph.proofs.Naming.{each, all-each}
 use Rattle.remote_rules.specs.CloneData.{KnownName}
 use Rattle.remote_rules.specs.Mirror.{Mirror}
 use Rattle.remote_rules.specs.Honest.{IsHonest, IsSound}
-use Rattle.remote_rules.specs.Calls.{WorldGoesOn, IsAskedFor, Fails}
+use Rattle.remote_rules.specs.Calls.{MasterGoesOn, IsAskedFor, Fails}
 use Rattle.remote_rules.specs.Serving.{Serves, AreAlike, AllServe}
 use Rattle.remote_rules.specs.declared.MirrorFault.{MirrorFault}
 use Rattle.remote_rules.specs.Asking.{Asks, AskedNext, AsksInTurn}
@@ -21,8 +21,8 @@ use Rattle.step_rules.specs.Asking.{TriesAll}
 -- a mirror as it is after calls: settled as before, its world goes on, and it is sound if it was
 pub record GoesTo (k m : Mirror) : Type 0 where
   pub settled : m.settled ≡ k.settled
-  pub world : WorldGoesOn k.settled k.world m.world
-  pub tells : is_some m.world ≡ is_some k.world
+  pub master : MasterGoesOn k.settled k.master m.master
+  pub tells : is_some m.master ≡ is_some k.master
   pub sound : IsSound k → IsSound m
 
 -- each of the new mirrors was one of the old ones, and they are as many
@@ -30,25 +30,25 @@ pub record ComeFrom (old new : List Mirror) : Type 0 where
   pub each_from : (m : Mirror) → IsIn m new → (k : Mirror) × IsIn k old × GoesTo k m
   pub count : length new ≡ length old
 
-same-world : (b : Bool) (o : Option (World Name)) → WorldGoesOn b o o
-same-world b None = tt
-same-world true (Some w) = refl
-same-world false (Some w) = (([], sym (append-nil w.master)), refl)
+same-master : (b : Bool) (o : Option (List (Row Name))) → MasterGoesOn b o o
+same-master b None = tt
+same-master true (Some rows) = refl
+same-master false (Some rows) = ([], sym (append-nil rows))
 
 pub goes-self : (m : Mirror) → GoesTo m m
-goes-self m = record { settled = refl; world = same-world m.settled m.world; tells = refl; sound = λ s. s }
+goes-self m = record { settled = refl; master = same-master m.settled m.master; tells = refl; sound = λ s. s }
 
-then-world : (b : Bool) (x y z : Option (World Name)) → WorldGoesOn b x y → WorldGoesOn b y z → WorldGoesOn b x z
-then-world b None y z h k = tt
-then-world b (Some u) None z h k = absurd h
-then-world b (Some u) (Some v) None h k = absurd k
-then-world true (Some u) (Some v) (Some w) h k = k ∙ h
-then-world false (Some u) (Some v) (Some w) h k = ((h.0.0 ++ k.0.0, k.0.1 ∙ ap (λ l. l ++ k.0.0) h.0.1 ∙ append_assoc u.master h.0.0 k.0.0), k.1 ∙ h.1)
+then-master : (b : Bool) (x y z : Option (List (Row Name))) → MasterGoesOn b x y → MasterGoesOn b y z → MasterGoesOn b x z
+then-master b None y z h k = tt
+then-master b (Some u) None z h k = absurd h
+then-master b (Some u) (Some v) None h k = absurd k
+then-master true (Some u) (Some v) (Some w) h k = k ∙ h
+then-master false (Some u) (Some v) (Some w) h k = (h.0 ++ k.0, k.1 ∙ ap (λ l. l ++ k.0) h.1 ∙ append_assoc u h.0 k.0)
 
 goes-then : (k m x : Mirror) → GoesTo k m → GoesTo m x → GoesTo k x
 goes-then k m x g h = record {
   settled = h.settled ∙ g.settled;
-  world = then-world k.settled k.world m.world x.world g.world (subst (λ b. WorldGoesOn b m.world x.world) g.settled h.world);
+  master = then-master k.settled k.master m.master x.master g.master (subst (λ b. MasterGoesOn b m.master x.master) g.settled h.master);
   tells = h.tells ∙ g.tells;
   sound = λ s. h.sound (g.sound s);
 }
@@ -93,7 +93,7 @@ module _ (Does : Mirror → Mirror → Type 0) (goes : (m asked : Mirror) → Do
               (in-append m more a.1 j)
 
 pub asked-goes : (count : ℕ) (m asked : Mirror) → IsAskedFor count m asked → GoesTo m asked
-asked-goes count m asked d = record { settled = d.keeps.settled; world = subst (λ o. WorldGoesOn m.settled m.world o) (sym d.world) (same-world m.settled m.world); tells = d.keeps.tells_world; sound = d.keeps.sound }
+asked-goes count m asked d = record { settled = d.keeps.settled; master = subst (λ o. MasterGoesOn m.settled m.master o) (sym d.master) (same-master m.settled m.master); tells = d.keeps.tells_master; sound = d.keeps.sound }
 
 turns-from : (answered : ℕ) (counts : List ℕ) (old new : List Mirror) (end : Option MirrorFault) → AsksInTurn answered counts old end new → ComeFrom old new
 turns-from answered [] old new end t = from-same old new t.2
@@ -114,26 +114,26 @@ tries-from W old new (test ∷ more) verdict gained (inr t) =
     behind (Some r) g f rec = from-then old t.1 new f (from-same t.1 new g.1)
 
 -- what serves goes on to serve
-told-on : (b : Bool) (o : Option (World Name)) (r : World Name) → WorldGoesOn b (Some r) o → (q : World Name) × (o ≡ Some q) × GrowsMaster r q
+told-on : (b : Bool) (o : Option (List (Row Name))) (r : List (Row Name)) → MasterGoesOn b (Some r) o → (q : List (Row Name)) × (o ≡ Some q) × (more : List (Row Name)) × (q ≡ r ++ more)
 told-on b None r h = absurd h
-told-on true (Some q) r h = (q, refl, subst (GrowsMaster r) (sym h) ([], sym (append-nil r.master)))
-told-on false (Some q) r h = (q, refl, h.0)
+told-on true (Some q) r h = (q, refl, [], h ∙ sym (append-nil r))
+told-on false (Some q) r h = (q, refl, h.0, h.1)
 
 pub serves-on : (cloned : ℕ) (w : World Name) (k m : Mirror) → GoesTo k m → Serves cloned w k → Serves cloned w m
 serves-on cloned w k m g (r, told, honest, rows) =
-    let on = told-on k.settled m.world r (subst (λ o. WorldGoesOn k.settled o m.world) told g.world) in
+    let on = told-on k.settled m.master r (subst (λ o. MasterGoesOn k.settled o m.master) told g.master) in
     let sound : IsSound m = g.sound (subst (λ o. MatchOption o (Unit {0}) (IsHonest k.cloned)) (sym told) honest) in
-    (on.0, on.1, subst (λ o. MatchOption o (Unit {0}) (IsHonest m.cloned)) on.1 sound, λ row i. subst (IsIn row) (sym on.2.1) (in-left row r.master on.2.0 (rows row i)))
+    (on.0, on.1, subst (λ o. MatchOption o (Unit {0}) (IsHonest m.cloned)) on.1 sound, λ row i. subst (IsIn row) (sym on.3) (in-left row r on.2 (rows row i)))
 
 -- settled mirrors tell the same after calls
-settled-same : (k m : Mirror) → GoesTo k m → k.settled ≡ true → m.world ≡ k.world
-settled-same k m g e = by_world k.world m.world (subst (λ b. WorldGoesOn b k.world m.world) e g.world) g.tells
+settled-same : (k m : Mirror) → GoesTo k m → k.settled ≡ true → m.master ≡ k.master
+settled-same k m g e = by_master k.master m.master (subst (λ b. MasterGoesOn b k.master m.master) e g.master) g.tells
   where
-    by_world : (x y : Option (World Name)) → WorldGoesOn true x y → is_some y ≡ is_some x → y ≡ x
-    by_world None None h t = refl
-    by_world None (Some w) h t = absurd (true≢false t)
-    by_world (Some w) None h t = absurd h
-    by_world (Some w) (Some v) h t = ap Some h
+    by_master : (x y : Option (List (Row Name))) → MasterGoesOn true x y → is_some y ≡ is_some x → y ≡ x
+    by_master None None h t = refl
+    by_master None (Some w) h t = absurd (true≢false t)
+    by_master (Some w) None h t = absurd h
+    by_master (Some w) (Some v) h t = ap Some h
 
 pub alike-on : (old new : List Mirror) → ComeFrom old new → AreAlike old → AreAlike new
 alike-on old new f (settled, rows) = (

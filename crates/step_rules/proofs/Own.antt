@@ -17,6 +17,7 @@ use Rattle.change_rules.specs.Rebase.{left_of, first_conflict, first_lost}
 use Rattle.change_rules.specs.Flush.{flushed}
 use Rattle.change_rules.specs.Strip.{stripped}
 use Rattle.change_rules.specs.Pull.{pulled}
+use Rattle.remote_rules.specs.Known.{master_world}
 use Rattle.remote_rules.specs.Honest.{heads_of}
 use Rattle.step_rules.specs.declared.Refusal.{Refusal}
 use Rattle.step_rules.specs.declared.Refusal.TheVariants as why
@@ -65,10 +66,6 @@ refusals limits b p w (Drop k) = []
 -- what is stored after a change that makes this world
 abbrev pub newest_of : World Name → World Name → World Name
 newest_of w new = if same_world new w then w else new
-
--- a remote's master as a world
-abbrev pub master_world : List (Row Name) → World Name
-master_world rows = record { master = rows; others = [] }
 
 -- what a clone or a pull is refused for, by the remote's master; not for the log
 abbrev pub taking : Limits → World Name → List (Row Name) → Verb → List (Option Refusal)

@@ -16,7 +16,7 @@ use Rattle.change_rules.specs.Change.{flush_change, clone_change}
 use Rattle.change_rules.specs.Tables.{cloned_count}
 use Rattle.remote_rules.specs.CloneData.{KnownName}
 use Rattle.remote_rules.specs.Mirror.{Mirror}
-use Rattle.remote_rules.specs.Known.{master_alone}
+use Rattle.remote_rules.specs.Known.{master_alone, master_world}
 use Rattle.remote_rules.specs.Calls.{IsCloned, IsPulled}
 use Rattle.remote_rules.specs.declared.MirrorFault.{MirrorFault}
 use Rattle.remote_rules.specs.declared.MirrorFault.TheVariants as fault
@@ -29,9 +29,9 @@ use Rattle.step_rules.specs.Worlds.{has, flush_of, after_flush, after_change, lo
 use Rattle.step_rules.specs.Tests.{Test, plain, named, looked_up, unknown, full, pending_test, rebase_tests, not_strippable, first_some, refused_first, refuse_if, tests}
 use Rattle.step_rules.specs.Asking.{refusal_for}
 use Rattle.step_rules.specs.Step.{Told, Lists, TakesFrom, Clones, Pulls, Answered, Answers, CommandStep, GoesOutside, IsRefused, UnlessRefused, MayWantMemory, answer_tests, without}
-use Rattle.step_rules.specs.Isolation.{IsOwn, master_in, world_in_front, master_in_front, reads_stored, takes_master}
+use Rattle.step_rules.specs.Isolation.{IsOwn, first_master, master_in_front, reads_stored, takes_master}
 use Rattle.step_rules.proofs.Trying.{Outer, tried-all}
-use Rattle.step_rules.proofs.Own.{refusals, newest_of, master_world, taking, Has, OwnAnswer, OwnStep}
+use Rattle.step_rules.proofs.Own.{refusals, newest_of, taking, Has, OwnAnswer, OwnStep}
 use Rattle.step_rules.proofs.Sessions.{IsPlaced, base-changed, pending-changed, base-newest, pending-newest, change-has}
 
 first-same : {X : Type 0} (xs ys zs : List (Option X)) → first_some ys ≡ first_some zs → first_some (xs ++ ys) ≡ first_some (xs ++ zs)
@@ -147,9 +147,9 @@ match-option : {X : Type 0} (o : Option X) (P Q : Type 0) (F G : X → Type 0) �
 match-option None P Q F G f g h = f h
 match-option (Some x) P Q F G f g h = g x h
 
-in-front : (mirrors : List Mirror) (r : World Name) → Answered mirrors r → master_in (world_in_front mirrors) ≡ Some r.master
-in-front [] r a = absurd a
-in-front (m ∷ more) r a = ap master_in a
+in-front : (mirrors : List Mirror) (rows : List (Row Name)) → Answered mirrors rows → first_master mirrors ≡ Some rows
+in-front [] rows a = absurd a
+in-front (m ∷ more) rows a = a
 
 module _ (limits : Limits) (st : State) (s : ℕ) (h : IsPlaced st.store) (lt : s < 16) (reply : Reply) (own : IsOwn reply) (st' : State) where
   abbrev b : World Name
@@ -236,9 +236,9 @@ module _ (limits : Limits) (st : State) (s : ℕ) (h : IsPlaced st.store) (lt : 
       → ((r : World Name) → Makes r reply st'.store → Gives r.master) → TakesFrom Does Makes st mirrors found reply st' → (rows : List (Row Name)) × (master_in_front st' ≡ Some rows) × Gives rows
   taken-own verb Does Makes Gives mirrors found f (end, new, asks, out, ends) = by_end end ends
     where
-      by_end : (o : Option MirrorFault) → MatchOption o ((r : World Name) × Answered new r × Makes r reply st'.store) (λ fault. IsRefused st.store (refusal_for fault) reply st'.store)
+      by_end : (o : Option MirrorFault) → MatchOption o ((rows : List (Row Name)) × Answered new rows × Makes (master_world rows) reply st'.store) (λ fault. IsRefused st.store (refusal_for fault) reply st'.store)
           → (rows : List (Row Name)) × (master_in_front st' ≡ Some rows) × Gives rows
-      by_end None g = (g.0.master, ap (λ l. master_in (world_in_front l)) out.mirrors_are ∙ in-front new g.0 g.1, f g.0 g.2)
+      by_end None g = (g.0, ap first_master out.mirrors_are ∙ in-front new g.0 g.1, f (master_world g.0) g.2)
       by_end (Some fault.NoRemote) g = absurd (not-outer why.NoRemote reply g.0 own tt)
       by_end (Some (fault.AllFailed n)) g = absurd (not-outer (why.Remote n) reply g.0 own tt)
       by_end (Some fault.Memory) g = absurd (not-outer why.Memory reply g.0 own tt)

@@ -19,7 +19,7 @@ use Rattle.step_rules.specs.declared.Refusal.TheVariants as why
 use Rattle.step_rules.specs.State.{State, Stored, Outside, pending_of, base_of, view_of}
 use Rattle.step_rules.specs.Verb.{Verb, Add, Flush, Reload, Discard, Query, Count, IdOf, Status, Levels, Clone, Pull, Strip, CountMirrors, Drop}
 use Rattle.step_rules.specs.Reply.{Reply, Listed}
-use Rattle.step_rules.specs.Asked.{is_unnamed, is_asked, found_as, lazy_among, is_cached}
+use Rattle.step_rules.specs.Asked.{is_unnamed, is_asked, found_as, lazy_among, is_cached, is_found}
 use Rattle.step_rules.specs.Tests.{Test, named, looked_up, unknown, pending_test, rebase_tests, is_on_newest, not_strippable, first_some, refused_first, refuse_if, tests}
 use Rattle.step_rules.specs.Asking.{refused_by, Tries, TriesAll, CacheGoesOn}
 use Rattle.step_rules.specs.Step.{Lists, Answers, CommandStep, IsRefused, GoesOutside, MayWantMemory, printing_test, answer_tests}
@@ -182,8 +182,8 @@ storing st now = record { store = now; outside = st.outside }
 -- the test of a query's names, where each is stored
 printing-plain : (st : State) (s : ℕ) (names : List Name) → HasAllNames st.store s → IsPlain (printing_test st s [] names)
 printing-plain st s names h = (
-  ap (λ l. length (filter (λ k. not (is_cached [] k)) (filter (λ k. not (is_cached st.outside.cache k)) l))) none,
-  ap (λ l. let absent = filter (λ k. not (is_cached st.outside.cache k)) l in (length absent - length (filter (λ k. not (is_cached [] k)) absent)) + min 0 (length l - length absent)) none,
+  ap (λ l. length (filter (λ k. not (is_found [] k)) (filter (λ k. not (is_cached st.outside.cache k)) l))) none,
+  ap (λ l. let absent = filter (λ k. not (is_cached st.outside.cache k)) l in (length absent - length (filter (λ k. not (is_found [] k)) absent)) + min 0 (length l - length absent)) none,
 )
   where
     none : lazy_among st.store (base_of st.store s) names ≡ []

@@ -2,14 +2,14 @@
 use Rattle.std.proofs.Common.{◌≡◌, ℕ, Bool, true, false, inl, inr, List, length, nat_lt, Option, Some, None, refl, sym, ap, ◌∙◌, true≢false, MatchOption}
 use Rattle.std.specs.Bool.{MatchBool}
 use Rattle.id_groups.specs.Name.{Name, same_name}
-use Rattle.commit_graph.specs.World.{World}
+use Rattle.commit_graph.specs.World.{Row, World}
 use Rattle.commit_graph.specs.Ids.{id_in}
 use Rattle.change_rules.specs.declared.Limits.{Limits}
 use Rattle.change_rules.specs.Pull.{pulled}
 use Rattle.change_rules.specs.Change.{clone_change}
 use Rattle.change_rules.specs.Tables.{cloned_count}
 use Rattle.remote_rules.specs.Mirror.{Mirror}
-use Rattle.remote_rules.specs.Known.{master_alone}
+use Rattle.remote_rules.specs.Known.{master_alone, master_world}
 use Rattle.remote_rules.specs.Calls.{IsCloned, IsPulled}
 use Rattle.remote_rules.specs.CloneData.{KnownName}
 use Rattle.remote_rules.specs.declared.MirrorFault.{MirrorFault}
@@ -65,8 +65,8 @@ module _ (limits : Limits) (st : State) (s : ℕ) (reply : Reply) (no : is_refus
       → ((r : World Name) → Makes r reply st'.store → st'.store ≡ st.store) → TakesFrom Does Makes st mirrors found reply st' → st'.store ≡ st.store
   taken-kept Does Makes mirrors found st' f (end, new, asks, out, ends) = by_end end ends
     where
-      by_end : (o : Option MirrorFault) → MatchOption o ((r : World Name) × Answered new r × Makes r reply st'.store) (λ fault. IsRefused st.store (refusal_for fault) reply st'.store) → st'.store ≡ st.store
-      by_end None g = f g.0 g.2
+      by_end : (o : Option MirrorFault) → MatchOption o ((rows : List (Row Name)) × Answered new rows × Makes (master_world rows) reply st'.store) (λ fault. IsRefused st.store (refusal_for fault) reply st'.store) → st'.store ≡ st.store
+      by_end None g = f (master_world g.0) g.2
       by_end (Some x) g = g.1
 
   answers-kept : (verb : Verb) (mirrors : List Mirror) (found : List KnownName) (st' : State) → Answers limits st s verb mirrors found reply st' → st'.store ≡ st.store

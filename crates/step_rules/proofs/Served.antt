@@ -14,7 +14,7 @@ use Rattle.change_rules.specs.Change.{flush_change, clone_change}
 use Rattle.change_rules.specs.Tables.{cloned_count}
 use Rattle.remote_rules.specs.CloneData.{KnownName}
 use Rattle.remote_rules.specs.Mirror.{Mirror}
-use Rattle.remote_rules.specs.Known.{master_alone}
+use Rattle.remote_rules.specs.Known.{master_alone, master_world}
 use Rattle.remote_rules.specs.Calls.{IsCloned, IsPulled}
 use Rattle.remote_rules.specs.Serving.{Serves, AreAlike, AllServe}
 use Rattle.remote_rules.specs.declared.MirrorFault.{MirrorFault}
@@ -100,15 +100,15 @@ some-of : {X : Type 0} (x y : X) → Some x ≡ Some y → x ≡ y
 some-of x y e = ap (or_this x) e
 
 -- all that is cloned is served by who was cloned, and by who is like it
-cloned-serves : (r : World Name) (mirrors : List Mirror) → Answered mirrors r → ((length mirrors ≤ 1) ⊎ AreAlike mirrors) → (m : Mirror) → IsIn m mirrors → (q : World Name) → m.world ≡ Some q
-    → (row : Row Name) → IsIn row r.master → IsIn row q.master
+cloned-serves : (r : List (Row Name)) (mirrors : List Mirror) → Answered mirrors r → ((length mirrors ≤ 1) ⊎ AreAlike mirrors) → (m : Mirror) → IsIn m mirrors → (q : List (Row Name)) → m.master ≡ Some q
+    → (row : Row Name) → IsIn row r → IsIn row q
 cloned-serves r [] a c m i q t row j = absurd i
-cloned-serves r (x ∷ more) a (inl le) m (inl e) q t row j = subst (λ (z : World Name). IsIn row z.master) (some-of r q (sym a ∙ ap (λ (z : Mirror). z.world) (sym e) ∙ t)) j
+cloned-serves r (x ∷ more) a (inl le) m (inl e) q t row j = subst (IsIn row) (some-of r q (sym a ∙ ap (λ (z : Mirror). z.master) (sym e) ∙ t)) j
 cloned-serves r (x ∷ []) a (inl le) m (inr i) q t row j = absurd i
 cloned-serves r (x ∷ y ∷ more) a (inl le) m (inr i) q t row j = absurd (omega (arith, le))
 cloned-serves r (x ∷ more) a (inr alike) m i q t row j = alike.1 x m r q (inl refl) i a t row j
 
-clone-served : (st : Stored) (s : ℕ) (r : World Name) (mirrors : List Mirror) → Served st.payloads st.stored mirrors → st.stored.master ≡ [] → Answered mirrors r
+clone-served : (st : Stored) (s : ℕ) (r : World Name) (mirrors : List Mirror) → Served st.payloads st.stored mirrors → st.stored.master ≡ [] → Answered mirrors r.master
     → Served (after_change st s (master_alone r) (clone_change r)).payloads (after_change st s (master_alone r) (clone_change r)).stored mirrors
 clone-served st s r mirrors h empty a = changed-served st s (master_alone r) (clone_change r) mirrors h (⊎_elim whole none (count-cloned st.payloads r))
   where
@@ -120,7 +120,7 @@ clone-served st s r mirrors h empty a = changed-served st s (master_alone r) (cl
       subst (λ n. n ≤ length r.master) (sym e) (le_refl _),
       record {
         each = all-each (Serves (cloned_count (st.payloads ++ clone_change r ∷ [])) (master_alone r)) mirrors (λ m i. let k = each (Serves (cloned_count st.payloads) st.stored) mirrors h.1.each m i in
-            (k.0, k.1, k.2, λ row j. cloned-serves r mirrors a (h.1.first_clone (ap length empty)) m i k.0 k.1 row (in-take (cloned_count (st.payloads ++ clone_change r ∷ [])) r.master row j)));
+            (k.0, k.1, k.2, λ row j. cloned-serves r.master mirrors a (h.1.first_clone (ap length empty)) m i k.0 k.1 row (in-take (cloned_count (st.payloads ++ clone_change r ∷ [])) r.master row j)));
         first_clone = λ z. h.1.first_clone (ap length empty);
       },
     )
@@ -208,11 +208,11 @@ module _ (limits : Limits) (st : State) (s : ℕ) (h : IsState st) (served : IsS
   made st' mirrors e k = let n = subst (λ l. IsNow st'.store l) (sym e) k in record { cloned = n.0; mirrors = n.1 }
 
   taken-now : (Does : Mirror → Mirror → Type 0) (goes : (m asked : Mirror) → Does m asked → GoesTo m asked) (Makes : World Name → Reply → Stored → Type 0) (mirrors : List Mirror) (found : List KnownName) (reply : Reply) (st' : State)
-      → IsNow st.store mirrors → ((r : World Name) (new : List Mirror) → Answered new r → IsNow st.store new → Makes r reply st'.store → IsNow st'.store new) → TakesFrom Does Makes st mirrors found reply st' → IsServed st'
+      → IsNow st.store mirrors → ((rows : List (Row Name)) (new : List Mirror) → Answered new rows → IsNow st.store new → Makes (master_world rows) reply st'.store → IsNow st'.store new) → TakesFrom Does Makes st mirrors found reply st' → IsServed st'
   taken-now Does goes Makes mirrors found reply st' k f (end, new, asks, out, ends) =
       made st' new out.mirrors_are (by_end end ends (on mirrors new (asks-from Does goes mirrors new end asks) k))
     where
-      by_end : (o : Option MirrorFault) → MatchOption o ((r : World Name) × Answered new r × Makes r reply st'.store) (λ fault. IsRefused st.store (refusal_for fault) reply st'.store) → IsNow st.store new → IsNow st'.store new
+      by_end : (o : Option MirrorFault) → MatchOption o ((rows : List (Row Name)) × Answered new rows × Makes (master_world rows) reply st'.store) (λ fault. IsRefused st.store (refusal_for fault) reply st'.store) → IsNow st.store new → IsNow st'.store new
       by_end None g l = f g.0 new g.1 l g.2
       by_end (Some x) g l = same-now st'.store new g.1 l
 
@@ -234,12 +234,12 @@ module _ (limits : Limits) (st : State) (s : ℕ) (h : IsState st) (served : IsS
       by_test None g l = same-now st'.store new g.1 l
       by_test (Some r) g l = same-now st'.store new g.1 l
   answers-now Clone mirrors found reply st' none k a =
-      taken-now IsCloned (λ m asked d. record { settled = d.keeps.settled; world = d.world; tells = d.keeps.tells_world; sound = d.keeps.sound }) (Clones limits st.store s) mirrors found reply st' k
-      (λ r new front l. unless-now (clone_tests limits st.store r) (λ told now. (told ≡ Cloned (length r.master)) × (now ≡ after_change st.store s (master_alone r) (clone_change r))) reply st'.store new
+      taken-now IsCloned (λ m asked d. record { settled = d.keeps.settled; master = d.master; tells = d.keeps.tells_master; sound = d.keeps.sound }) (Clones limits st.store s) mirrors found reply st' k
+      (λ rows new front l. let r : World Name = master_world rows in unless-now (clone_tests limits st.store r) (λ told now. (told ≡ Cloned (length r.master)) × (now ≡ after_change st.store s (master_alone r) (clone_change r))) reply st'.store new
       (λ g. subst (λ z. IsNow z new) (sym g.1) (clone-served st.store s r new l (clone-empty limits st s h.store h.outside.mirrors none) front)) l) a
   answers-now Pull mirrors found reply st' none k a =
-      taken-now (IsPulled (cloned_count st.store.payloads)) (λ m asked d. record { settled = d.keeps.settled; world = d.world; tells = d.keeps.tells_world; sound = d.keeps.sound }) (Pulls limits st.store s) mirrors found reply st' k
-      (λ r new front l. unless-now (pull_tests limits st.store r)
+      taken-now (IsPulled (cloned_count st.store.payloads)) (λ m asked d. record { settled = d.keeps.settled; master = d.master; tells = d.keeps.tells_master; sound = d.keeps.sound }) (Pulls limits st.store s) mirrors found reply st' k
+      (λ rows new front l. let r : World Name = master_world rows in unless-now (pull_tests limits st.store r)
       (λ told now. (told ≡ Pulled (length (pulled same_name st.store.stored r).master) (length (pulled same_name st.store.stored r).others)) × (now ≡ after_flush st.store s (pulled same_name st.store.stored r))) reply st'.store new
       (λ g. subst (λ z. IsNow z new) (sym g.1) (flush-served st.store s (pulled same_name st.store.stored r) new l (_, refl))) l) a
   answers-now CountMirrors mirrors found reply st' none k a = subst IsServed (sym a.1) served

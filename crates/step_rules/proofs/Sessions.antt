@@ -15,7 +15,7 @@ use Rattle.change_rules.specs.Rebase.{left_of}
 use Rattle.change_rules.specs.Change.{flush_change, clone_change}
 use Rattle.change_rules.specs.Tables.{cloned_count}
 use Rattle.remote_rules.specs.Mirror.{Mirror}
-use Rattle.remote_rules.specs.Known.{master_alone}
+use Rattle.remote_rules.specs.Known.{master_alone, master_world}
 use Rattle.remote_rules.specs.Calls.{IsCloned, IsPulled}
 use Rattle.remote_rules.specs.CloneData.{KnownName}
 use Rattle.remote_rules.specs.declared.MirrorFault.{MirrorFault}
@@ -172,8 +172,8 @@ takes-shape : (Does : Mirror → Mirror → Type 0) (Makes : World Name → Repl
     → ((r : World Name) → Makes r reply st'.store → Shape st.store s st'.store) → TakesFrom Does Makes st mirrors found reply st' → Shape st.store s st'.store
 takes-shape Does Makes st s mirrors found reply st' f t = by_end t.0 t.4
   where
-    by_end : (end : Option MirrorFault) → MatchOption end ((r : World Name) × Answered t.1 r × Makes r reply st'.store) (λ fault. IsRefused st.store (refusal_for fault) reply st'.store) → Shape st.store s st'.store
-    by_end None g = f g.0 g.2
+    by_end : (end : Option MirrorFault) → MatchOption end ((rows : List (Row Name)) × Answered t.1 rows × Makes (master_world rows) reply st'.store) (λ fault. IsRefused st.store (refusal_for fault) reply st'.store) → Shape st.store s st'.store
+    by_end None g = f (master_world g.0) g.2
     by_end (Some x) g = inl g.1
 
 module _ (limits : Limits) (st : State) (s : ℕ) (h : IsPlaced st.store) where

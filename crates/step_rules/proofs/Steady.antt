@@ -9,7 +9,7 @@ use Rattle.commit_graph.specs.World.{Row, World, rows_of, names_of, with_pending
 use Rattle.commit_graph.specs.Ids.{id_in}
 use Rattle.change_rules.specs.Pull.{pulled}
 use Rattle.change_rules.specs.Change.{clone_change}
-use Rattle.remote_rules.specs.Known.{master_alone}
+use Rattle.remote_rules.specs.Known.{master_alone, master_world}
 use Rattle.set_query.specs.Expr.{commits_in}
 use Rattle.change_rules.specs.declared.Limits.{Limits}
 use Rattle.change_rules.specs.declared.Limit.{Limit}
@@ -234,8 +234,8 @@ module _ (limits : Limits) (st : State) (s : ℕ) (steady : NeverFail st.outside
       let a = asks-steady Does keeps mirrors new end asks k in (subst NeverFail (sym out.mirrors_are) a.0, by_end end a.1 ends)
     where
       by_end : (o : Option MirrorFault) → ((n : ℕ) → o ≡ Some (fault.AllFailed n) → ⊥)
-          → MatchOption o ((r : World Name) × Answered new r × Makes r reply st'.store) (λ fault. IsRefused st.store (refusal_for fault) reply st'.store) → IsNoFailed reply
-      by_end None h g = f g.0 g.2
+          → MatchOption o ((rows : List (Row Name)) × Answered new rows × Makes (master_world rows) reply st'.store) (λ fault. IsRefused st.store (refusal_for fault) reply st'.store) → IsNoFailed reply
+      by_end None h g = f (master_world g.0) g.2
       by_end (Some fault.NoRemote) h g = subst IsNoFailed (sym g.0) tt
       by_end (Some (fault.AllFailed n)) h g = absurd (h n refl)
       by_end (Some fault.Memory) h g = subst IsNoFailed (sym g.0) tt

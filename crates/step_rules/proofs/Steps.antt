@@ -23,7 +23,7 @@ use Rattle.change_rules.specs.Tables.{cloned_count}
 use Rattle.change_rules.proofs.Flushes.{flush-world, flush-names, flush-grows, flush-keeps, filtered-names, name-in}
 use Rattle.change_rules.proofs.Changed.{rebase-lossless, strip-world, strip-names, pull-world, pull-names}
 use Rattle.remote_rules.specs.Mirror.{Mirror}
-use Rattle.remote_rules.specs.Known.{master_alone}
+use Rattle.remote_rules.specs.Known.{master_alone, master_world}
 use Rattle.remote_rules.specs.Honest.{IsSound, IsHonest}
 use Rattle.remote_rules.specs.Calls.{IsCloned, IsPulled}
 use Rattle.remote_rules.specs.CloneData.{KnownName}
@@ -229,7 +229,7 @@ not-tested limits st s verb (inl e) = (first-none-append (refusals limits (base_
 not-tested limits st s verb (inr o) = absurd o
 
 -- the mirror that answered is sound
-pub front-sound : (mirrors : List Mirror) (r : World Name) → AreSound mirrors → Answered mirrors r → IsNamedWorld r
+pub front-sound : (mirrors : List Mirror) (rows : List (Row Name)) → AreSound mirrors → Answered mirrors rows → IsNamedWorld (master_world rows)
 front-sound [] r h a = absurd a
 front-sound (m ∷ more) r h a = (subst (λ o. MatchOption o (Unit {0}) (IsHonest m.cloned)) a h.0).world
 
@@ -287,8 +287,8 @@ module _ (limits : Limits) (st : State) (s : ℕ) (h : IsStore st.store) (sound 
       (reply : Reply) (st' : State) → AreSound mirrors → ((r : World Name) → IsNamedWorld r → Makes r reply st'.store → IsStore st'.store) → TakesFrom Does Makes st mirrors found reply st' → IsStore st'.store
   taken-store Does keeps Makes mirrors found reply st' all f (end, new, asks, out, ends) = by_end end ends (asks-sound Does keeps mirrors new end asks all)
     where
-      by_end : (o : Option MirrorFault) → MatchOption o ((r : World Name) × Answered new r × Makes r reply st'.store) (λ fault. IsRefused st.store (refusal_for fault) reply st'.store) → AreSound new → IsStore st'.store
-      by_end None g k = f g.0 (front-sound new g.0 k g.1) g.2
+      by_end : (o : Option MirrorFault) → MatchOption o ((rows : List (Row Name)) × Answered new rows × Makes (master_world rows) reply st'.store) (λ fault. IsRefused st.store (refusal_for fault) reply st'.store) → AreSound new → IsStore st'.store
+      by_end None g k = f (master_world g.0) (front-sound new g.0 k g.1) g.2
       by_end (Some x) g k = subst IsStore (sym g.1) h
 
   pub clone-empty : first_some (refusals limits (base_of st.store s) (pending_of st.store s) st.store.stored Clone) ≡ None → st.store.stored.master ≡ []

@@ -1,12 +1,12 @@
 -- Which names and ids have to be asked of a mirror.
-use Rattle.std.specs.Prelude.{ℕ, Bool, not, ◌&&◌, List, [], ◌∷◌, map, flat_map, nat_eq, if◌then◌else◌}
+use Rattle.std.specs.Prelude.{ℕ, Bool, not, ◌&&◌, List, [], ◌∷◌, map, flat_map, nat_eq, is_some, if◌then◌else◌}
 use Rattle.id_groups.specs.Lists.{is_in}
 use Rattle.id_groups.specs.Name.{Name, same_name}
 use Rattle.commit_graph.specs.World.{World, names_of}
 use Rattle.commit_graph.specs.Ids.{id_in}
 use Rattle.change_rules.specs.Lazy.{is_lazy, has_lazy, stored_names}
 use Rattle.remote_rules.specs.CloneData.{KnownName}
-use Rattle.step_rules.specs.State.{Stored, pending_of}
+use Rattle.step_rules.specs.State.{Stored, Cache, pending_of}
 
 -- whether a name that is looked up in a world has to be asked: some commit there has no stored name, and this is no stored name
 abbrev pub is_unnamed : Stored → World Name → Name → Bool
@@ -22,9 +22,13 @@ found_as st w name =
     let id = id_in same_name w name in
     if is_in same_name name (names_of w.master) && is_lazy st.payloads w id then record { id = id; name = name } ∷ [] else []
 
--- whether an id is in the cache
-abbrev pub is_cached : List KnownName → KnownName → Bool
-is_cached cache k = is_in nat_eq k.id (map (λ c. c.id) cache)
+-- whether the cache has a name for the id
+abbrev pub is_cached : Cache → KnownName → Bool
+is_cached cache k = is_some (cache k.id)
+
+-- whether the id is one of those found
+abbrev pub is_found : List KnownName → KnownName → Bool
+is_found found k = is_in nat_eq k.id (map (λ c. c.id) found)
 
 -- the commits among these that have no stored name, with their ids
 abbrev pub lazy_among : Stored → World Name → List Name → List KnownName

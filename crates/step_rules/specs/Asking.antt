@@ -1,6 +1,7 @@
 -- A command's tests with their asks: what is refused first, and what the asks change outside.
-use Rattle.std.specs.Prelude.{◌≡◌, ◌<◌, ◌≤◌, ◌⊎◌, ℕ, List, [], ◌∷◌, ◌++◌, Option, Some, None, length, map, MatchOption}
-use Rattle.id_groups.specs.Lists.{IsIn, AreAllIn, AreDistinct}
+use Rattle.std.specs.Prelude.{◌≡◌, ◌<◌, ◌≤◌, ◌⊎◌, ℕ, List, [], ◌∷◌, ◌++◌, Option, Some, None, is_some, true, length, map, MatchOption}
+use Rattle.id_groups.specs.Lists.{IsIn, AreAllIn}
+use Rattle.id_groups.specs.Name.{Name}
 use Rattle.remote_rules.specs.CloneData.{KnownName}
 use Rattle.remote_rules.specs.Mirror.{Mirror}
 use Rattle.remote_rules.specs.declared.MirrorFault.{MirrorFault}
@@ -8,6 +9,7 @@ use Rattle.remote_rules.specs.declared.MirrorFault.TheVariants as fault
 use Rattle.remote_rules.specs.Asking.{AsksForNames}
 use Rattle.step_rules.specs.declared.Refusal.{Refusal}
 use Rattle.step_rules.specs.declared.Refusal.TheVariants as why
+use Rattle.step_rules.specs.State.{Cache, HasOnly, HasAtMost}
 use Rattle.step_rules.specs.Tests.{Test}
 
 -- what a line is refused for where no mirror answered
@@ -43,20 +45,18 @@ TriesAll MayWant old (test ∷ more) verdict new gained =
     ((behind : List KnownName) × (gained ≡ here ++ behind) × TriesAll MayWant mid more verdict new behind)
     (λ refusal. (verdict ≡ Some refusal) × (new ≡ mid) × (gained ≡ here)))
 
--- there are more different ids among these than there is room for
-abbrev pub AreTooMany : ℕ → List KnownName → Type 0
-AreTooMany room names =
-    (ids : List ℕ) × AreDistinct ids × AreAllIn ids (map (λ k. k.id) names) × (room < length ids)
+-- There are more ids in the cache and among those found than there is room for: each list that has all of them is longer.
+abbrev pub AreTooMany : ℕ → List KnownName → Cache → Type 0
+AreTooMany room found cache = (ids : List ℕ) → HasOnly ids cache → AreAllIn (map (λ k. k.id) found) ids → room < length ids
 
--- The cache after a line that found some names: it has names that were there or found, each id once and no more than there is
--- room for, and one goes only where those that were there and those found are too many together.
-pub record TakesIn (room : ℕ) (found old new : List KnownName) : Type 0 where
-  pub from : (k : KnownName) → IsIn k new → IsIn k old ⊎ IsIn k found
-  pub ids : AreDistinct (map (λ k. k.id) new)
-  pub few : length new ≤ room
-  pub goes : (k : KnownName) → IsIn k old → (IsIn k new → ⊥) → AreTooMany room (old ++ found)
+-- The cache after a line that found some names: each of its names was there or was found, it has no more than there is room for,
+-- and one goes only where those that were there and those found are too many together.
+pub record TakesIn (room : ℕ) (found : List KnownName) (old new : Cache) : Type 0 where
+  pub from : (id : ℕ) (name : Name) → new id ≡ Some name → (old id ≡ Some name) ⊎ IsIn (record { id = id; name = name }) found
+  pub few : HasAtMost room new
+  pub goes : (id : ℕ) → is_some (old id) ≡ true → new id ≡ None → AreTooMany room found old
 
 -- where nothing was found it stays
-abbrev pub CacheGoesOn : ℕ → List KnownName → List KnownName → List KnownName → Type 0
+abbrev pub CacheGoesOn : ℕ → List KnownName → Cache → Cache → Type 0
 CacheGoesOn room [] old new = new ≡ old
 CacheGoesOn room (k ∷ found) old new = TakesIn room (k ∷ found) old new

@@ -1,5 +1,5 @@
 -- A session sees others only where it looks at the stored world, or at a mirror's master.
-use Rattle.std.specs.Prelude.{◌≡◌, ◌<◌, ℕ, Bool, true, false, List, [], ◌∷◌, Option, Some, None, ⊤}
+use Rattle.std.specs.Prelude.{◌≡◌, ◌<◌, ℕ, Bool, true, false, List, [], ◌∷◌, Option, None, ⊤}
 use Rattle.std.specs.List.{AllZip}
 use Rattle.id_groups.specs.Name.{Name}
 use Rattle.commit_graph.specs.World.{Row, World}
@@ -50,16 +50,12 @@ IsOwn (Refused why.Memory) = ⊥
 IsOwn _ = ⊤
 
 -- the master rows of the mirror that stands first, where it tells them: of the one that answered
-abbrev pub world_in_front : List Mirror → Option (World Name)
-world_in_front [] = None
-world_in_front (m ∷ more) = m.world
-
-abbrev pub master_in : Option (World Name) → Option (List (Row Name))
-master_in None = None
-master_in (Some r) = Some r.master
+abbrev pub first_master : List Mirror → Option (List (Row Name))
+first_master [] = None
+first_master (m ∷ more) = m.master
 
 abbrev pub master_in_front : State → Option (List (Row Name))
-master_in_front st = master_in (world_in_front st.outside.mirrors)
+master_in_front st = first_master st.outside.mirrors
 
 -- Turns of a session in two runs: the same command; where it looks at the stored world, the same one; where it comes to ask a
 -- mirror for its master, the same master; and each is answered for its own sake.

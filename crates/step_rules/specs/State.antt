@@ -1,7 +1,7 @@
 -- What a store stands for: the worlds that were stored, what each session sees, and what it knows of the mirrors.
-use Rattle.std.specs.Prelude.{◌≡◌, ℕ, ◌≤◌, List, [], ◌∷◌, ◌++◌, true, Some, length, map, replicate, slice_index_or, slice_get, slice_set}
+use Rattle.std.specs.Prelude.{◌≡◌, ℕ, ◌≤◌, List, [], ◌∷◌, ◌++◌, true, Option, Some, None, is_some, length, map, replicate, slice_index_or, slice_get, slice_set}
 use Rattle.std.specs.List.{AllByRecursion}
-use Rattle.id_groups.specs.Lists.{AreDistinct}
+use Rattle.id_groups.specs.Lists.{IsIn}
 use Rattle.id_groups.specs.Name.{Name, same_name}
 use Rattle.commit_graph.specs.World.{Row, World, IsNamedWorld, GrowsMaster, empty_world, names_of, with_pending}
 use Rattle.commit_graph.specs.Graph.{Graph, graph_of}
@@ -30,10 +30,26 @@ pub record Stored : Type 0 where
   pub payloads : List Payload
   pub sessions : List Session
 
--- What asking changes, also in a line that is refused. In which order the cached names were used isn't part of it.
+-- names of ids: a finite map
+abbrev pub Cache : Type 0
+Cache = ℕ → Option Name
+
+-- it has a name for no id but these
+abbrev pub HasOnly : List ℕ → Cache → Type 0
+HasOnly ids cache = (id : ℕ) → is_some (cache id) ≡ true → IsIn id ids
+
+-- it has so many names at most
+abbrev pub HasAtMost : ℕ → Cache → Type 0
+HasAtMost most cache = (ids : List ℕ) × (length ids ≤ most) × HasOnly ids cache
+
+-- the one without names
+abbrev pub no_names : Cache
+no_names id = None
+
+-- What asking changes, also in a line that is refused.
 pub record Outside : Type 0 where
-  -- names that were found or fetched, and how many they are at most
-  pub cache : List KnownName
+  -- names that were found or fetched, and how many they are at most; in which order they were used is no part of it
+  pub cache : Cache
   pub room : ℕ
   -- the mirrors, the one that is asked first in front
   pub mirrors : List Mirror
@@ -47,17 +63,21 @@ pub record State : Type 0 where
 abbrev pub worlds : Stored → List (World Name)
 worlds st = st.past ++ st.stored ∷ []
 
+-- how many sessions there are
+abbrev pub session_count : ℕ
+session_count = 16
+
 -- a session without pending rows on the world of the start
 abbrev pub new_session : Session
 new_session = record { base = 0; pending = [] }
 
 -- what is stored at the start of a run, over a log with these payloads that holds the world
 abbrev pub start : World Name → List Payload → Stored
-start w payloads = record { past = []; stored = w; payloads = payloads; sessions = replicate 16 new_session }
+start w payloads = record { past = []; stored = w; payloads = payloads; sessions = replicate session_count new_session }
 
 -- the state at the start of a run, with these mirrors and room for so many names: nothing was fetched yet
 abbrev pub at_start : World Name → List Payload → ℕ → List Mirror → State
-at_start w payloads room mirrors = record { store = start w payloads; outside = record { cache = []; room = room; mirrors = mirrors } }
+at_start w payloads room mirrors = record { store = start w payloads; outside = record { cache = no_names; room = room; mirrors = mirrors } }
 
 -- a session of the store
 abbrev pub session : Stored → ℕ → Session
@@ -110,18 +130,17 @@ pub record IsStore (st : Stored) : Type 0 where
   -- master only grows, at its end
   pub grows : (i j : ℕ) → i ≤ j → j ≤ length st.past → GrowsMaster (world_at st i) (world_at st j)
   pub sessions : (s : ℕ) → IsSession st (session st s)
-  pub sixteen : length st.sessions ≡ 16
+  pub sixteen : length st.sessions ≡ session_count
 
 -- an id that the log has no name for, with its row's name
-abbrev pub IsCached : Stored → KnownName → Type 0
-IsCached st k = (is_lazy st.payloads st.stored k.id ≡ true) × (slice_get (names_of st.stored.master) k.id ≡ Some k.name)
+abbrev pub IsLazyName : Stored → KnownName → Type 0
+IsLazyName st k = (is_lazy st.payloads st.stored k.id ≡ true) × (slice_get (names_of st.stored.master) k.id ≡ Some k.name)
 
--- what holds of what is outside: the cache has each id once and no more than there is room for, and each mirror that tells a
--- world is honest
+-- what holds of what is outside: the cache has no more names than there is room for, each of them a lazy row's, and each mirror
+-- that tells its master is honest
 pub record IsOutside (st : Stored) (out : Outside) : Type 0 where
-  pub ids : AreDistinct (map (λ k. k.id) out.cache)
-  pub few : length out.cache ≤ out.room
-  pub names : AllByRecursion (IsCached st) out.cache
+  pub few : HasAtMost out.room out.cache
+  pub names : (id : ℕ) (name : Name) → out.cache id ≡ Some name → IsLazyName st (record { id = id; name = name })
   pub mirrors : AllByRecursion IsSound out.mirrors
 
 -- what holds of each state of a run

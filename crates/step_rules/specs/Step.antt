@@ -3,7 +3,7 @@ use Rattle.std.specs.Prelude.{◌≡◌, ◌⊎◌, ◌+◌, ◌-◌, ℕ, suc, 
 use Rattle.std.specs.Bool.{MatchBool}
 use Rattle.std.specs.Option.{option_map}
 use Rattle.id_groups.specs.Name.{Name, same_name}
-use Rattle.commit_graph.specs.World.{World}
+use Rattle.commit_graph.specs.World.{Row, World}
 use Rattle.commit_graph.specs.Ids.{id_in, parent_ids}
 use Rattle.segment_rules.specs.Levels.{level_counts_of}
 use Rattle.set_query.specs.Expr.{Expr}
@@ -18,7 +18,7 @@ use Rattle.change_rules.specs.Tables.{cloned_count}
 use Rattle.change_rules.specs.Change.{flush_change, clone_change}
 use Rattle.remote_rules.specs.CloneData.{KnownName}
 use Rattle.remote_rules.specs.Mirror.{Mirror}
-use Rattle.remote_rules.specs.Known.{master_alone}
+use Rattle.remote_rules.specs.Known.{master_alone, master_world}
 use Rattle.remote_rules.specs.Honest.{heads_of}
 use Rattle.remote_rules.specs.Calls.{IsCloned, IsPulled}
 use Rattle.remote_rules.specs.declared.MirrorFault.{MirrorFault}
@@ -28,7 +28,7 @@ use Rattle.step_rules.specs.declared.Refusal.TheVariants as why
 use Rattle.step_rules.specs.State.{State, Stored, Outside, pending_of, base_of, view_of, seen_by, with_pending_rows, on_newest}
 use Rattle.step_rules.specs.Verb.{Verb, Add, Flush, Reload, Discard, Query, Count, IdOf, Status, Levels, Clone, Pull, Strip, CountMirrors, Drop}
 use Rattle.step_rules.specs.Reply.{Reply, Added, Old, Flushed, Pulled, Stripped, Cloned, Reloaded, Discarded, Listed, Counted, Identified, Sizes, LevelSizes, Dropped, Refused}
-use Rattle.step_rules.specs.Asked.{lazy_among, is_cached}
+use Rattle.step_rules.specs.Asked.{lazy_among, is_cached, is_found}
 use Rattle.step_rules.specs.Worlds.{has, flush_of, after_flush, after_change, log_after, with_added}
 use Rattle.step_rules.specs.Tests.{Test, plain, refuse_if, full, first_some, tests}
 use Rattle.step_rules.specs.Asking.{refusal_for, TriesAll, CacheGoesOn}
@@ -90,7 +90,7 @@ abbrev pub printing_test : State → ℕ → List KnownName → List Name → Te
 printing_test st s found names =
     let lazy = lazy_among st.store (base_of st.store s) names in
     let absent = filter (λ k. not (is_cached st.outside.cache k)) lazy in
-    let wanted = filter (λ k. not (is_cached found k)) absent in
+    let wanted = filter (λ k. not (is_found found k)) absent in
     record {
       must = length wanted;
       may = (length absent - length wanted) + min (length found) (length lazy - length absent);
@@ -112,10 +112,10 @@ Lists limits st s e mirrors found reply st' =
     × GoesOutside st.outside new (found ++ fetched) st'.outside
     × MatchOption verdict ((reply ≡ Listed names) × (st'.store ≡ st.store)) (λ refusal. IsRefused st.store refusal reply st'.store)
 
--- the world that the mirror tells which answered: it stands first
-abbrev pub Answered : List Mirror → World Name → Type 0
-Answered [] r = ⊥
-Answered (m ∷ more) r = m.world ≡ Some r
+-- the master rows that the mirror tells which answered: it stands first
+abbrev pub Answered : List Mirror → List (Row Name) → Type 0
+Answered [] rows = ⊥
+Answered (m ∷ more) rows = m.master ≡ Some rows
 
 -- what a clone is refused for, by the remote's world
 abbrev pub clone_tests : Limits → Stored → World Name → List (Option Refusal)
@@ -152,7 +152,7 @@ abbrev pub TakesFrom : (Mirror → Mirror → Type 0) → (World Name → Reply 
 TakesFrom Does Makes st mirrors found reply st' =
     (end : Option MirrorFault) × (new : List Mirror) × Asks Does mirrors end new × GoesOutside st.outside new found st'.outside
     × MatchOption end
-    ((r : World Name) × Answered new r × Makes r reply st'.store)
+    ((rows : List (Row Name)) × Answered new rows × Makes (master_world rows) reply st'.store)
     (λ fault. IsRefused st.store (refusal_for fault) reply st'.store)
 
 -- the mirrors without the one at this place

@@ -15,7 +15,7 @@ use Rattle.step_rules.specs.Step.{CommandStep}
 use Rattle.step_rules.proofs.Plain.{all-tries}
 use Rattle.worked_rows.specs.Worlds.{n, ns}
 use Rattle.worked_rows.specs.Remotes.{after_clone, stumbling}
-use Rattle.worked_rows.proofs.Mirrored.{ask_of, name-tried, takes-one, up-answer}
+use Rattle.worked_rows.proofs.Mirrored.{ask_of, name-tried, takes-one, names_in, up-answer}
 
 -- after its one failure, in an ask for one name
 abbrev pub stumbled : Mirror
@@ -24,8 +24,8 @@ stumbled = record stumbling { to_come = Some 0; faults = 1; asked = 1 }
 stumbles : Fails (IsAskedFor 1) stumbling stumbled
 stumbles = record {
   does = record {
-    keeps = record { settled = refl; tells_world = refl; tells_clone = refl; tells_faults = refl; faults = lit≤ tt; to_come = lit≤ tt; sound = λ s. s };
-    world = refl;
+    keeps = record { settled = refl; tells_master = refl; tells_clone = refl; tells_faults = refl; faults = lit≤ tt; to_come = lit≤ tt; sound = λ s. s };
+    master = refl;
     cloned = refl;
     asked = refl;
   };
@@ -43,10 +43,10 @@ abbrev pub fifth : KnownName
 fifth = record { id = 4; name = n 0x14 }
 
 abbrev pub answered : State
-answered = record { store = over_three.store; outside = record { cache = fifth ∷ []; room = 8; mirrors = ask_of 1 stumbled ∷ stumbled ∷ stumbled ∷ [] } }
+answered = record { store = over_three.store; outside = record { cache = names_in (fifth ∷ []); room = 8; mirrors = ask_of 1 stumbled ∷ stumbled ∷ stumbled ∷ [] } }
 
 abbrev pub with_mirrors : List Mirror → State
-with_mirrors mirrors = record { store = over_three.store; outside = record { cache = fifth ∷ []; room = 8; mirrors = mirrors } }
+with_mirrors mirrors = record { store = over_three.store; outside = record { cache = names_in (fifth ∷ []); room = 8; mirrors = mirrors } }
 
 pub fails : CommandStep standard over_three 0 (Query (Up (n 0x19) 5)) (Refused (why.Remote 3)) all_failed
 fails = (
@@ -113,7 +113,7 @@ answers = (
       (0, None, ([], tt, zero-le, (λ le. absurd (omega (arith, le))), (refl, refl, refl)), (zero-le, λ k i. absurd i), refl),
       (fifth ∷ [], refl, inr (None, ask_of 1 stumbled ∷ stumbled ∷ stumbled ∷ [], fifth ∷ [], name-tried stumbled (stumbled ∷ stumbled ∷ []) fifth None, ([], refl, (refl, refl, inl refl)))),
     ),
-    record { mirrors_are = refl; room = refl; cache = takes-one 8 fifth [] (λ i. i) tt (lit< tt) },
+    record { mirrors_are = refl; room = refl; cache = takes-one 8 fifth [] (lit< tt) },
     (refl, refl),
   ),
 )

@@ -1,5 +1,5 @@
 -- A clone of ten commits, and the names that are asked behind it.
-use Rattle.std.proofs.Common.{◌≡◌, ℕ, inl, inr, [], ◌∷◌, None, refl, arith, zero-le, lit<, ⊎_elim}
+use Rattle.std.proofs.Common.{inl, inr, [], ◌∷◌, None, refl, arith, zero-le, lit<}
 use Rattle.segment_codec.specs.Number.{number_bytes}
 use Rattle.segment_codec.specs.Record.{segment_bytes}
 use Rattle.batch_codec.specs.Payload.{payload_bytes}
@@ -19,7 +19,7 @@ use Rattle.step_rules.specs.Step.{CommandStep}
 use Rattle.step_rules.proofs.Plain.{all-tries}
 use Rattle.worked_rows.specs.Worlds.{n, ns, ten}
 use Rattle.worked_rows.specs.Remotes.{steady, over, after_clone}
-use Rattle.worked_rows.proofs.Mirrored.{first-answers, is-cloned, ask_of, name-tried, takes-one, up-answer, one-answer, plainly-refused}
+use Rattle.worked_rows.proofs.Mirrored.{first-answers, is-cloned, ask_of, name-tried, takes-one, names_in, up-answer, one-answer, plainly-refused}
 
 abbrev pub fresh_state : State
 fresh_state = over (steady ten ∷ [])
@@ -34,10 +34,10 @@ abbrev pub sixth : KnownName
 sixth = record { id = 6; name = n 0x16 }
 
 abbrev pub found_state : State
-found_state = record { store = cloned_state.store; outside = record { cache = fourth ∷ []; room = 8; mirrors = ask_of 1 (steady ten) ∷ [] } }
+found_state = record { store = cloned_state.store; outside = record { cache = names_in (fourth ∷ []); room = 8; mirrors = ask_of 1 (steady ten) ∷ [] } }
 
 abbrev pub fetched_state : State
-fetched_state = record { store = cloned_state.store; outside = record { cache = sixth ∷ fourth ∷ []; room = 8; mirrors = ask_of 1 (ask_of 1 (steady ten)) ∷ [] } }
+fetched_state = record { store = cloned_state.store; outside = record { cache = names_in (sixth ∷ fourth ∷ []); room = 8; mirrors = ask_of 1 (ask_of 1 (steady ten)) ∷ [] } }
 
 pub clones : CommandStep standard fresh_state 0 Clone (Cloned 10) cloned_state
 unfolding payload_bytes segment_bytes number_bytes
@@ -46,7 +46,7 @@ clones = (
   steady ten ∷ [],
   [],
   all-tries (Unit {0}) (steady ten ∷ []) (tests standard fresh_state.store 0 Clone) ((refl, refl), ((refl, refl), tt)),
-  (None, steady ten ∷ [], first-answers IsCloned (steady ten) (steady ten) [] (is-cloned (steady ten) refl), record { mirrors_are = refl; room = refl; cache = refl }, (ten, refl, inl (refl, refl))),
+  (None, steady ten ∷ [], first-answers IsCloned (steady ten) (steady ten) [] (is-cloned (steady ten) refl), record { mirrors_are = refl; room = refl; cache = refl }, (ten.master, refl, inl (refl, refl))),
 )
 
 pub finds : CommandStep standard cloned_state 0 (IdOf (n 0x14)) (Identified 4) found_state
@@ -55,11 +55,8 @@ finds = (
   ask_of 1 (steady ten) ∷ [],
   fourth ∷ [],
   inr (None, ask_of 1 (steady ten) ∷ [], fourth ∷ [], name-tried (steady ten) [] fourth None, ([], refl, (refl, refl, inl refl))),
-  ((refl, refl), record { mirrors_are = refl; room = refl; cache = takes-one 8 fourth [] (λ i. i) tt (lit< tt) }),
+  ((refl, refl), record { mirrors_are = refl; room = refl; cache = takes-one 8 fourth [] (lit< tt) }),
 )
-
-six-new : (k : ℕ) → k ≡ 4 → 6 ≡ k → ⊥
-six-new k e f = absurd (omega (arith, e, f))
 
 pub fetches : CommandStep standard found_state 0 (Query (Up (n 0x19) 3)) (Listed (ns (0x16 ∷ []))) fetched_state
 fetches = (
@@ -80,7 +77,7 @@ fetches = (
       (0, None, ([], tt, zero-le, (λ le. absurd (omega (arith, le))), (refl, refl, refl)), (zero-le, λ k i. absurd i), refl),
       (sixth ∷ [], refl, inr (None, ask_of 1 (ask_of 1 (steady ten)) ∷ [], sixth ∷ [], name-tried (ask_of 1 (steady ten)) [] sixth None, ([], refl, (refl, refl, inl refl)))),
     ),
-    record { mirrors_are = refl; room = refl; cache = takes-one 8 sixth (fourth ∷ []) (λ i. ⊎_elim (λ e. six-new 4 refl e) (λ e. e) i) ((λ i. i), tt) (lit< tt) },
+    record { mirrors_are = refl; room = refl; cache = takes-one 8 sixth (fourth ∷ []) (lit< tt) },
     (refl, refl),
   ),
 )
@@ -93,7 +90,7 @@ abbrev pub held_state : State
 held_state = after_clone (steady ten ∷ [])
 
 abbrev pub asked_state : State
-asked_state = record { store = held_state.store; outside = record { cache = fourth ∷ []; room = 8; mirrors = ask_of 1 (steady ten) ∷ [] } }
+asked_state = record { store = held_state.store; outside = record { cache = names_in (fourth ∷ []); room = 8; mirrors = ask_of 1 (steady ten) ∷ [] } }
 
 pub prints : CommandStep standard held_state 0 (Query (One (n 0x14))) (Listed (ns (0x14 ∷ []))) asked_state
 prints = (
@@ -114,7 +111,7 @@ prints = (
       (0, None, ([], tt, zero-le, (λ le. absurd (omega (arith, le))), (refl, refl, refl)), (zero-le, λ k i. absurd i), refl),
       ([], refl, inr (None, ask_of 1 (steady ten) ∷ [], [], (0, None, ([], tt, zero-le, (λ le. absurd (omega (arith, le))), (refl, refl, refl)), (zero-le, λ k i. absurd i), refl), ([], refl, (refl, refl, inl refl)))),
     ),
-    record { mirrors_are = refl; room = refl; cache = takes-one 8 fourth [] (λ i. i) tt (lit< tt) },
+    record { mirrors_are = refl; room = refl; cache = takes-one 8 fourth [] (lit< tt) },
     (refl, refl),
   ),
 )

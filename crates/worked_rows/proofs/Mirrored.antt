@@ -1,11 +1,13 @@
 -- Steps that ask a mirror.
-use Rattle.std.proofs.Common.{◌≡◌, ◌≤◌, ◌<◌, ◌+◌, ℕ, true, inl, inr, List, [], ◌∷◌, length, map, filter, min, Option, Some, None, refl, sym, ap, subst, ⊎_elim, true≢false, le_refl, append-nil, arith}
+use Rattle.std.proofs.Common.{◌≡◌, ◌≤◌, ◌<◌, ◌+◌, ℕ, true, inl, inr, List, [], ◌∷◌, length, map, filter, min, Option, Some, None, refl, sym, ap, subst, true≢false, le_refl, append-nil, arith, if◌then◌else◌, Bool, false, is_some, nat_eq, ap₂, ◌⊎◌, ◌∙◌}
 use Rattle.std.specs.List.{AllByRecursion}
-use Rattle.id_groups.specs.Lists.{IsIn, AreDistinct}
+use Rattle.std.proofs.lemmas.List.{length-map}
+use Rattle.std.proofs.lemmas.Map.Views.{exact_unsigned_eq}
+use Rattle.id_groups.specs.Lists.{IsIn}
 use Rattle.id_groups.specs.Name.{Name, same_name}
 use Rattle.id_groups.proofs.Names.{same_name-exact, same_name-self}
 use Rattle.id_groups.proofs.Listing.{filter-filters}
-use Rattle.commit_graph.specs.World.{World}
+use Rattle.commit_graph.specs.World.{Row}
 use Rattle.commit_graph.specs.Graph.{Graph, first_ancestor}
 use Rattle.outside.specs.Counts.{last_count}
 use Rattle.set_query.specs.Expr.{One, Up}
@@ -14,12 +16,12 @@ use Rattle.set_query.specs.Computed.{is_some_of}
 use Rattle.change_rules.specs.declared.Limits.{Limits}
 use Rattle.remote_rules.specs.CloneData.{KnownName}
 use Rattle.remote_rules.specs.Mirror.{Mirror}
-use Rattle.remote_rules.specs.Calls.{Keeps, WhereBoth, WorldGoesOn, IsAskedFor, IsCloned}
+use Rattle.remote_rules.specs.Calls.{Keeps, WhereBoth, MasterGoesOn, IsAskedFor, IsCloned}
 use Rattle.remote_rules.specs.Asking.{Asks}
 use Rattle.step_rules.specs.declared.Refusal.{Refusal}
 use Rattle.step_rules.specs.Tests.{refused_first, tests}
 use Rattle.step_rules.specs.Asking.{Tries, TriesAll, TakesIn}
-use Rattle.step_rules.specs.State.{State}
+use Rattle.step_rules.specs.State.{State, Cache, HasOnly}
 use Rattle.step_rules.specs.Verb.{Verb}
 use Rattle.step_rules.specs.Reply.{Refused}
 use Rattle.step_rules.specs.Step.{CommandStep, MayWantMemory}
@@ -35,22 +37,22 @@ no-more None = tt
 no-more (Some n) = le_refl n
 
 same-keeps : (m : Mirror) → Keeps m m
-same-keeps m = record { settled = refl; tells_world = refl; tells_clone = refl; tells_faults = refl; faults = le_refl m.faults; to_come = no-more m.to_come; sound = λ s. s }
+same-keeps m = record { settled = refl; tells_master = refl; tells_clone = refl; tells_faults = refl; faults = le_refl m.faults; to_come = no-more m.to_come; sound = λ s. s }
 
 pub is-asked : (count : ℕ) (m : Mirror) → IsAskedFor count m (ask_of count m)
 is-asked count m = record {
-  keeps = record { settled = refl; tells_world = refl; tells_clone = refl; tells_faults = refl; faults = le_refl m.faults; to_come = no-more m.to_come; sound = λ s. s };
-  world = refl;
+  keeps = record { settled = refl; tells_master = refl; tells_clone = refl; tells_faults = refl; faults = le_refl m.faults; to_come = no-more m.to_come; sound = λ s. s };
+  master = refl;
   cloned = refl;
   asked = refl;
 }
 
-still : (o : Option (World Name)) → WorldGoesOn true o o
+still : (o : Option (List (Row Name))) → MasterGoesOn true o o
 still None = tt
 still (Some w) = refl
 
 pub is-cloned : (m : Mirror) → m.settled ≡ true → IsCloned m m
-is-cloned m e = record { keeps = same-keeps m; world = subst (λ b. WorldGoesOn b m.world m.world) (sym e) (still m.world); asked = refl }
+is-cloned m e = record { keeps = same-keeps m; master = subst (λ b. MasterGoesOn b m.master m.master) (sym e) (still m.master); asked = refl }
 
 -- the first mirror answers
 pub first-answers : (Does : Mirror → Mirror → Type 0) (m asked : Mirror) (more : List Mirror) → Does m asked → Asks Does (m ∷ more) None (asked ∷ more)
@@ -67,14 +69,41 @@ name-tried m more k refusal = (
   refl,
 )
 
+-- a cache with these names
+abbrev pub names_in : List KnownName → Cache
+names_in [] id = None
+names_in (k ∷ names) id = if nat_eq k.id id then Some k.name else names_in names id
+
+some-name : (x y : Name) → Some x ≡ Some y → x ≡ y
+some-name x y e = ap (or_this x) e
+  where
+    or_this : Name → Option Name → Name
+    or_this d None = d
+    or_this d (Some z) = z
+
+only-these : (names : List KnownName) → HasOnly (map (λ k. k.id) names) (names_in names)
+only-these [] id e = absurd (true≢false (sym e))
+only-these (k ∷ names) id e = by_test (nat_eq k.id id) refl e (only-these names id)
+  where
+    by_test : (b : Bool) → nat_eq k.id id ≡ b → is_some (if b then Some k.name else names_in names id) ≡ true → (is_some (names_in names id) ≡ true → IsIn id (map (λ k. k.id) names)) → IsIn id (k.id ∷ map (λ k. k.id) names)
+    by_test true f g rec = inl (sym (exact_unsigned_eq k.id id f))
+    by_test false f g rec = inr (rec g)
+
 -- one name more in the cache, where there is room
-pub takes-one : (room : ℕ) (k : KnownName) (old : List KnownName) → (IsIn k.id (map (λ c. c.id) old) → ⊥) → AreDistinct (map (λ c. c.id) old) → length old < room → TakesIn room (k ∷ []) old (k ∷ old)
-takes-one room k old new distinct fits = record {
-  from = λ x i. ⊎_elim (λ e. inr (inl e)) (λ j. inl j) i;
-  ids = (new, distinct);
-  few = fits;
-  goes = λ x i gone. absurd (gone (inr i));
+pub takes-one : (room : ℕ) (k : KnownName) (old : List KnownName) → length old < room → TakesIn room (k ∷ []) (names_in old) (names_in (k ∷ old))
+takes-one room k old fits = record {
+  from = λ id name e. whence id name (nat_eq k.id id) refl e;
+  few = (map (λ c. c.id) (k ∷ old), (let l = length-map old (λ (c : KnownName). c.id) in omega (arith, l, fits)), only-these (k ∷ old));
+  goes = λ id there gone. absurd (stays id (nat_eq k.id id) there gone);
 }
+  where
+    whence : (id : ℕ) (name : Name) (b : Bool) → nat_eq k.id id ≡ b → (if b then Some k.name else names_in old id) ≡ Some name → (names_in old id ≡ Some name) ⊎ IsIn (record { id = id; name = name }) (k ∷ [])
+    whence id name true f e = inr (inl (ap₂ {C = KnownName} (λ i n. record { id = i; name = n }) (sym (exact_unsigned_eq k.id id f)) (sym (some-name k.name name e))))
+    whence id name false f e = inl e
+
+    stays : (id : ℕ) (b : Bool) → is_some (names_in old id) ≡ true → (if b then Some k.name else names_in old id) ≡ None → ⊥
+    stays id true there gone = true≢false (ap is_some gone)
+    stays id false there gone = true≢false (sym there ∙ ap is_some gone)
 
 -- a command that a test refuses for which nothing is asked
 pub plainly-refused : (limits : Limits) (st : State) (s : ℕ) (verb : Verb) (r : Refusal) → AllByRecursion IsPlain (tests limits st.store s verb) → refused_first (tests limits st.store s verb) ≡ Some r

@@ -13,9 +13,9 @@ use Rattle.step_rules.specs.declared.Refusal.TheVariants as why
 use Rattle.worked_rows.specs.Runs.{Said, said}
 use Rattle.worked_rows.specs.Worlds.{n, ns, ten}
 
--- an honest remote with this world, which never changes and never fails
+-- an honest remote with this master, which never changes and never fails
 abbrev pub steady : World Name → Mirror
-steady r = record { world = Some r; cloned = Some (clone_data_of r); settled = true; to_come = Some 0; faults = 0; asked = 0 }
+steady r = record { master = Some r.master; cloned = Some (clone_data_of r); settled = true; to_come = Some 0; faults = 0; asked = 0 }
 
 -- a fresh log with these mirrors, and room for eight names
 abbrev pub over : List Mirror → State
