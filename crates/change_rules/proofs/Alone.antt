@@ -2,17 +2,17 @@
 use Rattle.std.proofs.Common.{◌≡◌, ◌<◌, ◌≤◌, ◌+◌, ℕ, List, [], length, map, refl, sym, subst, append-nil, arith}
 use Rattle.std.proofs.lemmas.List.{length-map}
 use Rattle.std.specs.List.{AllByRecursion}
-use Rattle.id_groups.specs.Lists.{IsIn, AreDistinct}
+use Rattle.id_groups.specs.Lists.{AreDistinct}
 use Rattle.id_groups.specs.Name.{Name, same_name}
-use Rattle.commit_graph.specs.World.{World, Row, IsNamedWorld, IsHistory, names_of}
+use Rattle.commit_graph.specs.World.{World, Row, IsNamedWorld, IsHistory}
 use Rattle.commit_graph.specs.Ids.{id_in, parent_ids}
 use Rattle.segment_codec.specs.Record.{Segment}
 use Rattle.segment_codec.specs.Table.{Follow}
 use Rattle.batch_codec.specs.Grammar.{AreMaximal}
 use Rattle.remote_rules.specs.Known.{master_alone}
 use Rattle.remote_rules.specs.Honest.{master_segments}
-use Rattle.change_rules.proofs.Spans.{Span, flat_segments, flat_record, same-segments}
-use Rattle.change_rules.proofs.Lawful.{MayHave, IsSpanOf, CoverSpans, master-from, flat-cover, flat-spans, flat-max, all-records, record-cover, record-max}
+use Rattle.change_rules.proofs.Spans.{flat_segments, same-segments}
+use Rattle.change_rules.proofs.Lawful.{MayHave, IsSpanOf, master-from, flat-cover, flat-spans, flat-max, all-records, record-cover, record-max}
 
 -- a segment whose parents are distinct and lie below it
 pub record IsPlain (s : Segment) : Type 0 where

@@ -12,7 +12,7 @@ use Rattle.commit_graph.specs.World.{Row, World, IsNamedWorld, empty_world, rows
 use Rattle.commit_graph.specs.Ids.{parent_ids}
 use Rattle.commit_graph.proofs.Naming.{each, all-each, name-of}
 use Rattle.commit_graph.proofs.Down.{in-left, in-right}
-use Rattle.segment_codec.specs.Record.{Segment, IsSegment}
+use Rattle.segment_codec.specs.Record.{Segment}
 use Rattle.segment_codec.specs.Table.{Follow}
 use Rattle.segment_rules.specs.Flat.{parents_listed}
 use Rattle.segment_rules.proofs.Flats.{flat-keeps}

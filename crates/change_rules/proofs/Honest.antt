@@ -1,5 +1,5 @@
 -- Who clones an honest remote never refuses what it tells.
-use Rattle.std.proofs.Common.{◌≡◌, ◌≤◌, ◌<◌, ◌+◌, not, cond, ℕ, Bool, true, false, List, [], ◌∷◌, length, map, filter, flat_map, nat_eq, nat_le, None, refl, sym, ap, ap₂, subst, subst₂, ◌∙◌, arith, append-nil, zero-le}
+use Rattle.std.proofs.Common.{◌≡◌, ◌+◌, not, cond, ℕ, Bool, true, false, List, [], ◌∷◌, length, map, filter, flat_map, nat_eq, nat_le, None, refl, sym, ap, ap₂, subst, subst₂, ◌∙◌, arith, append-nil, zero-le}
 use Rattle.std.specs.List.{list_all, range_with_len}
 use Rattle.std.proofs.lemmas.List.{length-map}
 use Rattle.std.proofs.lemmas.Bool.{le-leb}

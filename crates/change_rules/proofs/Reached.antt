@@ -1,7 +1,7 @@
 -- The commits whose names a clone stores are those that a remote may name, and the highest of the segments.
 use Rattle.std.proofs.Common.{◌≡◌, ◌≤◌, ◌<◌, ◌+◌, ◌-◌, ◌^◌, ◌↔◌, ◌||◌, ◌⊎◌, not, cond, ℕ, zero, suc, Bool, true, false, inl, inr, List, [], ◌∷◌, ◌++◌, length, map, filter, flat_map, nat_eq, Option, Some, None, slice_get, is_some, refl, sym, ap, subst, ◌∙◌, ⊎_elim, true≢false, arith, append-nil, zero-le, eq-or-lt_of_le, if◌then◌else◌}
 use Rattle.std.proofs.lemmas.List.{length-map}
-use Rattle.std.specs.List.{AllByRecursion, range_with_len}
+use Rattle.std.specs.List.{range_with_len}
 use Rattle.id_groups.specs.Lists.{IsIn, is_in, AreDistinct}
 use Rattle.id_groups.specs.Name.{Name, same_name}
 use Rattle.id_groups.proofs.Names.{same_name-exact, same_name-self}

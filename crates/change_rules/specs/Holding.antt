@@ -11,9 +11,13 @@ use Rattle.batch_codec.specs.Grammar.{AreLawful}
 use Rattle.change_rules.specs.Tables.{StandFor}
 use Rattle.change_rules.specs.Change.{text_of}
 
--- the bytes are these payloads', each by its one spelling
+-- the text is the payload's one spelling
+abbrev pub IsSpelled : List ℕ → Payload → Type 0
+IsSpelled text p = text ≡ text_of p
+
+-- the texts are those of these payloads, one each
 abbrev pub AreSpelled : List (List ℕ) → List Payload → Type 0
-AreSpelled texts payloads = AllZip (λ text p. text ≡ text_of p) texts payloads
+AreSpelled texts payloads = AllZip IsSpelled texts payloads
 
 -- lawful payloads stand for the world, whose names are distinct and have 20 bytes
 pub record HoldPayloads (payloads : List Payload) (w : World Name) : Type 0 where

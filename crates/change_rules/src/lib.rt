@@ -16,7 +16,8 @@ ghost use Rattle.change_rules.specs.Change.{flush_change, clone_change};
 ghost use Rattle.remote_rules.specs.Known.{master_alone, master_graph, IsReached, IsKnownTo, IsPathTo, Path};
 ghost use Rattle.remote_rules.specs.Honest.{heads_of, clone_data_of, stored_ids, master_segments};
 ghost use Rattle.remote_rules.specs.CloneData.{first_broken};
-ghost use Rattle.change_rules.specs.Holding.{HoldPayloads};
+ghost use Rattle.change_rules.specs.Holding.{HoldPayloads, HoldAs};
+ghost use Rattle.change_rules.specs.Unlawful.{IsNoLog};
 ghost use Rattle.change_rules.specs.Standard.{standard, most_heads, AreLimits};
 
 /// The limits of a run.
@@ -79,6 +80,11 @@ pub fn pull_keeps_worlds()
 pub fn changes_are_held()
     ensures { (payloads : List Payload) (old new : World NameBytes) → HoldPayloads payloads old → IsNamedWorld new → GrowsMaster old new
         → length new.master ≤ standard.master → length new.others ≤ standard.others → 0 < length (rows_of new) → HoldPayloads (payloads ++ flush_change old new ∷ []) new }
+{}
+
+/// A file that holds a world is never one that is refused: it is within its limit, it isn't damaged, and no payload is unlawful.
+pub fn held_files_are_logs()
+    ensures { (limit : ℕ) (bytes : List ℕ) (payloads : List Payload) (w : World NameBytes) → HoldAs limit bytes payloads w → IsNoLog limit bytes → ⊥ }
 {}
 
 /// The payload of a clone is in the grammar, comes first, and holds the remote's master, within the bounds of the format.
