@@ -137,7 +137,7 @@ clone-served st s r mirrors h empty a = changed-served st s (master_alone r) (cl
         )
 
 -- a mirror less
-without-in : (k : ℕ) (xs : List Mirror) (m : Mirror) → IsIn m (without k xs) → IsIn m xs
+pub without-in : (k : ℕ) (xs : List Mirror) (m : Mirror) → IsIn m (without k xs) → IsIn m xs
 without-in zero [] m i = i
 without-in zero (x ∷ xs) m i = inr i
 without-in (suc k) [] m i = i

@@ -83,13 +83,17 @@ Told st s Levels reply st' =
     (reply ≡ LevelSizes (level_counts_of (parent_ids same_name st.stored st.stored.master))) × (st' ≡ st)
 Told st s _ reply st' = ⊥
 
+-- the commits among these that have no stored name, and none in the cache
+abbrev pub uncached : State → ℕ → List Name → List KnownName
+uncached st s names = filter (λ k. not (is_cached st.outside.cache k)) (lazy_among st.store (base_of st.store s) names)
+
 -- The names that a query prints: those that aren't stored have to be asked, unless they are in the cache at the start of the
 -- line or were found in it. One that was found may have found no place in the cache, and each may have pushed one out: these
 -- may be asked too.
 abbrev pub printing_test : State → ℕ → List KnownName → List Name → Test
 printing_test st s found names =
     let lazy = lazy_among st.store (base_of st.store s) names in
-    let absent = filter (λ k. not (is_cached st.outside.cache k)) lazy in
+    let absent = uncached st s names in
     let wanted = filter (λ k. not (is_found found k)) absent in
     record {
       must = length wanted;
