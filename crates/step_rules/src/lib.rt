@@ -16,6 +16,7 @@ ghost use Rattle.step_rules.specs.Step.{CommandStep};
 ghost use Rattle.step_rules.specs.Plain.{IsInside, HasAllNames, PlainStep};
 ghost use Rattle.step_rules.specs.Isolation.{IsIsolated};
 ghost use Rattle.step_rules.specs.Served.{IsServed};
+ghost use Rattle.step_rules.specs.Rises.{ArePrinted, HaveRisen, EachWas, HasFailed};
 ghost use Rattle.remote_rules.specs.Serving.{NeverFail};
 ghost use Rattle.change_rules.specs.Standard.{AreLimits};
 ghost use Rattle.step_rules.specs.declared.Refusal.{Refusal};
@@ -92,4 +93,17 @@ pub fn payloads_hold()
 pub fn steady_mirrors()
     ensures { (limits : Limits) (st st' : State) (s : ℕ) (verb : Verb) (reply : Reply) → NeverFail st.outside.mirrors → CommandStep limits st s verb reply st'
         → NeverFail st'.outside.mirrors × ((n : ℕ) → reply ≡ Refused (why.Remote n) → ⊥) }
+{}
+
+/// By how much the mirrors' counts rise in a command's line: no count of faults falls, and each mirror is asked for no more names
+/// than have to be asked, those of a query twice and its printed ones beside them; in a pull for no more than it has rows from the
+/// cloned ones on. A clone asks for none.
+pub fn asks_are_few()
+    ensures { (limits : Limits) (st st' : State) (s : ℕ) (verb : Verb) (reply : Reply) (printed : List NameBytes) → ArePrinted st s verb printed → CommandStep limits st s verb reply st'
+        → HaveRisen limits st s verb printed st.outside.mirrors st'.outside.mirrors }
+{}
+
+/// Where a line is refused because all mirrors failed, the count of each of them rose.
+pub fn failures_are_matched()
+    ensures { (limits : Limits) (st st' : State) (s : ℕ) (verb : Verb) (n : ℕ) → CommandStep limits st s verb (Refused (why.Remote n)) st' → EachWas HasFailed st.outside.mirrors st'.outside.mirrors }
 {}
