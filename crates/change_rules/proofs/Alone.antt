@@ -40,3 +40,7 @@ module _ (r : World Name) (named : IsNamedWorld (master_alone r)) where
   pub segments-plain : AllByRecursion IsPlain (master_segments r)
   segments-plain = subst (AllByRecursion IsPlain) (sym (same-segments 0 ids))
       (all-records (IsSpanOf MayHave (length r.master)) IsPlain (flat_segments 0 ids) (λ s h. record { ascending = h.up; below = h.own.0; distinct = h.own.1 }) spans)
+
+  pub segments-level : AllByRecursion (λ (s : Segment). s.level ≡ 0) (master_segments r)
+  segments-level = subst (AllByRecursion (λ (s : Segment). s.level ≡ 0)) (sym (same-segments 0 ids))
+      (all-records (IsSpanOf MayHave (length r.master)) (λ s. s.level ≡ 0) (flat_segments 0 ids) (λ s h. refl) spans)

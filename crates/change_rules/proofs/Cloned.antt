@@ -204,7 +204,7 @@ module _ (r : World Name) where
   same-names (k ∷ names) = ap (λ l. k.name ∷ l) (same-names names)
 
 -- the highest ids of segments that follow one another rise
-follow-bound : (first end : ℕ) (ss : List Segment) → Follow first end ss → first ≤ end
+pub follow-bound : (first end : ℕ) (ss : List Segment) → Follow first end ss → first ≤ end
 follow-bound first end [] h = (let e = h in omega (arith, e))
 follow-bound first end (s ∷ more) h = let n = follow-bound (s.high + 1) end more h.2 in let u = h.1 in omega (arith, n, u)
 

@@ -91,7 +91,7 @@ at-index first end (s ∷ ss) f j le lt = ⊎_elim here (λ up. behind up (at-in
         (rest.0, inr rest.1, rest.2, rest.3, ⊎_elim (λ e. inl (e.0, far ∙ e.1)) (λ e. inr (e.0, far ∙ e.1)) rest.4)
 
 -- what stands inside a segment, and at its lowest id
-inside : (first end : ℕ) (ss : List Segment) → Follow first end ss → (s : Segment) → IsIn s ss → (j : ℕ) → s.low < j → j ≤ s.high → (first ≤ j) × (slice_get (parents_listed ss) (j - first) ≡ Some ((j - 1) ∷ []))
+pub inside : (first end : ℕ) (ss : List Segment) → Follow first end ss → (s : Segment) → IsIn s ss → (j : ℕ) → s.low < j → j ≤ s.high → (first ≤ j) × (slice_get (parents_listed ss) (j - first) ≡ Some ((j - 1) ∷ []))
 inside first end [] f s i j lt le = absurd i
 inside first end (t ∷ ss) f s (inl e) j lt le =
     let low : s.low ≡ first = ap (λ (z : Segment). z.low) e ∙ f.0 in
@@ -113,7 +113,7 @@ inside first end (t ∷ ss) f s (inr i) j lt le =
       get-far (segment_parents t) (parents_listed ss) (j - first) (omega (arith, size, low, order, above)) ∙ ap (slice_get (parents_listed ss)) (let z : j - first - length (segment_parents t) ≡ j - (t.high + 1) = omega (arith, size, low, order, above) in z) ∙ rest.1,
     )
 
-lowest : (first end : ℕ) (ss : List Segment) → Follow first end ss → (s : Segment) → IsIn s ss → (first ≤ s.low) × (s.low ≤ s.high) × (s.high < end) × (slice_get (parents_listed ss) (s.low - first) ≡ Some s.parents)
+pub lowest : (first end : ℕ) (ss : List Segment) → Follow first end ss → (s : Segment) → IsIn s ss → (first ≤ s.low) × (s.low ≤ s.high) × (s.high < end) × (slice_get (parents_listed ss) (s.low - first) ≡ Some s.parents)
 lowest first end [] f s i = absurd i
 lowest first end (t ∷ ss) f s (inl e) =
     let low : s.low ≡ first = ap (λ (z : Segment). z.low) e ∙ f.0 in
@@ -155,22 +155,22 @@ at-place x (y ∷ xs) i = by_test (same_name y x) refl i (at-place x xs)
     by_test false e (inl f) rec = absurd (true≢false (sym (same_name-self x) ∙ ap (λ z. same_name z x) f ∙ e))
     by_test false e (inr j) rec = rec j
 
-row-at : (rows : List (Row Name)) (row : Row Name) → IsIn row rows → (j : ℕ) × (slice_get rows j ≡ Some row)
+pub row-at : (rows : List (Row Name)) (row : Row Name) → IsIn row rows → (j : ℕ) × (slice_get rows j ≡ Some row)
 row-at [] row i = absurd i
 row-at (r ∷ rows) row (inl e) = (0, ap Some (sym e))
 row-at (r ∷ rows) row (inr i) = let n = row-at rows row i in (suc n.0, n.1)
 
-row-in : (rows : List (Row Name)) (j : ℕ) (row : Row Name) → slice_get rows j ≡ Some row → IsIn row rows
+pub row-in : (rows : List (Row Name)) (j : ℕ) (row : Row Name) → slice_get rows j ≡ Some row → IsIn row rows
 row-in [] j row e = absurd (true≢false (sym (ap is_some e)))
 row-in (r ∷ rows) zero row e = inl (ap (or_this row) (sym e))
 row-in (r ∷ rows) (suc j) row e = inr (row-in rows j row e)
 
-in-map-back : {X : Type 0} (f : X → ℕ) (n : ℕ) (xs : List X) → IsIn n (map f xs) → (x : X) × IsIn x xs × (n ≡ f x)
+pub in-map-back : {X : Type 0} (f : X → ℕ) (n : ℕ) (xs : List X) → IsIn n (map f xs) → (x : X) × IsIn x xs × (n ≡ f x)
 in-map-back f n [] i = absurd i
 in-map-back f n (x ∷ xs) (inl e) = (x, inl refl, e)
 in-map-back f n (x ∷ xs) (inr i) = let r = in-map-back f n xs i in (r.0, inr r.1, r.2)
 
-in-map-on : {X : Type 0} (f : X → ℕ) (x : X) (xs : List X) → IsIn x xs → IsIn (f x) (map f xs)
+pub in-map-on : {X : Type 0} (f : X → ℕ) (x : X) (xs : List X) → IsIn x xs → IsIn (f x) (map f xs)
 in-map-on f x [] i = absurd i
 in-map-on f x (y ∷ xs) (inl e) = inl (ap f e)
 in-map-on f x (y ∷ xs) (inr i) = inr (in-map-on f x xs i)
@@ -179,7 +179,7 @@ in-flat-back : {X : Type 0} (f : X → List ℕ) (p : ℕ) (xs : List X) → IsI
 in-flat-back f p [] i = absurd i
 in-flat-back f p (x ∷ xs) i = ⊎_elim (λ j. (x, inl refl, j)) (λ j. let r = in-flat-back f p xs j in (r.0, inr r.1, r.2)) (in-append p (f x) (flat_map f xs) i)
 
-known-there : (x : ℕ) (xs : List ℕ) → is_in nat_eq x xs ≡ true → IsIn x xs
+pub known-there : (x : ℕ) (xs : List ℕ) → is_in nat_eq x xs ≡ true → IsIn x xs
 known-there x xs e = found nat_eq exact_unsigned_eq (λ z. eq-eqb z z refl) x xs e
 
 rises-some : (f : ℕ → Bool) (least end : ℕ) (ids : List ℕ) → Rises least end ids → Rises least end (filter f ids)
@@ -190,7 +190,7 @@ rises-some f least end (id ∷ ids) h = by_test (f id) (rises-some f (id + 1) en
     by_test true r = (h.0, h.1, r)
     by_test false r = rises-lower least (id + 1) end (filter f ids) (let a = h.0 in omega (arith, a)) r
 
-index-below : (rows : List (Row Name)) (j : ℕ) (row : Row Name) → slice_get rows j ≡ Some row → j < length rows
+pub index-below : (rows : List (Row Name)) (j : ℕ) (row : Row Name) → slice_get rows j ≡ Some row → j < length rows
 index-below [] j row e = absurd (true≢false (sym (ap is_some e)))
 index-below (r ∷ rows) zero row e = (let z : 0 ≤ length rows = zero-le in omega (arith, z))
 index-below (r ∷ rows) (suc j) row e = (let n = index-below rows j row e in omega (arith, n))
@@ -301,7 +301,7 @@ module _ (r : World Name) (named : IsNamedWorld (master_alone r)) where
       (row.0, row.1, ap (or_this []) (sym (get-parents w r.master s.low row.0 row.1) ∙ ap (λ ps. slice_get ps s.low) (sym listed) ∙ ap (slice_get (parents_listed (master_segments r))) (let z : s.low ≡ s.low - 0 = omega arith in z) ∙ l.3))
 
   -- a commit that isn't a head has a child behind it
-  child : (j : ℕ) (q : Row Name) → slice_get r.master j ≡ Some q → j < length r.master → is_in nat_eq j (head_ids (master_segments r)) ≡ false
+  pub child : (j : ℕ) (q : Row Name) → slice_get r.master j ≡ Some q → j < length r.master → is_in nat_eq j (head_ids (master_segments r)) ≡ false
       → (c : ℕ) × (row : Row Name) × (j < c) × (slice_get r.master c ≡ Some row) × IsIn q.name row.parents
   child j q e lt miss = ⊎_elim up last (eq-or-lt_of_le at.3)
     where
@@ -341,7 +341,7 @@ module _ (r : World Name) (named : IsNamedWorld (master_alone r)) where
       last more = behind more
 
   -- the name of a head's id is one of the heads
-  picked-in : (least : ℕ) (ids : List ℕ) → Rises least (length r.master) ids → (j : ℕ) (q : Row Name) → IsIn j ids → slice_get r.master j ≡ Some q → IsIn q.name (map (λ (k : KnownName). k.name) (named_ids r ids))
+  pub picked-in : (least : ℕ) (ids : List ℕ) → Rises least (length r.master) ids → (j : ℕ) (q : Row Name) → IsIn j ids → slice_get r.master j ≡ Some q → IsIn q.name (map (λ (k : KnownName). k.name) (named_ids r ids))
   picked-in least [] h j q i e = absurd i
   picked-in least (x ∷ ids) h j q i e = let o = get-some r.master x h.1 in
       subst (λ l. IsIn q.name (map (λ (k : KnownName). k.name) l)) (sym (pick-next r x ids o.0 o.1))
@@ -353,7 +353,7 @@ module _ (r : World Name) (named : IsNamedWorld (master_alone r)) where
       ⊎_elim (λ f. (y, inl refl, get-name r.master y o.0 o.1 ∙ ap Some (sym f))) (λ k. let n = picked-from (y + 1) ids h.2 x k in (n.0, inr n.1, n.2))
       (subst (λ l. IsIn x (map (λ (k : KnownName). k.name) l)) (pick-next r y ids o.0 o.1) i)
 
-  heads-rise : Rises 0 (length r.master) (head_ids (master_segments r))
+  pub heads-rise : Rises 0 (length r.master) (head_ids (master_segments r))
   heads-rise = rises-some (λ id. not (is_in nat_eq id (flat_map (λ (s : Segment). s.parents) (master_segments r)))) 0 (length r.master) (map (λ (s : Segment). s.high) (master_segments r)) (highest-rise r named)
 
   -- every commit is reached by a head
@@ -439,7 +439,7 @@ module _ (r : World Name) (named : IsNamedWorld (master_alone r)) where
           absurd (omega (arith, long, one)))
           s.4
 
-  head-then : (id : ℕ) (row : Row Name) → slice_get r.master id ≡ Some row → IsIn row.name (heads_of r) → (q : Row Name) → IsIn q r.master → IsIn row.name q.parents → ⊥
+  pub head-then : (id : ℕ) (row : Row Name) → slice_get r.master id ≡ Some row → IsIn row.name (heads_of r) → (q : Row Name) → IsIn q r.master → IsIn row.name q.parents → ⊥
   head-then id row e i q there p =
       let head = picked-from 0 (head_ids (master_segments r)) heads-rise row.name i in
       let same = one-place (names_of r.master) distinct head.0 id row.name head.2 (get-name r.master id row e) in

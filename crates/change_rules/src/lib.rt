@@ -13,9 +13,10 @@ ghost use Rattle.change_rules.specs.Flush.{flushed};
 ghost use Rattle.change_rules.specs.Strip.{stripped};
 ghost use Rattle.change_rules.specs.Pull.{pulled};
 ghost use Rattle.change_rules.specs.Change.{flush_change, clone_change};
-ghost use Rattle.remote_rules.specs.Known.{master_alone, master_graph, IsReached, IsKnownTo, IsPathTo, Path};
+ghost use Rattle.remote_rules.specs.Known.{master_alone, master_world, master_graph, IsReached, IsKnownTo, IsPathTo, Path};
 ghost use Rattle.remote_rules.specs.Honest.{heads_of, clone_data_of, stored_ids, master_segments};
-ghost use Rattle.remote_rules.specs.CloneData.{first_broken};
+ghost use Rattle.remote_rules.specs.CloneData.{CloneData, first_broken};
+ghost use Rattle.remote_rules.specs.Clones.{IsCloneOf};
 ghost use Rattle.change_rules.specs.Holding.{HoldPayloads, HoldAs};
 ghost use Rattle.change_rules.specs.Unlawful.{IsNoLog};
 ghost use Rattle.change_rules.specs.Standard.{standard, most_heads, AreLimits};
@@ -109,6 +110,11 @@ pub fn stored_ids_are_known()
     ensures { (r : World NameBytes) → IsNamedWorld (master_alone r)
         → (id : ℕ) (row : Row NameBytes) → slice_get r.master id ≡ Some row
         → IsIn id (stored_ids r) ↔ (IsKnownTo (master_graph r) (heads_of r) row.name ⊎ IsIn id (map (λ s. s.high) (master_segments r))) }
+{}
+
+/// What an honest remote tells is what it has to, item by item, and nothing else is.
+pub fn clone_data_is_one()
+    ensures { (rows : List (Row NameBytes)) → IsNamedWorld (master_world rows) → (told : CloneData) → IsCloneOf rows told ↔ (told ≡ clone_data_of (master_world rows)) }
 {}
 
 /// To each commit that one of some heads reaches there is a path from these heads, so that an honest remote has an answer to the
