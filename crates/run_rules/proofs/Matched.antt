@@ -1,0 +1,65 @@
+-- Refusals for failed mirrors in a run.
+use Rattle.std.proofs.Common.{◌≡◌, ◌⊎◌, ℕ, Bool, true, false, inl, inr, List, [], ◌∷◌, sym, subst, ⊎_elim, le_refl}
+use Rattle.std.specs.Bool.{MatchBool}
+use Rattle.id_groups.specs.Lists.{IsIn}
+use Rattle.line_io.specs.Lines.{is_silent, is_too_long}
+use Rattle.change_rules.specs.declared.Limits.{Limits}
+use Rattle.remote_rules.specs.Mirror.{Mirror}
+use Rattle.step_rules.specs.declared.Refusal.TheVariants as why
+use Rattle.step_rules.specs.State.{State}
+use Rattle.step_rules.specs.Reply.{Reply, Refused, LongLine}
+use Rattle.step_rules.specs.Rises.{EachWas, HasFailed}
+use Rattle.step_rules.proofs.Matched.{IsLater, failed-later, step-matched}
+use Rattle.run_rules.specs.Run.{Run, Step, Commands, IsNoCommand, IsUnread}
+
+abbrev IsRemote : Reply → Type 0
+IsRemote (Refused (why.Remote n)) = Unit {0}
+IsRemote _ = ⊥
+
+abbrev Matches : List Mirror → Reply → State → Type 0
+Matches start reply st' = EachWas IsLater start st'.outside.mirrors × ((n : ℕ) → reply ≡ Refused (why.Remote n) → EachWas HasFailed start st'.outside.mirrors)
+
+line-matched : (limits : Limits) (st st' : State) (line : List ℕ) (reply : Reply) → Step limits st line reply st' → (start : List Mirror) → EachWas IsLater start st.outside.mirrors → Matches start reply st'
+line-matched limits st st' line reply step start h = by_test (is_too_long line) step
+  where
+    same : st' ≡ st → EachWas IsLater start st'.outside.mirrors
+    same e = subst (λ (z : State). EachWas IsLater start z.outside.mirrors) (sym e) h
+
+    other : (r : Reply) → reply ≡ r → (IsRemote r → ⊥) → (n : ℕ) → reply ≡ Refused (why.Remote n) → EachWas HasFailed start st'.outside.mirrors
+    other r e never n f = absurd (never (subst IsRemote e (subst IsRemote (sym f) tt)))
+
+    by_test : (b : Bool) → MatchBool b ((reply ≡ LongLine) × (st' ≡ st)) (Commands limits st line reply st' ⊎ (IsNoCommand st line reply st' ⊎ IsUnread st line reply st')) → Matches start reply st'
+    by_test true g = (same g.1, other _ g.0 (λ x. x))
+    by_test false (inl c) = step-matched start limits st c.0 h reply st' c.1 c.3
+    by_test false (inr (inl g)) = (same g.2, other _ g.1 (λ x. x))
+    by_test false (inr (inr u)) = (same u.2, other _ u.1 (λ x. x))
+
+abbrev AllMatch : List Mirror → List Reply → State → Type 0
+AllMatch start replies st' = EachWas IsLater start st'.outside.mirrors × ((n : ℕ) → IsIn (Refused (why.Remote n)) replies → EachWas HasFailed start st'.outside.mirrors)
+
+pub run-matched : (limits : Limits) (lines : List (List ℕ)) (st st' : State) (replies : List Reply) → Run limits st lines replies st' → (start : List Mirror) → EachWas IsLater start st.outside.mirrors → AllMatch start replies st'
+run-matched limits [] st st' replies r start h = (subst (λ (z : State). EachWas IsLater start z.outside.mirrors) (sym r.1) h, λ n i. absurd (subst (IsIn (Refused (why.Remote n))) r.0 i))
+run-matched limits (line ∷ lines) st st' replies r start h =
+    by_test (is_silent line) r (λ g. run-matched limits lines st st' replies g start h)
+    (λ g.
+        let one = line-matched limits st g.2 line g.0 g.4 start h in
+        let rest = run-matched limits lines g.2 st' g.1 g.5 in
+        let later = rest start one.0 in
+        let since = (rest g.2.outside.mirrors (λ m i. (m, i, le_refl m.faults))).0 in (
+          later.0,
+          λ n i. ⊎_elim
+              (λ e m j.
+                  let x = since m j in
+                  let y = one.1 n (sym e) x.0 x.1 in
+                  (y.0, y.1, failed-later y.0 x.0 m y.2 x.2))
+              (λ j. later.1 n j)
+              (subst (IsIn (Refused (why.Remote n))) g.3 i),
+        ))
+  where
+    by_test : (b : Bool)
+        → MatchBool b (Run limits st lines replies st')
+        ((reply : Reply) × (more : List Reply) × (mid : State) × (replies ≡ reply ∷ more) × Step limits st line reply mid × Run limits mid lines more st')
+        → (Run limits st lines replies st' → AllMatch start replies st')
+        → (((reply : Reply) × (more : List Reply) × (mid : State) × (replies ≡ reply ∷ more) × Step limits st line reply mid × Run limits mid lines more st') → AllMatch start replies st') → AllMatch start replies st'
+    by_test true g f k = f g
+    by_test false g f k = k g
