@@ -10,6 +10,7 @@ use Rattle.step_rules.specs.State.{State}
 use Rattle.step_rules.specs.Reply.{Reply, Refused, LongLine}
 use Rattle.step_rules.specs.Rises.{EachWas, HasFailed}
 use Rattle.step_rules.proofs.Matched.{IsLater, failed-later, step-matched}
+use Rattle.step_rules.proofs.Whences.{was-self, was-then}
 use Rattle.run_rules.specs.Run.{Run, Step, Commands, IsNoCommand, IsUnread}
 
 abbrev IsRemote : Reply → Type 0
@@ -45,13 +46,10 @@ run-matched limits (line ∷ lines) st st' replies r start h =
         let one = line-matched limits st g.2 line g.0 g.4 start h in
         let rest = run-matched limits lines g.2 st' g.1 g.5 in
         let later = rest start one.0 in
-        let since = (rest g.2.outside.mirrors (λ m i. (m, i, le_refl m.faults))).0 in (
+        let since = (rest g.2.outside.mirrors (was-self IsLater (λ m. le_refl m.faults) g.2.outside.mirrors)).0 in (
           later.0,
           λ n i. ⊎_elim
-              (λ e m j.
-                  let x = since m j in
-                  let y = one.1 n (sym e) x.0 x.1 in
-                  (y.0, y.1, failed-later y.0 x.0 m y.2 x.2))
+              (λ e. was-then HasFailed IsLater HasFailed failed-later start g.2.outside.mirrors st'.outside.mirrors (one.1 n (sym e)) since)
               (λ j. later.1 n j)
               (subst (IsIn (Refused (why.Remote n))) g.3 i),
         ))

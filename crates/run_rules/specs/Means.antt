@@ -1,5 +1,5 @@
 -- What a run of the program means: its answers, its mirrors, and what its disk has at each moment.
-use Rattle.std.specs.Prelude.{ℕ, ◌≡◌, ◌≤◌, ◌+◌, ◌⊎◌, List, [], ◌∷◌, length, map, nat_le, if◌then◌else◌, ⊤}
+use Rattle.std.specs.Prelude.{ℕ, ◌≡◌, ◌≤◌, ◌+◌, ◌⊎◌, List, [], ◌∷◌, length, map, slice_get, Some, nat_le, if◌then◌else◌, ⊤}
 use Rattle.id_groups.specs.Lists.{IsIn}
 use Rattle.id_groups.specs.Name.{Name}
 use Rattle.commit_graph.specs.World.{World}
@@ -12,7 +12,7 @@ use Rattle.remote_rules.specs.Mirror.{Mirror}
 use Rattle.step_rules.specs.State.{State, Stored, at_start, worlds}
 use Rattle.step_rules.specs.Reply.{Reply, Refused}
 use Rattle.step_rules.specs.declared.Refusal.TheVariants.{Remote}
-use Rattle.step_rules.specs.Rises.{HasFailed}
+use Rattle.step_rules.specs.Rises.{EachWas, HasFailed}
 use Rattle.remote_rules.specs.Serving.{NeverFail}
 use Rattle.run_rules.specs.Run.{Run, Step}
 use Rattle.run_rules.specs.Ends.{Streams, End, Done, OverLimit, NoMemory, NotLoaded, NotStored, EndsAs}
@@ -74,9 +74,11 @@ pub record Means (limits : Limits) (w : World Name) (payloads : List Payload) (r
   pub sure : (stopped.sure ≤ moment_of old + 2) ⊎ (end ≡ NotLoaded)
   pub kept : Keeps end limits.log last.store.payloads new
 
--- some mirror that is left has a count of faults that didn't rise since the start
+-- Some mirror that is left was one at the start, at a place of its own, and its count of faults didn't rise.
 abbrev pub SomeIsSpared : List Mirror → List Mirror → Type 0
-SomeIsSpared old now = (m : Mirror) × IsIn m now × ((k : Mirror) → IsIn k old → HasFailed k m → ⊥)
+SomeIsSpared old now =
+    (each : EachWas (λ k m. k.faults ≤ m.faults) old now) × (i : ℕ) × (place : ℕ) × (k : Mirror) × (m : Mirror)
+    × (slice_get each.0 i ≡ Some place) × (slice_get old place ≡ Some k) × (slice_get now i ≡ Some m) × (HasFailed k m → ⊥)
 
 -- Where the disk, the source and the sink didn't fail and the input is within its limit, the run ends with all lines answered,
 -- unless memory was wanting before the first. Where the mirrors never fail, or some mirror that is left didn't, no line is refused

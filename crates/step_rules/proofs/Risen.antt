@@ -1,14 +1,10 @@
 -- By how much the counts of mirrors rise in a line.
-use Rattle.std.proofs.Common.{◌≡◌, ◌≤◌, ◌+◌, ◌-◌, not, cond, ℕ, suc, Bool, true, false, inl, inr, List, [], ◌∷◌, ◌++◌, length, filter, nat_lt, Option, Some, None, refl, sym, ap, subst, subst₂, ◌∙◌, ⊎_elim, MatchOption, arith, le_refl, append-nil, length-append}
+use Rattle.std.proofs.Common.{◌≡◌, ◌≤◌, ◌+◌, ◌-◌, not, cond, ℕ, suc, Bool, true, false, inl, inr, List, [], ◌∷◌, ◌++◌, length, filter, nat_lt, Option, Some, None, refl, sym, ap, subst, subst₂, ◌∙◌, MatchOption, arith, le_refl, length-append}
 use Rattle.std.specs.Bool.{MatchBool}
-use Rattle.std.specs.List.{AllZip}
 use Rattle.std.proofs.Math.Nat.{min-le_left}
-use Rattle.id_groups.specs.Lists.{IsIn}
 use Rattle.id_groups.specs.Name.{Name}
 use Rattle.id_groups.proofs.Listing.{filtered_once}
 use Rattle.commit_graph.specs.World.{Row}
-use Rattle.commit_graph.proofs.Histories.{in-append}
-use Rattle.commit_graph.proofs.Down.{in-left, in-right}
 use Rattle.set_query.specs.Expr.{Expr}
 use Rattle.set_query.specs.Meaning.{IsMember, IsAnswer}
 use Rattle.change_rules.specs.declared.Limits.{Limits}
@@ -16,9 +12,9 @@ use Rattle.change_rules.specs.Tables.{cloned_count}
 use Rattle.outside.specs.Counts.{last_count}
 use Rattle.remote_rules.specs.CloneData.{KnownName}
 use Rattle.remote_rules.specs.Mirror.{Mirror}
-use Rattle.remote_rules.specs.Calls.{RowsFrom, IsAskedFor, IsCloned, IsPulled, Fails}
+use Rattle.remote_rules.specs.Calls.{RowsFrom, IsAskedFor, IsCloned, IsPulled}
 use Rattle.remote_rules.specs.declared.MirrorFault.{MirrorFault}
-use Rattle.remote_rules.specs.Asking.{Asks, AskedNext, AsksInTurn, total}
+use Rattle.remote_rules.specs.Asking.{AsksInTurn, total}
 use Rattle.step_rules.specs.declared.Refusal.{Refusal}
 use Rattle.step_rules.specs.declared.Refusal.TheVariants as why
 use Rattle.step_rules.specs.State.{State, base_of, seen_by}
@@ -30,29 +26,7 @@ use Rattle.step_rules.specs.Asking.{TriesAll}
 use Rattle.step_rules.specs.Step.{Lists, Answers, CommandStep, GoesOutside, IsRefused, MayWantMemory, answer_tests, uncached, without}
 use Rattle.step_rules.specs.Rises.{count_asked, EachWas, RoseBy, RoseByRows, ArePrinted, HaveRisen}
 use Rattle.step_rules.proofs.Plain.{all-tried}
-use Rattle.step_rules.proofs.Served.{without-in}
-
--- one ask of mirrors: each was one before, of which a reflexive relation holds that the asked ones keep
-module _ (Does Was : Mirror → Mirror → Type 0) (self : (m : Mirror) → Was m m) (does : (m asked : Mirror) → Does m asked → Was m asked) where
-  pub failed-was : (xs ys : List Mirror) → AllZip (Fails Does) xs ys → EachWas Was xs ys
-  failed-was [] [] z m i = absurd i
-  failed-was [] (y ∷ ys) z m i = absurd z
-  failed-was (x ∷ xs) [] z m i = absurd z
-  failed-was (x ∷ xs) (y ∷ ys) z m i = ⊎_elim (λ e. (x, inl refl, subst (Was x) (sym e) (does x y z.0.does))) (λ j. let r = failed-was xs ys z.1 m j in (r.0, inr r.1, r.2)) i
-
-  pub asks-was : (old new : List Mirror) (end : Option MirrorFault) → Asks Does old end new → EachWas Was old new
-  asks-was old new end a = by_others a.2 a.5 (failed-was a.0 a.1 a.4) a.3
-    where
-      by_others : (others : List Mirror) → AskedNext Does a.1 others end new → EachWas Was a.0 a.1 → old ≡ a.0 ++ others → EachWas Was old new
-      by_others [] n f e m i = let r = f m (subst (IsIn m) n.1 i) in (r.0, subst (IsIn r.0) (sym (e ∙ append-nil a.0)) r.1, r.2)
-      by_others (x ∷ more) n f e m i = whence m (subst (IsIn m) n.2 i)
-        where
-          whence : (m : Mirror) → IsIn m (n.0 ∷ more ++ a.1) → (k : Mirror) × IsIn k old × Was k m
-          whence m (inl g) = (x, subst (IsIn x) (sym e) (in-right x a.0 (x ∷ more) (inl refl)), subst (Was x) (sym g) (does x n.0 n.1))
-          whence m (inr j) = ⊎_elim
-              (λ i. (m, subst (IsIn m) (sym e) (in-right m a.0 (x ∷ more) (inr i)), self m))
-              (λ i. let r = f m i in (r.0, subst (IsIn r.0) (sym e) (in-left r.0 a.0 (x ∷ more) r.1), r.2))
-              (in-append m more a.1 j)
+use Rattle.step_rules.proofs.Whences.{was-self, was-then, was-map, was-without, asks-was}
 
 rise-self : (most : ℕ) (m : Mirror) → RoseBy most m m
 rise-self most m = record { faults = le_refl m.faults; asked = omega arith }
@@ -61,19 +35,16 @@ rise-asked : (count : ℕ) (m asked : Mirror) → IsAskedFor count m asked → R
 rise-asked count m asked d = record { faults = d.keeps.faults; asked = (let e = d.asked in let l = min-le_left (m.asked + count) last_count in omega (arith, e, l)) }
 
 risen-same : (most : ℕ) (old new : List Mirror) → new ≡ old → EachWas (RoseBy most) old new
-risen-same most old new e m i = (m, subst (IsIn m) e i, rise-self most m)
+risen-same most old new e = subst (EachWas (RoseBy most) old) (sym e) (was-self (RoseBy most) (rise-self most) old)
 
 risen-then : (a b : ℕ) (old mid new : List Mirror) → EachWas (RoseBy a) old mid → EachWas (RoseBy b) mid new → EachWas (RoseBy (a + b)) old new
-risen-then a b old mid new f g m i =
-    let x = g m i in
-    let y = f x.0 x.1 in
-    (y.0, y.1, record {
-      faults = (let p = x.2.faults in let q = y.2.faults in omega (arith, p, q));
-      asked = (let p = x.2.asked in let q = y.2.asked in omega (arith, p, q));
-    })
+risen-then a b old mid new f g = was-then (RoseBy a) (RoseBy b) (RoseBy (a + b)) (λ k m x p q. record {
+      faults = (let u = p.faults in let v = q.faults in omega (arith, u, v));
+      asked = (let u = p.asked in let v = q.asked in omega (arith, u, v));
+    }) old mid new f g
 
 risen-more : (a b : ℕ) (old new : List Mirror) → a ≤ b → EachWas (RoseBy a) old new → EachWas (RoseBy b) old new
-risen-more a b old new le f m i = let x = f m i in (x.0, x.1, record { faults = x.2.faults; asked = (let p = x.2.asked in omega (arith, p, le)) })
+risen-more a b old new le f = was-map (RoseBy a) (RoseBy b) (λ k m r. record { faults = r.faults; asked = (let p = r.asked in omega (arith, p, le)) }) old new f
 
 turns-risen : (answered : ℕ) (counts : List ℕ) (old new : List Mirror) (end : Option MirrorFault) → AsksInTurn answered counts old end new → EachWas (RoseBy (total counts)) old new × (answered ≤ total counts)
 turns-risen answered [] old new end t = (risen-same 0 old new t.2, (let e = t.0 in omega (arith, e)))
@@ -186,7 +157,7 @@ module _ (limits : Limits) (st : State) (s : ℕ) (reply : Reply) (st' : State) 
     where
       by_test : (b : Bool) → MatchBool b ((reply ≡ Dropped (length (without n mirrors))) × (st' ≡ record st { outside = record st.outside { mirrors = without n mirrors } })) ((reply ≡ Refused why.NoRemote) × (st' ≡ st))
           → EachWas (RoseBy 0) st.outside.mirrors st'.outside.mirrors
-      by_test true g = λ m i. r m (without-in n mirrors m (subst (λ (z : State). IsIn m z.outside.mirrors) g.1 i))
+      by_test true g = subst (λ (z : State). EachWas (RoseBy 0) st.outside.mirrors z.outside.mirrors) (sym g.1) (was-without (RoseBy 0) n st.outside.mirrors mirrors r)
       by_test false g = risen-same 0 st.outside.mirrors st'.outside.mirrors (ap (λ (z : State). z.outside.mirrors) g.1)
 
   -- a pull's own test asks for nothing
@@ -211,7 +182,7 @@ module _ (limits : Limits) (st : State) (s : ℕ) (reply : Reply) (st' : State) 
   refused-risen (Query e) mirrors printed f r g =
       risen-more (count_asked (tests limits st.store s (Query e))) _ st.outside.mirrors st'.outside.mirrors (omega arith) (same-risen _ mirrors g r)
   refused-risen Clone mirrors printed f r e = same-risen _ mirrors e r
-  refused-risen Pull mirrors printed f r e = λ m i. (m, subst (IsIn m) (e ∙ f refl) i, cloned-self (cloned_count st.store.payloads) m)
+  refused-risen Pull mirrors printed f r e = subst (EachWas (RoseByRows (cloned_count st.store.payloads)) st.outside.mirrors) (sym (e ∙ f refl)) (was-self (RoseByRows (cloned_count st.store.payloads)) (cloned-self (cloned_count st.store.payloads)) st.outside.mirrors)
   refused-risen CountMirrors mirrors printed f r e = same-risen _ mirrors e r
   refused-risen (Drop n) mirrors printed f r e = same-risen _ mirrors e r
 

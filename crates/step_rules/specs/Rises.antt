@@ -1,6 +1,7 @@
 -- By how much the counts of mirrors rise in a line.
-use Rattle.std.specs.Prelude.{◌≡◌, ◌≤◌, ◌+◌, ℕ, List, [], length, map}
-use Rattle.id_groups.specs.Lists.{IsIn}
+use Rattle.std.specs.Prelude.{◌≡◌, ◌≤◌, ◌+◌, ℕ, List, [], Some, length, map, slice_get}
+use Rattle.std.specs.List.{AllZip}
+use Rattle.id_groups.specs.Lists.{AreDistinct}
 use Rattle.id_groups.specs.Name.{Name}
 use Rattle.outside.specs.Counts.{Rose}
 use Rattle.set_query.specs.Meaning.{IsAnswer}
@@ -26,9 +27,13 @@ most_asked limits st s (Query e) printed =
     names + (length (uncached st s printed) + names)
 most_asked limits st s verb printed = count_asked (tests limits st.store s verb)
 
--- each mirror now was one before, so that this holds of the two
+-- the mirror that stood at this place is this one now, so that this holds of the two
+abbrev pub WasAt : (Mirror → Mirror → Type 0) → List Mirror → ℕ → Mirror → Type 0
+WasAt Was old place m = (k : Mirror) × (slice_get old place ≡ Some k) × Was k m
+
+-- each mirror now was one before, at a place of its own
 abbrev pub EachWas : (Mirror → Mirror → Type 0) → List Mirror → List Mirror → Type 0
-EachWas Was old new = (m : Mirror) → IsIn m new → (k : Mirror) × IsIn k old × Was k m
+EachWas Was old new = (places : List ℕ) × AreDistinct places × AllZip (WasAt Was old) places new
 
 -- its count of faults didn't fall, and it was asked for no more names than so many
 pub record RoseBy (most : ℕ) (k m : Mirror) : Type 0 where
