@@ -5,11 +5,13 @@ use Rattle.id_groups.specs.Lists.{IsIn}
 use Rattle.line_io.specs.Lines.{is_silent, is_too_long}
 use Rattle.change_rules.specs.declared.Limits.{Limits}
 use Rattle.remote_rules.specs.Mirror.{Mirror}
+use Rattle.remote_rules.specs.Serving.{NeverFail}
 use Rattle.step_rules.specs.declared.Refusal.TheVariants as why
 use Rattle.step_rules.specs.State.{State}
 use Rattle.step_rules.specs.Reply.{Reply, Refused, LongLine}
 use Rattle.step_rules.specs.Rises.{EachWas, HasFailed}
 use Rattle.step_rules.proofs.Matched.{IsLater, failed-later, step-matched}
+use Rattle.step_rules.proofs.Steady.{step-steady}
 use Rattle.step_rules.proofs.Whences.{was-self, was-then}
 use Rattle.run_rules.specs.Run.{Run, Step, Commands, IsNoCommand, IsUnread}
 
@@ -61,3 +63,41 @@ run-matched limits (line ∷ lines) st st' replies r start h =
         → (((reply : Reply) × (more : List Reply) × (mid : State) × (replies ≡ reply ∷ more) × Step limits st line reply mid × Run limits mid lines more st') → AllMatch start replies st') → AllMatch start replies st'
     by_test true g f k = f g
     by_test false g f k = k g
+
+-- mirrors that never fail refuse no line of a run
+line-steady : (limits : Limits) (st st' : State) (line : List ℕ) (reply : Reply) → Step limits st line reply st' → NeverFail st.outside.mirrors → NeverFail st'.outside.mirrors × ((n : ℕ) → reply ≡ Refused (why.Remote n) → ⊥)
+line-steady limits st st' line reply step h = by_test (is_too_long line) step
+  where
+    same : st' ≡ st → NeverFail st'.outside.mirrors
+    same e = subst (λ (z : State). NeverFail z.outside.mirrors) (sym e) h
+
+    other : (r : Reply) → reply ≡ r → (IsRemote r → ⊥) → (n : ℕ) → reply ≡ Refused (why.Remote n) → ⊥
+    other r e never n f = never (subst IsRemote e (subst IsRemote (sym f) tt))
+
+    by_test : (b : Bool) → MatchBool b ((reply ≡ LongLine) × (st' ≡ st)) (Commands limits st line reply st' ⊎ (IsNoCommand st line reply st' ⊎ IsUnread st line reply st'))
+        → NeverFail st'.outside.mirrors × ((n : ℕ) → reply ≡ Refused (why.Remote n) → ⊥)
+    by_test true g = (same g.1, other _ g.0 (λ x. x))
+    by_test false (inl c) = step-steady limits st c.0 h reply st' c.1 c.3
+    by_test false (inr (inl g)) = (same g.2, other _ g.1 (λ x. x))
+    by_test false (inr (inr u)) = (same u.2, other _ u.1 (λ x. x))
+
+pub run-steady : (limits : Limits) (lines : List (List ℕ)) (st st' : State) (replies : List Reply) → Run limits st lines replies st' → NeverFail st.outside.mirrors → (n : ℕ) → IsIn (Refused (why.Remote n)) replies → ⊥
+run-steady limits [] st st' replies r h n i = subst (IsIn (Refused (why.Remote n))) r.0 i
+run-steady limits (line ∷ lines) st st' replies r h n i =
+    by_test (is_silent line) r (λ g. run-steady limits lines st st' replies g h n i)
+    (λ g.
+        let one = line-steady limits st g.2 line g.0 g.4 h in
+        ⊎_elim (λ e. one.1 n (sym e)) (λ j. run-steady limits lines g.2 st' g.1 g.5 one.0 n j) (subst (IsIn (Refused (why.Remote n))) g.3 i))
+  where
+    by_test : (b : Bool)
+        → MatchBool b (Run limits st lines replies st')
+        ((reply : Reply) × (more : List Reply) × (mid : State) × (replies ≡ reply ∷ more) × Step limits st line reply mid × Run limits mid lines more st')
+        → (Run limits st lines replies st' → ⊥)
+        → (((reply : Reply) × (more : List Reply) × (mid : State) × (replies ≡ reply ∷ more) × Step limits st line reply mid × Run limits mid lines more st') → ⊥) → ⊥
+    by_test true g f k = f g
+    by_test false g f k = k g
+
+pub run-answered : (limits : Limits) (lines : List (List ℕ)) (st st' : State) (replies : List Reply) (n : ℕ) → Run limits st lines replies st'
+    → NeverFail st.outside.mirrors ⊎ (EachWas HasFailed st.outside.mirrors st'.outside.mirrors → ⊥) → IsIn (Refused (why.Remote n)) replies → ⊥
+run-answered limits lines st st' replies n r (inl h) i = run-steady limits lines st st' replies r h n i
+run-answered limits lines st st' replies n r (inr h) i = h ((run-matched limits lines st st' replies r st.outside.mirrors (was-self IsLater (λ m. le_refl m.faults) st.outside.mirrors)).1 n i)

@@ -1,5 +1,5 @@
 -- What a run of the program means: its answers, its mirrors, and what its disk has at each moment.
-use Rattle.std.specs.Prelude.{ℕ, ◌≡◌, ◌≤◌, ◌+◌, ◌⊎◌, List, [], ◌∷◌, length, map, slice_get, Some, nat_le, if◌then◌else◌, ⊤}
+use Rattle.std.specs.Prelude.{ℕ, ◌≡◌, ◌≤◌, ◌+◌, ◌⊎◌, List, [], ◌∷◌, length, map, nat_le, if◌then◌else◌, ⊤}
 use Rattle.id_groups.specs.Lists.{IsIn}
 use Rattle.id_groups.specs.Name.{Name}
 use Rattle.commit_graph.specs.World.{World}
@@ -74,15 +74,9 @@ pub record Means (limits : Limits) (w : World Name) (payloads : List Payload) (r
   pub sure : (stopped.sure ≤ moment_of old + 2) ⊎ (end ≡ NotLoaded)
   pub kept : Keeps end limits.log last.store.payloads new
 
--- Some mirror that is left was one at the start, at a place of its own, and its count of faults didn't rise.
-abbrev pub SomeIsSpared : List Mirror → List Mirror → Type 0
-SomeIsSpared old now =
-    (each : EachWas (λ k m. k.faults ≤ m.faults) old now) × (i : ℕ) × (place : ℕ) × (k : Mirror) × (m : Mirror)
-    × (slice_get each.0 i ≡ Some place) × (slice_get old place ≡ Some k) × (slice_get now i ≡ Some m) × (HasFailed k m → ⊥)
-
--- Where the disk, the source and the sink didn't fail and the input is within its limit, the run ends with all lines answered,
--- unless memory was wanting before the first. Where the mirrors never fail, or some mirror that is left didn't, no line is refused
--- because all of them failed.
+-- Where no count of disk, source and sink rose and the input is within its limit, the run ends with all lines answered, unless memory
+-- was wanting before the first. Where the mirrors never fail, or the count of some mirror that is left didn't rise, no line is
+-- refused because all failed.
 pub record IsComplete (limits : Limits) (mirrors mirrors_now : List Mirror) (io : Streams) (DiskFailed SourceFailed SinkFailed : Type 0) (end : End) (replies : List Reply) : Type 0 where
   pub ends : ¬ DiskFailed → ¬ SourceFailed → ¬ SinkFailed → length io.input ≤ limits.input → (end ≡ Done) ⊎ (end ≡ NoMemory)
-  pub answered : NeverFail mirrors ⊎ SomeIsSpared mirrors mirrors_now → (n : ℕ) → IsIn (Refused (Remote n)) replies → ⊥
+  pub answered : NeverFail mirrors ⊎ ¬ (EachWas HasFailed mirrors mirrors_now) → (n : ℕ) → ¬ (IsIn (Refused (Remote n)) replies)

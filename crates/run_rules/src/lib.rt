@@ -1,13 +1,13 @@
 //! Runs over lines: which lines are commands, what a run answers, how it may end, and what a crash leaves of it.
 #![tactic(auto)]
 
-ghost use Rattle.std.specs.Prelude.{◌≡◌, ◌<◌, ◌≤◌, ◌++◌, ℕ, List, [], ◌∷◌, length, map};
+ghost use Rattle.std.specs.Prelude.{◌≡◌, ◌<◌, ◌≤◌, ◌⊎◌, ◌++◌, ℕ, List, [], ◌∷◌, length, map};
 ghost use Rattle.change_rules.specs.declared.Limits.{Limits};
 ghost use Rattle.step_rules.specs.State.{State, Stored, IsState, IsHeld, at_start};
 ghost use Rattle.step_rules.specs.Served.{IsServed};
 ghost use Rattle.change_rules.specs.Standard.{AreLimits};
 ghost use Rattle.change_rules.specs.Tables.{cloned_count};
-ghost use Rattle.remote_rules.specs.Serving.{AllServe};
+ghost use Rattle.remote_rules.specs.Serving.{AllServe, NeverFail};
 ghost use Rattle.step_rules.specs.Reply.{Reply, Refused};
 ghost use Rattle.step_rules.specs.declared.Refusal.TheVariants.{Remote};
 ghost use Rattle.step_rules.specs.Rises.{EachWas, HasFailed};
@@ -86,4 +86,10 @@ pub fn stopped_cut_short()
 pub fn run_failures_matched()
     ensures { (limits : Limits) (st st' : State) (lines : List (List ℕ)) (replies : List Reply) (n : ℕ) → Run limits st lines replies st' → IsIn (Refused (Remote n)) replies
         → EachWas HasFailed st.outside.mirrors st'.outside.mirrors }
+{}
+
+/// Where the mirrors never fail, or the count of some mirror that is left didn't rise, no line of a run is refused for failed mirrors.
+pub fn runs_are_answered()
+    ensures { (limits : Limits) (st st' : State) (lines : List (List ℕ)) (replies : List Reply) (n : ℕ) → Run limits st lines replies st'
+        → NeverFail st.outside.mirrors ⊎ (EachWas HasFailed st.outside.mirrors st'.outside.mirrors → ⊥) → IsIn (Refused (Remote n)) replies → ⊥ }
 {}
