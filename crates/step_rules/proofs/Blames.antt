@@ -22,7 +22,7 @@ use Rattle.step_rules.specs.declared.Refusal.{Refusal}
 use Rattle.step_rules.specs.declared.Refusal.TheVariants as why
 use Rattle.step_rules.specs.State.{State, Stored, view_of}
 use Rattle.step_rules.specs.Verb.{Verb, Add, Flush, Reload, Discard, Query, Count, IdOf, Status, Levels, Clone, Pull, Strip, CountMirrors, Drop}
-use Rattle.step_rules.specs.Reply.{Reply, Refused, Added, Old, Listed, Dropped, Cloned, Pulled}
+use Rattle.step_rules.specs.Reply.{Reply, Added, Old, Flushed, Pulled, Stripped, Cloned, Reloaded, Discarded, Listed, Counted, Identified, Sizes, LevelSizes, Dropped, Refused, NoCommand, LongLine, IsMismatch}
 use Rattle.step_rules.specs.Worlds.{has, after_change, after_flush, with_added}
 use Rattle.step_rules.specs.Tests.{Test, first_some, tests}
 use Rattle.step_rules.specs.Asking.{refusal_for, refused_by, TriesAll}
@@ -38,6 +38,10 @@ module _ (P : List Mirror → Type 0) (F : ℕ → List Mirror → Type 0) (when
   -- the mirrors are to blame for a refusal only where that holds of them
   abbrev Blames : List Mirror → Option Refusal → Type 0
   Blames mirrors (Some (why.Remote n)) = F n mirrors
+  Blames mirrors (Some (why.MismatchPath x n)) = ⊥
+  Blames mirrors (Some (why.MismatchNames n k)) = ⊥
+  Blames mirrors (Some (why.MismatchClone n)) = ⊥
+  Blames mirrors (Some (why.MismatchRow n)) = ⊥
   Blames mirrors _ = Unit {0}
 
   no-blame : (mirrors : List Mirror) (o : Option Refusal) → IsNoFailure o → Blames mirrors o
@@ -52,10 +56,10 @@ module _ (P : List Mirror → Type 0) (F : ℕ → List Mirror → Type 0) (when
   no-blame mirrors (Some (why.NotEmpty n k)) h = tt
   no-blame mirrors (Some (why.Pending n)) h = tt
   no-blame mirrors (Some why.NoRemote) h = tt
-  no-blame mirrors (Some (why.MismatchPath x n)) h = tt
-  no-blame mirrors (Some (why.MismatchNames n k)) h = tt
-  no-blame mirrors (Some (why.MismatchClone n)) h = tt
-  no-blame mirrors (Some (why.MismatchRow n)) h = tt
+  no-blame mirrors (Some (why.MismatchPath x n)) h = absurd h
+  no-blame mirrors (Some (why.MismatchNames n k)) h = absurd h
+  no-blame mirrors (Some (why.MismatchClone n)) h = absurd h
+  no-blame mirrors (Some (why.MismatchRow n)) h = absurd h
   no-blame mirrors (Some (why.InMaster x)) h = tt
   no-blame mirrors (Some (why.Lost x)) h = tt
   no-blame mirrors (Some (why.Emptied n)) h = tt
@@ -90,6 +94,42 @@ module _ (P : List Mirror → Type 0) (F : ℕ → List Mirror → Type 0) (when
   abbrev BlamesReply : List Mirror → Reply → Type 0
   BlamesReply mirrors (Refused r) = Blames mirrors (Some r)
   BlamesReply mirrors _ = Unit {0}
+
+  no-mismatch : (mirrors : List Mirror) (reply : Reply) → BlamesReply mirrors reply → IsMismatch reply → ⊥
+  no-mismatch mirrors (Refused (why.Unknown x)) h i = i
+  no-mismatch mirrors (Refused (why.Twice x)) h i = i
+  no-mismatch mirrors (Refused (why.Differs x)) h i = i
+  no-mismatch mirrors (Refused (why.Conflict x)) h i = i
+  no-mismatch mirrors (Refused (why.Full l n)) h i = i
+  no-mismatch mirrors (Refused (why.Answer n)) h i = i
+  no-mismatch mirrors (Refused (why.NotEmpty n k)) h i = i
+  no-mismatch mirrors (Refused (why.Pending n)) h i = i
+  no-mismatch mirrors (Refused why.NoRemote) h i = i
+  no-mismatch mirrors (Refused (why.Remote n)) h i = i
+  no-mismatch mirrors (Refused (why.InMaster x)) h i = i
+  no-mismatch mirrors (Refused (why.Lost x)) h i = i
+  no-mismatch mirrors (Refused (why.Emptied n)) h i = i
+  no-mismatch mirrors (Refused why.Memory) h i = i
+  no-mismatch mirrors (Refused (why.MismatchPath x n)) h i = h
+  no-mismatch mirrors (Refused (why.MismatchNames n k)) h i = h
+  no-mismatch mirrors (Refused (why.MismatchClone n)) h i = h
+  no-mismatch mirrors (Refused (why.MismatchRow n)) h i = h
+  no-mismatch mirrors (Added n) h i = i
+  no-mismatch mirrors (Old n) h i = i
+  no-mismatch mirrors (Flushed n k) h i = i
+  no-mismatch mirrors (Pulled n k) h i = i
+  no-mismatch mirrors (Stripped n k) h i = i
+  no-mismatch mirrors (Cloned n) h i = i
+  no-mismatch mirrors (Reloaded n) h i = i
+  no-mismatch mirrors (Discarded n) h i = i
+  no-mismatch mirrors (Listed x) h i = i
+  no-mismatch mirrors (Counted n) h i = i
+  no-mismatch mirrors (Identified n) h i = i
+  no-mismatch mirrors (Sizes n k l) h i = i
+  no-mismatch mirrors (LevelSizes x) h i = i
+  no-mismatch mirrors (Dropped n) h i = i
+  no-mismatch mirrors NoCommand h i = i
+  no-mismatch mirrors LongLine h i = i
 
   module _ (limits : Limits) (st : State) (s : ℕ) (steady : P st.outside.mirrors) (reply : Reply) (st' : State) where
     told-no : (verb : Verb) → Told st.store s verb reply st'.store → BlamesReply st'.outside.mirrors reply
@@ -167,11 +207,11 @@ module _ (P : List Mirror → Type 0) (F : ℕ → List Mirror → Type 0) (when
         by_test true g = (subst (λ (z : State). P z.outside.mirrors) (sym g.1) (when_dropped n mirrors k), subst (BlamesReply st'.outside.mirrors) (sym g.0) tt)
         by_test false g = (subst (λ (z : State). P z.outside.mirrors) (sym g.1) steady, subst (BlamesReply st'.outside.mirrors) (sym g.0) tt)
 
-    pub step-kept : (verb : Verb) → CommandStep limits st s verb reply st' → P st'.outside.mirrors × ((n : ℕ) → reply ≡ Refused (why.Remote n) → F n st'.outside.mirrors)
+    pub step-kept : (verb : Verb) → CommandStep limits st s verb reply st' → P st'.outside.mirrors × ((n : ℕ) → reply ≡ Refused (why.Remote n) → F n st'.outside.mirrors) × (IsMismatch reply → ⊥)
     step-kept verb (verdict, mirrors, found, tries, ends) =
         let t = tries-kept (MayWantMemory verb) st.outside.mirrors mirrors (tests limits st.store s verb) verdict found (tests-no st.store s limits verb) tries steady in
         let r = by_test verdict t.0 t.1 ends in
-        (r.0, λ n e. subst (BlamesReply st'.outside.mirrors) e r.1)
+        (r.0, (λ n e. subst (BlamesReply st'.outside.mirrors) e r.1), no-mismatch st'.outside.mirrors reply r.1)
       where
         by_test : (o : Option Refusal) → P mirrors → Blames mirrors o
             → MatchOption o (Answers limits st s verb mirrors found reply st') (λ refusal. IsRefused st.store refusal reply st'.store × GoesOutside st.outside mirrors found st'.outside) → P st'.outside.mirrors × BlamesReply st'.outside.mirrors reply

@@ -56,5 +56,6 @@ module _ (start : List Mirror) where
   pub step-matched : (limits : Limits) (st : State) (s : ℕ) → EachWas IsLater start st.outside.mirrors → (reply : Reply) (st' : State) (verb : Verb) → CommandStep limits st s verb reply st'
       → EachWas IsLater start st'.outside.mirrors × ((n : ℕ) → reply ≡ Refused (why.Remote n) → EachWas HasFailed start st'.outside.mirrors)
   step-matched limits st s h reply st' verb step =
-      step-kept (EachWas IsLater start) (λ n mirrors. EachWas HasFailed start mirrors) (λ count. kept-later (IsAskedFor count) (λ m x d. d.keeps)) (kept-later IsCloned (λ m x d. d.keeps)) (λ from. kept-later (IsPulled from) (λ m x d. d.keeps))
-      (λ k xs h. was-without IsLater k start xs h) limits st s h reply st' verb step
+      let kept = step-kept (EachWas IsLater start) (λ n mirrors. EachWas HasFailed start mirrors) (λ count. kept-later (IsAskedFor count) (λ m x d. d.keeps)) (kept-later IsCloned (λ m x d. d.keeps)) (λ from. kept-later (IsPulled from) (λ m x d. d.keeps))
+      (λ k xs h. was-without IsLater k start xs h) limits st s h reply st' verb step in
+      (kept.0, kept.1)

@@ -11,7 +11,7 @@ use Rattle.remote_rules.specs.Asking.{Asks, AskedNext}
 use Rattle.step_rules.specs.declared.Refusal.TheVariants as why
 use Rattle.step_rules.specs.State.{State}
 use Rattle.step_rules.specs.Verb.{Verb}
-use Rattle.step_rules.specs.Reply.{Reply, Refused}
+use Rattle.step_rules.specs.Reply.{Reply, Refused, IsMismatch}
 use Rattle.step_rules.specs.Step.{CommandStep, without}
 use Rattle.step_rules.proofs.Blames.{step-kept}
 
@@ -64,5 +64,11 @@ without-steady (suc k) (x ∷ xs) h = (h.0, without-steady k xs h.1)
 pub step-steady : (limits : Limits) (st : State) (s : ℕ) → NeverFail st.outside.mirrors → (reply : Reply) (st' : State) (verb : Verb) → CommandStep limits st s verb reply st'
     → NeverFail st'.outside.mirrors × ((n : ℕ) → reply ≡ Refused (why.Remote n) → ⊥)
 step-steady limits st s steady reply st' verb step =
-    step-kept NeverFail (λ n mirrors. ⊥) (λ count. asks-steady (IsAskedFor count) (λ m x d. d.keeps)) (asks-steady IsCloned (λ m x d. d.keeps)) (λ from. asks-steady (IsPulled from) (λ m x d. d.keeps)) without-steady
-    limits st s steady reply st' verb step
+    let kept = step-kept NeverFail (λ n mirrors. ⊥) (λ count. asks-steady (IsAskedFor count) (λ m x d. d.keeps)) (asks-steady IsCloned (λ m x d. d.keeps)) (λ from. asks-steady (IsPulled from) (λ m x d. d.keeps)) without-steady
+    limits st s steady reply st' verb step in
+    (kept.0, kept.1)
+
+-- no command is refused for a mirror that disagrees
+pub step-agrees : (limits : Limits) (st : State) (s : ℕ) (reply : Reply) (st' : State) (verb : Verb) → CommandStep limits st s verb reply st' → IsMismatch reply → ⊥
+step-agrees limits st s reply st' verb step =
+    (step-kept (λ mirrors. Unit {0}) (λ n mirrors. Unit {0}) (λ count old new end a h. (tt, λ n e. tt)) (λ old new end a h. (tt, λ n e. tt)) (λ from old new end a h. (tt, λ n e. tt)) (λ k xs h. tt) limits st s tt reply st' verb step).2

@@ -18,9 +18,13 @@ use Rattle.step_rules.specs.Verb.{Verb, Add, Flush, Reload, Discard, Query, Coun
 use Rattle.step_rules.specs.Worlds.{has}
 use Rattle.step_rules.specs.Tests.{Test, named, looked_up, unknown, twice, full, refuse_if, pending_test, rebase_tests, not_strippable, first_some, tests}
 
--- a refusal that isn't for failed mirrors
+-- a refusal that isn't for failed mirrors, or for one that disagrees
 abbrev pub IsNoFailure : Option Refusal → Type 0
 IsNoFailure (Some (why.Remote n)) = ⊥
+IsNoFailure (Some (why.MismatchPath x n)) = ⊥
+IsNoFailure (Some (why.MismatchNames n k)) = ⊥
+IsNoFailure (Some (why.MismatchClone n)) = ⊥
+IsNoFailure (Some (why.MismatchRow n)) = ⊥
 IsNoFailure _ = Unit {0}
 
 -- no test is for failed mirrors

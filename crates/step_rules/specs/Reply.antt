@@ -1,5 +1,5 @@
 -- Replies, and their texts.
-use Rattle.std.specs.Prelude.{ℕ, List, [], ◌∷◌, ◌++◌, length, map, codes, decimal, flat_map}
+use Rattle.std.specs.Prelude.{ℕ, List, [], ◌∷◌, ◌++◌, length, map, codes, decimal, flat_map, ⊤}
 use Rattle.id_groups.specs.Name.{Name, hex_text}
 use Rattle.id_groups.specs.Id.{id_text}
 use Rattle.change_rules.specs.declared.Limit.{Limit}
@@ -7,6 +7,7 @@ use Rattle.change_rules.specs.declared.Limit.TheVariants as limit
 use Rattle.step_rules.specs.declared.Refusal.{Refusal}
 use Rattle.step_rules.specs.declared.Refusal.TheVariants as why
 
+-- what a line is answered
 pub data Reply : Type 0 where
   -- a row that is new, or that was there
   Added : ℕ → Reply
@@ -89,3 +90,11 @@ reply_lines LongLine = codes "err line 16384" ∷ []
 -- a reply as it is written, each line ended by a line feed
 abbrev pub reply_text : Reply → List ℕ
 reply_text reply = flat_map (λ line. line ++ 10 ∷ []) (reply_lines reply)
+
+-- a refusal for an answer of a remote that disagrees with the log
+abbrev pub IsMismatch : Reply → Type 0
+IsMismatch (Refused (why.MismatchPath from back)) = ⊤
+IsMismatch (Refused (why.MismatchNames asked got)) = ⊤
+IsMismatch (Refused (why.MismatchClone at)) = ⊤
+IsMismatch (Refused (why.MismatchRow id)) = ⊤
+IsMismatch _ = ⊥

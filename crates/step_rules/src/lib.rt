@@ -11,7 +11,7 @@ ghost use Rattle.remote_rules.specs.Mirror.{Mirror};
 ghost use Rattle.remote_rules.specs.Honest.{IsSound};
 ghost use Rattle.step_rules.specs.State.{State, Stored, IsState, IsHeld, at_start};
 ghost use Rattle.step_rules.specs.Verb.{Verb, IsVerb, Status};
-ghost use Rattle.step_rules.specs.Reply.{Reply, Refused};
+ghost use Rattle.step_rules.specs.Reply.{Reply, Refused, IsMismatch};
 ghost use Rattle.step_rules.specs.Step.{CommandStep};
 ghost use Rattle.step_rules.specs.Plain.{IsInside, HasAllNames, PlainStep};
 ghost use Rattle.step_rules.specs.Isolation.{IsIsolated};
@@ -106,4 +106,9 @@ pub fn asks_are_few()
 /// Where a line is refused because all mirrors failed, the count of each of them rose.
 pub fn failures_are_matched()
     ensures { (limits : Limits) (st st' : State) (s : ℕ) (verb : Verb) (n : ℕ) → CommandStep limits st s verb (Refused (why.Remote n)) st' → EachWas HasFailed st.outside.mirrors st'.outside.mirrors }
+{}
+
+/// No command is refused because a remote's answer disagrees with the log: such a refusal is for remotes that lie.
+pub fn mirrors_agree()
+    ensures { (limits : Limits) (st st' : State) (s : ℕ) (verb : Verb) (reply : Reply) → CommandStep limits st s verb reply st' → IsMismatch reply → ⊥ }
 {}
