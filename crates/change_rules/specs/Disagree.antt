@@ -35,6 +35,7 @@ abbrev pub cut_below : ℕ → List Segment → List Segment
 cut_below below [] = []
 cut_below below (s ∷ more) = if nat_lt s.low below then record s { high = min s.high (below - 1) } ∷ cut_below below more else cut_below below more
 
+-- whether two segments have the same ids and parents
 abbrev pub same_segment : Segment → Segment → Bool
 same_segment a b = nat_eq a.low b.low && nat_eq a.high b.high && pointwise nat_eq a.parents b.parents
 

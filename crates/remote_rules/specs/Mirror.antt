@@ -4,6 +4,7 @@ use Rattle.id_groups.specs.Name.{Name}
 use Rattle.commit_graph.specs.World.{Row}
 use Rattle.remote_rules.specs.CloneData.{CloneData}
 
+-- a remote, as one mirror of several
 pub record Mirror : Type 0 where
   -- the rows of its master, in the order of their ids, where it tells them; a remote that does is honest
   pub master : Option (List (Row Name))
@@ -15,5 +16,5 @@ pub record Mirror : Type 0 where
   pub to_come : Option ℕ
   -- how many times it has failed
   pub faults : ℕ
-  -- for how many names it was asked
+  -- for how many names and paths it was asked
   pub asked : ℕ

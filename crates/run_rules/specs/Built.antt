@@ -3,8 +3,8 @@ use Rattle.std.specs.Prelude.{ℕ, Bool, true, IsTrue, ◌<◌}
 use Rattle.step_rules.specs.Verb.{Verb, Add, Flush, Reload, Discard, Query, Count, IdOf, Status, Levels, Clone, Pull, Strip, CountMirrors, Drop}
 
 -- how many sessions are served
-abbrev pub session_count : ℕ
-session_count = 16
+abbrev pub sessions_built : ℕ
+sessions_built = 16
 
 -- the verbs that are built; the words and calls of expressions have a table of their own
 abbrev pub is_built : Verb → Bool
@@ -25,4 +25,4 @@ is_built Pull = true
 
 -- the session's command is built
 abbrev pub IsBuilt : ℕ → Verb → Type 0
-IsBuilt s verb = (s < session_count) × IsTrue (is_built verb)
+IsBuilt s verb = (s < sessions_built) × IsTrue (is_built verb)

@@ -36,6 +36,7 @@ pub data End : Type 0 where
   -- memory was wanting before the first line
   NoMemory : End
 
+-- the status of the program
 abbrev pub status_of : End → ℕ
 status_of Done = 0
 status_of NotLoaded = 3

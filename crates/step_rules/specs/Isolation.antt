@@ -8,7 +8,7 @@ use Rattle.change_rules.specs.declared.Limits.{Limits}
 use Rattle.change_rules.specs.declared.Limit.TheVariants as limit
 use Rattle.remote_rules.specs.Mirror.{Mirror}
 use Rattle.step_rules.specs.declared.Refusal.TheVariants as why
-use Rattle.step_rules.specs.State.{State, at_start}
+use Rattle.step_rules.specs.State.{State, session_count, at_start}
 use Rattle.step_rules.specs.Verb.{Verb, Flush, Reload, Levels, Clone, Pull, Strip, CountMirrors, Drop}
 use Rattle.step_rules.specs.Reply.{Reply, Refused}
 use Rattle.step_rules.specs.Tests.{refused_first, tests}
@@ -54,6 +54,7 @@ abbrev pub first_master : List Mirror → Option (List (Row Name))
 first_master [] = None
 first_master (m ∷ more) = m.master
 
+-- those of a state
 abbrev pub master_in_front : State → Option (List (Row Name))
 master_in_front st = first_master st.outside.mirrors
 
@@ -74,5 +75,5 @@ IsAnsweredAlike t u = counts_mirrors t.verb ≡ false → u.reply ≡ t.reply
 abbrev pub IsIsolated : Type 0
 IsIsolated =
     (limits : Limits) (s : ℕ) (w : World Name) (p q : List Payload) (room space : ℕ) (mirrors others : List Mirror) (ts us : List Turn)
-    → s < 16 → AreTurns limits (at_start w p room mirrors) ts → AreTurns limits (at_start w q space others) us
+    → s < session_count → AreTurns limits (at_start w p room mirrors) ts → AreTurns limits (at_start w q space others) us
     → AllZip (AreAlike limits s) (turns_of s ts) (turns_of s us) → AllZip IsAnsweredAlike (turns_of s ts) (turns_of s us)

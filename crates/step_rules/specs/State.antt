@@ -15,6 +15,7 @@ use Rattle.remote_rules.specs.CloneData.{KnownName}
 use Rattle.remote_rules.specs.Mirror.{Mirror}
 use Rattle.remote_rules.specs.Honest.{IsSound}
 
+-- a session
 pub record Session : Type 0 where
   -- the number of the stored world that it works on
   pub base : ℕ

@@ -15,10 +15,11 @@ use Rattle.step_rules.specs.State.{Stored, pending_of, with_pending_rows, with_s
 abbrev pub has : World Name → Name → Bool
 has w name = is_in same_name name (names_of (rows_of w))
 
--- whether two worlds are the same, by their rows
+-- whether two rows are the same, and two worlds
 abbrev pub same_row : Row Name → Row Name → Bool
 same_row r q = same_name r.name q.name && pointwise same_name r.parents q.parents
 
+-- the same rows in the same order
 abbrev pub same_world : World Name → World Name → Bool
 same_world v w = pointwise same_row v.master w.master && pointwise same_row v.others w.others
 

@@ -12,6 +12,7 @@ pub record Said : Type 0 where
   pub verb : Verb
   pub reply : Reply
 
+-- the same, in a row
 abbrev pub said : ℕ → Verb → Reply → Said
 said s verb reply = record { session = s; verb = verb; reply = reply }
 
