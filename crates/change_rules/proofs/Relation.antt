@@ -59,9 +59,9 @@ module _ (parents : List (List ℕ)) where
       high : s.high ≡ t.high
       high = ⊎_elim
           (λ le. ⊎_elim (λ e. e) (λ lt. absurd (no-longer end s t ss f.2 (λ u i. a u (inr i)) k
-              (let e = g.0 in let o = f.1 in omega (arith, e, o)) lt (let n = follow-bound (t.high + 1) end ts g.2 in omega (arith, n)))) (eq-or-lt_of_le le))
+          (let e = g.0 in let o = f.1 in omega (arith, e, o)) lt (let n = follow-bound (t.high + 1) end ts g.2 in omega (arith, n)))) (eq-or-lt_of_le le))
           (λ lt. absurd (no-longer end t s ts g.2 (λ u i. b u (inr i)) h
-              (let e = f.0 in let o = g.1 in omega (arith, e, o)) lt (let n = follow-bound (s.high + 1) end ss f.2 in omega (arith, n))))
+          (let e = f.0 in let o = g.1 in omega (arith, e, o)) lt (let n = follow-bound (s.high + 1) end ss f.2 in omega (arith, n))))
           (le_or_lt s.high t.high)
 
       same : s ≡ t
@@ -102,10 +102,12 @@ module _ (r : World Name) (P : KnownName → Type 0) where
   picked-filtered front [] [] e h p = refl
   picked-filtered front [] (id ∷ ids) e h p = (let l = ap length e ∙ ap length (append-nil front) in let a = h.0 in let b = h.1 in absurd (omega (arith, l, a, b)))
   picked-filtered front (row ∷ rows) [] e h p =
-      inr ((λ q. absurd ((p (record { id = length front; name = row.name }) (inl refl)).1 q)),
-      subst (λ n. IsFiltered P (numbered n rows) []) (length-append front (row ∷ []))
-      (picked-filtered (front ++ row ∷ []) rows [] (e ∙ sym (append_assoc front (row ∷ []) rows)) tt
-      (λ k i. p k (inr (subst (λ n. IsIn k (numbered n rows)) (length-append front (row ∷ [])) i)))))
+      inr (
+        (λ q. absurd ((p (record { id = length front; name = row.name }) (inl refl)).1 q)),
+        subst (λ n. IsFiltered P (numbered n rows) []) (length-append front (row ∷ []))
+            (picked-filtered (front ++ row ∷ []) rows [] (e ∙ sym (append_assoc front (row ∷ []) rows)) tt
+            (λ k i. p k (inr (subst (λ n. IsIn k (numbered n rows)) (length-append front (row ∷ [])) i)))),
+      )
   picked-filtered front (row ∷ rows) (id ∷ ids) e h p =
       ⊎_elim (λ same. here same (λ rises q. picked-filtered (front ++ row ∷ []) rows ids (e ∙ sym (append_assoc front (row ∷ []) rows)) rises q))
       (λ lt. later lt (λ rises q. picked-filtered (front ++ row ∷ []) rows (id ∷ ids) (e ∙ sym (append_assoc front (row ∷ []) rows)) rises q)) (eq-or-lt_of_le h.0)
@@ -132,10 +134,10 @@ module _ (r : World Name) (P : KnownName → Type 0) where
         subst (λ n. IsFiltered P (numbered n rows) (named_ids r ids)) size
             (rec (subst (λ n. Rises n (length r.master) ids) (ap (λ n. n + 1) (sym same) ∙ sym size) h.2)
             (λ k i.
-                let j = subst (λ n. IsIn k (numbered n rows)) size i in
-                let both = p k (inr j) in
-                let above = (numbered-at (length front + 1) rows k j).1 in
-                ((λ m. both.0 (inr m)), (λ q. ⊎_elim (λ f. absurd (omega (arith, f, same, above))) (λ m. m) (both.1 q))))),
+            let j = subst (λ n. IsIn k (numbered n rows)) size i in
+            let both = p k (inr j) in
+            let above = (numbered-at (length front + 1) rows k j).1 in
+            ((λ m. both.0 (inr m)), (λ q. ⊎_elim (λ f. absurd (omega (arith, f, same, above))) (λ m. m) (both.1 q))))),
       )
 
       later : length front < id → Rest (id ∷ ids) → IsFiltered P (numbered (length front) (row ∷ rows)) (named_ids r (id ∷ ids))
@@ -222,7 +224,7 @@ module _ (rows : List (Row Name)) (named : IsNamedWorld (master_world rows)) whe
       let cut : told.segments ≡ segments = one-cut parents 0 (length parents) told.segments segments h.segments.follow all-flat.follow h.segments.each flat in
       let heads : told.heads ≡ heads_of r = filtered_once (IsHead rows) (names_of rows) told.heads (heads_of r) h.heads heads-filtered in
       let same : (k : KnownName) → IsStoredIn rows told k ≡ IsStoredIn rows (clone_data_of r) k = λ k.
-          ap₂ (λ (x : List Name) (y : List Segment). IsKnownTo (master_graph r) x k.name ⊎ ((s : Segment) × IsIn s y × (s.high ≡ k.id))) heads cut in
+      ap₂ (λ (x : List Name) (y : List Segment). IsKnownTo (master_graph r) x k.name ⊎ ((s : Segment) × IsIn s y × (s.high ≡ k.id))) heads cut in
       told-is told (clone_data_of r) cut
       (filtered_once (IsStoredIn rows (clone_data_of r)) (numbered 0 rows) told.names (named_ids r (stored_ids r))
       (subst₂ (λ (x : List Name) (y : List Segment). IsFiltered (λ k. IsKnownTo (master_graph r) x k.name ⊎ ((s : Segment) × IsIn s y × (s.high ≡ k.id))) (numbered 0 rows) told.names) heads cut h.names)

@@ -51,13 +51,13 @@ rises-last changes end at up all lt k le =
     let bound : k + 1 ≤ length changes = omega (arith, near) in
     ⊎_elim
     (λ e.
-        let last : slice_index (changes ++ at ∷ []) (k + 1) ≡ at = ap (slice_index (changes ++ at ∷ [])) e ∙ get_or-append_seam changes at [] 0 in
-        let low = at-most changes end k all near in
-        omega (arith, before, last, low, lt))
+    let last : slice_index (changes ++ at ∷ []) (k + 1) ≡ at = ap (slice_index (changes ++ at ∷ [])) e ∙ get_or-append_seam changes at [] 0 in
+    let low = at-most changes end k all near in
+    omega (arith, before, last, low, lt))
     (λ more.
-        let after : slice_index (changes ++ at ∷ []) (k + 1) ≡ slice_index changes (k + 1) = get_or-append changes (at ∷ []) 0 (k + 1) more in
-        let rise = up k more in
-        omega (arith, before, after, rise))
+    let after : slice_index (changes ++ at ∷ []) (k + 1) ≡ slice_index changes (k + 1) = get_or-append changes (at ∷ []) 0 (k + 1) more in
+    let rise = up k more in
+    omega (arith, before, after, rise))
     (eq-or-lt_of_le bound)
 
 ended-later : (changes : List ℕ) (end at : ℕ) → AllByRecursion (λ a. a ≤ end) changes → end ≤ at → AllByRecursion (λ a. a ≤ at) (changes ++ at ∷ [])
@@ -95,16 +95,27 @@ module _ (limit : ℕ) (w : World Name) (payloads : List Payload) (changes : Lis
   earlier m image from sure le left =
       let q = s.bytes m image from sure le (keeps.past m image le left) in
       let same = ack-before changes (moment_of new) m (omega (arith, le, more)) in
-      let c = q.1 in
-      (q.0, (let a = count-next in omega (arith, a, c)), ⊎_elim (λ e. inl (e ∙ sym same)) (λ e. inr (e ∙ ap (λ k. k + 1) (sym same))) q.2,
-      subst (λ l. IsLogWithin limit (map text_of l) image) (sym (front q.0 q.1)) q.3)
+      let c = q.1 in (
+        q.0,
+        (let a = count-next in omega (arith, a, c)),
+        ⊎_elim (λ e. inl (e ∙ sym same)) (λ e. inr (e ∙ ap (λ k. k + 1) (sym same))) q.2,
+        subst (λ l. IsLogWithin limit (map text_of l) image) (sym (front q.0 q.1)) q.3,
+      )
 
   within : (m : ℕ) (image : List ℕ) → moment_of mid < m → m < moment_of new → LeftAt new m image → IsPrefix limit payloads next now m image
   within m image from lt left = ⊎_elim
-      (λ l. (length final.past, (let a = count-next in omega (arith, a)), inl (sym count),
-          subst₂ (λ b ps. IsLogWithin b ps image) bound (held ∙ ap (map text_of) (sym old-ones)) l))
-      (λ l. (length final.past + 1, (let a = count-next in omega (arith, a)), inr (ap (λ k. k + 1) (sym count)),
-          subst₂ (λ b ps. IsLogWithin b ps image) bound (new-ones ∙ ap (map text_of) (sym whole)) l))
+      (λ l. (
+        length final.past,
+        (let a = count-next in omega (arith, a)),
+        inl (sym count),
+        subst₂ (λ b ps. IsLogWithin b ps image) bound (held ∙ ap (map text_of) (sym old-ones)) l,
+      ))
+      (λ l. (
+        length final.past + 1,
+        (let a = count-next in omega (arith, a)),
+        inr (ap (λ k. k + 1) (sym count)),
+        subst₂ (λ b ps. IsLogWithin b ps image) bound (new-ones ∙ ap (map text_of) (sym whole)) l,
+      ))
       (keeps.since m image (omega (arith, from)) (omega (arith, lt)) left).1
     where
       count : acknowledged now m ≡ length final.past
@@ -112,9 +123,12 @@ module _ (limit : ℕ) (w : World Name) (payloads : List Payload) (changes : Lis
 
   at-end : (m : ℕ) (image : List ℕ) → m ≡ moment_of new → LeftAt new m image → IsPrefix limit payloads next now m image
   at-end m image e left =
-      let count : acknowledged now m ≡ length final.past + 1 = ack-after changes (moment_of new) m (omega (arith, e)) ∙ ap (λ k. k + 1) (ack-all changes (moment_of mid) m s.ended (omega (arith, e, more)) ∙ stored) in
-      (length final.past + 1, (let a = count-next in omega (arith, a)), inl (sym count),
-      subst (λ l. IsLogWithin limit (map text_of l) image) (sym whole) (has image (subst (λ k. LeftAt new k image) e left)))
+      let count : acknowledged now m ≡ length final.past + 1 = ack-after changes (moment_of new) m (omega (arith, e)) ∙ ap (λ k. k + 1) (ack-all changes (moment_of mid) m s.ended (omega (arith, e, more)) ∙ stored) in (
+        length final.past + 1,
+        (let a = count-next in omega (arith, a)),
+        inl (sym count),
+        subst (λ l. IsLogWithin limit (map text_of l) image) (sym whole) (has image (subst (λ k. LeftAt new k image) e left)),
+      )
 
   pub goes-on : Stopped limit w payloads (changes ++ moment_of new ∷ []) next old new
   goes-on = record {
@@ -157,10 +171,18 @@ module _ (limit : ℕ) (w : World Name) (payloads : List Payload) (changes : Lis
 
   short-within : (m : ℕ) (image : List ℕ) → moment_of mid < m → m ≤ moment_of new → LeftAt new m image → IsPrefix limit payloads next changes m image
   short-within m image from lt left = ⊎_elim
-      (λ l. (length final.past, (let a = next-count in omega (arith, a)), inl (sym count),
-          subst₂ (λ b ps. IsLogWithin b ps image) bound (held ∙ ap (map text_of) (sym ones-before)) l))
-      (λ l. (length final.past + 1, (let a = next-count in omega (arith, a)), inr (ap (λ k. k + 1) (sym count)),
-          subst₂ (λ b ps. IsLogWithin b ps image) bound (ones-after ∙ ap (map text_of) (sym whole-next)) l))
+      (λ l. (
+        length final.past,
+        (let a = next-count in omega (arith, a)),
+        inl (sym count),
+        subst₂ (λ b ps. IsLogWithin b ps image) bound (held ∙ ap (map text_of) (sym ones-before)) l,
+      ))
+      (λ l. (
+        length final.past + 1,
+        (let a = next-count in omega (arith, a)),
+        inr (ap (λ k. k + 1) (sym count)),
+        subst₂ (λ b ps. IsLogWithin b ps image) bound (ones-after ∙ ap (map text_of) (sym whole-next)) l,
+      ))
       (keeps.since m image (omega (arith, from)) lt left).1
     where
       count : acknowledged changes m ≡ length final.past

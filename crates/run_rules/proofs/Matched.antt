@@ -45,16 +45,16 @@ run-matched limits [] st st' replies r start h = (subst (λ (z : State). EachWas
 run-matched limits (line ∷ lines) st st' replies r start h =
     by_test (is_silent line) r (λ g. run-matched limits lines st st' replies g start h)
     (λ g.
-        let one = line-matched limits st g.2 line g.0 g.4 start h in
-        let rest = run-matched limits lines g.2 st' g.1 g.5 in
-        let later = rest start one.0 in
-        let since = (rest g.2.outside.mirrors (was-self IsLater (λ m. le_refl m.faults) g.2.outside.mirrors)).0 in (
-          later.0,
-          λ n i. ⊎_elim
-              (λ e. was-then HasFailed IsLater HasFailed failed-later start g.2.outside.mirrors st'.outside.mirrors (one.1 n (sym e)) since)
-              (λ j. later.1 n j)
-              (subst (IsIn (Refused (why.Remote n))) g.3 i),
-        ))
+    let one = line-matched limits st g.2 line g.0 g.4 start h in
+    let rest = run-matched limits lines g.2 st' g.1 g.5 in
+    let later = rest start one.0 in
+    let since = (rest g.2.outside.mirrors (was-self IsLater (λ m. le_refl m.faults) g.2.outside.mirrors)).0 in (
+      later.0,
+      λ n i. ⊎_elim
+          (λ e. was-then HasFailed IsLater HasFailed failed-later start g.2.outside.mirrors st'.outside.mirrors (one.1 n (sym e)) since)
+          (λ j. later.1 n j)
+          (subst (IsIn (Refused (why.Remote n))) g.3 i),
+    ))
   where
     by_test : (b : Bool)
         → MatchBool b (Run limits st lines replies st')
@@ -86,8 +86,8 @@ run-steady limits [] st st' replies r h n i = subst (IsIn (Refused (why.Remote n
 run-steady limits (line ∷ lines) st st' replies r h n i =
     by_test (is_silent line) r (λ g. run-steady limits lines st st' replies g h n i)
     (λ g.
-        let one = line-steady limits st g.2 line g.0 g.4 h in
-        ⊎_elim (λ e. one.1 n (sym e)) (λ j. run-steady limits lines g.2 st' g.1 g.5 one.0 n j) (subst (IsIn (Refused (why.Remote n))) g.3 i))
+    let one = line-steady limits st g.2 line g.0 g.4 h in
+    ⊎_elim (λ e. one.1 n (sym e)) (λ j. run-steady limits lines g.2 st' g.1 g.5 one.0 n j) (subst (IsIn (Refused (why.Remote n))) g.3 i))
   where
     by_test : (b : Bool)
         → MatchBool b (Run limits st lines replies st')

@@ -56,8 +56,8 @@ prefix-shape before st s now h (inr (inr (new, payload, rows, e))) hold = subst 
     holds count le = ⊎_elim
         (λ f. subst₂ HoldPayloads (sym (take-all (st.payloads ++ payload ∷ []) (length before + count) (let a = size in omega (arith, a, f)))) (sym (at-newest st new payload count f)) newest)
         (λ lt.
-            let below : count ≤ length st.past = (let c = more in omega (arith, lt, c)) in
-            subst₂ HoldPayloads (sym (take-append-le (length before + count) st.payloads (payload ∷ []) (let a = h.size in omega (arith, a, below)))) (sym (world_at-stored st new payload count below)) (h.worlds count below))
+        let below : count ≤ length st.past = (let c = more in omega (arith, lt, c)) in
+        subst₂ HoldPayloads (sym (take-append-le (length before + count) st.payloads (payload ∷ []) (let a = h.size in omega (arith, a, below)))) (sym (world_at-stored st new payload count below)) (h.worlds count below))
         (eq-or-lt_of_le le)
 
 placed : (st : State) → IsState st → IsPlaced st.store

@@ -39,9 +39,9 @@ risen-same most old new e = subst (EachWas (RoseBy most) old) (sym e) (was-self 
 
 risen-then : (a b : ℕ) (old mid new : List Mirror) → EachWas (RoseBy a) old mid → EachWas (RoseBy b) mid new → EachWas (RoseBy (a + b)) old new
 risen-then a b old mid new f g = was-then (RoseBy a) (RoseBy b) (RoseBy (a + b)) (λ k m x p q. record {
-      faults = (let u = p.faults in let v = q.faults in omega (arith, u, v));
-      asked = (let u = p.asked in let v = q.asked in omega (arith, u, v));
-    }) old mid new f g
+  faults = (let u = p.faults in let v = q.faults in omega (arith, u, v));
+  asked = (let u = p.asked in let v = q.asked in omega (arith, u, v));
+}) old mid new f g
 
 risen-more : (a b : ℕ) (old new : List Mirror) → a ≤ b → EachWas (RoseBy a) old new → EachWas (RoseBy b) old new
 risen-more a b old new le f = was-map (RoseBy a) (RoseBy b) (λ k m r. record { faults = r.faults; asked = (let p = r.asked in omega (arith, p, le)) }) old new f

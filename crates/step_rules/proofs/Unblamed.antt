@@ -116,4 +116,3 @@ pub list-no : (rs : List (Option Refusal)) → AllByRecursion IsNoFailure rs →
 list-no [] h = tt
 list-no (None ∷ rs) h = list-no rs h.1
 list-no (Some r ∷ rs) h = h.0
-
