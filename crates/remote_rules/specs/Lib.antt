@@ -1,4 +1,5 @@
 pub mod CloneData
+pub mod Lawful
 pub mod Mirror
 pub mod Known
 pub mod Honest

@@ -2,8 +2,9 @@
 //! in their order. Plain data and laws: the code that asks comes above.
 #![tactic(auto)]
 
-ghost use Rattle.std.specs.Prelude.{◌≡◌, ◌≤◌, ℕ, List, [], Option, None, Some};
+ghost use Rattle.std.specs.Prelude.{◌≡◌, ◌≤◌, ◌↔◌, ℕ, List, [], Option, None, Some};
 ghost use Rattle.remote_rules.specs.CloneData.{CloneData, first_broken};
+ghost use Rattle.remote_rules.specs.Lawful.{IsLawfulClone};
 ghost use Rattle.remote_rules.specs.Mirror.{Mirror};
 ghost use Rattle.remote_rules.specs.Asking.{AsksForNames};
 ghost use Rattle.remote_rules.specs.declared.MirrorFault.{MirrorFault};
@@ -20,9 +21,10 @@ pub enum MirrorFault {
     Memory,
 }
 
-/// Clone data without any item breaks no rule.
+/// No item of clone data is the first broken one exactly where each keeps its rule; and clone data without any item break none.
 pub fn broken_items()
-    ensures { first_broken (record { segments = []; names = []; heads = [] }) ≡ None }
+    ensures lawful { (told : CloneData) → (first_broken told ≡ None) ↔ IsLawfulClone told }
+    ensures nothing { first_broken (record { segments = []; names = []; heads = [] }) ≡ None }
 {}
 
 /// Where nothing may be asked, nothing changes. Without a mirror what has to be asked can't be.

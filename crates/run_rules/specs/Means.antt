@@ -8,6 +8,7 @@ use Rattle.gated_log.specs.Holding.{IsLogWithin}
 use Rattle.batch_codec.specs.Payload.{Payload}
 use Rattle.change_rules.specs.declared.Limits.{Limits}
 use Rattle.change_rules.specs.Change.{text_of}
+use Rattle.change_rules.specs.Unlawful.{IsNoLog}
 use Rattle.remote_rules.specs.Mirror.{Mirror}
 use Rattle.step_rules.specs.State.{State, Stored, at_start, worlds}
 use Rattle.step_rules.specs.Reply.{Reply, Refused}
@@ -15,7 +16,7 @@ use Rattle.step_rules.specs.declared.Refusal.TheVariants.{Remote}
 use Rattle.step_rules.specs.Rises.{EachWas, HasFailed}
 use Rattle.remote_rules.specs.Serving.{NeverFail}
 use Rattle.run_rules.specs.Run.{Run, Step}
-use Rattle.run_rules.specs.Ends.{Streams, End, Done, OverLimit, NoMemory, NotLoaded, NotStored, EndsAs}
+use Rattle.run_rules.specs.Ends.{Streams, End, Done, OverLimit, NoMemory, NotLoaded, NotStored, NoLog, EndsAs}
 use Rattle.run_rules.specs.Stopped.{Stopped}
 
 -- The next line would have stored a world, after asking the mirrors so.
@@ -73,6 +74,12 @@ pub record Means (limits : Limits) (w : World Name) (payloads : List Payload) (r
   -- from the first sync on all is sure, unless loading failed
   pub sure : (stopped.sure ≤ moment_of old + 2) ⊎ (end ≡ NotLoaded)
   pub kept : Keeps end limits.log last.store.payloads new
+
+-- What refuses a log, over any disk that tells its bytes: only bytes that are no log, with nothing written to the disk or put; and
+-- over such bytes a run ends so, unless a call of loading failed or memory was wanting before the first line.
+pub record RefusesLog (limit : ℕ) (io : Streams) (old new : Told) (end : End) : Type 0 where
+  pub cause : end ≡ NoLog → IsNoLog limit old.bytes × (new.bytes ≡ old.bytes) × (io.now ≡ io.taken)
+  pub exactly : IsNoLog limit old.bytes → (end ≡ NoLog) ⊎ ((end ≡ NotLoaded) ⊎ (end ≡ NoMemory))
 
 -- Where no count of disk, source and sink rose and the input is within its limit, the run ends with all lines answered, unless memory
 -- was wanting before the first. Where the mirrors never fail, or the count of some mirror that is left didn't rise, no line is

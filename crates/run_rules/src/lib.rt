@@ -13,8 +13,8 @@ ghost use Rattle.step_rules.specs.declared.Refusal.TheVariants.{Remote};
 ghost use Rattle.step_rules.specs.Rises.{EachWas, HasFailed};
 ghost use Rattle.id_groups.specs.Lists.{IsIn};
 ghost use Rattle.run_rules.specs.Run.{Run, output_of};
-ghost use Rattle.run_rules.specs.Ends.{Streams, Done, NoMemory};
-ghost use Rattle.run_rules.specs.Means.{Means};
+ghost use Rattle.run_rules.specs.Ends.{Streams, End, Done, NoMemory, NoLog};
+ghost use Rattle.run_rules.specs.Means.{Means, RefusesLog};
 ghost use Rattle.run_rules.specs.Stopped.{Stopped, ArePrefixes};
 ghost use Rattle.line_io.specs.Lines.{lines_of};
 ghost use Rattle.gated_log.specs.Holding.{HasPayloads, KeepsOldOrNew};
@@ -80,6 +80,11 @@ pub fn stopped_cut_short()
         → next.past ≡ final.past ++ final.stored ∷ [] → next.payloads ≡ final.payloads ++ p ∷ [] → log.limit ≡ limit → log.payloads ≡ map text_of final.payloads
         → KeepsOldOrNew log (text_of p) mid new → moment_of mid ≤ moment_of new
         → Stopped limit w payloads changes next old new }
+{}
+
+/// A disk that holds a world is never refused.
+pub fn held_disks_load()
+    ensures { (limit : ℕ) (w : World Name) (payloads : List Payload) (io : Streams) (old new : Told) (end : End) → HoldAs limit old.bytes payloads w → RefusesLog limit io old new end → end ≡ NoLog → ⊥ }
 {}
 
 /// Each refusal for failed mirrors in a run is matched by a rise in the count of every mirror that is left.
