@@ -53,7 +53,7 @@ rises-in least end [] h x i = absurd i
 rises-in least end (id ∷ ids) h x (inl e) = ((let a = h.0 in omega (arith, e, a)), (let a = h.1 in omega (arith, e, a)))
 rises-in least end (id ∷ ids) h x (inr i) = let r = rises-in (id + 1) end ids h.2 x i in ((let a = h.0 in let b = r.0 in omega (arith, a, b)), r.1)
 
-rises-ascend : (least end : ℕ) (ids : List ℕ) → Rises least end ids → ids_ascend least end ids ≡ true
+pub rises-ascend : (least end : ℕ) (ids : List ℕ) → Rises least end ids → ids_ascend least end ids ≡ true
 rises-ascend least end [] h = refl
 rises-ascend least end (id ∷ ids) h = both_true _ _ (both_true (nat_le least id) (nat_lt id end) (le-leb least id h.0) (lt-ltb id end h.1)) (rises-ascend (id + 1) end ids h.2)
 
@@ -105,7 +105,7 @@ eq-not a b f = by_test (nat_eq a b) refl
     by_test true e = absurd (f (exact_unsigned_eq a b e))
     by_test false e = refl
 
-not-there : (x least end : ℕ) (xs : List ℕ) → x < least → Rises least end xs → is_in nat_eq x xs ≡ false
+pub not-there : (x least end : ℕ) (xs : List ℕ) → x < least → Rises least end xs → is_in nat_eq x xs ≡ false
 not-there x least end [] lt h = refl
 not-there x least end (y ∷ xs) lt h = ap₂ (λ a b. a || b) (eq-not x y (λ e. let a = h.0 in omega (arith, e, a, lt))) (not-there x (y + 1) end xs (let a = h.0 in omega (arith, a, lt)) h.2)
 
@@ -208,7 +208,7 @@ pub follow-bound : (first end : ℕ) (ss : List Segment) → Follow first end ss
 follow-bound first end [] h = (let e = h in omega (arith, e))
 follow-bound first end (s ∷ more) h = let n = follow-bound (s.high + 1) end more h.2 in let u = h.1 in omega (arith, n, u)
 
-follow-rises : (first end : ℕ) (ss : List Segment) → Follow first end ss → Rises first end (map (λ (s : Segment). s.high) ss)
+pub follow-rises : (first end : ℕ) (ss : List Segment) → Follow first end ss → Rises first end (map (λ (s : Segment). s.high) ss)
 follow-rises first end [] h = tt
 follow-rises first end (s ∷ more) h = (h.1, (let n = follow-bound (s.high + 1) end more h.2 in omega (arith, n)), follow-rises (s.high + 1) end more h.2)
 
@@ -232,7 +232,7 @@ in-map f x [] i = absurd i
 in-map f x (y ∷ xs) (inl e) = inl (ap f e)
 in-map f x (y ∷ xs) (inr i) = inr (in-map f x xs i)
 
-all-in : (xs ys : List ℕ) → ((x : ℕ) → IsIn x xs → IsIn x ys) → AreAllIn xs ys
+pub all-in : (xs ys : List ℕ) → ((x : ℕ) → IsIn x xs → IsIn x ys) → AreAllIn xs ys
 all-in [] ys f = tt
 all-in (x ∷ xs) ys f = (f x (inl refl), all-in xs ys (λ y i. f y (inr i)))
 

@@ -20,15 +20,15 @@ use Rattle.change_rules.proofs.Alone.{segments-plain, segments-maximal}
 use Rattle.change_rules.proofs.Cloned.{Rises, as_known, kept, ids-rise, follow, highest-rise, segment-known, is-there, in-filter, in-range, filter-back, same-merge, rises-lower, rises-in}
 use Rattle.change_rules.proofs.Unbroken.{none-false, segments-fit, names-fit, heads-fit, picked-length}
 
-behind-all : (place end : ℕ) (ss : List Segment) → Follow place end ss → place_behind place ss ≡ end
+pub behind-all : (place end : ℕ) (ss : List Segment) → Follow place end ss → place_behind place ss ≡ end
 behind-all place end [] f = f
 behind-all place end (s ∷ ss) f = behind-all (s.high + 1) end ss f.2
 
-same-ids : (names : List KnownName) → map (λ (k : Known). k.id) (as_known names) ≡ map (λ (k : KnownName). k.id) names
+pub same-ids : (names : List KnownName) → map (λ (k : Known). k.id) (as_known names) ≡ map (λ (k : KnownName). k.id) names
 same-ids [] = refl
 same-ids (k ∷ names) = ap (λ l. k.id ∷ l) (same-ids names)
 
-rises-filter : (f : ℕ → Bool) (least end : ℕ) (ids : List ℕ) → Rises least end ids → Rises least end (filter f ids)
+pub rises-filter : (f : ℕ → Bool) (least end : ℕ) (ids : List ℕ) → Rises least end ids → Rises least end (filter f ids)
 rises-filter f least end [] h = tt
 rises-filter f least end (id ∷ ids) h = by_test (f id) (rises-filter f (id + 1) end ids h.2)
   where

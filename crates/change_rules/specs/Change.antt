@@ -1,10 +1,14 @@
 -- The payload by which a log goes from a world to the next.
-use Rattle.std.specs.Prelude.{ℕ, ◌+◌, ◌^◌, List, [], ◌∷◌, map, length, drop}
-use Rattle.id_groups.specs.Name.{Name, same_name}
+use Rattle.std.specs.Prelude.{◌≡◌, ◌≤◌, ℕ, ◌+◌, ◌^◌, List, [], ◌∷◌, map, length, drop}
+use Rattle.std.specs.List.{AllByRecursion}
+use Rattle.id_groups.specs.Name.{Name, IsName, same_name}
 use Rattle.commit_graph.specs.World.{World, names_of}
 use Rattle.commit_graph.specs.Ids.{parent_ids}
+use Rattle.segment_codec.specs.Record.{Segment}
+use Rattle.segment_codec.specs.Turns.{place_behind}
 use Rattle.segment_rules.specs.Flat.{flat_segments_of}
 use Rattle.batch_codec.specs.Payload.{Payload, Known, payload_bytes}
+use Rattle.remote_rules.specs.CloneData.{CloneData, KnownName}
 use Rattle.remote_rules.specs.Honest.{clone_data_of}
 
 -- names with their ids, from this id on
@@ -31,6 +35,25 @@ clone_change new = let told = clone_data_of new in record {
   kind = 2;
   before = 0;
   after = length new.master;
+  master = told.segments;
+  known = map (λ k. record { id = k.id; name = k.name }) told.names;
+  heads = told.heads;
+  others = [];
+  other_names = [];
+}
+
+-- What clone data are by their types: flat segments of at most 8 parents, and names of 20 bytes.
+pub record AreFormed (told : CloneData) : Type 0 where
+  pub segments : AllByRecursion (λ (s : Segment). (s.level ≡ 0) × (length s.parents ≤ 8)) told.segments
+  pub names : AllByRecursion (λ (k : KnownName). IsName k.name) told.names
+  pub heads : AllByRecursion IsName told.heads
+
+-- the payload of what a remote told, whoever it is
+abbrev pub told_change : CloneData → Payload
+told_change told = record {
+  kind = 2;
+  before = 0;
+  after = place_behind 0 told.segments;
   master = told.segments;
   known = map (λ k. record { id = k.id; name = k.name }) told.names;
   heads = told.heads;

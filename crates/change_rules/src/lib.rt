@@ -12,7 +12,9 @@ ghost use Rattle.change_rules.specs.Rebase.{left_of, first_lost};
 ghost use Rattle.change_rules.specs.Flush.{flushed};
 ghost use Rattle.change_rules.specs.Strip.{stripped};
 ghost use Rattle.change_rules.specs.Pull.{pulled};
-ghost use Rattle.change_rules.specs.Change.{flush_change, clone_change};
+ghost use Rattle.change_rules.specs.Change.{flush_change, clone_change, AreFormed, told_change};
+ghost use Rattle.segment_codec.specs.Turns.{place_behind};
+ghost use Rattle.batch_codec.specs.Grammar.{MayFollow};
 ghost use Rattle.remote_rules.specs.Known.{master_alone, master_world, master_graph, IsReached, IsKnownTo, IsPathTo, Path};
 ghost use Rattle.remote_rules.specs.Honest.{heads_of, clone_data_of, stored_ids, master_segments};
 ghost use Rattle.remote_rules.specs.CloneData.{CloneData, first_broken};
@@ -110,6 +112,14 @@ pub fn stored_ids_are_known()
     ensures { (r : World NameBytes) → IsNamedWorld (master_alone r)
         → (id : ℕ) (row : Row NameBytes) → slice_get r.master id ≡ Some row
         → IsIn id (stored_ids r) ↔ (IsKnownTo (master_graph r) (heads_of r) row.name ⊎ IsIn id (map (λ s. s.high) (master_segments r))) }
+{}
+
+/// The payload of clone data that break no rule is in the grammar and may come first, whoever told them, within the bounds of the
+/// format; that of an honest remote's is the payload of a clone.
+pub fn told_clones_are_lawful()
+    ensures lawful { (told : CloneData) → first_broken told ≡ None → AreFormed told → 0 < place_behind 0 told.segments → place_behind 0 told.segments ≤ standard.master → length told.heads ≤ most_heads
+        → MayFollow [] (told_change told) }
+    ensures honest { (r : World NameBytes) → IsNamedWorld (master_alone r) → told_change (clone_data_of r) ≡ clone_change r }
 {}
 
 /// What an honest remote tells is what it has to, item by item, and nothing else is.
