@@ -82,7 +82,7 @@ ids-front : (v w : World Name) (more : List Name) → names_of v.master ≡ name
 ids-front v w more e [] h = refl
 ids-front v w more e (x ∷ xs) h = ap₂ (λ a b. a ∷ b) (id-front v w more e x h.0) (ids-front v w more e xs h.1)
 
-rows-front : (v w : World Name) (more : List Name) → names_of v.master ≡ names_of w.master ++ more → (rows : List (Row Name)) → ((r : Row Name) → IsIn r rows → AreAllIn r.parents (names_of w.master)) → parent_ids same_name v rows ≡ parent_ids same_name w rows
+pub rows-front : (v w : World Name) (more : List Name) → names_of v.master ≡ names_of w.master ++ more → (rows : List (Row Name)) → ((r : Row Name) → IsIn r rows → AreAllIn r.parents (names_of w.master)) → parent_ids same_name v rows ≡ parent_ids same_name w rows
 rows-front v w more e [] h = refl
 rows-front v w more e (r ∷ rows) h = ap₂ (λ a b. a ∷ b) (ids-front v w more e r.parents (h r (inl refl))) (rows-front v w more e rows (λ q i. h q (inr i)))
 

@@ -165,7 +165,7 @@ module _ (r : World Name) where
   pick-ids least (id ∷ ids) h = let g = get-some r.master id h.1 in
       ap (λ l. map (λ (k : Known). k.id) (as_known l)) (pick-next id ids g.0 g.1) ∙ ap (λ l. id ∷ l) (pick-ids (id + 1) ids h.2)
 
-  pick-names : (least : ℕ) (ids : List ℕ) → Rises least (length r.master) ids → AllByRecursion (λ (k : Known). slice_get (names_of r.master) k.id ≡ Some k.name) (as_known (named_ids r ids))
+  pub pick-names : (least : ℕ) (ids : List ℕ) → Rises least (length r.master) ids → AllByRecursion (λ (k : Known). slice_get (names_of r.master) k.id ≡ Some k.name) (as_known (named_ids r ids))
   pick-names least [] h = tt
   pick-names least (id ∷ ids) h = let g = get-some r.master id h.1 in
       subst (λ l. AllByRecursion (λ (k : Known). slice_get (names_of r.master) k.id ≡ Some k.name) (as_known l)) (sym (pick-next id ids g.0 g.1)) (get-name r.master id g.0 g.1, pick-names (id + 1) ids h.2)

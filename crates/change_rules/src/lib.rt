@@ -21,6 +21,7 @@ ghost use Rattle.remote_rules.specs.CloneData.{CloneData, first_broken};
 ghost use Rattle.remote_rules.specs.Clones.{IsCloneOf};
 ghost use Rattle.change_rules.specs.Holding.{HoldPayloads, HoldAs};
 ghost use Rattle.change_rules.specs.Unlawful.{IsNoLog};
+ghost use Rattle.change_rules.specs.Disagree.{first_unlike, first_bad_row};
 ghost use Rattle.change_rules.specs.Standard.{standard, most_heads, AreLimits};
 
 /// The limits of a run.
@@ -137,4 +138,11 @@ pub fn paths_are_there()
 pub fn heads_have_no_children()
     ensures { (r : World NameBytes) → IsNamedWorld (master_alone r) → (row : Row NameBytes) → IsIn row r.master
         → IsIn row.name (heads_of r) ↔ ((child : Row NameBytes) → IsIn child r.master → IsIn row.name child.parents → ⊥) }
+{}
+
+/// An honest mirror whose master begins with the cloned rows never disagrees with the log at a pull, whatever else either has.
+pub fn honest_pulls_agree()
+    ensures { (payloads : List Payload) (w : World NameBytes) (cloned rest more : List (Row NameBytes)) → HoldPayloads payloads w → w.master ≡ cloned ++ rest → IsNamedWorld (master_world (cloned ++ more))
+        → (first_unlike payloads (length cloned) (clone_data_of (master_world (cloned ++ more))) ≡ None)
+        × (first_bad_row payloads (length cloned) (clone_data_of (master_world (cloned ++ more))) (names_of more) ≡ None) }
 {}
