@@ -175,9 +175,9 @@ module _ (payloads : List Payload) (w : World Name) (front rest more : List (Row
   names-agree k i = implies (nat_lt k.id cloned) (name_agrees (known_in payloads) k) (λ below.
       in-all-true (λ (s : Known). not (nat_eq s.id k.id) || same_name s.name k.name) (known_in payloads) (λ s j.
       implies (nat_eq s.id k.id) (same_name s.name k.name) (λ e.
-          let same = exact_unsigned_eq s.id k.id e in
-          let name : s.name ≡ k.name = get-both front rest more k.id s.name k.name (ltb-true k.id cloned below) (subst (λ n. slice_get (names_of (front ++ rest)) n ≡ Some s.name) same (stored-at s j)) (told-at k i) in
-          subst (λ z. same_name s.name z ≡ true) name (same_name-self s.name))))
+      let same = exact_unsigned_eq s.id k.id e in
+      let name : s.name ≡ k.name = get-both front rest more k.id s.name k.name (ltb-true k.id cloned below) (subst (λ n. slice_get (names_of (front ++ rest)) n ≡ Some s.name) same (stored-at s j)) (told-at k i) in
+      subst (λ z. same_name s.name z ≡ true) name (same_name-self s.name))))
 
   pub none-unlike : first_unlike payloads cloned (clone_data_of r) ≡ None
   none-unlike =
@@ -216,10 +216,10 @@ module _ (payloads : List Payload) (w : World Name) (front rest more : List (Row
         (subst (IsIn row.name) (sym (map-append (λ (q : Row Name). q.name) front done)) (in-left row.name (names_of front) (names_of done)
         (stored-in-front row.name (known_in payloads) (λ k i. i) (found same_name same_name-exact same_name-self row.name stored g)))) (inl refl))))
         (in-all-true (λ (k : KnownName). not (nat_eq k.id (cloned + length done)) || same_name k.name row.name) (named_ids r (stored_ids r)) (λ k i.
-            implies (nat_eq k.id (cloned + length done)) (same_name k.name row.name) (λ g.
-            let at = subst (λ n. slice_get (names_of (front ++ more)) n ≡ Some k.name) (exact_unsigned_eq k.id (cloned + length done) g) (told-at k i) in
-            let name : k.name ≡ row.name = ap (or_this k.name) (sym at ∙ here) in
-            subst (λ z. same_name k.name z ≡ true) name (same_name-self k.name)))),
+        implies (nat_eq k.id (cloned + length done)) (same_name k.name row.name) (λ g.
+        let at = subst (λ n. slice_get (names_of (front ++ more)) n ≡ Some k.name) (exact_unsigned_eq k.id (cloned + length done) g) (told-at k i) in
+        let name : k.name ≡ row.name = ap (or_this k.name) (sym at ∙ here) in
+        subst (λ z. same_name k.name z ≡ true) name (same_name-self k.name)))),
     subst (λ n. AllByRecursion (λ b. b ≡ true) (rows_fit stored (names_of done ++ row.name ∷ []) (clone_data_of r) n (names_of todo))) (let l = length-append done (row ∷ []) in let z : cloned + length (done ++ row ∷ []) ≡ cloned + length done + 1 = omega (arith, l) in z)
         (subst (λ l. AllByRecursion (λ b. b ≡ true) (rows_fit stored l (clone_data_of r) (cloned + length (done ++ row ∷ [])) (names_of todo))) (map-append (λ (q : Row Name). q.name) done (row ∷ []))
         (rows-right (done ++ row ∷ []) todo (e ∙ sym (append_assoc done (row ∷ []) todo)))),

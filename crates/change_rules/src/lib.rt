@@ -27,21 +27,32 @@ ghost use Rattle.change_rules.specs.Standard.{standard, most_heads, AreLimits};
 /// The limits of a run.
 #[derive(Clone, Copy, Debug, PartialEq, Eq)]
 pub struct Limits {
+    /// Pending rows of one session.
     pub pending: u32,
+    /// Rows that are stored beside master.
     pub others: u32,
+    /// Rows of master.
     pub master: u32,
+    /// Bytes of the log.
     pub log: u64,
+    /// Names that one query may print.
     pub answer: u32,
+    /// Bytes of the input.
     pub input: u64,
 }
 
 /// What a limit counts.
 #[derive(Clone, Copy, Debug, PartialEq, Eq)]
 pub enum Limit {
+    /// Pending rows of one session.
     Pending,
+    /// Rows that are stored beside master.
     Others,
+    /// Heads of a remote's master.
     Heads,
+    /// Rows of master.
     Master,
+    /// Bytes of the log.
     Log,
 }
 

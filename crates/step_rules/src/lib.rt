@@ -28,23 +28,41 @@ use id_groups::Name;
 /// Why a command is refused.
 #[derive(Clone, Copy, Debug, PartialEq, Eq)]
 pub enum Refusal {
+    /// The commit isn't there, where the command looks for it.
     Unknown(Name),
+    /// The parent is given twice.
     Twice(Name),
+    /// The commit is there with other parents.
     Differs(Name),
+    /// A row of the session, or of a remote, is stored with other parents.
     Conflict(Name),
+    /// What is counted would exceed this limit.
     Full(Limit, u64),
+    /// A query has so many names, more than an answer may have.
     Answer(u64),
+    /// A clone over a stored world with so many rows of master and so many others.
     NotEmpty(u64, u64),
+    /// The session has so many rows that aren't stored.
     Pending(u32),
+    /// A mirror was needed and there is none; or there is none at the place to be dropped.
     NoRemote,
+    /// All of so many mirrors failed in one ask.
     Remote(u32),
+    /// A mirror's path for a name, so far back from a commit, disagrees with the log.
     MismatchPath(Name, u64),
+    /// So many names were asked of a mirror, and fewer came.
     MismatchNames(u32, u32),
+    /// A mirror's clone data break a rule at the item with this number.
     MismatchClone(u64),
+    /// The name that a mirror gave for this id can't be that of a new row.
     MismatchRow(u64),
+    /// A commit to be stripped is one of master.
     InMaster(Name),
+    /// A row of the session would lose this parent.
     Lost(Name),
+    /// A strip would leave nothing of so many rows.
     Emptied(u64),
+    /// There is no memory.
     Memory,
 }
 
