@@ -2,8 +2,8 @@
 use Rattle.std.specs.Prelude.{◌≡◌, ◌≢◌, ◌≤◌, ℕ, List, [], ◌∷◌, ◌++◌, length, codes, decimal, flat_map}
 use Rattle.std.specs.List.{AllZip}
 use Rattle.id_groups.specs.Name.{Name, SpellsName}
-use Rattle.set_query.specs.Spelling.{SpellsNumber}
-use Rattle.set_query.specs.Built.{SpellsBuilt}
+use Rattle.set_expr.specs.Spelling.{SpellsNumber}
+use Rattle.set_expr.specs.Built.{SpellsBuilt}
 use Rattle.step_rules.specs.Verb.{Verb, Add, Flush, Reload, Discard, Query, Count, IdOf, Status, Levels, Clone, Pull, Strip, CountMirrors, Drop}
 use Rattle.run_rules.specs.Built.{IsBuilt}
 

@@ -8,7 +8,7 @@ use Rattle.commit_graph.specs.World.{Row, World, IsNamedWorld, GrowsMaster}
 use Rattle.commit_graph.specs.Ids.{id_in}
 use Rattle.commit_graph.proofs.Histories.{in-append}
 use Rattle.commit_graph.proofs.Naming.{grows-self}
-use Rattle.set_query.specs.Expr.{commits_in}
+use Rattle.set_expr.specs.Expr.{commits_in}
 use Rattle.batch_codec.specs.Payload.{Payload}
 use Rattle.change_rules.specs.declared.Limits.{Limits}
 use Rattle.change_rules.specs.Strip.{stripped}

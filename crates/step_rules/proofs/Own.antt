@@ -8,8 +8,8 @@ use Rattle.commit_graph.specs.World.{Row, World, rows_of, with_pending}
 use Rattle.commit_graph.specs.Graph.{graph_of}
 use Rattle.commit_graph.specs.Ids.{id_in, parent_ids}
 use Rattle.segment_rules.specs.Levels.{level_counts_of}
-use Rattle.set_query.specs.Expr.{Expr, commits_in}
-use Rattle.set_query.specs.Meaning.{IsMember, IsAnswer}
+use Rattle.set_expr.specs.Expr.{Expr, commits_in}
+use Rattle.set_expr.specs.Meaning.{IsMember, IsAnswer}
 use Rattle.change_rules.specs.declared.Limits.{Limits}
 use Rattle.change_rules.specs.declared.Limit.TheVariants as limit
 use Rattle.change_rules.specs.Standard.{most_heads}

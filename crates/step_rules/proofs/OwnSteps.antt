@@ -6,7 +6,7 @@ use Rattle.std.specs.Option.{option_map}
 use Rattle.id_groups.specs.Name.{Name, same_name}
 use Rattle.commit_graph.specs.World.{Row, World, rows_of, with_pending}
 use Rattle.commit_graph.specs.Ids.{id_in}
-use Rattle.set_query.specs.Expr.{Expr, commits_in}
+use Rattle.set_expr.specs.Expr.{Expr, commits_in}
 use Rattle.change_rules.specs.declared.Limits.{Limits}
 use Rattle.change_rules.specs.declared.Limit.TheVariants as limit
 use Rattle.change_rules.specs.Strip.{stripped}

@@ -7,7 +7,7 @@ use Rattle.id_groups.proofs.Listing.{and_true, in-any}
 use Rattle.id_groups.specs.Name.{Name, same_name}
 use Rattle.commit_graph.specs.World.{Row, World, names_of, with_pending}
 use Rattle.commit_graph.specs.Ids.{id_in}
-use Rattle.set_query.specs.Expr.{Expr, commits_in}
+use Rattle.set_expr.specs.Expr.{Expr, commits_in}
 use Rattle.change_rules.specs.declared.Limits.{Limits}
 use Rattle.change_rules.specs.Lazy.{is_lazy, has_lazy}
 use Rattle.remote_rules.specs.CloneData.{KnownName}

@@ -5,8 +5,8 @@ use Rattle.std.proofs.Math.Nat.{min-le_left}
 use Rattle.id_groups.specs.Name.{Name}
 use Rattle.id_groups.proofs.Listing.{filtered_once}
 use Rattle.commit_graph.specs.World.{Row}
-use Rattle.set_query.specs.Expr.{Expr}
-use Rattle.set_query.specs.Meaning.{IsMember, IsAnswer}
+use Rattle.set_expr.specs.Expr.{Expr}
+use Rattle.set_expr.specs.Meaning.{IsMember, IsAnswer}
 use Rattle.change_rules.specs.declared.Limits.{Limits}
 use Rattle.change_rules.specs.Tables.{cloned_count}
 use Rattle.outside.specs.Counts.{last_count}

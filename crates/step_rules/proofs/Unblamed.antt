@@ -5,7 +5,7 @@ use Rattle.std.specs.List.{AllByRecursion}
 use Rattle.id_groups.specs.Lists.{is_in}
 use Rattle.id_groups.specs.Name.{Name, same_name}
 use Rattle.commit_graph.specs.World.{Row, World, rows_of, names_of, with_pending}
-use Rattle.set_query.specs.Expr.{commits_in}
+use Rattle.set_expr.specs.Expr.{commits_in}
 use Rattle.change_rules.specs.declared.Limits.{Limits}
 use Rattle.change_rules.specs.declared.Limit.{Limit}
 use Rattle.change_rules.specs.declared.Limit.TheVariants as limit

@@ -1,7 +1,7 @@
 -- A command of a store that has a name for each commit: what is stored alone decides it, and nothing is asked.
 use Rattle.std.specs.Prelude.{◌≡◌, ◌⊎◌, ℕ, false, List, [], ◌∷◌, ⊤, length, nat_lt, MatchOption}
 use Rattle.id_groups.specs.Name.{Name}
-use Rattle.set_query.specs.Meaning.{IsAnswer}
+use Rattle.set_expr.specs.Meaning.{IsAnswer}
 use Rattle.change_rules.specs.declared.Limits.{Limits}
 use Rattle.change_rules.specs.Lazy.{has_lazy}
 use Rattle.step_rules.specs.declared.Refusal.TheVariants as why

@@ -4,7 +4,7 @@ use Rattle.std.specs.List.{AllZip}
 use Rattle.id_groups.specs.Lists.{AreDistinct}
 use Rattle.id_groups.specs.Name.{Name}
 use Rattle.outside.specs.Counts.{Rose}
-use Rattle.set_query.specs.Meaning.{IsAnswer}
+use Rattle.set_expr.specs.Meaning.{IsAnswer}
 use Rattle.change_rules.specs.declared.Limits.{Limits}
 use Rattle.change_rules.specs.Tables.{cloned_count}
 use Rattle.remote_rules.specs.Mirror.{Mirror}

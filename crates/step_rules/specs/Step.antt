@@ -6,8 +6,8 @@ use Rattle.id_groups.specs.Name.{Name, same_name}
 use Rattle.commit_graph.specs.World.{Row, World}
 use Rattle.commit_graph.specs.Ids.{id_in, parent_ids}
 use Rattle.segment_rules.specs.Levels.{level_counts_of}
-use Rattle.set_query.specs.Expr.{Expr}
-use Rattle.set_query.specs.Meaning.{IsAnswer}
+use Rattle.set_expr.specs.Expr.{Expr}
+use Rattle.set_expr.specs.Meaning.{IsAnswer}
 use Rattle.change_rules.specs.declared.Limits.{Limits}
 use Rattle.change_rules.specs.declared.Limit.TheVariants as limit
 use Rattle.change_rules.specs.Standard.{most_heads}

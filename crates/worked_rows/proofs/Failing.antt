@@ -6,7 +6,7 @@ use Rattle.remote_rules.specs.Mirror.{Mirror}
 use Rattle.remote_rules.specs.Calls.{IsAskedFor, Fails}
 use Rattle.remote_rules.specs.declared.MirrorFault.TheVariants as fault
 use Rattle.step_rules.specs.declared.Refusal.TheVariants as why
-use Rattle.set_query.specs.Expr.{Up}
+use Rattle.set_expr.specs.Expr.{Up}
 use Rattle.step_rules.specs.State.{State, seen_by}
 use Rattle.step_rules.specs.Verb.{Query, CountMirrors, Drop}
 use Rattle.step_rules.specs.Reply.{Listed, Counted, Dropped, Refused}

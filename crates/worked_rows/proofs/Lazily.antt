@@ -9,7 +9,7 @@ use Rattle.remote_rules.specs.CloneData.{KnownName}
 use Rattle.remote_rules.specs.Known.{master_alone}
 use Rattle.remote_rules.specs.Calls.{IsCloned}
 use Rattle.step_rules.specs.declared.Refusal.TheVariants as why
-use Rattle.set_query.specs.Expr.{One, Up}
+use Rattle.set_expr.specs.Expr.{One, Up}
 use Rattle.step_rules.specs.State.{State, seen_by}
 use Rattle.step_rules.specs.Verb.{IdOf, Query, Clone}
 use Rattle.step_rules.specs.Reply.{Cloned, Identified, Listed, Refused}

@@ -10,9 +10,9 @@ use Rattle.id_groups.proofs.Listing.{filter-filters}
 use Rattle.commit_graph.specs.World.{Row}
 use Rattle.commit_graph.specs.Graph.{Graph, first_ancestor}
 use Rattle.outside.specs.Counts.{last_count}
-use Rattle.set_query.specs.Expr.{One, Up}
-use Rattle.set_query.specs.Meaning.{IsMember, IsAnswer}
-use Rattle.set_query.specs.Computed.{is_some_of}
+use Rattle.set_expr.specs.Expr.{One, Up}
+use Rattle.set_expr.specs.Meaning.{IsMember, IsAnswer}
+use Rattle.set_expr.specs.Computed.{is_some_of}
 use Rattle.change_rules.specs.declared.Limits.{Limits}
 use Rattle.remote_rules.specs.CloneData.{KnownName}
 use Rattle.remote_rules.specs.Mirror.{Mirror}

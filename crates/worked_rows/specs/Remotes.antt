@@ -5,7 +5,7 @@ use Rattle.id_groups.specs.Name.{Name}
 use Rattle.remote_rules.specs.Mirror.{Mirror}
 use Rattle.remote_rules.specs.Honest.{clone_data_of}
 use Rattle.change_rules.specs.Change.{clone_change}
-use Rattle.set_query.specs.Expr.{Up}
+use Rattle.set_expr.specs.Expr.{Up}
 use Rattle.step_rules.specs.State.{State, at_start}
 use Rattle.step_rules.specs.Verb.{IdOf, Query, Clone, CountMirrors, Drop}
 use Rattle.step_rules.specs.Reply.{Cloned, Identified, Listed, Counted, Dropped, Refused}

@@ -11,7 +11,7 @@ ghost use Rattle.step_rules.specs.declared.Refusal.TheVariants as why;
 ghost use Rattle.change_rules.specs.Standard.{standard};
 ghost use Rattle.change_rules.specs.declared.Limit.TheVariants as limit;
 ghost use Rattle.worked_rows.specs.Runs.{AreTold, AreToldTo, said};
-ghost use Rattle.set_query.specs.Expr.{One};
+ghost use Rattle.set_expr.specs.Expr.{One};
 ghost use Rattle.step_rules.specs.Verb.{Query};
 ghost use Rattle.step_rules.specs.Reply.{Listed};
 ghost use Rattle.worked_rows.specs.Remotes.{steady, over, asked_counts, lazy_names_said, after_clone, stumbling, failing_said};
