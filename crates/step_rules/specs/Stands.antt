@@ -1,11 +1,11 @@
 -- What it is that a store stands for a state.
-use Rattle.std.specs.Prelude.{◌≡◌, ◌<◌, ◌≤◌, ◌+◌, ℕ, List, length, map, take}
+use Rattle.std.specs.Prelude.{◌≡◌, ◌<◌, ◌≤◌, ◌+◌, ℕ, List, [], length, map, take}
 use Rattle.id_groups.specs.Name.{Name, same_name}
 use Rattle.commit_graph.specs.World.{Row, World}
 use Rattle.commit_graph.specs.Ids.{id_in}
 use Rattle.batch_codec.specs.Payload.{Payload}
 use Rattle.change_rules.specs.Holding.{HoldPayloads}
-use Rattle.step_rules.specs.State.{State, Cache, session_count, session, pending_of, view_of, world_at}
+use Rattle.step_rules.specs.State.{State, Cache, no_names, session_count, session, pending_of, view_of, world_at}
 
 -- a row with the ids of its parents
 pub record IdRow : Type 0 where
@@ -23,6 +23,15 @@ pub record KeptStore : Type 0 where
   pub sessions : ℕ → KeptSession
   pub cache : Cache
   pub room : ℕ
+
+-- a store that was loaded from a log with these payloads: its sessions are on the newest, and nothing was fetched yet
+abbrev pub loaded_store : List Payload → ℕ → KeptStore
+loaded_store payloads room = record {
+  payloads = payloads;
+  sessions = λ s. record { payloads = length payloads; pending = [] };
+  cache = no_names;
+  room = room;
+}
 
 -- a pending row of a view, by its ids
 abbrev pub id_row : World Name → Row Name → IdRow

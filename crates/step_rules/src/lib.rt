@@ -1,7 +1,7 @@
 //! Sessions over a stored world, and the mirrors that they ask.
 #![tactic(auto)]
 
-ghost use Rattle.std.specs.Prelude.{◌≡◌, ◌++◌, ℕ, List, [], ◌∷◌, true};
+ghost use Rattle.std.specs.Prelude.{◌≡◌, ◌++◌, ℕ, List, [], ◌∷◌, length, true};
 ghost use Rattle.id_groups.specs.Name.{Name as NameBytes};
 ghost use Rattle.change_rules.specs.declared.Limits.{Limits};
 ghost use Rattle.std.specs.List.{AllByRecursion};
@@ -16,6 +16,8 @@ ghost use Rattle.step_rules.specs.Step.{CommandStep};
 ghost use Rattle.step_rules.specs.Plain.{IsInside, HasAllNames, PlainStep};
 ghost use Rattle.step_rules.specs.Isolation.{IsIsolated};
 ghost use Rattle.step_rules.specs.Served.{IsServed};
+ghost use Rattle.step_rules.specs.Stands.{StandsFor, loaded_store};
+ghost use Rattle.change_rules.specs.Holding.{HoldPayloads};
 ghost use Rattle.step_rules.specs.Rises.{ArePrinted, HaveRisen, EachWas, HasFailed};
 ghost use Rattle.remote_rules.specs.Serving.{NeverFail};
 ghost use Rattle.change_rules.specs.Standard.{AreLimits};
@@ -129,4 +131,9 @@ pub fn failures_are_matched()
 /// No command is refused because a remote's answer disagrees with the log: such a refusal is for remotes that lie.
 pub fn mirrors_agree()
     ensures { (limits : Limits) (st st' : State) (s : ℕ) (verb : Verb) (reply : Reply) → CommandStep limits st s verb reply st' → IsMismatch reply → ⊥ }
+{}
+
+/// A store that was loaded from payloads that hold a world stands for the start of a run over it, whatever the mirrors.
+pub fn loaded_stores_stand()
+    ensures { (w : World NameBytes) (payloads : List Payload) (room : ℕ) (mirrors : List Mirror) → HoldPayloads payloads w → StandsFor (length payloads) (loaded_store payloads room) (at_start w payloads room mirrors) }
 {}
