@@ -11,11 +11,11 @@ use Rattle.std.specs.List.{AllZip, remove}
 use Rattle.std.proofs.lemmas.Slice.Zip.{AllZip-long}
 use Rattle.outside.specs.Parts.{split_at}
 use Rattle.id_groups.specs.Name.{Name, SpellsName}
-use Rattle.set_query.specs.Expr.{Expr}
-use Rattle.set_query.specs.Built.{SpellsBuilt}
+use Rattle.set_expr.specs.Expr.{Expr}
+use Rattle.set_expr.specs.Built.{SpellsBuilt}
 use Rattle.dag_run.specs.Verb.{Verb, Add, Query, Count, Status}
 use Rattle.dag_run.specs.Grammar.{SpellsVerb, SpellsCommand, more_words}
-use Rattle.set_query.proofs.OneSpelling.{one-expression}
+use Rattle.set_expr.proofs.OneSpelling.{one-expression}
 use Rattle.dag_run.proofs.WordsLemmas.{words-of-text, split-words, spelled-names}
 
 -- the same texts have the same first byte

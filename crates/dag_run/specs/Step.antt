@@ -3,7 +3,7 @@ use Rattle.std.specs.Prelude.{◌≡◌, ◌⊎◌, List, ⊤, length, nat_lt, M
 use Rattle.std.specs.Bool.{MatchBool}
 use Rattle.id_groups.specs.Name.{Name, same_name}
 use Rattle.commit_graph.specs.Ids.{id_in}
-use Rattle.set_query.specs.Meaning.{IsAnswer}
+use Rattle.set_expr.specs.Meaning.{IsAnswer}
 use Rattle.dag_run.specs.declared.limits.Limits.{Limits}
 use Rattle.dag_run.specs.declared.reply.Refusal.{Refusal}
 use Rattle.dag_run.specs.declared.reply.Refusal.TheVariants.{LongAnswer, Memory}

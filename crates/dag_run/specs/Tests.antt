@@ -4,7 +4,7 @@ use Rattle.std.specs.Cmp.Lexicographic.{pointwise}
 use Rattle.id_groups.specs.Lists.{is_in}
 use Rattle.id_groups.specs.Name.{Name, same_name}
 use Rattle.commit_graph.specs.World.{Row, World, rows_of, names_of, row_named}
-use Rattle.set_query.specs.Expr.{commits_in}
+use Rattle.set_expr.specs.Expr.{commits_in}
 use Rattle.dag_run.specs.declared.limits.Limits.{Limits}
 use Rattle.dag_run.specs.declared.reply.Limit.{Limit}
 use Rattle.dag_run.specs.declared.reply.Limit.TheVariants as limit

@@ -1,7 +1,7 @@
 -- What a command line asks for.
 use Rattle.std.specs.Prelude.{List}
 use Rattle.id_groups.specs.Name.{Name}
-use Rattle.set_query.specs.Expr.{Expr}
+use Rattle.set_expr.specs.Expr.{Expr}
 
 pub data Verb : Type 0 where
   -- a commit and its parents

@@ -11,7 +11,7 @@ ghost use Rattle.dag_run.specs.Verb.{Verb as Asked};
 
 use crate::NameList;
 use id_groups::Name;
-use set_query::{Expr, ExprFault};
+use set_expr::{Expr, ExprFault};
 use std::alloc::{AllocError, Global};
 
 /// How many parents a row has at most.

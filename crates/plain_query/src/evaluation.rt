@@ -4,17 +4,17 @@ ghost use Rattle.std.specs.Prelude.{◌≡◌, IsTrue, IfOk};
 ghost use Rattle.id_groups.specs.Name.{same_name};
 ghost use Rattle.commit_graph.specs.Graph.{graph_of};
 ghost use Rattle.commit_graph.specs.Sets.{parents, ancestors};
-ghost use Rattle.set_query.specs.Built.{is_built, is_built_word, is_built_call};
-ghost use Rattle.set_query.specs.Meaning.{IsMember, IsAnswer, named as meant, made_of as made};
-ghost use Rattle.set_query.specs.Tree.{tree_in};
-ghost use Rattle.set_query.specs.Whole.{tree_of};
+ghost use Rattle.set_expr.specs.Built.{is_built, is_built_word, is_built_call};
+ghost use Rattle.set_expr.specs.Meaning.{IsMember, IsAnswer, named as meant, made_of as made};
+ghost use Rattle.set_expr.specs.Tree.{tree_in};
+ghost use Rattle.set_expr.specs.Whole.{tree_of};
 ghost use Rattle.plain_query.specs.Members.{AreMembers, among};
 
 use crate::members::Members;
 use crate::places::{row_at_place, row_count};
 use commit_graph::World;
 use id_groups::Name;
-use set_query::{Call, Expr, Tree, Word};
+use set_expr::{Call, Expr, Tree, Word};
 use std::alloc::{AllocError, Global};
 
 /// The names of an expression's members, the greatest id first. The expression may name commits that the world doesn't have:

@@ -3,7 +3,7 @@
 use crate::answer;
 use commit_graph::{Row, World};
 use id_groups::Name;
-use set_query::Expr;
+use set_expr::Expr;
 use std::alloc::{AllocError, Global};
 use std::process::Abort;
 use std::test::Fail;

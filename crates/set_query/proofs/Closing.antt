@@ -1,23 +1,12 @@
--- Graphs in which parents stand, and only what stands has parents.
+-- In the graph of a table parents stand, and only what stands has parents.
 use Rattle.std.proofs.Common.{◌≡◌, ℕ, List, [], ◌∷◌, Option, Some, None, refl}
 use Rattle.id_groups.specs.Lists.{IsIn}
-use Rattle.id_groups.specs.Name.{Name, same_name}
-use Rattle.id_groups.proofs.Names.{same_name-exact, same_name-self}
-use Rattle.commit_graph.specs.World.{World, IsWorld}
-use Rattle.commit_graph.specs.Graph.{graph_of}
 use Rattle.commit_graph.specs.Renaming.{IsClosed}
-use Rattle.commit_graph.proofs.Down.{parent-in-down, child-in-down}
 use Rattle.segment_codec.specs.Record.{Segment}
 use Rattle.segment_codec.specs.Table.{segment_at, parents_in, parents_at, IsHeld, IsLawful}
 use Rattle.ancestor_query.specs.Graph.{table_graph}
 use Rattle.ancestor_query.proofs.Graphs.{reached-held}
 use Rattle.set_query.proofs.Ids.{held-down}
-
-pub world-closed : (w : World Name) → IsWorld w → IsClosed (graph_of same_name w)
-world-closed w h = record {
-  parents = parent-in-down same_name same_name-exact same_name-self w h;
-  children = child-in-down same_name same_name-exact same_name-self w;
-}
 
 child-held : (flats : List Segment) (x p : ℕ) → IsIn p (parents_at flats x) → IsHeld flats x
 child-held flats x p i = go (segment_at flats x) refl i

@@ -1,9 +1,6 @@
 -- The ids of a table: where they stand in its graph, and that the members of an expression are among them.
-use Rattle.std.proofs.Common.{◌≡◌, ℕ, zero, suc, ◌+◌, ◌-◌, ◌<◌, ◌≤◌, ◌^◌, ◌⊎◌, inl, inr, true, List, [], ◌∷◌, ◌++◌, Some, None, length, refl, sym, subst, ap, ◌∙◌, arith, ⊎_elim}
+use Rattle.std.proofs.Common.{◌≡◌, ℕ, zero, suc, ◌+◌, ◌-◌, ◌<◌, ◌≤◌, ◌^◌, ◌⊎◌, inl, inr, true, List, [], ◌∷◌, ◌++◌, Some, None, length, refl, sym, subst, ◌∙◌, arith, ⊎_elim}
 use Rattle.std.specs.Prelude.{◌↔◌, IsTrue}
-use Rattle.std.specs.Prelude.{map, take, drop}
-use Rattle.std.proofs.Math.Seq.{take-append_seam, drop-append_seam}
-use Rattle.std.proofs.lemmas.List.{map-append, length-map}
 use Rattle.id_groups.specs.Lists.{IsIn}
 use Rattle.id_groups.specs.declared.span.IdSpan.{IdSpan}
 use Rattle.id_groups.proofs.Listing.{and_true}
@@ -17,13 +14,13 @@ use Rattle.span_set.specs.Members.{IsMember, descending_from}
 use Rattle.span_set.proofs.Counts.{ids-member, member-ids}
 use Rattle.ancestor_query.specs.Graph.{table_graph, down_of}
 use Rattle.ancestor_query.proofs.Graphs.{held-bound, reached-held}
-use Rattle.set_query.specs.declared.words.Word.TheVariants as words
-use Rattle.set_query.specs.declared.words.Call.{Call}
-use Rattle.set_query.specs.declared.words.Call.TheVariants as calls
-use Rattle.set_query.specs.Built.{is_built}
-use Rattle.set_query.specs.Expr.{Expr, One, Named, Of, OfTwo, Up, Top, commits_in, renamed}
-use Rattle.set_query.specs.Ids.{first_id, with_ids}
-use Rattle.set_query.specs.Meaning as means
+use Rattle.set_expr.specs.declared.words.Word.TheVariants as words
+use Rattle.set_expr.specs.declared.words.Call.{Call}
+use Rattle.set_expr.specs.declared.words.Call.TheVariants as calls
+use Rattle.set_expr.specs.Built.{is_built}
+use Rattle.set_expr.specs.Expr.{Expr, One, Named, Of, commits_in}
+use Rattle.set_expr.specs.Ids.{first_id, with_ids}
+use Rattle.set_expr.specs.Meaning as means
 
 -- the ids of a segment, the greatest first
 ids-in : (s : Segment) (x : ℕ) → IsIn x (descending_from s.low (s.high + 1 - s.low)) → IsInSegment x s
@@ -132,20 +129,3 @@ call-of a b s t e = cc
 
 pub set-of : {N : Type 0} (a b : Call) (s t : Expr N) → Of a s ≡ Of b t → s ≡ t
 set-of a b s t e = cc
-
--- the ids that stand for the names of an expression, put in their places
-pub with-renamed : {N : Type 0} (f : N → ℕ) (e : Expr N) → with_ids e (map f (commits_in e)) ≡ renamed f e
-with-renamed f (One x) = refl
-with-renamed f (Named word) = refl
-with-renamed f (Of call s) = ap (λ t. Of call t) (with-renamed f s)
-with-renamed f (OfTwo call a b) =
-    let split = map-append f (commits_in a) (commits_in b) in
-    let many = length-map (commits_in a) f in
-    ap (λ ids. OfTwo call (with_ids a (take (length (commits_in a)) ids)) (with_ids b (drop (length (commits_in a)) ids))) split
-    ∙ ap (λ n. OfTwo call (with_ids a (take n (map f (commits_in a) ++ map f (commits_in b)))) (with_ids b (drop n (map f (commits_in a) ++ map f (commits_in b))))) (sym many)
-    ∙ ap (λ ids. OfTwo call (with_ids a ids) (with_ids b (drop (length (map f (commits_in a))) (map f (commits_in a) ++ map f (commits_in b))))) (take-append_seam (map f (commits_in a)) (map f (commits_in b)))
-    ∙ ap (λ ids. OfTwo call (with_ids a (map f (commits_in a))) (with_ids b ids)) (drop-append_seam (map f (commits_in a)) (map f (commits_in b)))
-    ∙ ap (λ t. OfTwo call t (with_ids b (map f (commits_in b)))) (with-renamed f a)
-    ∙ ap (λ t. OfTwo call (renamed f a) t) (with-renamed f b)
-with-renamed f (Up x n) = refl
-with-renamed f (Top s n) = ap (λ t. Top t n) (with-renamed f s)

@@ -1,8 +1,2 @@
-pub mod Deciding
-pub mod Worlds
-pub mod Renamings
-pub mod Marks
-pub mod Reading
-pub mod OneSpelling
 pub mod Ids
 pub mod Closing

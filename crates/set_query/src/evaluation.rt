@@ -7,17 +7,17 @@ ghost use Rattle.segment_codec.specs.Table.{IsHeld};
 ghost use Rattle.span_set.specs.Members.{IsMember, ids_of};
 ghost use Rattle.ancestor_query.specs.Graph.{table_graph};
 ghost use Rattle.ancestor_query.specs.Counts.{count_met, EndsWhole};
-ghost use Rattle.set_query.specs.Built.{is_built, is_built_word, is_built_call};
-ghost use Rattle.set_query.specs.Expr.{One, Of, commits_in};
-ghost use Rattle.set_query.specs.Ids.{with_ids};
-ghost use Rattle.set_query.specs.Meaning.{IsMember as IsMeant, named, made_of as made};
-ghost use Rattle.set_query.specs.Tree.{tree_in};
-ghost use Rattle.set_query.specs.Whole.{tree_of};
+ghost use Rattle.set_expr.specs.Built.{is_built, is_built_word, is_built_call};
+ghost use Rattle.set_expr.specs.Expr.{One, Of, commits_in};
+ghost use Rattle.set_expr.specs.Ids.{with_ids};
+ghost use Rattle.set_expr.specs.Meaning.{IsMember as IsMeant, named, made_of as made};
+ghost use Rattle.set_expr.specs.Tree.{tree_in};
+ghost use Rattle.set_expr.specs.Whole.{tree_of};
 
-use crate::{Call, Expr, Tree, Word};
 use ancestor_query::{ancestors, parents};
 use id_groups::{FIRST_OTHER, Id, IdSpan};
 use segment_codec::{SegmentTable, Steps};
+use set_expr::{Call, Expr, Tree, Word};
 use span_set::IdSet;
 use std::alloc::{AllocError, Global};
 

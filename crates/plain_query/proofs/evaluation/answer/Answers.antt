@@ -2,9 +2,9 @@ use Rattle.std.proofs.Common.{arith, refl, sym, subst, ◌-◌, true≢false}
 use Rattle.id_groups.specs.Name.{Name, same_name}
 use Rattle.commit_graph.specs.World.{rows_of}
 use Rattle.commit_graph.specs.Graph.{graph_of}
-use Rattle.set_query.specs.Expr.{Expr}
-use Rattle.set_query.specs.Meaning.{IsMember}
-use Rattle.set_query.specs.Whole.{tree_of}
+use Rattle.set_expr.specs.Expr.{Expr}
+use Rattle.set_expr.specs.Meaning.{IsMember}
+use Rattle.set_expr.specs.Whole.{tree_of}
 use Rattle.plain_query.proofs.Filtering.{filtered-push, filtered-keep}
 use Rattle.plain_query.proofs.evaluation.answer.Goals as goal
 

@@ -1,13 +1,13 @@
 use Rattle.std.proofs.Common.{◌≡◌, ◌+◌, ◌≤◌, ℕ, length, true, sym, subst, OnOk}
 use Rattle.id_groups.proofs.Listing.{and_true}
 use Rattle.ancestor_query.specs.Graph.{table_graph}
-use Rattle.set_query.specs.declared.words.Call.TheVariants as calls
-use Rattle.set_query.specs.declared.tree.Tree.{Tree}
-use Rattle.set_query.specs.Built.{is_built, is_built_call}
-use Rattle.set_query.specs.Expr.{One, Of, commits_in}
-use Rattle.set_query.specs.Ids.{with_ids}
-use Rattle.set_query.specs.Meaning as means
-use Rattle.set_query.specs.Tree.{tree_in}
+use Rattle.set_expr.specs.declared.words.Call.TheVariants as calls
+use Rattle.set_expr.specs.declared.tree.Tree.{Tree}
+use Rattle.set_expr.specs.Built.{is_built, is_built_call}
+use Rattle.set_expr.specs.Expr.{One, Of, commits_in}
+use Rattle.set_expr.specs.Ids.{with_ids}
+use Rattle.set_expr.specs.Meaning as means
+use Rattle.set_expr.specs.Tree.{tree_in}
 use Rattle.set_query.proofs.Ids.{member-held, only-of, call-of, set-of}
 use Rattle.set_query.proofs.evaluation.+members_of.Goals as goal
 

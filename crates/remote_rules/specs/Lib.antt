@@ -1,0 +1,9 @@
+pub mod CloneData
+pub mod Lawful
+pub mod Mirror
+pub mod Known
+pub mod Honest
+pub mod Clones
+pub mod Calls
+pub mod Serving
+pub mod Asking

@@ -1,0 +1,6 @@
+pub mod Runs
+pub mod Nothing
+pub mod Starts
+pub mod Prefixes
+pub mod GoesOn
+pub mod Matched

@@ -1,0 +1,38 @@
+-- What is asked of the outside for the answers of a run.
+use Rattle.std.specs.Prelude.{◌≡◌, ◌≤◌, ◌⊎◌, ℕ, List, Some, length}
+use Rattle.std.specs.List.{AllByRecursion}
+use Rattle.id_groups.specs.Lists.{IsIn}
+use Rattle.id_groups.specs.Name.{Name}
+use Rattle.commit_graph.specs.World.{Row, World, rows_of}
+use Rattle.disk_trait.specs.Images.{Told}
+use Rattle.batch_codec.specs.Payload.{Payload}
+use Rattle.change_rules.specs.declared.Limits.{Limits}
+use Rattle.change_rules.specs.Tables.{cloned_count}
+use Rattle.change_rules.specs.Holding.{HoldAs, HoldsNow}
+use Rattle.remote_rules.specs.Mirror.{Mirror}
+use Rattle.remote_rules.specs.Serving.{AllServe, BeginsWith}
+use Rattle.step_rules.specs.Verb.{Verb, Clone, Pull}
+use Rattle.run_rules.specs.Grammar.{SpellsCommand}
+
+-- some line is this command of some session
+abbrev pub HasCommand : Verb → List (List ℕ) → Type 0
+HasCommand verb lines = (line : List ℕ) × (s : ℕ) × IsIn line lines × SpellsCommand line s verb
+
+-- mirrors of which each tells the same master, in the same order
+abbrev pub HaveOneOrder : List Mirror → Type 0
+HaveOneOrder mirrors =
+    (m n : Mirror) (q r : List (Row Name)) → IsIn m mirrors → IsIn n mirrors → m.master ≡ Some q → n.master ≡ Some r → q ≡ r
+
+-- What is asked of the mirrors of a run with a pull: each master begins with the cloned commits in their order. Where these lines
+-- clone, too, and nothing is stored yet, there is at most one mirror, or they have one order.
+pub record AllBegin (cloned : ℕ) (w : World Name) (mirrors : List Mirror) (lines : List (List ℕ)) : Type 0 where
+  pub each : AllByRecursion (BeginsWith cloned w) mirrors
+  pub first_clone : HasCommand Clone lines → length (rows_of w) ≡ 0 → (length mirrors ≤ 1) ⊎ HaveOneOrder mirrors
+
+-- The disk is honest and holds the world, whatever a crash leaves; the bytes that a read gives are the log of these payloads;
+-- the mirrors serve the world, also for the pulls of these lines.
+pub record Start (limits : Limits) (disk : Told) (w : World Name) (payloads : List Payload) (mirrors : List Mirror) (lines : List (List ℕ)) : Type 0 where
+  pub holds : HoldsNow limits.log disk w
+  pub read : HoldAs limits.log disk.bytes payloads w
+  pub serve : AllServe (cloned_count payloads) w mirrors
+  pub begin : HasCommand Pull lines → AllBegin (cloned_count payloads) w mirrors lines

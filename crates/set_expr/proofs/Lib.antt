@@ -1,0 +1,7 @@
+pub mod Deciding
+pub mod Worlds
+pub mod Renamings
+pub mod Marks
+pub mod Reading
+pub mod OneSpelling
+pub mod PutIds

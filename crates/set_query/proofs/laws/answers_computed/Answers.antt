@@ -1,7 +1,0 @@
-use Rattle.id_groups.specs.Name.{same_name}
-use Rattle.id_groups.proofs.Names.{same_name-exact, same_name-self}
-use Rattle.set_query.proofs.Worlds.{world-answer}
-use Rattle.set_query.proofs.laws.answers_computed.Goals as goal
-
-pub returns : goal.returns
-returns c = world-answer same_name same_name-exact same_name-self

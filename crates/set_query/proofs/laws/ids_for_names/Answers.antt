@@ -1,5 +1,0 @@
-use Rattle.set_query.proofs.Ids.{with-renamed}
-use Rattle.set_query.proofs.laws.ids_for_names.Goals as goal
-
-pub returns : goal.returns
-returns c = λ f e. with-renamed f e

@@ -1,4 +1,0 @@
-use Rattle.set_query.proofs.parse.+read_tree.Given as goal
-
-abbrev pub decreases-read_tree : goal.decreases-read_tree
-decreases-read_tree l = l.levels

@@ -1,9 +1,0 @@
--- The expression that was parsed.
-use Rattle.id_groups.specs.Name.{Name}
-use Rattle.set_query.specs.declared.expr.Expr as declared
-use Rattle.set_query.specs.Expr.{Expr}
-use Rattle.set_query.specs.Tree.{tree_in}
-
--- that of its tree; its names are the commits that this one names
-abbrev pub tree_of : declared.Expr → Expr Name
-tree_of e = tree_in e.tree
