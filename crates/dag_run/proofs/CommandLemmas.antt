@@ -12,7 +12,7 @@ use Rattle.std.proofs.lemmas.Slice.Zip.{AllZip-long}
 use Rattle.outside.specs.Parts.{split_at}
 use Rattle.id_groups.specs.Name.{Name, SpellsName}
 use Rattle.set_expr.specs.Expr.{Expr}
-use Rattle.set_expr.specs.Built.{SpellsBuilt}
+use Rattle.plain_query.specs.Built.{SpellsBuilt}
 use Rattle.dag_run.specs.Verb.{Verb, Add, Query, Count, Status}
 use Rattle.dag_run.specs.Grammar.{SpellsVerb, SpellsCommand, more_words}
 use Rattle.set_expr.proofs.OneSpelling.{one-expression}

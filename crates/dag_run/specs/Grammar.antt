@@ -2,7 +2,7 @@
 use Rattle.std.specs.Prelude.{◌≡◌, ◌<◌, ◌≤◌, ℕ, List, ◌∷◌, ◌++◌, length, codes, decimal, flat_map}
 use Rattle.std.specs.List.{AllZip}
 use Rattle.id_groups.specs.Name.{Name, SpellsName}
-use Rattle.set_expr.specs.Built.{SpellsBuilt}
+use Rattle.plain_query.specs.Built.{SpellsBuilt}
 use Rattle.dag_run.specs.Verb.{Verb, Add, Query, Count, Status}
 
 -- words behind a word, a blank before each

@@ -1,7 +1,7 @@
 -- What a command of the code means.
 use Rattle.set_expr.specs.declared.parse.ExprFault.{ExprFault}
 use Rattle.set_expr.specs.declared.parse.ExprFault.TheVariants as exprs
-use Rattle.set_expr.specs.Whole.{tree_of}
+use Rattle.plain_query.specs.Plain.{tree_of}
 use Rattle.dag_run.specs.declared.command.CommandFault.{CommandFault}
 use Rattle.dag_run.specs.declared.command.CommandFault.TheVariants.{Syntax, Memory}
 use Rattle.dag_run.specs.declared.command.Verb.{Verb as Asked}

@@ -11,7 +11,8 @@ ghost use Rattle.dag_run.specs.Verb.{Verb as Asked};
 
 use crate::NameList;
 use id_groups::Name;
-use set_expr::{Expr, ExprFault};
+use plain_query::PlainExpr as Expr;
+use set_expr::ExprFault;
 use std::alloc::{AllocError, Global};
 
 /// How many parents a row has at most.

@@ -7,7 +7,7 @@ ghost use Rattle.commit_graph.specs.World.{rows_of, row_named};
 ghost use Rattle.commit_graph.specs.Ids.{row_at, id_in};
 ghost use Rattle.set_expr.specs.Expr.{commits_in};
 ghost use Rattle.set_expr.specs.Meaning.{IsAnswer};
-ghost use Rattle.set_expr.specs.Whole.{tree_of};
+ghost use Rattle.plain_query.specs.Plain.{tree_of};
 ghost use Rattle.dag_run.specs.Limits.{AreLimits};
 ghost use Rattle.dag_run.specs.State.{start, view_of, seen_by};
 ghost use Rattle.dag_run.specs.Step.{CommandStep};
@@ -18,7 +18,7 @@ ghost use Rattle.dag_run.specs.Verdict.{verdict, told, Appends};
 use crate::{Counts, Limit, Limits, NameList, Refusal, Reply};
 use commit_graph::{Row, World};
 use id_groups::{Id, Name};
-use set_expr::Expr;
+use plain_query::PlainExpr as Expr;
 use std::alloc::Global;
 use std::marker::Model;
 

@@ -1,1 +1,3 @@
 pub mod Members
+pub mod Built
+pub mod Plain

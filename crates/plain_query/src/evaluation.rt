@@ -4,22 +4,23 @@ ghost use Rattle.std.specs.Prelude.{◌≡◌, IsTrue, IfOk};
 ghost use Rattle.id_groups.specs.Name.{same_name};
 ghost use Rattle.commit_graph.specs.Graph.{graph_of};
 ghost use Rattle.commit_graph.specs.Sets.{parents, ancestors};
-ghost use Rattle.set_expr.specs.Built.{is_built, is_built_word, is_built_call};
+ghost use Rattle.plain_query.specs.Built.{is_built, is_built_word, is_built_call};
 ghost use Rattle.set_expr.specs.Meaning.{IsMember, IsAnswer, named as meant, made_of as made};
 ghost use Rattle.set_expr.specs.Tree.{tree_in};
-ghost use Rattle.set_expr.specs.Whole.{tree_of};
+ghost use Rattle.plain_query.specs.Plain.{tree_of};
 ghost use Rattle.plain_query.specs.Members.{AreMembers, among};
 
+use crate::PlainExpr;
 use crate::members::Members;
 use crate::places::{row_at_place, row_count};
 use commit_graph::World;
 use id_groups::Name;
-use set_expr::{Call, Expr, Tree, Word};
+use set_expr::{Call, Tree, Word};
 use std::alloc::{AllocError, Global};
 
 /// The names of an expression's members, the greatest id first. The expression may name commits that the world doesn't have:
 /// none of these stands in the answer. `AllocError` only for want of memory.
-pub fn answer(alloc: Global, world: &World, expr: &Expr) -> Result<Vec<Name>, AllocError>
+pub fn answer(alloc: Global, world: &World, expr: &PlainExpr) -> Result<Vec<Name>, AllocError>
     ensures { IfOk result (λ names. IsAnswer (graph_of same_name world.now) (tree_of expr.now) names.items) }
 {
     let members = members_of(alloc, world, expr.tree())?;
@@ -45,6 +46,7 @@ fn members_of(alloc: Global, world: &World, tree: &Tree) -> Result<Members, Allo
             let members = members_of(alloc, world, set)?;
             made_of(alloc, world, *call, members)
         }
+        Tree::OfTwo(_, _, _) | Tree::Up(_, _) | Tree::Top(_, _) => unreachable!(),
     }
 }
 

@@ -6,8 +6,10 @@
 mod evaluation;
 mod members;
 mod places;
+mod plain;
 
 pub use evaluation::answer;
+pub use plain::PlainExpr;
 
 #[cfg(test)]
 mod tests;

@@ -1,9 +1,8 @@
 //! Answers over small worlds, drawn as tables.
 
-use crate::answer;
+use crate::{PlainExpr, answer};
 use commit_graph::{Row, World};
 use id_groups::Name;
-use set_expr::Expr;
 use std::alloc::{AllocError, Global};
 use std::process::Abort;
 use std::test::Fail;
@@ -57,7 +56,7 @@ fn master(rt: &impl Abort, alloc: Global, commits: &[Drawn]) -> Result<Option<Wo
 
 /// The last bytes of the names in the answer.
 fn answered(alloc: Global, world: &World, text: &[u8]) -> Result<Vec<u8>, Fail> {
-    let expr = Expr::parse(alloc, text)?;
+    let expr = PlainExpr::parse(alloc, text)?;
     let mut last = Vec::new(alloc);
     for name in answer(alloc, world, &expr)? {
         last.push(name.lend().bytes[19])?;

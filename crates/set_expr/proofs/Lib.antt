@@ -2,6 +2,6 @@ pub mod Deciding
 pub mod Worlds
 pub mod Renamings
 pub mod Marks
-pub mod Reading
+pub mod Parsing
 pub mod OneSpelling
 pub mod PutIds

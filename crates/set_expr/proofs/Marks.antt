@@ -19,12 +19,7 @@ use Rattle.set_expr.specs.declared.words.Call.TheVariants as calls
 use Rattle.set_expr.specs.declared.words.PairCall.{PairCall}
 use Rattle.set_expr.specs.declared.words.PairCall.TheVariants as pairs
 use Rattle.set_expr.specs.Spelling.{word_text, call_text, pair_text}
-
--- the bytes have no bracket and no comma
-pub record Unmarked (xs : List ℕ) : Type 0 where
-  pub opening : HasNone 40 xs
-  pub closing : HasNone 41 xs
-  pub comma : HasNone 44 xs
+use Rattle.set_expr.specs.Fronts.{Unmarked, Ends}
 
 -- the test of a text that is given
 abbrev pub is_clear : ℕ → List ℕ → Bool
@@ -98,11 +93,6 @@ unmarked-number n h = let digits = (decimal_is_IsNumeral n h).0.1 in record {
   closing = none-digit 41 (decimal n) (λ h. omega (arith, h)) digits;
   comma = none-digit 44 (decimal n) (λ h. omega (arith, h)) digits;
 }
-
--- what follows an expression: nothing, a closing bracket or a comma
-abbrev pub Ends : List ℕ → Type 0
-Ends [] = ⊤
-Ends (c ∷ rest) = (c ≡ 41) ⊎ (c ≡ 44)
 
 unmarked-tail : (b : ℕ) (xs : List ℕ) → Unmarked (b ∷ xs) → Unmarked xs
 unmarked-tail b xs h = record { opening = h.opening.1; closing = h.closing.1; comma = h.comma.1 }

@@ -9,43 +9,43 @@ use Rattle.id_groups.specs.Name.{Name, SpellsName}
 use Rattle.set_expr.specs.declared.words.Word.{Word}
 use Rattle.set_expr.specs.declared.words.Word.TheVariants as words
 use Rattle.set_expr.specs.declared.words.Call.{Call}
+use Rattle.set_expr.specs.declared.words.Head.{Head}
+use Rattle.set_expr.specs.declared.words.Head.TheVariants as heads
 use Rattle.set_expr.specs.declared.words.Call.TheVariants as calls
 use Rattle.set_expr.specs.declared.words.PairCall.{PairCall}
 use Rattle.set_expr.specs.declared.words.PairCall.TheVariants as pairs
 use Rattle.set_expr.specs.Expr.{Expr, One, Named, Of, OfTwo, Up, Top}
 use Rattle.set_expr.specs.Spelling.{word_text, call_text, pair_text, one_argument, two_arguments, SpellsNumber, SpellsTree, SpellsExpr}
-use Rattle.set_expr.proofs.Marks.{Unmarked, Ends, unmarked-word, unmarked-call, unmarked-pair, unmarked-up, unmarked-top, unmarked-name, unmarked-number, part-same, word-same, word-apart}
+use Rattle.set_expr.specs.Fronts.{head_text, Unmarked, Ends}
+use Rattle.set_expr.proofs.Marks.{unmarked-word, unmarked-call, unmarked-pair, unmarked-up, unmarked-top, unmarked-name, unmarked-number, part-same, word-same, word-apart}
 
 -- what a word stands for
-data Form : Type 0 where
+pub data Form : Type 0 where
   AWord : Word → Form
-  ACall : Call → Form
-  APair : PairCall → Form
-  AnUp : Form
-  ATop : Form
+  ACall : Head → Form
 
-abbrev form_of : List ℕ → Option Form
+abbrev pub form_of : List ℕ → Option Form
 form_of text =
     if bytes_eq text (codes "all") then Some (AWord words.All)
     else if bytes_eq text (codes "master") then Some (AWord words.Master)
     else if bytes_eq text (codes "others") then Some (AWord words.Others)
-    else if bytes_eq text (codes "parents") then Some (ACall calls.Parents)
-    else if bytes_eq text (codes "children") then Some (ACall calls.Children)
-    else if bytes_eq text (codes "ancestors") then Some (ACall calls.Ancestors)
-    else if bytes_eq text (codes "descendants") then Some (ACall calls.Descendants)
-    else if bytes_eq text (codes "heads") then Some (ACall calls.Heads)
-    else if bytes_eq text (codes "roots") then Some (ACall calls.Roots)
-    else if bytes_eq text (codes "tips") then Some (ACall calls.Tips)
-    else if bytes_eq text (codes "merges") then Some (ACall calls.Merges)
-    else if bytes_eq text (codes "common") then Some (ACall calls.Common)
-    else if bytes_eq text (codes "gca") then Some (ACall calls.Gca)
-    else if bytes_eq text (codes "range") then Some (APair pairs.Range)
-    else if bytes_eq text (codes "only") then Some (APair pairs.Only)
-    else if bytes_eq text (codes "union") then Some (APair pairs.Union)
-    else if bytes_eq text (codes "inter") then Some (APair pairs.Inter)
-    else if bytes_eq text (codes "minus") then Some (APair pairs.Minus)
-    else if bytes_eq text (codes "up") then Some AnUp
-    else if bytes_eq text (codes "top") then Some ATop
+    else if bytes_eq text (codes "parents") then Some (ACall (heads.Of calls.Parents))
+    else if bytes_eq text (codes "children") then Some (ACall (heads.Of calls.Children))
+    else if bytes_eq text (codes "ancestors") then Some (ACall (heads.Of calls.Ancestors))
+    else if bytes_eq text (codes "descendants") then Some (ACall (heads.Of calls.Descendants))
+    else if bytes_eq text (codes "heads") then Some (ACall (heads.Of calls.Heads))
+    else if bytes_eq text (codes "roots") then Some (ACall (heads.Of calls.Roots))
+    else if bytes_eq text (codes "tips") then Some (ACall (heads.Of calls.Tips))
+    else if bytes_eq text (codes "merges") then Some (ACall (heads.Of calls.Merges))
+    else if bytes_eq text (codes "common") then Some (ACall (heads.Of calls.Common))
+    else if bytes_eq text (codes "gca") then Some (ACall (heads.Of calls.Gca))
+    else if bytes_eq text (codes "range") then Some (ACall (heads.OfTwo pairs.Range))
+    else if bytes_eq text (codes "only") then Some (ACall (heads.OfTwo pairs.Only))
+    else if bytes_eq text (codes "union") then Some (ACall (heads.OfTwo pairs.Union))
+    else if bytes_eq text (codes "inter") then Some (ACall (heads.OfTwo pairs.Inter))
+    else if bytes_eq text (codes "minus") then Some (ACall (heads.OfTwo pairs.Minus))
+    else if bytes_eq text (codes "up") then Some (ACall heads.Up)
+    else if bytes_eq text (codes "top") then Some (ACall heads.Top)
     else None
 
 form-word : (word : Word) → form_of (word_text word) ≡ Some (AWord word)
@@ -53,39 +53,49 @@ form-word words.All = refl
 form-word words.Master = refl
 form-word words.Others = refl
 
-form-call : (call : Call) → form_of (call_text call) ≡ Some (ACall call)
-form-call calls.Parents = refl
-form-call calls.Children = refl
-form-call calls.Ancestors = refl
-form-call calls.Descendants = refl
-form-call calls.Heads = refl
-form-call calls.Roots = refl
-form-call calls.Tips = refl
-form-call calls.Merges = refl
-form-call calls.Common = refl
-form-call calls.Gca = refl
+pub form-head : (head : Head) → form_of (head_text head) ≡ Some (ACall head)
+form-head (heads.Of calls.Parents) = refl
+form-head (heads.Of calls.Children) = refl
+form-head (heads.Of calls.Ancestors) = refl
+form-head (heads.Of calls.Descendants) = refl
+form-head (heads.Of calls.Heads) = refl
+form-head (heads.Of calls.Roots) = refl
+form-head (heads.Of calls.Tips) = refl
+form-head (heads.Of calls.Merges) = refl
+form-head (heads.Of calls.Common) = refl
+form-head (heads.Of calls.Gca) = refl
+form-head (heads.OfTwo pairs.Range) = refl
+form-head (heads.OfTwo pairs.Only) = refl
+form-head (heads.OfTwo pairs.Union) = refl
+form-head (heads.OfTwo pairs.Inter) = refl
+form-head (heads.OfTwo pairs.Minus) = refl
+form-head heads.Up = refl
+form-head heads.Top = refl
 
-form-pair : (call : PairCall) → form_of (pair_text call) ≡ Some (APair call)
-form-pair pairs.Range = refl
-form-pair pairs.Only = refl
-form-pair pairs.Union = refl
-form-pair pairs.Inter = refl
-form-pair pairs.Minus = refl
+-- a word opens one thing
+pub one-head : (h k : Head) → head_text h ≡ head_text k → h ≡ k
+one-head h k e = let same : Some (ACall h) ≡ Some (ACall k) = sym (form-head h) ∙ ap form_of e ∙ form-head k in cc
+
+pub unmarked-head : (head : Head) → Unmarked (head_text head)
+unmarked-head (heads.Of call) = unmarked-call call
+unmarked-head (heads.OfTwo call) = unmarked-pair call
+unmarked-head heads.Up = unmarked-up
+unmarked-head heads.Top = unmarked-top
 
 -- the text is a word, an opening bracket and what is behind it
-record Heads (text : List ℕ) (form : Form) (behind : List ℕ) : Type 0 where
+pub record Heads (text : List ℕ) (form : Form) (behind : List ℕ) : Type 0 where
   pub word : List ℕ
   pub plain : Unmarked word
   pub means : form_of word ≡ Some form
   pub whole : text ≡ word ++ 40 ∷ behind
 
 -- the text is a word with an end behind it
-record Stands (text word rest : List ℕ) : Type 0 where
+pub record Stands (text word rest : List ℕ) : Type 0 where
   pub plain : Unmarked word
   pub ends : Ends rest
   pub whole : text ≡ word ++ rest
 
-heads-one : (text : List ℕ) (form : Form) (word a x : List ℕ) → Unmarked word → form_of word ≡ Some form → text ≡ one_argument word a → Heads (text ++ x) form (a ++ 41 ∷ x)
+abbrev pub heads-one : (text : List ℕ) (form : Form) (word a x : List ℕ) → Unmarked word → form_of word ≡ Some form → text ≡ one_argument word a → Heads (text ++ x) form (a ++ 41 ∷ x)
 heads-one text form word a x plain means is = record {
   word = word;
   plain = plain;
@@ -93,7 +103,7 @@ heads-one text form word a x plain means is = record {
   whole = ap (λ t. t ++ x) is ∙ (let regroup : one_argument word a ++ x ≡ word ++ 40 ∷ (a ++ 41 ∷ x) = simp append_assoc in regroup);
 }
 
-heads-two : (text : List ℕ) (form : Form) (word a b x : List ℕ) → Unmarked word → form_of word ≡ Some form → text ≡ two_arguments word a b → Heads (text ++ x) form (a ++ 44 ∷ (b ++ 41 ∷ x))
+abbrev pub heads-two : (text : List ℕ) (form : Form) (word a b x : List ℕ) → Unmarked word → form_of word ≡ Some form → text ≡ two_arguments word a b → Heads (text ++ x) form (a ++ 44 ∷ (b ++ 41 ∷ x))
 heads-two text form word a b x plain means is = record {
   word = word;
   plain = plain;
@@ -102,22 +112,22 @@ heads-two text form word a b x plain means is = record {
 }
 
 -- two such texts that are the same
-heads-same : (s t : List ℕ) (F G : Form) (x y : List ℕ) → Heads s F x → Heads t G y → s ≡ t → (F ≡ G) × (x ≡ y)
+pub heads-same : (s t : List ℕ) (F G : Form) (x y : List ℕ) → Heads s F x → Heads t G y → s ≡ t → (F ≡ G) × (x ≡ y)
 heads-same s t F G x y h k e =
     let same = part-same 40 h.word x k.word y h.plain.opening k.plain.opening (sym h.whole ∙ e ∙ k.whole) in
     let forms : Some F ≡ Some G = sym h.means ∙ ap form_of same.0 ∙ k.means in
     (cc, same.1)
 
-heads-stand : (s t : List ℕ) (F : Form) (x w y : List ℕ) → Heads s F x → Stands t w y → s ≡ t → ⊥
+pub heads-stand : (s t : List ℕ) (F : Form) (x w y : List ℕ) → Heads s F x → Stands t w y → s ≡ t → ⊥
 heads-stand s t F x w y h k e = word-apart w y h.word x k.plain k.ends h.plain (sym k.whole ∙ sym e ∙ h.whole)
 
-stands-same : (s t u x v y : List ℕ) → Stands s u x → Stands t v y → s ≡ t → (u ≡ v) × (x ≡ y)
+pub stands-same : (s t u x v y : List ℕ) → Stands s u x → Stands t v y → s ≡ t → (u ≡ v) × (x ≡ y)
 stands-same s t u x v y h k e = word-same u x v y h.plain k.plain h.ends k.ends (sym h.whole ∙ e ∙ k.whole)
 
-names-same : (s t : List ℕ) (a b : Name) → SpellsName s a → SpellsName t b → s ≡ t → a ≡ b
+pub names-same : (s t : List ℕ) (a b : Name) → SpellsName s a → SpellsName t b → s ≡ t → a ≡ b
 names-same s t a b h k e = let same : Ok a ≡ Ok b = sym h.1 ∙ ap decode_of e ∙ k.1 in cc
 
-numbers-same : (s t : List ℕ) (m n : ℕ) → SpellsNumber s m → SpellsNumber t n → s ≡ t → m ≡ n
+pub numbers-same : (s t : List ℕ) (m n : ℕ) → SpellsNumber s m → SpellsNumber t n → s ≡ t → m ≡ n
 numbers-same s t m n h k e = decimal_injective m n h.0 k.0 (sym h.1 ∙ e ∙ k.1)
 
 -- a name is longer than any word
@@ -130,32 +140,32 @@ long-name text name word h e = let size = (decode_of-ok text name h.1).2 in let 
     short-word words.Others = omega arith
 
 -- each form, with what is behind its first word
-stand-one : (a x : List ℕ) (name : Name) → SpellsName a name → Ends x → Stands (a ++ x) a x
+pub stand-one : (a x : List ℕ) (name : Name) → SpellsName a name → Ends x → Stands (a ++ x) a x
 stand-one a x name h i = record { plain = unmarked-name a name h; ends = i; whole = refl }
 
-stand-named : (a x : List ℕ) (word : Word) → a ≡ word_text word → Ends x → Stands (a ++ x) a x
+pub stand-named : (a x : List ℕ) (word : Word) → a ≡ word_text word → Ends x → Stands (a ++ x) a x
 stand-named a x word h i = record { plain = subst Unmarked (sym h) (unmarked-word word); ends = i; whole = refl }
 
-head-of : (a x : List ℕ) (call : Call) (s : Expr Name) (h : SpellsTree a (Of call s)) → Heads (a ++ x) (ACall call) (h.0 ++ 41 ∷ x)
-head-of a x call s h = heads-one a (ACall call) (call_text call) h.0 x (unmarked-call call) (form-call call) h.2
+abbrev pub head-of : (a x : List ℕ) (call : Call) (s : Expr Name) (h : SpellsTree a (Of call s)) → Heads (a ++ x) (ACall (heads.Of call)) (h.0 ++ 41 ∷ x)
+head-of a x call s h = heads-one a (ACall (heads.Of call)) (call_text call) h.0 x (unmarked-call call) (form-head (heads.Of call)) h.2
 
-head-two : (a x : List ℕ) (call : PairCall) (s t : Expr Name) (h : SpellsTree a (OfTwo call s t)) → Heads (a ++ x) (APair call) (h.0 ++ 44 ∷ (h.1 ++ 41 ∷ x))
-head-two a x call s t h = heads-two a (APair call) (pair_text call) h.0 h.1 x (unmarked-pair call) (form-pair call) h.4
+abbrev pub head-two : (a x : List ℕ) (call : PairCall) (s t : Expr Name) (h : SpellsTree a (OfTwo call s t)) → Heads (a ++ x) (ACall (heads.OfTwo call)) (h.0 ++ 44 ∷ (h.1 ++ 41 ∷ x))
+head-two a x call s t h = heads-two a (ACall (heads.OfTwo call)) (pair_text call) h.0 h.1 x (unmarked-pair call) (form-head (heads.OfTwo call)) h.4
 
-head-up : (a x : List ℕ) (name : Name) (n : ℕ) (h : SpellsTree a (Up name n)) → Heads (a ++ x) AnUp (h.0 ++ 44 ∷ (h.1 ++ 41 ∷ x))
-head-up a x name n h = heads-two a AnUp (codes "up") h.0 h.1 x unmarked-up refl h.4
+abbrev pub head-up : (a x : List ℕ) (name : Name) (n : ℕ) (h : SpellsTree a (Up name n)) → Heads (a ++ x) (ACall heads.Up) (h.0 ++ 44 ∷ (h.1 ++ 41 ∷ x))
+head-up a x name n h = heads-two a (ACall heads.Up) (codes "up") h.0 h.1 x unmarked-up refl h.4
 
-head-top : (a x : List ℕ) (s : Expr Name) (n : ℕ) (h : SpellsTree a (Top s n)) → Heads (a ++ x) ATop (h.0 ++ 44 ∷ (h.1 ++ 41 ∷ x))
-head-top a x s n h = heads-two a ATop (codes "top") h.0 h.1 x unmarked-top refl h.4
+abbrev pub head-top : (a x : List ℕ) (s : Expr Name) (n : ℕ) (h : SpellsTree a (Top s n)) → Heads (a ++ x) (ACall heads.Top) (h.0 ++ 44 ∷ (h.1 ++ 41 ∷ x))
+head-top a x s n h = heads-two a (ACall heads.Top) (codes "top") h.0 h.1 x unmarked-top refl h.4
 
 -- what stands between a comma and a closing bracket is a number
-number-behind : (s t : List ℕ) (m n : ℕ) (x y : List ℕ) → SpellsNumber s m → SpellsNumber t n → s ++ 41 ∷ x ≡ t ++ 41 ∷ y → (m ≡ n) × (x ≡ y)
+pub number-behind : (s t : List ℕ) (m n : ℕ) (x y : List ℕ) → SpellsNumber s m → SpellsNumber t n → s ++ 41 ∷ x ≡ t ++ 41 ∷ y → (m ≡ n) × (x ≡ y)
 number-behind s t m n x y h k e =
     let same = part-same 41 s x t y (subst Unmarked (sym h.1) (unmarked-number m h.0)).closing (subst Unmarked (sym k.1) (unmarked-number n k.0)).closing e in
     (numbers-same s t m n h k same.0, same.1)
 
 -- two texts with an end behind each
-one-tree : (e f : Expr Name) (a b x y : List ℕ) → SpellsTree a e → SpellsTree b f → Ends x → Ends y → a ++ x ≡ b ++ y → (e ≡ f) × (x ≡ y)
+pub one-tree : (e f : Expr Name) (a b x y : List ℕ) → SpellsTree a e → SpellsTree b f → Ends x → Ends y → a ++ x ≡ b ++ y → (e ≡ f) × (x ≡ y)
 one-tree (One m) (One n) a b x y h k i j e =
     let same = stands-same (a ++ x) (b ++ y) a x b y (stand-one a x m h i) (stand-one b y n k j) e in
     (ap (λ z. One z) (names-same a b m n h k same.0), same.1)
@@ -170,72 +180,72 @@ one-tree (Named v) (Named w) a b x y h k i j e =
     let forms : Some (AWord v) ≡ Some (AWord w) = sym (form-word v) ∙ ap form_of (sym h ∙ same.0 ∙ k) ∙ form-word w in
     let words : v ≡ w = cc in
     (ap (λ z. Named z) words, same.1)
-one-tree (One m) (Of d t) a b x y h k i j e = absurd (heads-stand (b ++ y) (a ++ x) (ACall d) _ a x (head-of b y d t k) (stand-one a x m h i) (sym e))
-one-tree (One m) (OfTwo d t u) a b x y h k i j e = absurd (heads-stand (b ++ y) (a ++ x) (APair d) _ a x (head-two b y d t u k) (stand-one a x m h i) (sym e))
-one-tree (One m) (Up t n) a b x y h k i j e = absurd (heads-stand (b ++ y) (a ++ x) AnUp _ a x (head-up b y t n k) (stand-one a x m h i) (sym e))
-one-tree (One m) (Top t n) a b x y h k i j e = absurd (heads-stand (b ++ y) (a ++ x) ATop _ a x (head-top b y t n k) (stand-one a x m h i) (sym e))
-one-tree (Named v) (Of d t) a b x y h k i j e = absurd (heads-stand (b ++ y) (a ++ x) (ACall d) _ a x (head-of b y d t k) (stand-named a x v h i) (sym e))
-one-tree (Named v) (OfTwo d t u) a b x y h k i j e = absurd (heads-stand (b ++ y) (a ++ x) (APair d) _ a x (head-two b y d t u k) (stand-named a x v h i) (sym e))
-one-tree (Named v) (Up t n) a b x y h k i j e = absurd (heads-stand (b ++ y) (a ++ x) AnUp _ a x (head-up b y t n k) (stand-named a x v h i) (sym e))
-one-tree (Named v) (Top t n) a b x y h k i j e = absurd (heads-stand (b ++ y) (a ++ x) ATop _ a x (head-top b y t n k) (stand-named a x v h i) (sym e))
-one-tree (Of c s) (One n) a b x y h k i j e = absurd (heads-stand (a ++ x) (b ++ y) (ACall c) _ b y (head-of a x c s h) (stand-one b y n k j) e)
-one-tree (Of c s) (Named w) a b x y h k i j e = absurd (heads-stand (a ++ x) (b ++ y) (ACall c) _ b y (head-of a x c s h) (stand-named b y w k j) e)
+one-tree (One m) (Of d t) a b x y h k i j e = absurd (heads-stand (b ++ y) (a ++ x) (ACall (heads.Of d)) _ a x (head-of b y d t k) (stand-one a x m h i) (sym e))
+one-tree (One m) (OfTwo d t u) a b x y h k i j e = absurd (heads-stand (b ++ y) (a ++ x) (ACall (heads.OfTwo d)) _ a x (head-two b y d t u k) (stand-one a x m h i) (sym e))
+one-tree (One m) (Up t n) a b x y h k i j e = absurd (heads-stand (b ++ y) (a ++ x) (ACall heads.Up) _ a x (head-up b y t n k) (stand-one a x m h i) (sym e))
+one-tree (One m) (Top t n) a b x y h k i j e = absurd (heads-stand (b ++ y) (a ++ x) (ACall heads.Top) _ a x (head-top b y t n k) (stand-one a x m h i) (sym e))
+one-tree (Named v) (Of d t) a b x y h k i j e = absurd (heads-stand (b ++ y) (a ++ x) (ACall (heads.Of d)) _ a x (head-of b y d t k) (stand-named a x v h i) (sym e))
+one-tree (Named v) (OfTwo d t u) a b x y h k i j e = absurd (heads-stand (b ++ y) (a ++ x) (ACall (heads.OfTwo d)) _ a x (head-two b y d t u k) (stand-named a x v h i) (sym e))
+one-tree (Named v) (Up t n) a b x y h k i j e = absurd (heads-stand (b ++ y) (a ++ x) (ACall heads.Up) _ a x (head-up b y t n k) (stand-named a x v h i) (sym e))
+one-tree (Named v) (Top t n) a b x y h k i j e = absurd (heads-stand (b ++ y) (a ++ x) (ACall heads.Top) _ a x (head-top b y t n k) (stand-named a x v h i) (sym e))
+one-tree (Of c s) (One n) a b x y h k i j e = absurd (heads-stand (a ++ x) (b ++ y) (ACall (heads.Of c)) _ b y (head-of a x c s h) (stand-one b y n k j) e)
+one-tree (Of c s) (Named w) a b x y h k i j e = absurd (heads-stand (a ++ x) (b ++ y) (ACall (heads.Of c)) _ b y (head-of a x c s h) (stand-named b y w k j) e)
 one-tree (Of c s) (Of d t) a b x y h k i j e =
-    let same = heads-same (a ++ x) (b ++ y) (ACall c) (ACall d) _ _ (head-of a x c s h) (head-of b y d t k) e in
+    let same = heads-same (a ++ x) (b ++ y) (ACall (heads.Of c)) (ACall (heads.Of d)) _ _ (head-of a x c s h) (head-of b y d t k) e in
     let first = one-tree s t h.0 k.0 (41 ∷ x) (41 ∷ y) h.1 k.1 (inl refl) (inl refl) same.1 in
-    let form : ACall c ≡ ACall d = same.0 in
+    let form : ACall (heads.Of c) ≡ ACall (heads.Of d) = same.0 in
     let calls : c ≡ d = cc in
     let tail : 41 ∷ x ≡ 41 ∷ y = first.1 in
     (ap₂ {C = Expr Name} (λ p q. Of p q) calls first.0, cc)
 one-tree (Of c s) (OfTwo d t u) a b x y h k i j e =
-    let same = (heads-same (a ++ x) (b ++ y) (ACall c) (APair d) _ _ (head-of a x c s h) (head-two b y d t u k) e).0 in cc
+    let same = (heads-same (a ++ x) (b ++ y) (ACall (heads.Of c)) (ACall (heads.OfTwo d)) _ _ (head-of a x c s h) (head-two b y d t u k) e).0 in cc
 one-tree (Of c s) (Up t n) a b x y h k i j e =
-    let same = (heads-same (a ++ x) (b ++ y) (ACall c) AnUp _ _ (head-of a x c s h) (head-up b y t n k) e).0 in cc
+    let same = (heads-same (a ++ x) (b ++ y) (ACall (heads.Of c)) (ACall heads.Up) _ _ (head-of a x c s h) (head-up b y t n k) e).0 in cc
 one-tree (Of c s) (Top t n) a b x y h k i j e =
-    let same = (heads-same (a ++ x) (b ++ y) (ACall c) ATop _ _ (head-of a x c s h) (head-top b y t n k) e).0 in cc
-one-tree (OfTwo c s u) (One n) a b x y h k i j e = absurd (heads-stand (a ++ x) (b ++ y) (APair c) _ b y (head-two a x c s u h) (stand-one b y n k j) e)
-one-tree (OfTwo c s u) (Named w) a b x y h k i j e = absurd (heads-stand (a ++ x) (b ++ y) (APair c) _ b y (head-two a x c s u h) (stand-named b y w k j) e)
+    let same = (heads-same (a ++ x) (b ++ y) (ACall (heads.Of c)) (ACall heads.Top) _ _ (head-of a x c s h) (head-top b y t n k) e).0 in cc
+one-tree (OfTwo c s u) (One n) a b x y h k i j e = absurd (heads-stand (a ++ x) (b ++ y) (ACall (heads.OfTwo c)) _ b y (head-two a x c s u h) (stand-one b y n k j) e)
+one-tree (OfTwo c s u) (Named w) a b x y h k i j e = absurd (heads-stand (a ++ x) (b ++ y) (ACall (heads.OfTwo c)) _ b y (head-two a x c s u h) (stand-named b y w k j) e)
 one-tree (OfTwo c s u) (Of d t) a b x y h k i j e =
-    let same = (heads-same (a ++ x) (b ++ y) (APair c) (ACall d) _ _ (head-two a x c s u h) (head-of b y d t k) e).0 in cc
+    let same = (heads-same (a ++ x) (b ++ y) (ACall (heads.OfTwo c)) (ACall (heads.Of d)) _ _ (head-two a x c s u h) (head-of b y d t k) e).0 in cc
 one-tree (OfTwo c s u) (OfTwo d t v) a b x y h k i j e =
-    let same = heads-same (a ++ x) (b ++ y) (APair c) (APair d) _ _ (head-two a x c s u h) (head-two b y d t v k) e in
+    let same = heads-same (a ++ x) (b ++ y) (ACall (heads.OfTwo c)) (ACall (heads.OfTwo d)) _ _ (head-two a x c s u h) (head-two b y d t v k) e in
     let first = one-tree s t h.0 k.0 (44 ∷ (h.1 ++ 41 ∷ x)) (44 ∷ (k.1 ++ 41 ∷ y)) h.2 k.2 (inr refl) (inr refl) same.1 in
     let behind : 44 ∷ (h.1 ++ 41 ∷ x) ≡ 44 ∷ (k.1 ++ 41 ∷ y) = first.1 in
     let inner : h.1 ++ 41 ∷ x ≡ k.1 ++ 41 ∷ y = cc in
     let second = one-tree u v h.1 k.1 (41 ∷ x) (41 ∷ y) h.3 k.3 (inl refl) (inl refl) inner in
-    let form : APair c ≡ APair d = same.0 in
+    let form : ACall (heads.OfTwo c) ≡ ACall (heads.OfTwo d) = same.0 in
     let calls : c ≡ d = cc in
     let firsts : s ≡ t = first.0 in
     let seconds : u ≡ v = second.0 in
     let tail : 41 ∷ x ≡ 41 ∷ y = second.1 in
     (cc, cc)
 one-tree (OfTwo c s u) (Up t n) a b x y h k i j e =
-    let same = (heads-same (a ++ x) (b ++ y) (APair c) AnUp _ _ (head-two a x c s u h) (head-up b y t n k) e).0 in cc
+    let same = (heads-same (a ++ x) (b ++ y) (ACall (heads.OfTwo c)) (ACall heads.Up) _ _ (head-two a x c s u h) (head-up b y t n k) e).0 in cc
 one-tree (OfTwo c s u) (Top t n) a b x y h k i j e =
-    let same = (heads-same (a ++ x) (b ++ y) (APair c) ATop _ _ (head-two a x c s u h) (head-top b y t n k) e).0 in cc
-one-tree (Up s m) (One n) a b x y h k i j e = absurd (heads-stand (a ++ x) (b ++ y) AnUp _ b y (head-up a x s m h) (stand-one b y n k j) e)
-one-tree (Up s m) (Named w) a b x y h k i j e = absurd (heads-stand (a ++ x) (b ++ y) AnUp _ b y (head-up a x s m h) (stand-named b y w k j) e)
+    let same = (heads-same (a ++ x) (b ++ y) (ACall (heads.OfTwo c)) (ACall heads.Top) _ _ (head-two a x c s u h) (head-top b y t n k) e).0 in cc
+one-tree (Up s m) (One n) a b x y h k i j e = absurd (heads-stand (a ++ x) (b ++ y) (ACall heads.Up) _ b y (head-up a x s m h) (stand-one b y n k j) e)
+one-tree (Up s m) (Named w) a b x y h k i j e = absurd (heads-stand (a ++ x) (b ++ y) (ACall heads.Up) _ b y (head-up a x s m h) (stand-named b y w k j) e)
 one-tree (Up s m) (Of d t) a b x y h k i j e =
-    let same = (heads-same (a ++ x) (b ++ y) AnUp (ACall d) _ _ (head-up a x s m h) (head-of b y d t k) e).0 in cc
+    let same = (heads-same (a ++ x) (b ++ y) (ACall heads.Up) (ACall (heads.Of d)) _ _ (head-up a x s m h) (head-of b y d t k) e).0 in cc
 one-tree (Up s m) (OfTwo d t u) a b x y h k i j e =
-    let same = (heads-same (a ++ x) (b ++ y) AnUp (APair d) _ _ (head-up a x s m h) (head-two b y d t u k) e).0 in cc
+    let same = (heads-same (a ++ x) (b ++ y) (ACall heads.Up) (ACall (heads.OfTwo d)) _ _ (head-up a x s m h) (head-two b y d t u k) e).0 in cc
 one-tree (Up s m) (Up t n) a b x y h k i j e =
-    let same = heads-same (a ++ x) (b ++ y) AnUp AnUp _ _ (head-up a x s m h) (head-up b y t n k) e in
+    let same = heads-same (a ++ x) (b ++ y) (ACall heads.Up) (ACall heads.Up) _ _ (head-up a x s m h) (head-up b y t n k) e in
     let first = part-same 44 h.0 (h.1 ++ 41 ∷ x) k.0 (k.1 ++ 41 ∷ y) (unmarked-name h.0 s h.2).comma (unmarked-name k.0 t k.2).comma same.1 in
     let second = number-behind h.1 k.1 m n x y h.3 k.3 first.1 in
     (ap₂ {C = Expr Name} (λ p q. Up p q) (names-same h.0 k.0 s t h.2 k.2 first.0) second.0, second.1)
 one-tree (Up s m) (Top t n) a b x y h k i j e =
-    let same = (heads-same (a ++ x) (b ++ y) AnUp ATop _ _ (head-up a x s m h) (head-top b y t n k) e).0 in cc
-one-tree (Top s m) (One n) a b x y h k i j e = absurd (heads-stand (a ++ x) (b ++ y) ATop _ b y (head-top a x s m h) (stand-one b y n k j) e)
-one-tree (Top s m) (Named w) a b x y h k i j e = absurd (heads-stand (a ++ x) (b ++ y) ATop _ b y (head-top a x s m h) (stand-named b y w k j) e)
+    let same = (heads-same (a ++ x) (b ++ y) (ACall heads.Up) (ACall heads.Top) _ _ (head-up a x s m h) (head-top b y t n k) e).0 in cc
+one-tree (Top s m) (One n) a b x y h k i j e = absurd (heads-stand (a ++ x) (b ++ y) (ACall heads.Top) _ b y (head-top a x s m h) (stand-one b y n k j) e)
+one-tree (Top s m) (Named w) a b x y h k i j e = absurd (heads-stand (a ++ x) (b ++ y) (ACall heads.Top) _ b y (head-top a x s m h) (stand-named b y w k j) e)
 one-tree (Top s m) (Of d t) a b x y h k i j e =
-    let same = (heads-same (a ++ x) (b ++ y) ATop (ACall d) _ _ (head-top a x s m h) (head-of b y d t k) e).0 in cc
+    let same = (heads-same (a ++ x) (b ++ y) (ACall heads.Top) (ACall (heads.Of d)) _ _ (head-top a x s m h) (head-of b y d t k) e).0 in cc
 one-tree (Top s m) (OfTwo d t u) a b x y h k i j e =
-    let same = (heads-same (a ++ x) (b ++ y) ATop (APair d) _ _ (head-top a x s m h) (head-two b y d t u k) e).0 in cc
+    let same = (heads-same (a ++ x) (b ++ y) (ACall heads.Top) (ACall (heads.OfTwo d)) _ _ (head-top a x s m h) (head-two b y d t u k) e).0 in cc
 one-tree (Top s m) (Up t n) a b x y h k i j e =
-    let same = (heads-same (a ++ x) (b ++ y) ATop AnUp _ _ (head-top a x s m h) (head-up b y t n k) e).0 in cc
+    let same = (heads-same (a ++ x) (b ++ y) (ACall heads.Top) (ACall heads.Up) _ _ (head-top a x s m h) (head-up b y t n k) e).0 in cc
 one-tree (Top s m) (Top t n) a b x y h k i j e =
-    let same = heads-same (a ++ x) (b ++ y) ATop ATop _ _ (head-top a x s m h) (head-top b y t n k) e in
+    let same = heads-same (a ++ x) (b ++ y) (ACall heads.Top) (ACall heads.Top) _ _ (head-top a x s m h) (head-top b y t n k) e in
     let first = one-tree s t h.0 k.0 (44 ∷ (h.1 ++ 41 ∷ x)) (44 ∷ (k.1 ++ 41 ∷ y)) h.2 k.2 (inr refl) (inr refl) same.1 in
     let behind : 44 ∷ (h.1 ++ 41 ∷ x) ≡ 44 ∷ (k.1 ++ 41 ∷ y) = first.1 in
     let inner : h.1 ++ 41 ∷ x ≡ k.1 ++ 41 ∷ y = cc in

@@ -171,7 +171,7 @@ module _ {M N : Type 0} (f : M → N) (g : Graph M) (h : Graph N) (r : IsRenamin
     filtered-from (x ∷ xs) ys i (inr e) = let q = filtered-from xs ys (λ z j. i z (inr j)) e.1 in
         (q.0, inr (λ s. e.0 (a.to x s), q.1), q.2)
 
-    top-agree : (n : ℕ) → Agrees f g (sets.top g S n) (sets.top h T n)
+    pub top-agree : (n : ℕ) → Agrees f g (sets.top g S n) (sets.top h T n)
     top-agree n = record {
       to = λ x s. (map f s.0, subst (λ l. IsFiltered T l (map f s.0)) (sym r.down) (filtered-to g.down s.0 (λ z j. j) s.1), subst (IsIn (f x)) (sym (map-take f n s.0)) (in-map f x (take n s.0) s.2));
       from = λ y t. let q = filtered-from g.down t.0 (λ z j. j) (subst (λ l. IsFiltered T l t.0) r.down t.1) in
@@ -205,7 +205,7 @@ module _ {M N : Type 0} (f : M → N) (g : Graph M) (h : Graph N) (r : IsRenamin
   heads-agree : (S : Commits M) (T : Commits N) → Agrees f g S T → Agrees f g (sets.heads g S) (sets.heads h T)
   heads-agree S T a = minus-agree S (sets.parents g S) T (sets.parents h T) a (parents-agree S T a)
 
-  call-agree : (call : Call) (S : Commits M) (T : Commits N) → Agrees f g S T → Agrees f g (made_of g call S) (made_of h call T)
+  pub call-agree : (call : Call) (S : Commits M) (T : Commits N) → Agrees f g S T → Agrees f g (made_of g call S) (made_of h call T)
   call-agree calls.Parents S T a = parents-agree S T a
   call-agree calls.Children S T a = children-agree S T a
   call-agree calls.Ancestors S T a = ancestors-agree S T a
@@ -217,7 +217,7 @@ module _ {M N : Type 0} (f : M → N) (g : Graph M) (h : Graph N) (r : IsRenamin
   call-agree calls.Common S T a = common-agree S T a
   call-agree calls.Gca S T a = heads-agree (sets.common g S) (sets.common h T) (common-agree S T a)
 
-  pair-agree : (call : PairCall) (S A : Commits M) (T B : Commits N) → Agrees f g S T → Agrees f g A B → Agrees f g (made_of_two g call S A) (made_of_two h call T B)
+  pub pair-agree : (call : PairCall) (S A : Commits M) (T B : Commits N) → Agrees f g S T → Agrees f g A B → Agrees f g (made_of_two g call S A) (made_of_two h call T B)
   pair-agree pairs.Range S A T B a b = inter-agree (sets.descendants g S) (sets.ancestors g A) (sets.descendants h T) (sets.ancestors h B) (descendants-agree S T a) (ancestors-agree A B b)
   pair-agree pairs.Only S A T B a b = minus-agree (sets.ancestors g S) (sets.ancestors g A) (sets.ancestors h T) (sets.ancestors h B) (ancestors-agree S T a) (ancestors-agree A B b)
   pair-agree pairs.Union S A T B a b = union-agree S A T B a b

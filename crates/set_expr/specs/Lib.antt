@@ -1,8 +1,8 @@
 pub mod Expr
 pub mod Meaning
 pub mod Spelling
+pub mod Fronts
 pub mod Computed
-pub mod Built
 pub mod Tree
 pub mod Whole
 pub mod Ids

@@ -1,11 +1,10 @@
 //! Expressions that were parsed.
 
-ghost use Rattle.std.specs.Prelude.{◌≡◌, ◌≤◌, length, IsTrue};
+ghost use Rattle.std.specs.Prelude.{◌≡◌, ◌≤◌, length};
 ghost use Rattle.set_expr.specs.Expr.{commits_in};
-ghost use Rattle.set_expr.specs.Built.{is_built};
 ghost use Rattle.set_expr.specs.Tree.{tree_in};
 
-use crate::parse::read_tree;
+use crate::parse::{Reading, read_tree};
 use crate::{ExprFault, Tree};
 use id_groups::Name;
 use std::alloc::Global;
@@ -13,13 +12,15 @@ use std::alloc::Global;
 /// How deep the calls of an expression may stand in one another.
 const MOST_LEVELS: u32 = 32;
 
+/// How many nodes an expression may have: its names, words and calls.
+const MOST_NODES: u32 = 256;
+
 /// An expression over sets of commits. `Expr::parse` alone makes one.
 #[derive(Drop)]
 pub struct Expr {
     tree: Tree,
     /// The commits that the tree names, in text order.
     names: Vec<Name>,
-    ghost built: { IsTrue (is_built (tree_in tree)) },
     ghost all: { names.items ≡ commits_in (tree_in tree) },
     ghost few: { length names.items ≤ 256 },
 }
@@ -28,23 +29,32 @@ impl Expr {
     ghost use Rattle.set_expr.specs.Whole.{tree_of};
     ghost use Rattle.std.specs.Prelude.{◌<◌, IfOk, Some, slice_get};
     ghost use Rattle.id_groups.specs.Name.{Name as NameBytes};
-    ghost use Rattle.set_expr.specs.Built.{SpellsBuilt};
     ghost use Rattle.set_expr.specs.Expr.{Expr as Meant};
+    ghost use Rattle.set_expr.specs.Spelling.{SpellsExpr};
 
-    /// The expression that the text spells; `Syntax` exactly where it spells none of those that are built.
+    /// The expression that the text spells; `Syntax` exactly where it spells none.
     pub fn parse(alloc: Global, text: &[u8]) -> Result<Expr, ExprFault>
-        ensures ok { IfOk result (λ e. SpellsBuilt text.now (tree_of e)) }
-        ensures syntax { result ≡ Err ExprFault.Syntax → (e : Meant NameBytes) → ¬ (SpellsBuilt text.now e) }
+        ensures ok { IfOk result (λ e. SpellsExpr text.now (tree_of e)) }
+        ensures syntax { result ≡ Err ExprFault.Syntax → (e : Meant NameBytes) → ¬ (SpellsExpr text.now e) }
     {
-        let mut names = Vec::new(alloc);
-        let tree = read_tree(alloc, text, MOST_LEVELS, &mut names)?;
-        Ok(Expr { tree, names })
+        let mut reading = Reading {
+            nodes: MOST_NODES,
+            names: Vec::new(alloc),
+        };
+        let front = read_tree(alloc, text, MOST_LEVELS, &mut reading)?;
+        if !front.rest.is_empty() {
+            return Err(ExprFault::Syntax);
+        }
+        Ok(Expr {
+            tree: front.tree,
+            names: reading.names,
+        })
     }
 
     /// How the expression is made.
     pub fn tree<'a>(&'a self) -> &'a Tree
         ensures same { tree_in result.now ≡ tree_of self.now }
-        ensures built { IsTrue (is_built (tree_of self.now)) }
+        ensures few { length (commits_in (tree_of self.now)) ≤ 256 }
     {
         &self.tree
     }

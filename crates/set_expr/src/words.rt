@@ -1,8 +1,8 @@
 //! The words of expressions.
 
-ghost use Rattle.std.specs.Prelude.{◌≡◌, IfSome, IfNone, IsTrue};
-ghost use Rattle.set_expr.specs.Built.{is_built_word, is_built_call};
-ghost use Rattle.set_expr.specs.Spelling.{word_text, call_text};
+ghost use Rattle.std.specs.Prelude.{◌≡◌, IfSome, IfNone};
+ghost use Rattle.set_expr.specs.Fronts.{head_text};
+ghost use Rattle.set_expr.specs.Spelling.{word_text, call_text, pair_text};
 
 /// A set that one word names.
 #[derive(Clone, Copy, Debug, PartialEq, Eq)]
@@ -55,27 +55,100 @@ pub enum PairCall {
     Minus,
 }
 
-/// The word that the text is, of those that are built.
-pub(crate) fn built_word(text: &[u8]) -> Option<Word>
-    ensures some { IfSome result (λ word. IsTrue (is_built_word word) × (text.now ≡ word_text word)) }
-    ensures none { IfNone result ((word : Word) → IsTrue (is_built_word word) → ¬ (text.now ≡ word_text word)) }
+/// What a bracket opens, by the word before it.
+#[derive(Clone, Copy, Debug, PartialEq, Eq)]
+pub enum Head {
+    /// A call of one set.
+    Of(Call),
+    /// A call of two sets.
+    OfTwo(PairCall),
+    /// A commit and how many first parents to go up.
+    Up,
+    /// A set and how many of its members to take.
+    Top,
+}
+
+/// The set whose word the text is.
+pub(crate) fn word_of(text: &[u8]) -> Option<Word>
+    ensures some { IfSome result (λ word. text.now ≡ word_text word) }
+    ensures none { IfNone result ((word : Word) → ¬ (text.now ≡ word_text word)) }
 {
     if text == b"all".as_slice() {
         Some(Word::All)
+    } else if text == b"master".as_slice() {
+        Some(Word::Master)
+    } else if text == b"others".as_slice() {
+        Some(Word::Others)
     } else {
         None
     }
 }
 
-/// The call whose word the text is, of those that are built.
-pub(crate) fn built_call(text: &[u8]) -> Option<Call>
-    ensures some { IfSome result (λ call. IsTrue (is_built_call call) × (text.now ≡ call_text call)) }
-    ensures none { IfNone result ((call : Call) → IsTrue (is_built_call call) → ¬ (text.now ≡ call_text call)) }
+/// The call of one set whose word the text is.
+fn call_of(text: &[u8]) -> Option<Call>
+    ensures some { IfSome result (λ call. text.now ≡ call_text call) }
+    ensures none { IfNone result ((call : Call) → ¬ (text.now ≡ call_text call)) }
 {
     if text == b"parents".as_slice() {
         Some(Call::Parents)
+    } else if text == b"children".as_slice() {
+        Some(Call::Children)
     } else if text == b"ancestors".as_slice() {
         Some(Call::Ancestors)
+    } else if text == b"descendants".as_slice() {
+        Some(Call::Descendants)
+    } else if text == b"heads".as_slice() {
+        Some(Call::Heads)
+    } else if text == b"roots".as_slice() {
+        Some(Call::Roots)
+    } else if text == b"tips".as_slice() {
+        Some(Call::Tips)
+    } else if text == b"merges".as_slice() {
+        Some(Call::Merges)
+    } else if text == b"common".as_slice() {
+        Some(Call::Common)
+    } else if text == b"gca".as_slice() {
+        Some(Call::Gca)
+    } else {
+        None
+    }
+}
+
+/// The call of two sets whose word the text is.
+fn pair_of(text: &[u8]) -> Option<PairCall>
+    ensures some { IfSome result (λ call. text.now ≡ pair_text call) }
+    ensures none { IfNone result ((call : PairCall) → ¬ (text.now ≡ pair_text call)) }
+{
+    if text == b"range".as_slice() {
+        Some(PairCall::Range)
+    } else if text == b"only".as_slice() {
+        Some(PairCall::Only)
+    } else if text == b"union".as_slice() {
+        Some(PairCall::Union)
+    } else if text == b"inter".as_slice() {
+        Some(PairCall::Inter)
+    } else if text == b"minus".as_slice() {
+        Some(PairCall::Minus)
+    } else {
+        None
+    }
+}
+
+/// What the word opens.
+pub(crate) fn head_of(text: &[u8]) -> Option<Head>
+    ensures some { IfSome result (λ head. text.now ≡ head_text head) }
+    ensures none { IfNone result ((head : Head) → ¬ (text.now ≡ head_text head)) }
+{
+    if let Some(call) = call_of(text) {
+        return Some(Head::Of(call));
+    }
+    if let Some(call) = pair_of(text) {
+        return Some(Head::OfTwo(call));
+    }
+    if text == b"up".as_slice() {
+        Some(Head::Up)
+    } else if text == b"top".as_slice() {
+        Some(Head::Top)
     } else {
         None
     }

@@ -1,2 +1,2 @@
 pub mod Ids
-pub mod Closing
+pub mod Alike

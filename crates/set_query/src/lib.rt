@@ -3,6 +3,7 @@
 //! The answers of expressions over a table of segments.
 
 mod evaluation;
+mod forms;
 mod laws;
 
 pub use evaluation::{Answer, eval};

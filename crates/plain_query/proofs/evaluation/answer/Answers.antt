@@ -4,7 +4,7 @@ use Rattle.commit_graph.specs.World.{rows_of}
 use Rattle.commit_graph.specs.Graph.{graph_of}
 use Rattle.set_expr.specs.Expr.{Expr}
 use Rattle.set_expr.specs.Meaning.{IsMember}
-use Rattle.set_expr.specs.Whole.{tree_of}
+use Rattle.plain_query.specs.Plain.{tree_of}
 use Rattle.plain_query.proofs.Filtering.{filtered-push, filtered-keep}
 use Rattle.plain_query.proofs.evaluation.answer.Goals as goal
 

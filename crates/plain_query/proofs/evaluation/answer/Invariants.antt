@@ -3,7 +3,7 @@ use Rattle.id_groups.specs.Name.{same_name}
 use Rattle.commit_graph.specs.World.{rows_of}
 use Rattle.commit_graph.specs.Graph.{graph_of}
 use Rattle.set_expr.specs.Meaning.{IsMember}
-use Rattle.set_expr.specs.Whole.{tree_of}
+use Rattle.plain_query.specs.Plain.{tree_of}
 use Rattle.plain_query.proofs.Filtering.{down_to}
 use Rattle.plain_query.proofs.evaluation.answer.Given as goal
 

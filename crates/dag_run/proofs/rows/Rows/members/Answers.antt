@@ -2,7 +2,7 @@ use Rattle.std.proofs.Common.{subst}
 use Rattle.id_groups.specs.Name.{same_name}
 use Rattle.commit_graph.specs.Graph.{graph_of}
 use Rattle.set_expr.specs.Meaning.{IsAnswer}
-use Rattle.set_expr.specs.Whole.{tree_of}
+use Rattle.plain_query.specs.Plain.{tree_of}
 use Rattle.dag_run.proofs.StepLemmas.{no-refusal}
 use Rattle.dag_run.proofs.rows.Rows.members.Goals as goal
 

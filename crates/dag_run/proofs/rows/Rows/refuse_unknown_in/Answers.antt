@@ -1,6 +1,6 @@
 use Rattle.std.proofs.Common.{ap, sym}
 use Rattle.set_expr.specs.Expr.{commits_in}
-use Rattle.set_expr.specs.Whole.{tree_of}
+use Rattle.plain_query.specs.Plain.{tree_of}
 use Rattle.dag_run.specs.State.{view_of}
 use Rattle.dag_run.specs.Verdict.{verdict}
 use Rattle.dag_run.proofs.RowsLemmas.{looked-up-none, looked-up-some}

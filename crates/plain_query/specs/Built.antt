@@ -1,12 +1,12 @@
--- The part of the language that is built. What is not built is read as if it weren't spelled right.
-use Rattle.std.specs.Prelude.{ℕ, ◌≤◌, Bool, true, false, ◌&&◌, IsTrue, List}
+-- What of the expression language is answered over plain rows.
+use Rattle.std.specs.Prelude.{ℕ, Bool, true, false, ◌&&◌, IsTrue, List}
 use Rattle.id_groups.specs.Name.{Name}
 use Rattle.set_expr.specs.declared.words.Word.{Word}
 use Rattle.set_expr.specs.declared.words.Word.TheVariants as words
 use Rattle.set_expr.specs.declared.words.Call.{Call}
 use Rattle.set_expr.specs.declared.words.Call.TheVariants as calls
-use Rattle.set_expr.specs.Expr.{Expr, One, Named, Of, OfTwo, Up, Top, depth}
-use Rattle.set_expr.specs.Spelling.{SpellsTree, SpellsExpr}
+use Rattle.set_expr.specs.Expr.{Expr, One, Named, Of, OfTwo, Up, Top}
+use Rattle.set_expr.specs.Spelling.{SpellsExpr}
 
 -- the words that are built: all
 abbrev pub is_built_word : Word → Bool
@@ -39,7 +39,3 @@ is_built (Top s n) = false
 -- the text spells the expression, which is built
 abbrev pub SpellsBuilt : List ℕ → Expr Name → Type 0
 SpellsBuilt text e = SpellsExpr text e × IsTrue (is_built e)
-
--- the text spells the expression, which is built and has at most so many levels
-abbrev pub SpellsWithin : List ℕ → ℕ → Expr Name → Type 0
-SpellsWithin text levels e = SpellsTree text e × IsTrue (is_built e) × (depth e ≤ levels)
