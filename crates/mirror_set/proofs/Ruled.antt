@@ -28,9 +28,14 @@ module _ (Left Does : Mirror → Mirror → Type 0) (to : (m n : Mirror) → Lef
   failed-length (m ∷ ms) (n ∷ ns) f = ap suc (failed-length ms ns f.2)
 
   answered-ruled : (Right : Mirror → Type 0) (before now : List Mirror) (end : Option MirrorFault) → (end ≡ None) ⊎ (end ≡ Some Memory) → Answered Left Right before now → IsOneAsk Does before end now
-  answered-ruled Right before now end which a =
-      (take a.count before, a.moved, a.first ∷ a.rest, sym (front-back a.count before) ∙ ap (λ l. take a.count before ++ l) a.was,
-      failed-zip (take a.count before) a.moved a.failed, (a.next, to a.first a.next a.left, a.is, which))
+  answered-ruled Right before now end which a = (
+    take a.count before,
+    a.moved,
+    a.first ∷ a.rest,
+    sym (front-back a.count before) ∙ ap (λ l. take a.count before ++ l) a.was,
+    failed-zip (take a.count before) a.moved a.failed,
+    (a.next, to a.first a.next a.left, a.is, which),
+  )
 
   none-ruled : (n : ℕ) (ns : List Mirror) → n ≡ length ns → 0 < n → Some (AllFailed n) ≡ Some (none_answered ns)
   none-ruled n [] e lt = absurd (omega (arith, e, lt))

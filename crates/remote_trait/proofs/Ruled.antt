@@ -109,8 +109,8 @@ module _ (g : Graph Name) (x : Name) where
   line (suc room) back (y ∷ got) le each all =
       let here : ancestor-at back ≡ Some y = let same : back + 0 ≡ back = omega arith in subst (λ n. ancestor-at n ≡ Some y) same (each 0 (omega arith)) in
       let rest = line room (back + 1) got (omega (arith, le))
-          (λ k lt. let same : back + suc k ≡ back + 1 + k = omega arith in subst (λ n. ancestor-at n ≡ slice_get got k) same (each (suc k) (omega (arith, lt))))
-          (λ lt. let same : back + suc (length got) ≡ back + 1 + length got = omega arith in subst (λ n. ancestor-at n ≡ None) same (all (omega (arith, lt)))) in
+      (λ k lt. let same : back + suc k ≡ back + 1 + k = omega arith in subst (λ n. ancestor-at n ≡ slice_get got k) same (each (suc k) (omega (arith, lt))))
+      (λ lt. let same : back + suc (length got) ≡ back + 1 + length got = omega arith in subst (λ n. ancestor-at n ≡ None) same (all (omega (arith, lt)))) in
       ap (λ l. y ∷ l) rest ∙ sym (ap (λ o. cons_option o (filter_map ancestor-at (range_with_len (back + 1) room))) here)
 
 unreversed : (x : Name) (xs : List Name) → IsIn x (reverse xs) → IsIn x xs
