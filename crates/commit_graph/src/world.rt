@@ -63,6 +63,15 @@ impl World {
         }))
     }
 
+    /// The world with this one's master and no others.
+    pub fn master_alone(self) -> World
+        ensures { result ≡ record { master = self.master; others = [] } }
+    {
+        let World { master, mut others } = self;
+        others.clear();
+        World { master, others }
+    }
+
     /// How many commits master has: at most 2^32.
     pub fn master_count(&self) -> u64
         ensures count { result ≡ length self.now.master }

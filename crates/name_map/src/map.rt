@@ -1,6 +1,6 @@
 //! The map, and its look-ups.
 
-ghost use Rattle.std.specs.Prelude.{◌≡◌, ◌<◌, ◌≤◌, ◌+◌, ◌^◌, length, ◌∷◌, ◌++◌, List, [], OnOk, OnErr};
+ghost use Rattle.std.specs.Prelude.{◌≡◌, ◌<◌, ◌≤◌, ◌+◌, ◌^◌, length, ◌∷◌, ◌++◌, List, [], OnOk, OnErr, IfSome};
 ghost use Rattle.id_groups.specs.Lists.{AreDistinct};
 ghost use Rattle.batch_codec.specs.Lent.{payload_of};
 ghost use Rattle.batch_codec.specs.Payload.{payload_bytes};
@@ -102,7 +102,8 @@ impl NameMap {
 
     /// The master id below `below` with the known name; `None` exactly where there is none.
     pub fn id(&self, bytes: &[u8], name: NameRef<'_>, below: u64) -> Option<Id>
-        ensures { (added : List Placed) → IsMapOf self.now added → AllStand bytes.now added → IsIdOf (known_of added) name.entry.bytes.now below result }
+        ensures below { IfSome result (λ id. id < below) }
+        ensures id { (added : List Placed) → IsMapOf self.now added → AllStand bytes.now added → IsIdOf (known_of added) name.entry.bytes.now below result }
     {
         let place = self.index.find(bytes, name)?;
         let id = id_before(bytes, place)?;

@@ -7,22 +7,22 @@ use Rattle.name_map.proofs.Answers.{id-missing, reads, id-below, id-above}
 use Rattle.name_map.proofs.Standing.{names-stand}
 use Rattle.name_map.proofs.map.NameMap.id.Goals as goal
 
-pub returns-in_err-place : goal.returns-in_err-place
-returns-in_err-place c = λ added is stand.
+pub returns-in_err-place-clause-id : goal.returns-in_err-place-clause-id
+returns-in_err-place-clause-id c = λ added is stand.
     let index = subst (λ (m : PlainMap). IsIndexOf m.index (named_of added)) (sym c.self.view_is) is.index in
     let none = c.in_err-place.ensures (named_of added) index (names-stand c.args.bytes.now added is.follow stand) in
     subst (IsIdOf (known_of added) c.args.name.bytes.now c.args.below) (sym c.from_residual.ensures) (id-missing added c.args.name.bytes.now c.args.below none)
 
-pub returns-in_err-id : goal.returns-in_err-id
-returns-in_err-id c = λ added is stand.
+pub returns-in_err-id-clause-id : goal.returns-in_err-id-clause-id
+returns-in_err-id-clause-id c = λ added is stand.
     let index = subst (λ (m : PlainMap). IsIndexOf m.index (named_of added)) (sym c.self.view_is) is.index in
     let found = c.in_ok-place.ensures (named_of added) index (names-stand c.args.bytes.now added is.follow stand) in
     let r = reads c.args.bytes.now added c.args.name.bytes.now c.in_ok-place.place is.follow stand found in
     let some = c.in_err-id.ensures r.id r.small r.behind r.within r.is in
     absurd (cc some)
 
-pub returns-then-number-below : goal.returns-then-number-below
-returns-then-number-below c = λ added is stand.
+pub returns-then-number-below-clause-id : goal.returns-then-number-below-clause-id
+returns-then-number-below-clause-id c = λ added is stand.
     let index = subst (λ (m : PlainMap). IsIndexOf m.index (named_of added)) (sym c.self.view_is) is.index in
     let found = c.in_ok-place.ensures (named_of added) index (names-stand c.args.bytes.now added is.follow stand) in
     let r = reads c.args.bytes.now added c.args.name.bytes.now c.in_ok-place.place is.follow stand found in
@@ -30,8 +30,8 @@ returns-then-number-below c = λ added is stand.
     let below = c.if-number-below.true in let number = c.number.ensures.number in
     id-below added c.args.name.bytes.now c.args.below c.in_ok-id.id r.id same (omega (arith, below, number)) r.is_known
 
-pub returns-else-number-below : goal.returns-else-number-below
-returns-else-number-below c = λ added is stand.
+pub returns-else-number-below-clause-id : goal.returns-else-number-below-clause-id
+returns-else-number-below-clause-id c = λ added is stand.
     let index = subst (λ (m : PlainMap). IsIndexOf m.index (named_of added)) (sym c.self.view_is) is.index in
     let found = c.in_ok-place.ensures (named_of added) index (names-stand c.args.bytes.now added is.follow stand) in
     let r = reads c.args.bytes.now added c.args.name.bytes.now c.in_ok-place.place is.follow stand found in
