@@ -87,6 +87,21 @@ impl FlatTable {
         }
     }
 
+    /// How many segments are kept.
+    pub fn len(&self) -> usize
+        ensures { result ≡ length self.now.entries }
+    {
+        self.entries.len()
+    }
+
+    /// Takes back what was added last: so many of the entries stay, up to this master count.
+    pub fn cut_back(&mut self, len: usize, count: u64)
+        ensures { self.new ≡ record { entries = take len self.old.entries; end = count } }
+    {
+        self.entries.truncate(len);
+        self.count = count;
+    }
+
     /// The segments below a master count, which is at most that of the table. The records that were added stand in the
     /// bytes at their places.
     pub fn view<'a>(&'a self, bytes: &'a [u8], below: u64) -> FlatView<'a>

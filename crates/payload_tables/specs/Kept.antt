@@ -1,0 +1,89 @@
+-- What is kept of the payloads that were added, and which payloads it is that of.
+use Rattle.std.specs.Prelude.{◌≡◌, ℕ, ◌+◌, List, [], Option, Some, None, length, flat_map}
+use Rattle.std.specs.List.{last_or, AllByRecursion}
+use Rattle.batch_codec.specs.Payload.{master_start, others_start, names_start}
+use Rattle.batch_codec.specs.Grammar.{AreLawful}
+use Rattle.name_index.specs.Index.{NamedPlace, IsIndexOf}
+use Rattle.name_index.specs.declared.entry.Entry.{Entry}
+use Rattle.name_map.specs.Added.{Placed, payloads_of, names_from}
+use Rattle.name_map.specs.Map.{PlainMap, IsMapOf}
+use Rattle.flat_segments.specs.declared.fault.FlatFault.{FlatFault}
+use Rattle.flat_segments.specs.declared.fault.FlatFault.TheVariants.{BadSegment, Memory as FlatMemory}
+use Rattle.name_map.specs.declared.fault.MapFault.{MapFault}
+use Rattle.name_map.specs.declared.fault.MapFault.TheVariants.{Double, Memory as MapMemory}
+use Rattle.payload_tables.specs.declared.fault.TableFault.{TableFault}
+use Rattle.payload_tables.specs.declared.fault.TableFault.TheVariants.{Unlawful, Memory}
+use Rattle.flat_segments.specs.Placed.{Placed as PlacedSegment, placed}
+use Rattle.flat_segments.specs.Kept.{Kept, IsTableOf, IsSectionOf}
+
+-- what is kept of the other ids of one payload
+pub record PlainOthers : Type 0 where
+  pub section : Kept
+  -- where the first of their names stands, and how many there are
+  pub names : ℕ
+  pub count : ℕ
+  -- the runs of the index of their names
+  pub index : List (List Entry)
+
+-- what is kept of all payloads
+pub record PlainTables : Type 0 where
+  pub flat : Kept
+  pub names : PlainMap
+  -- the other ids of the newest one
+  pub others : PlainOthers
+
+-- the records of a payload's other ids, at their places
+abbrev pub other_records : Placed → List PlacedSegment
+other_records a = placed (a.at + others_start a.payload) a.payload.others
+
+-- the names of a payload's other ids, at their places
+abbrev pub other_named : Placed → List NamedPlace
+other_named a = names_from (a.at + names_start a.payload) a.payload.other_names
+
+-- it is kept of the payload's other ids; of no payload, nothing is
+pub record AreOthersOf (others : PlainOthers) (a : Placed) : Type 0 where
+  pub section : IsSectionOf others.section (other_records a)
+  pub names : others.names ≡ a.at + names_start a.payload
+  pub count : others.count ≡ length a.payload.other_names
+  pub index : IsIndexOf others.index (other_named a)
+
+pub record AreNoOthers (others : PlainOthers) : Type 0 where
+  pub section : IsSectionOf others.section []
+  pub names : others.names ≡ 0
+  pub count : others.count ≡ 0
+  pub index : IsIndexOf others.index []
+
+abbrev pub AreOthersIn : PlainOthers → Option Placed → Type 0
+AreOthersIn others None = AreNoOthers others
+AreOthersIn others (Some a) = AreOthersOf others a
+
+-- the payload that was added last
+abbrev pub last_added : List Placed → Option Placed
+last_added added = last_or None added
+
+-- the records of all master ids, at their places
+abbrev pub master_records : List Placed → List PlacedSegment
+master_records added = flat_map (λ a. placed (a.at + master_start) a.payload.master) added
+
+-- The tables are those of the payloads that were added, in this order. The payloads are lawful, and each is a flush.
+pub record AreTablesOf (tables : PlainTables) (added : List Placed) : Type 0 where
+  pub lawful : AreLawful [] (payloads_of added)
+  pub flushes : AllByRecursion (λ a. a.payload.kind ≡ 1) added
+  pub flat : IsTableOf tables.flat (master_records added)
+  pub names : IsMapOf tables.names added
+  pub others : AreOthersIn tables.others (last_added added)
+
+-- the table and the map are those of the payloads
+pub record AreBothOf (table : Kept) (map : PlainMap) (added : List Placed) : Type 0 where
+  pub lawful : AreLawful [] (payloads_of added)
+  pub flat : IsTableOf table (master_records added)
+  pub names : IsMapOf map added
+
+-- the causes, as the tables tell them
+abbrev pub flat_fault : FlatFault → TableFault
+flat_fault (BadSegment k) = Unlawful
+flat_fault FlatMemory = Memory
+
+abbrev pub map_fault : MapFault → TableFault
+map_fault Double = Unlawful
+map_fault MapMemory = Memory

@@ -1,0 +1,5 @@
+pub mod Tables
+pub mod Kept
+pub mod Pending
+pub mod Sections
+pub mod Bases
