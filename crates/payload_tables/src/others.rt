@@ -71,6 +71,20 @@ impl OthersTable {
         })
     }
 
+    /// The same table once more.
+    pub fn copy(&self, alloc: Global) -> Result<OthersTable, AllocError>
+        ensures { IfOk result (λ copy. copy ≡ self.now) }
+    {
+        let section = self.section.copy(alloc)?;
+        let index = self.index.copy(alloc)?;
+        Ok(OthersTable {
+            section,
+            names: self.names,
+            count: self.count,
+            index,
+        })
+    }
+
     /// How many other ids there are.
     pub fn count(&self) -> u32
         ensures { result ≡ self.now.count }

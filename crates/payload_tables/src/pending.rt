@@ -213,6 +213,29 @@ impl PendingRows {
         added
     }
 
+    /// The same rows once more.
+    pub fn copy(&self, alloc: Global) -> Result<PendingRows, AllocError>
+        ensures { IfOk result (λ copy. copy ≡ self.now) }
+    {
+        let mut records = Vec::with_capacity(alloc, self.records.len())?;
+        records.extend_from_slice(&self.records)?;
+        let mut places = Vec::with_capacity(alloc, self.places.len())?;
+        places.extend_from_slice(&self.places)?;
+        let mut names = Vec::with_capacity(alloc, self.names.len())?;
+        names.extend_from_slice(&self.names)?;
+        let section = self.section.copy(alloc)?;
+        let index = self.index.copy(alloc)?;
+        Ok(PendingRows {
+            alloc,
+            first: self.first,
+            records,
+            places,
+            names,
+            section,
+            index,
+        })
+    }
+
     /// The place of the first row among the other ids.
     pub fn first(&self) -> u64
         ensures { result ≡ self.now.first }

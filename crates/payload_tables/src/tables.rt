@@ -174,6 +174,27 @@ impl Tables {
         &self.names
     }
 
+    /// The same tables once more.
+    pub fn copy(&self, alloc: Global) -> Result<Tables, AllocError>
+        ensures { IfOk result (λ copy. copy ≡ self.now) }
+    {
+        let flat = self.flat.copy(alloc)?;
+        let levels = self.levels.copy(alloc)?;
+        let names = self.names.copy(alloc)?;
+        let others = self.others.copy(alloc)?;
+        let mut heads = Vec::with_capacity(alloc, self.heads.len())?;
+        heads.extend_from_slice(&self.heads)?;
+        Ok(Tables {
+            alloc,
+            flat,
+            levels,
+            names,
+            others,
+            heads,
+            cloned: self.cloned,
+        })
+    }
+
     /// How many master ids the payloads have.
     pub fn master_count(&self) -> u64
         ensures { result ≡ self.now.flat.end }
