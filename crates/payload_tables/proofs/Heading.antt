@@ -1,20 +1,19 @@
 -- The heads of a clone, by what its records and known names say.
-use Rattle.std.proofs.Common.{◌≡◌, ◌≢◌, ◌<◌, ◌≤◌, ℕ, zero, suc, ◌+◌, ◌*◌, ◌^◌, Bool, true, false, not, cond, ◌&&◌, ◌||◌, inl, inr, List, [], ◌∷◌, ◌++◌, length, map, flat_map, filter, take, set, replicate, get_or, slice_index_or, Option, Some, None, slice_get, refl, sym, ap, ap₂, subst, ◌∙◌, true≢false, arith, nat_eq, append_assoc, append-nil, ⊎_elim, is_some}
+use Rattle.std.proofs.Common.{◌≡◌, ◌≢◌, ◌<◌, ◌≤◌, ℕ, zero, suc, ◌+◌, Bool, true, false, cond, ◌||◌, List, [], ◌∷◌, ◌++◌, length, map, flat_map, filter, take, set, replicate, get_or, Option, Some, None, slice_get, refl, sym, ap, ap₂, subst, ◌∙◌, true≢false, arith, nat_eq, append_assoc, append-nil, is_some}
 use Rattle.std.specs.List.{AllByRecursion}
 use Rattle.std.proofs.lemmas.List.{map-append, take_more, take_all, get_or-set_other, get_or-replicate}
 use Rattle.std.proofs.lemmas.List.Elements.{filter-append}
 use Rattle.std.proofs.lemmas.Grind.{get_or-set_at, flat_map-append}
-use Rattle.id_groups.specs.Lists.{IsIn, is_in}
+use Rattle.id_groups.specs.Lists.{is_in}
 use Rattle.id_groups.specs.Name.{Name, IsName}
 use Rattle.segment_codec.specs.Record.{Segment, IsSegment, segment_bytes}
 use Rattle.segment_codec.specs.Table.{Follow}
-use Rattle.batch_codec.specs.Payload.{Payload, Known, known_ids, known_names, names_bytes}
+use Rattle.batch_codec.specs.Payload.{Payload, Known, names_bytes}
 use Rattle.batch_codec.specs.Grammar.{IsPayload, head_names}
 use Rattle.batch_codec.specs.Reading.{names_in}
 use Rattle.batch_codec.proofs.Entries.{names-size, names-again}
 use Rattle.flat_segments.specs.Placed.{AreRecords}
 use Rattle.flat_segments.proofs.Batches.{left-first, none-left}
-use Rattle.commit_graph.proofs.Naming.{each, all-each}
 use Rattle.payload_tables.proofs.Lists.{same-self, same-exact}
 
 -- so far these are the highest ids and the parents of the records before the rest

@@ -1,6 +1,6 @@
 -- What is kept of the payloads that were added, and which payloads it is that of.
 use Rattle.std.specs.Prelude.{◌≡◌, ℕ, ◌+◌, List, [], Option, Some, None, length, flat_map, ◌==◌, if◌then◌else◌}
-use Rattle.std.specs.List.{last_or, AllByRecursion}
+use Rattle.std.specs.List.{last_or}
 use Rattle.batch_codec.specs.Payload.{master_start, others_start, names_start}
 use Rattle.id_groups.specs.Name.{Name}
 use Rattle.batch_codec.specs.Grammar.{AreLawful}

@@ -1,9 +1,9 @@
-use Rattle.std.proofs.Common.{◌≡◌, ◌∙◌, List, ℕ, ap, sym}
+use Rattle.std.proofs.Common.{◌≡◌, ◌∙◌, ap, sym}
 use Rattle.std.proofs.lemmas.Slice.Eq.{slice_eq-Decides}
 use Rattle.std.proofs.lemmas.Bool.Decides.{Decides-eqb}
 use Rattle.batch_codec.specs.Payload.{names_bytes}
 use Rattle.batch_codec.specs.Grammar.{head_names}
-use Rattle.batch_codec.specs.Lent.{payload_of, names_of}
+use Rattle.batch_codec.specs.Lent.{payload_of}
 use Rattle.batch_codec.proofs.Entries.{names-spelled}
 use Rattle.payload_tables.proofs.Heading.{same-names, head-names-whole}
 use Rattle.payload_tables.proofs.heads.has_heads.Goals as goal

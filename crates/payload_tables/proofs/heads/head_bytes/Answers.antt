@@ -1,10 +1,10 @@
-use Rattle.std.proofs.Common.{◌≡◌, ◌∙◌, ◌<◌, ◌≤◌, ◌&&◌, ℕ, Bool, List, not, false, map, filter, flat_map, length, slice_index_or, ap, ap₂, subst, sym, arith, nat_eq}
+use Rattle.std.proofs.Common.{◌≡◌, ◌∙◌, ◌<◌, ◌&&◌, ℕ, Bool, not, false, map, filter, flat_map, length, slice_index_or, ap, ap₂, subst, sym, arith, nat_eq}
 use Rattle.std.specs.List.{AllByRecursion}
 use Rattle.std.specs.Result.{IfOk}
 use Rattle.id_groups.specs.Lists.{is_in}
 use Rattle.segment_codec.specs.Record.{Segment, segment_bytes}
 use Rattle.batch_codec.specs.Payload.{Known, names_bytes}
-use Rattle.batch_codec.specs.Lent.{payload_of, knowns_of}
+use Rattle.batch_codec.specs.Lent.{payload_of}
 use Rattle.payload_tables.proofs.Adding.{are-records}
 use Rattle.payload_tables.proofs.Heading.{highs-below, parents-below, knowns-below, filter-alike}
 use Rattle.payload_tables.proofs.heads.head_bytes.Goals as goal

@@ -1,4 +1,4 @@
-use Rattle.std.proofs.Common.{◌≡◌, ◌∙◌, ◌<◌, ◌||◌, ◌+◌, ℕ, true, false, nat_eq, get_or, set, take, replicate, subst, sym}
+use Rattle.std.proofs.Common.{◌≡◌, ◌∙◌, ◌<◌, ◌||◌, ◌+◌, true, false, nat_eq, get_or, set, take, replicate, subst, sym}
 use Rattle.std.proofs.lemmas.List.{length-set}
 use Rattle.id_groups.specs.Lists.{is_in}
 use Rattle.payload_tables.proofs.Heading.{mark-next, any-default}

@@ -1,4 +1,4 @@
-use Rattle.std.proofs.Common.{◌≡◌, ◌∙◌, ◌+◌, ◌++◌, ℕ, length, flat_map, ap, sym, subst, arith}
+use Rattle.std.proofs.Common.{◌∙◌, ◌+◌, ℕ, length, flat_map, ap, sym, subst, arith}
 use Rattle.segment_codec.specs.Record.{segment_bytes}
 use Rattle.flat_segments.specs.Kept.{IsTableOf}
 use Rattle.flat_segments.specs.Placed.{placed as placed_segments}

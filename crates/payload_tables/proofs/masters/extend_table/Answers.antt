@@ -1,5 +1,4 @@
-use Rattle.std.proofs.Common.{◌++◌, Err, ap, subst}
-use Rattle.flat_segments.specs.Placed.{placed as placed_segments}
+use Rattle.std.proofs.Common.{Err, ap, subst}
 use Rattle.segment_levels.specs.Kept.{AreLevelsOf}
 use Rattle.payload_tables.proofs.Adding.{flat-bad, never-broken}
 use Rattle.payload_tables.proofs.Leveling.{extended-are}

@@ -1,5 +1,4 @@
-use Rattle.std.proofs.Common.{◌≡◌, ◌∙◌, List, ℕ, ap, sym, subst}
-use Rattle.id_groups.specs.Name.{Name}
+use Rattle.std.proofs.Common.{◌∙◌, ℕ, ap, sym, subst}
 use Rattle.batch_codec.specs.Lent.{payload_of}
 use Rattle.name_map.specs.Adding.{placed}
 use Rattle.payload_tables.specs.Kept.{PlainTables, AreMastersOf, by_kind}

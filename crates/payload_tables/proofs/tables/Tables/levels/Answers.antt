@@ -1,4 +1,4 @@
-use Rattle.std.proofs.Common.{◌∙◌, ap, sym, subst}
+use Rattle.std.proofs.Common.{sym, subst}
 use Rattle.id_groups.specs.Name.{same_name}
 use Rattle.commit_graph.specs.Ids.{parent_ids}
 use Rattle.segment_rules.specs.Flat.{flat_segments_of}
