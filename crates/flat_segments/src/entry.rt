@@ -1,11 +1,12 @@
 //! What is kept of a segment.
 
-ghost use Rattle.std.specs.Prelude.{◌≡◌, ◌<◌, ◌^◌, nat_lt};
+ghost use Rattle.std.specs.Prelude.{◌≡◌, ◌<◌, ◌^◌, nat_lt, IfOk};
 ghost use Rattle.segment_codec.specs.Lent.{segment_of};
 ghost use Rattle.segment_codec.specs.Flat.{IsFlat};
 ghost use Rattle.flat_segments.specs.Kept.{entry_of};
 
 use segment_codec::SegmentRef;
+use std::alloc::{AllocError, Global};
 use std::marker::Model;
 
 /// So many lengths share a word with the lowest id. The parents of a flat segment take at most 72 bytes.
@@ -33,6 +34,15 @@ impl Model for Entry {
     ghost inverse = { λ e. record { place = e.place; low_and_len = e.low * 128 + e.len } };
 
     ghost inverse_ok = { λ e valid. ap (λ (word : ℕ). record { place = e.place; low_and_len = word }) (div-add-mod' e.low_and_len 128) };
+}
+
+/// These entries, copied.
+pub(crate) fn copied(alloc: Global, entries: &[Entry]) -> Result<Vec<Entry>, AllocError>
+    ensures { IfOk result (λ copy. copy.items ≡ entries.now) }
+{
+    let mut copy = Vec::with_capacity(alloc, entries.len())?;
+    copy.extend_from_slice(entries)?;
+    Ok(copy)
 }
 
 impl Entry {

@@ -1,11 +1,11 @@
 //! Segments of the other group.
 
-ghost use Rattle.std.specs.Prelude.{◌≡◌, ◌++◌, [], ◌∷◌, List, OnOk, OnErr};
+ghost use Rattle.std.specs.Prelude.{◌≡◌, ◌++◌, [], ◌∷◌, List, length, take, OnOk, OnErr, IfOk};
 ghost use Rattle.segment_codec.specs.Lent.{segment_of};
 ghost use Rattle.flat_segments.specs.Placed.{Placed};
 ghost use Rattle.flat_segments.specs.Kept.{IsSectionOf, MayPush};
 
-use crate::entry::Entry;
+use crate::entry::{Entry, copied};
 use id_groups::FIRST_OTHER;
 use segment_codec::SegmentRef;
 use std::alloc::{AllocError, Global};
@@ -50,5 +50,38 @@ impl Section {
         self.entries.push(Entry::of(&segment, at))?;
         self.end = segment.high().number() + 1;
         Ok(())
+    }
+
+    /// The same section once more.
+    pub fn copy(&self, alloc: Global) -> Result<Section, AllocError>
+        ensures { IfOk result (λ copy. copy ≡ self.now) }
+    {
+        let entries = copied(alloc, &self.entries)?;
+        Ok(Section {
+            entries,
+            end: self.end,
+        })
+    }
+
+    /// How many segments there are.
+    pub fn len(&self) -> usize
+        ensures { result ≡ length self.now.entries }
+    {
+        self.entries.len()
+    }
+
+    /// The id behind the last one.
+    pub fn end(&self) -> u64
+        ensures { result ≡ self.now.end }
+    {
+        self.end
+    }
+
+    /// Takes back what was pushed last: so many segments stay, up to this id.
+    pub fn cut_back(&mut self, len: usize, end: u64)
+        ensures { self.new ≡ record { entries = take len self.old.entries; end = end } }
+    {
+        self.entries.truncate(len);
+        self.end = end;
     }
 }

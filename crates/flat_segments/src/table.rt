@@ -1,6 +1,6 @@
 //! The table of a log's master records.
 
-ghost use Rattle.std.specs.Prelude.{◌≡◌, ◌≤◌, ◌<◌, ◌^◌, ◌+◌, ◌++◌, List, ℕ, [], true, length, take, filter, nat_lt, OnOk, OnErr, Err};
+ghost use Rattle.std.specs.Prelude.{◌≡◌, ◌≤◌, ◌<◌, ◌^◌, ◌+◌, ◌++◌, List, ℕ, [], true, length, take, filter, nat_lt, OnOk, OnErr, Err, IfOk};
 ghost use Rattle.segment_codec.specs.Record.{Segment};
 ghost use Rattle.flat_segments.specs.Maximal.{maximal, cut};
 ghost use Rattle.segment_codec.specs.Turns.{StandInTurn, IsFirstBroken};
@@ -10,12 +10,12 @@ ghost use Rattle.flat_segments.specs.Runs.{do_rise};
 ghost use Rattle.flat_segments.specs.Views.{view_flats, master_flats, master_count};
 ghost use Rattle.flat_segments.specs.declared.fault.FlatFault.{FlatFault as Fault};
 
-use crate::entry::Entry;
+use crate::entry::{Entry, copied};
 use crate::fault::FlatFault;
 use crate::record::append;
 use crate::run::{Run, are_countable};
 use crate::view::FlatView;
-use std::alloc::Global;
+use std::alloc::{AllocError, Global};
 use std::marker::Model;
 
 /// The maximal flat segments of the master group, 16 bytes for each. Contracts see what is kept; which records it is the
@@ -85,6 +85,32 @@ impl FlatTable {
                 Err(fault)
             }
         }
+    }
+
+    /// The same table once more.
+    pub fn copy(&self, alloc: Global) -> Result<FlatTable, AllocError>
+        ensures { IfOk result (λ copy. copy ≡ self.now) }
+    {
+        let entries = copied(alloc, &self.entries)?;
+        Ok(FlatTable {
+            entries,
+            count: self.count,
+        })
+    }
+
+    /// How many segments are kept.
+    pub fn len(&self) -> usize
+        ensures { result ≡ length self.now.entries }
+    {
+        self.entries.len()
+    }
+
+    /// Takes back what was added last: so many of the entries stay, up to this master count.
+    pub fn cut_back(&mut self, len: usize, count: u64)
+        ensures { self.new ≡ record { entries = take len self.old.entries; end = count } }
+    {
+        self.entries.truncate(len);
+        self.count = count;
     }
 
     /// The segments below a master count, which is at most that of the table. The records that were added stand in the

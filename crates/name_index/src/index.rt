@@ -145,6 +145,17 @@ impl NameIndex {
         }
     }
 
+    /// The same index once more.
+    pub fn copy(&self, alloc: Global) -> Result<NameIndex, AllocError>
+        ensures { IfOk result (λ copy. copy ≡ self.now) }
+    {
+        let mut runs = Vec::with_capacity(alloc, self.runs.len())?;
+        'runs: for run in &self.runs {
+            runs.push(run.copy(alloc)?)?;
+        }
+        Ok(NameIndex { alloc, runs })
+    }
+
     /// The place of the name, read from the bytes in which the names of the index stand; `None` exactly where it is
     /// not held. A binary search in each run; places outside the bytes are read as no name.
     pub fn find(&self, bytes: &[u8], name: NameRef<'_>) -> Option<u64>

@@ -1,6 +1,6 @@
 //! The map, and its look-ups.
 
-ghost use Rattle.std.specs.Prelude.{◌≡◌, ◌<◌, ◌≤◌, ◌+◌, ◌^◌, length, ◌∷◌, ◌++◌, List, [], OnOk, OnErr, IfSome};
+ghost use Rattle.std.specs.Prelude.{◌≡◌, ◌<◌, ◌≤◌, ◌+◌, ◌^◌, length, ◌∷◌, ◌++◌, List, [], OnOk, OnErr, IfOk, IfSome};
 ghost use Rattle.id_groups.specs.Lists.{AreDistinct};
 ghost use Rattle.batch_codec.specs.Lent.{payload_of};
 ghost use Rattle.batch_codec.specs.Payload.{payload_bytes};
@@ -17,7 +17,7 @@ use crate::search;
 use batch_codec::BatchRef;
 use id_groups::{Id, NameRef};
 use name_index::NameIndex;
-use std::alloc::Global;
+use std::alloc::{AllocError, Global};
 use std::marker::Model;
 
 /// The map between names and master ids of a log whose payloads were added to it. It keeps places, and no name: its
@@ -54,6 +54,24 @@ impl NameMap {
             masters: 0,
             known: 0,
         }
+    }
+
+    /// The same map once more.
+    pub fn copy(&self, alloc: Global) -> Result<NameMap, AllocError>
+        ensures { IfOk result (λ copy. copy ≡ self.now) }
+    {
+        let mut parts = Vec::with_capacity(alloc, self.parts.len())?;
+        'parts: for part in &self.parts {
+            parts.push(part.copy(alloc)?)?;
+        }
+        let index = self.index.copy(alloc)?;
+        Ok(NameMap {
+            alloc,
+            parts,
+            index,
+            masters: self.masters,
+            known: self.known,
+        })
     }
 
     /// How many master ids the payloads have that were added.

@@ -1,6 +1,6 @@
 //! The known ids of one payload.
 
-ghost use Rattle.std.specs.Prelude.{◌≡◌, ◌<◌, ◌≤◌, ◌+◌, ◌*◌, ◌^◌, true, length, take, drop, IfOk};
+ghost use Rattle.std.specs.Prelude.{◌≡◌, ◌<◌, ◌≤◌, ◌+◌, ◌*◌, ◌^◌, ℕ, true, length, take, drop, IfOk};
 ghost use Rattle.std.specs.List.{AllByRecursion};
 ghost use Rattle.batch_codec.specs.Reading.{ids_ascend};
 ghost use Rattle.batch_codec.specs.Payload.{known_ids};
@@ -42,6 +42,35 @@ impl Model for Part {
     ghost view = { λ part. record { first = part.first; rank = part.rank; start = part.start; ids = ids_of part.first part.ids } };
 
     ghost invariant = { λ part. IsPart (record { first = part.first; rank = part.rank; start = part.start; ids = ids_of part.first part.ids }) };
+}
+
+/// The same ids once more.
+fn copied(alloc: Global, ids: &KnownIds) -> Result<KnownIds, AllocError>
+    ensures { IfOk result (λ copy. (first : ℕ) → ids_of first copy ≡ ids_of first ids.now) }
+{
+    match ids {
+        KnownIds::All(count) => Ok(KnownIds::All(*count)),
+        KnownIds::Listed(ids) => {
+            let mut copy = Vec::with_capacity(alloc, ids.len())?;
+            copy.extend_from_slice(ids)?;
+            Ok(KnownIds::Listed(copy))
+        }
+    }
+}
+
+impl Part {
+    /// The same once more.
+    pub(crate) fn copy(&self, alloc: Global) -> Result<Part, AllocError>
+        ensures { IfOk result (λ copy. copy ≡ self.now) }
+    {
+        let ids = copied(alloc, &self.ids)?;
+        Ok(Part {
+            first: self.first,
+            rank: self.rank,
+            start: self.start,
+            ids,
+        })
+    }
 }
 
 /// How many ids are below the number.

@@ -1,0 +1,43 @@
+-- Sections of a payload with one item more.
+use Rattle.std.proofs.Common.{◌≡◌, ◌<◌, ◌≤◌, ℕ, suc, ◌+◌, ◌-◌, ◌*◌, List, [], ◌∷◌, ◌++◌, length, map, take, drop, get_or, sym, ap, ap₂, ◌∙◌, append_assoc, arith}
+use Rattle.std.proofs.lemmas.List.{take_more, map-append, length-map, length-take-le}
+use Rattle.id_groups.specs.Name.{Name}
+use Rattle.segment_codec.specs.Record.{Segment}
+use Rattle.batch_codec.specs.Payload.{Known}
+use Rattle.flush_rebuild.specs.Flat.{Span}
+use Rattle.flush_rebuild.specs.Change.{flat_record}
+use Rattle.payload_tables.specs.Tables.{known_from}
+
+pub run-more : (front : List Segment) (runs : List Span) (i : ℕ) (r : Span) (s : Segment) → i < length runs → r ≡ get_or runs i r → s ≡ flat_record r
+    → (front ++ map flat_record (take i runs)) ++ s ∷ [] ≡ front ++ map flat_record (take (i + 1) runs)
+run-more front runs i r s lt e f =
+    ap (λ z. (front ++ map flat_record (take i runs)) ++ z ∷ []) (f ∙ ap flat_record e) ∙ append_assoc front (map flat_record (take i runs)) (flat_record (get_or runs i r) ∷ [])
+    ∙ ap (λ l. front ++ l) (sym (ap (map flat_record) (take_more runs i r lt) ∙ map-append flat_record (take i runs) (get_or runs i r ∷ [])))
+
+known-last : (n : ℕ) (xs : List Name) (x : Name) → known_from n (xs ++ x ∷ []) ≡ known_from n xs ++ record { id = n + length xs; name = x } ∷ []
+known-last n [] x = ap (λ k. record { id = k; name = x } ∷ []) (let z : n ≡ n + 0 = omega arith in z)
+known-last n (y ∷ xs) x = ap (λ l. record { id = n; name = y } ∷ l)
+    (known-last (n + 1) xs x ∙ ap (λ k. known_from (n + 1) xs ++ record { id = k; name = x } ∷ []) (let z : n + 1 + length xs ≡ n + length (y ∷ xs) = omega arith in z))
+
+pub known-more : (front : List Known) (first : ℕ) (name : ℕ → Name) (numbers : List ℕ) (i id : ℕ) (x : Name) → i < length numbers → id ≡ first + i → x ≡ name (get_or numbers i 0)
+    → (front ++ known_from first (map name (take i numbers))) ++ record { id = id; name = x } ∷ [] ≡ front ++ known_from first (map name (take (i + 1) numbers))
+known-more front first name numbers i id x lt e f =
+    append_assoc front (known_from first (map name (take i numbers))) (record { id = id; name = x } ∷ [])
+    ∙ ap (λ l. front ++ l)
+    (ap₂ {C = List Known} (λ a b. known_from first (map name (take i numbers)) ++ record { id = a; name = b } ∷ [])
+    (let a = length-map (take i numbers) name in let b = length-take-le i numbers (let l = lt in omega (arith, l)) in let z : id ≡ first + length (map name (take i numbers)) = omega (arith, a, b, e) in z) f
+    ∙ sym (ap (λ l. known_from first (map name l)) (take_more numbers i 0 lt) ∙ ap (known_from first) (map-append name (take i numbers) (get_or numbers i 0 ∷ []))
+    ∙ known-last first (map name (take i numbers)) (name (get_or numbers i 0))))
+
+pub name-more : (front : List Name) (name : ℕ → Name) (numbers : List ℕ) (i : ℕ) (x : Name) → i < length numbers → x ≡ name (get_or numbers i 0)
+    → (front ++ map name (take i numbers)) ++ x ∷ [] ≡ front ++ map name (take (i + 1) numbers)
+name-more front name numbers i x lt f =
+    append_assoc front (map name (take i numbers)) (x ∷ [])
+    ∙ ap (λ l. front ++ l) (ap (λ z. map name (take i numbers) ++ z ∷ []) f ∙ sym (ap (map name) (take_more numbers i 0 lt) ∙ map-append name (take i numbers) (get_or numbers i 0 ∷ [])))
+
+drop-front : {X : Type 0} (xs ys : List X) (n : ℕ) → drop (length xs + n) (xs ++ ys) ≡ drop n ys
+drop-front [] ys n = ap (λ k. drop k ys) (let z : 0 + n ≡ n = omega arith in z)
+drop-front (x ∷ xs) ys n = ap (λ k. drop k (x ∷ (xs ++ ys))) (let z : length (x ∷ xs) + n ≡ suc (length xs + n) = omega arith in z) ∙ drop-front xs ys n
+
+pub name-behind : (stored pending : List ℕ) (count k : ℕ) → length stored ≡ 20 * count → count ≤ k → take 20 (drop (20 * (k - count)) pending) ≡ take 20 (drop (20 * k) (stored ++ pending))
+name-behind stored pending count k e le = ap (take 20) (sym (ap (λ n. drop n (stored ++ pending)) (let z : 20 * k ≡ length stored + 20 * (k - count) = omega (arith, e, le) in z) ∙ drop-front stored pending (20 * (k - count))))

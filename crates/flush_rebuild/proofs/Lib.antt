@@ -1,0 +1,14 @@
+pub mod Flats
+pub mod Flushes
+pub mod Changes
+pub mod Lawful
+pub mod Renumber
+pub mod Moving
+pub mod Marking
+pub mod Growing
+pub mod Emitting
+pub mod Whole
+pub mod Planning
+pub mod Sizing
+pub mod Refusing
+pub mod Finding

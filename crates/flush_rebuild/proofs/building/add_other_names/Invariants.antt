@@ -1,0 +1,11 @@
+use Rattle.std.proofs.Common.{◌≡◌, ◌++◌, map, take}
+use Rattle.batch_codec.specs.Payload.{Payload}
+use Rattle.batch_codec.specs.Building.{IsBuilt}
+use Rattle.flush_rebuild.specs.Moves.{name_at}
+use Rattle.flush_rebuild.proofs.building.add_other_names.Given as goal
+
+abbrev pub invariant-numbers : goal.invariant-numbers
+invariant-numbers l = record {
+  built : (p : Payload) → IsBuilt l.fn.build p → IsBuilt l.build (record p { other_names = p.other_names ++ map (name_at (l.names.stored.now ++ l.names.pending.now)) (take l.i l.numbers) });
+  count : l.build.other_count ≡ l.fn.build.other_count;
+}

@@ -1,0 +1,118 @@
+-- What a plan of a flush answers.
+use Rattle.std.specs.Prelude.{◌≡◌, ◌↔◌, ◌≤◌, ℕ, ◌+◌, List, [], ◌∷◌, Option, Some, None, length, map, nat_lt, IsTrue, if◌then◌else◌}
+use Rattle.id_groups.specs.Lists.{is_in, AreAllIn}
+use Rattle.assign_ids.specs.Numbers.{others_of}
+use Rattle.flush_rebuild.specs.Moves.{node_of}
+use Rattle.id_groups.specs.Name.{Name, same_name}
+use Rattle.commit_graph.specs.World.{Row, World, IsWorld, IsNamedWorld, GrowsMaster, KeepsRows, rows_of, names_of, with_pending}
+use Rattle.commit_graph.specs.Ids.{id_in}
+use Rattle.name_map.specs.Added.{Placed, payloads_of, AllStand}
+use Rattle.flush_rebuild.specs.declared.limits.Limits.{Limits}
+use Rattle.flush_rebuild.specs.declared.limits.Limit.{Limit}
+use Rattle.flush_rebuild.specs.declared.limits.Limit.TheVariants.{Others, Master, Log}
+use Rattle.payload_tables.specs.declared.base.BaseRef.{BaseRef}
+use Rattle.flush_rebuild.specs.declared.plan.Plan.{Plan}
+use Rattle.flush_rebuild.specs.declared.fault.PlanFault.{PlanFault}
+use Rattle.flush_rebuild.specs.declared.fault.PlanFault.TheVariants.{Unknown, Conflict, Full}
+use Rattle.flush_rebuild.specs.Change.{flush_payload}
+use Rattle.payload_tables.specs.Tables.{StandFor}
+use Rattle.payload_tables.specs.Kept.{PlainTables, AreTablesOf}
+use Rattle.payload_tables.specs.Pending.{PlainPending}
+use Rattle.payload_tables.specs.Bases.{ArePending, IsBaseOf}
+
+-- the id of a name in the world, if it has the name
+abbrev pub stored_id : World Name → Name → Option ℕ
+stored_id w name = if is_in same_name name (names_of (rows_of w)) then Some (id_in same_name w name) else None
+
+-- the first of the names that the world doesn't have
+abbrev pub first_unknown : World Name → List Name → Option Name
+first_unknown w [] = None
+first_unknown w (name ∷ more) = if is_in same_name name (names_of (rows_of w)) then first_unknown w more else Some name
+
+-- the fault, if the number would exceed the limit
+abbrev pub over : ℕ → ℕ → Limit → Option PlanFault
+over limit n which = if nat_lt limit n then Some (Full which limit) else None
+
+abbrev pub first_of : Option PlanFault → Option PlanFault → Option PlanFault
+first_of (Some fault) later = Some fault
+first_of None later = later
+
+abbrev pub unknown_fault : Option Name → Option PlanFault
+unknown_fault None = None
+unknown_fault (Some name) = Some (Unknown name)
+
+-- how long a log of so many bytes becomes by a payload of these; where there is none, nothing is written
+abbrev pub length_with : ℕ → List ℕ → ℕ
+length_with log [] = 0
+length_with log (byte ∷ more) = log + 9 + length (byte ∷ more)
+
+-- why a change is refused: the first of these numbers that is above its limit
+abbrev pub size_refusal : Limits → ℕ → World Name → List ℕ → Option PlanFault
+size_refusal limits log new payload =
+    first_of (over limits.others (length new.others) Others)
+    (first_of (over limits.master (length new.master) Master)
+    (over limits.log (length_with log payload) Log))
+
+-- why a flush of a view is refused: a head that isn't there, or a size
+abbrev pub flush_refusal : Limits → ℕ → World Name → World Name → List Name → List ℕ → Option PlanFault
+flush_refusal limits log view new heads payload = first_of (unknown_fault (first_unknown view heads)) (size_refusal limits log new payload)
+
+-- The plan is that of the change from the old world to the new one; where they are the same, there is nothing to write.
+pub record IsPlanOf (plan : Plan) (old new : World Name) (payload : List ℕ) : Type 0 where
+  pub payload_is : plan.payload ≡ payload
+  pub master : plan.master ≡ length new.master
+  pub others : plan.others ≡ length new.others
+  pub same : IsTrue plan.same ↔ (new ≡ old)
+
+-- the payload of a change, or none where nothing changes
+pub record IsChangeOf (old new : World Name) (payload : List ℕ) : Type 0 where
+  pub none : new ≡ old → payload ≡ []
+  pub some : (new ≡ old → ⊥) → payload ≡ flush_payload old new
+
+-- What a session flushes: the tables are those of payloads that stand in the log and for the world, the pending rows are
+-- behind it, and the world's id of each head was found.
+pub record MayFlush (tables : PlainTables) (bytes : List ℕ) (pending : PlainPending) (heads : List Name) (found : List (Option ℕ)) (w : World Name) (rows : List (Row Name)) : Type 0 where
+  pub added : List Placed
+  pub tables_of : AreTablesOf tables added
+  pub stand : AllStand bytes added
+  pub stand_for : StandFor (payloads_of added) w
+  pub world : IsNamedWorld w
+  pub pending_rows : ArePending w pending rows
+  pub found_are : found ≡ map (stored_id w) heads
+
+-- What a session rebases: its base is that of some of the payloads, and the tables that of all, whose world keeps each row of
+-- the base's and has its master at the front. For the name of each pending row its id in the newer world was found.
+pub record MayRebase (tables : PlainTables) (bytes : List ℕ) (base : BaseRef) (pending : PlainPending) (found : List (Option ℕ)) (w old : World Name) (rows : List (Row Name)) : Type 0 where
+  pub added : List Placed
+  pub tables_of : AreTablesOf tables added
+  pub stand : AllStand bytes added
+  pub stand_for : StandFor (payloads_of added) w
+  pub world : IsWorld w
+  pub before : List Placed
+  pub base_of : IsBaseOf base before
+  pub base_stands : StandFor (payloads_of before) old
+  pub pending_rows : ArePending old pending rows
+  pub grows : GrowsMaster old w
+  pub keeps : KeepsRows old w
+  pub found_are : found ≡ map (stored_id w) (names_of rows)
+
+abbrev pub conflict_fault : Option Name → Option PlanFault
+conflict_fault None = None
+conflict_fault (Some name) = Some (Conflict name)
+
+-- What a session flushes, where all heads are there: these are the numbers of those that aren't in master.
+pub record MayMove (tables : PlainTables) (bytes : List ℕ) (pending : PlainPending) (numbers : List ℕ) (w : World Name) (rows : List (Row Name)) (heads : List Name) : Type 0 where
+  pub added : List Placed
+  pub tables_of : AreTablesOf tables added
+  pub stand : AllStand bytes added
+  pub stand_for : StandFor (payloads_of added) w
+  pub world : IsNamedWorld w
+  pub pending_rows : ArePending w pending rows
+  pub known : AreAllIn heads (names_of (rows_of (with_pending w rows)))
+  pub numbers_are : numbers ≡ others_of (map node_of (map (id_in same_name (with_pending w rows)) heads))
+
+-- the pending rows of a session, and the id in the stored world of each head
+pub record MayFind (pending : PlainPending) (heads : List Name) (found : List (Option ℕ)) (w : World Name) (rows : List (Row Name)) : Type 0 where
+  pub small : length w.master ≤ 16777216
+  pub pending_rows : ArePending w pending rows
+  pub found_are : found ≡ map (stored_id w) heads

@@ -1,0 +1,29 @@
+//! Why there is no plan.
+
+use crate::limits::Limit;
+use id_groups::Name;
+use std::alloc::AllocError;
+
+/// Why there is no plan.
+#[derive(Clone, Copy, PartialEq, Eq, Debug, Drop)]
+pub enum PlanFault {
+    /// A head is neither stored nor pending.
+    Unknown(Name),
+    /// A pending row is stored with other parents.
+    Conflict(Name),
+    /// There would be more than so many.
+    Full(Limit, u64),
+    /// There was no memory.
+    Memory,
+}
+
+impl From<AllocError> for PlanFault {
+    ghost use Rattle.std.specs.Prelude.{◌≡◌};
+    ghost use Rattle.flush_rebuild.specs.declared.fault.PlanFault.TheVariants.{Memory};
+
+    ghost from_gives = { λ _ fault. fault ≡ Memory };
+
+    fn from(_refused: AllocError) -> PlanFault {
+        PlanFault::Memory
+    }
+}

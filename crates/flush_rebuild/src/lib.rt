@@ -1,0 +1,24 @@
+#![tactic(auto)]
+
+//! What a flush makes of a world: its payload, and the tables that follow.
+
+mod building;
+mod fault;
+mod laws;
+mod limits;
+mod numbers;
+mod plan;
+mod rebasing;
+mod runs;
+
+pub use fault::PlanFault;
+pub use laws::{
+    changes_are_lawful, flush_keeps_worlds, flush_payload_stands, nothing_stored, standard_limits,
+};
+pub use limits::{Limit, Limits};
+pub use payload_tables::{BaseRef, OthersTable, PendingRows, TableFault, Tables};
+pub use plan::{Payload, Plan, plan_flush};
+pub use rebasing::rebase;
+
+#[cfg(test)]
+mod tests;

@@ -1,0 +1,242 @@
+//! The plan of a flush.
+
+ghost use Rattle.std.specs.Prelude.{◌≡◌, ◌≤◌, ◌+◌, ◌*◌, ◌^◌, ◌⊎◌, ◌++◌, ◌∷◌, ◌<◌, List, [], map, length, take, drop, slice_index_or, Option, None, Some, ℕ, OnOk, IfOk, IfErr, MatchOption, MatchResult};
+ghost use Rattle.id_groups.specs.Name.{Name as NameBytes, same_name};
+ghost use Rattle.id_groups.specs.Lists.{IsIn, AreAllIn};
+ghost use Rattle.commit_graph.specs.World.{Row, World, rows_of, names_of, with_pending};
+ghost use Rattle.commit_graph.specs.Ids.{id_in};
+ghost use Rattle.flush_rebuild.specs.declared.fault.PlanFault.TheVariants.{Memory};
+ghost use Rattle.assign_ids.specs.Numbers.{AreBelow, HaveOlderParents, others_of, order_of};
+ghost use Rattle.flush_rebuild.specs.Flush.{flushed};
+ghost use Rattle.flush_rebuild.specs.Moves.{node_of, nodes_in, rest_of};
+ghost use Rattle.payload_tables.specs.Bases.{ArePending};
+ghost use Rattle.payload_tables.specs.Pending.{IdRow, HoldsRows};
+ghost use Rattle.flush_rebuild.specs.Standard.{AreLimits};
+ghost use Rattle.flush_rebuild.specs.Plans.{MayFind, stored_id, unknown_fault, first_unknown, MayFlush, MayMove, flush_refusal, size_refusal, over, IsPlanOf, IsChangeOf};
+
+use crate::building::{Names, payload_of};
+use crate::fault::PlanFault;
+use crate::limits::{Limit, Limits};
+use crate::numbers::{graph_of, rest};
+use assign_ids::place;
+use id_groups::{FIRST_OTHER, Id, Name};
+use payload_tables::{OthersTable, PendingRows, Tables};
+use segment_codec::SegmentTable;
+use std::alloc::{AllocError, Global};
+use std::marker::Model;
+
+/// The bytes of a payload. Contracts see their list.
+#[derive(Drop)]
+pub struct Payload {
+    bytes: Vec<u8>,
+}
+
+impl Model for Payload {
+    ghost use Rattle.std.specs.Prelude.{List, ℕ};
+
+    ghost Value = { List ℕ };
+
+    ghost view = { λ p. p.bytes.items };
+}
+
+impl Payload {
+    /// The bytes.
+    pub fn bytes(&self) -> &[u8]
+        ensures { result.now ≡ self.now }
+    {
+        &self.bytes
+    }
+}
+
+/// What a flush is to write, and the sizes of the world that follows.
+#[derive(Drop)]
+pub struct Plan {
+    /// The payload of the change; empty where nothing changes.
+    pub payload: Payload,
+    /// How many master rows there are then.
+    pub master: u64,
+    /// How many others there are then.
+    pub others: u64,
+    /// Whether the world stays as it is.
+    pub same: bool,
+}
+
+/// Refuses a number above its limit.
+fn check(which: Limit, number: u64, limit: u64) -> Result<(), PlanFault>
+    ensures ok { OnOk result (over limit number which ≡ None) }
+    ensures err { IfErr result (λ fault. over limit number which ≡ Some fault) }
+{
+    if number > limit {
+        return Err(PlanFault::Full(which, limit));
+    }
+    Ok(())
+}
+
+/// The names of the stored other ids and of the pending rows.
+fn names_of<'a>(bytes: &'a [u8], others: &'a OthersTable, pending: &'a PendingRows) -> Names<'a>
+    requires stored { others.now.names + 20 * others.now.count ≤ length bytes.now }
+    requires pending { length pending.now.names ≡ 20 * length pending.now.places }
+    requires rows { (rows : List IdRow) × HoldsRows pending.now rows }
+    ensures stored { result.stored.now ≡ take (20 * others.now.count) (drop others.now.names bytes.now) }
+    ensures pending { result.pending.now ≡ pending.now.names }
+    ensures count { result.count ≡ others.now.count }
+    ensures more { result.more ≡ length pending.now.places }
+{
+    Names {
+        stored: others.names(bytes),
+        count: others.count(),
+        pending: pending.names(),
+        more: pending.len(),
+    }
+}
+
+/// The numbers that move, in order, and those that stay.
+#[derive(Drop)]
+struct Moves {
+    order: Vec<u32>,
+    rest: Vec<u32>,
+}
+
+/// What moves where these numbers are the heads, over a table with n other ids.
+fn moves_of<T: SegmentTable>(
+    alloc: Global,
+    table: &T,
+    n: u32,
+    numbers: &[u32],
+) -> Result<Moves, AllocError>
+    requires older { HaveOlderParents (λ k. slice_index_or (nodes_in (T.flats table.now) n) k []) }
+    requires numbers { AreBelow n numbers.now }
+    requires order { AreBelow n (order_of (λ k. slice_index_or (nodes_in (T.flats table.now) n) k []) n numbers.now) }
+    ensures order { IfOk result (λ moves. moves.order.items ≡ order_of (λ k. slice_index_or (nodes_in (T.flats table.now) n) k []) n numbers.now) }
+    ensures rest { IfOk result (λ moves. moves.rest.items ≡ rest_of n (order_of (λ k. slice_index_or (nodes_in (T.flats table.now) n) k []) n numbers.now)) }
+{
+    let graph = graph_of(alloc, table, n)?;
+    let order = place(alloc, &graph, numbers)?;
+    let rest = rest(alloc, n, &order)?;
+    Ok(Moves { order, rest })
+}
+
+/// The plan where all heads are there, by the numbers of those that aren't in master.
+fn plan_moves(
+    alloc: Global,
+    tables: &Tables,
+    bytes: &[u8],
+    pending: &PendingRows,
+    numbers: &[u32],
+    limits: Limits,
+) -> Result<Plan, PlanFault>
+    requires limits { AreLimits limits }
+    requires log { length bytes.now ≤ 2 ^ 32 }
+    requires world { (w : World NameBytes) × (rows : List (Row NameBytes)) × (heads : List NameBytes) × MayMove tables.now bytes.now pending.now numbers.now w rows heads }
+    ensures { (w : World NameBytes) (rows : List (Row NameBytes)) (heads : List NameBytes) (payload : List ℕ) → MayMove tables.now bytes.now pending.now numbers.now w rows heads
+        → IsChangeOf w (flushed same_name (with_pending w rows) heads) payload
+        → MatchResult result
+        (λ plan. (size_refusal limits (length bytes.now) (flushed same_name (with_pending w rows) heads) payload ≡ None) × IsPlanOf plan w (flushed same_name (with_pending w rows) heads) payload)
+        (λ fault. (fault ≡ Memory) ⊎ (size_refusal limits (length bytes.now) (flushed same_name (with_pending w rows) heads) payload ≡ Some fault)) }
+{
+    let base = tables.newest(bytes);
+    let view = base.view(pending);
+    let names = names_of(bytes, tables.others(), pending);
+    let n = names.count + names.more;
+    let Moves { order, rest } = moves_of(alloc, &view, n, numbers)?;
+    let before = tables.master_count();
+    let master = before + order.len() as u64;
+    let others = rest.len() as u64;
+    check(Limit::Others, others, u64::from(limits.others))?;
+    check(Limit::Master, master, u64::from(limits.master))?;
+    if order.is_empty() && names.more == 0 {
+        return Ok(Plan {
+            payload: Payload {
+                bytes: Vec::new(alloc),
+            },
+            master,
+            others,
+            same: true,
+        });
+    }
+    let payload = payload_of(alloc, &view, &names, before, &order, &rest)?;
+    check(
+        Limit::Log,
+        bytes.len() as u64 + 9 + payload.len() as u64,
+        limits.log,
+    )?;
+    Ok(Plan {
+        payload: Payload { bytes: payload },
+        master,
+        others,
+        same: false,
+    })
+}
+
+/// The id of a head in a session's view: the one that was found in the stored world, or that of a pending row.
+fn head_id(pending: &PendingRows, head: &Name, found: Option<Id>) -> Option<Id>
+    requires { (w : World NameBytes) × (rows : List (Row NameBytes)) × ArePending w pending.now rows }
+    ensures { (w : World NameBytes) (rows : List (Row NameBytes)) → ArePending w pending.now rows → found ≡ stored_id w head.now
+        → MatchOption result (IsIn head.now (names_of (rows_of (with_pending w rows))) → ⊥) (λ id. IsIn head.now (names_of (rows_of (with_pending w rows))) × (id ≡ id_in same_name (with_pending w rows) head.now)) }
+{
+    if found.is_some() {
+        return found;
+    }
+    let k = pending.find(head.lend())?;
+    Some(Id::other(pending.first() + u64::from(k)))
+}
+
+/// Adds the number of an id that isn't in master.
+fn add_number(numbers: &mut Vec<u32>, id: Id) -> Result<(), AllocError>
+    requires { id < 2 ^ 56 + 2 ^ 32 }
+    ensures { OnOk result (numbers.new.items ≡ numbers.old.items ++ others_of (node_of id ∷ [])) }
+{
+    if id.number() >= FIRST_OTHER {
+        numbers.push(id.place() as u32)?;
+    }
+    Ok(())
+}
+
+/// The numbers of those heads that aren't in master.
+fn head_numbers(
+    alloc: Global,
+    pending: &PendingRows,
+    heads: &[Name],
+    found: &[Option<Id>],
+) -> Result<Vec<u32>, PlanFault>
+    requires { (w : World NameBytes) × (rows : List (Row NameBytes)) × MayFind pending.now heads.now found.now w rows }
+    ensures { (w : World NameBytes) (rows : List (Row NameBytes)) → MayFind pending.now heads.now found.now w rows
+        → MatchResult result
+        (λ numbers. AreAllIn heads.now (names_of (rows_of (with_pending w rows))) × (numbers.items ≡ others_of (map node_of (map (id_in same_name (with_pending w rows)) heads.now))))
+        (λ fault. (fault ≡ Memory) ⊎ (unknown_fault (first_unknown (with_pending w rows) heads.now) ≡ Some fault)) }
+{
+    let mut numbers = Vec::new(alloc);
+    'heads: for i in 0..heads.len() {
+        let Some(id) = head_id(pending, &heads[i], found[i]) else {
+            return Err(PlanFault::Unknown(heads[i]));
+        };
+        add_number(&mut numbers, id)?;
+    }
+    Ok(numbers)
+}
+
+/// The plan of a flush of these heads, each with its id in the stored world where that has it: the heads and all that they
+/// reach move into master, and the pending rows are stored with the rest. It is what it is for each world for which the
+/// tables stand. It changes nothing; the tables that follow are those with the payload added.
+pub fn plan_flush(
+    alloc: Global,
+    tables: &Tables,
+    bytes: &[u8],
+    pending: &PendingRows,
+    heads: &[Name],
+    found: &[Option<Id>],
+    limits: Limits,
+) -> Result<Plan, PlanFault>
+    requires limits { AreLimits limits }
+    requires log { length bytes.now ≤ 2 ^ 32 }
+    requires world { (w : World NameBytes) × (rows : List (Row NameBytes)) × MayFlush tables.now bytes.now pending.now heads.now found.now w rows }
+    ensures { (w : World NameBytes) (rows : List (Row NameBytes)) (payload : List ℕ) → MayFlush tables.now bytes.now pending.now heads.now found.now w rows
+        → IsChangeOf w (flushed same_name (with_pending w rows) heads.now) payload
+        → MatchResult result
+        (λ plan. (flush_refusal limits (length bytes.now) (with_pending w rows) (flushed same_name (with_pending w rows) heads.now) heads.now payload ≡ None)
+        × IsPlanOf plan w (flushed same_name (with_pending w rows) heads.now) payload)
+        (λ fault. (fault ≡ Memory) ⊎ (flush_refusal limits (length bytes.now) (with_pending w rows) (flushed same_name (with_pending w rows) heads.now) heads.now payload ≡ Some fault)) }
+{
+    let numbers = head_numbers(alloc, pending, heads, found)?;
+    plan_moves(alloc, tables, bytes, pending, &numbers, limits)
+}

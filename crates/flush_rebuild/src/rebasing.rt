@@ -1,0 +1,33 @@
+//! Pending rows on a newer world.
+
+ghost use Rattle.std.specs.Prelude.{◌≡◌, ◌⊎◌, ◌++◌, List, Option, None, Some, ℕ, MatchResult};
+ghost use Rattle.id_groups.specs.Name.{Name as NameBytes, same_name};
+ghost use Rattle.commit_graph.specs.World.{Row, World, with_pending};
+ghost use Rattle.flush_rebuild.specs.declared.fault.PlanFault.TheVariants.{Memory};
+ghost use Rattle.flush_rebuild.specs.Rebase.{first_conflict, left_of};
+ghost use Rattle.payload_tables.specs.Bases.{ArePending};
+ghost use Rattle.flush_rebuild.specs.Plans.{MayRebase, conflict_fault};
+
+use crate::fault::PlanFault;
+use id_groups::Id;
+use payload_tables::{BaseRef, PendingRows, Tables};
+use std::alloc::Global;
+
+/// The pending rows that the newest world doesn't have, with their parents by their ids in it; each name's id there was
+/// found. A row that it has with other parents is a conflict.
+pub fn rebase(
+    alloc: Global,
+    tables: &Tables,
+    bytes: &[u8],
+    base: BaseRef<'_>,
+    pending: &PendingRows,
+    found: &[Option<Id>],
+) -> Result<PendingRows, PlanFault>
+    requires { (w old : World NameBytes) × (rows : List (Row NameBytes)) × MayRebase tables.now bytes.now base pending.now found.now w old rows }
+    ensures { (w old : World NameBytes) (rows : List (Row NameBytes)) → MayRebase tables.now bytes.now base.entry pending.now found.now w old rows
+        → MatchResult result
+        (λ left. (first_conflict same_name w rows ≡ None) × ArePending w left (left_of same_name w rows))
+        (λ fault. (fault ≡ Memory) ⊎ (conflict_fault (first_conflict same_name w rows) ≡ Some fault)) }
+{
+    Err(PlanFault::Memory)
+}

@@ -1,0 +1,13 @@
+pub mod Lists
+pub mod Naming
+pub mod Joined
+pub mod Standing
+pub mod Basing
+pub mod Sectioning
+pub mod Rows
+pub mod Adding
+pub mod Leveling
+pub mod Heading
+pub mod Following
+pub mod Pushing
+pub mod Stored

@@ -1,0 +1,4 @@
+pub mod Kept
+pub mod Pending
+pub mod Sections
+pub mod Bases

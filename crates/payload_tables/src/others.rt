@@ -1,0 +1,145 @@
+//! The other ids of one payload.
+
+ghost use Rattle.std.specs.Prelude.{◌≡◌, ◌<◌, ◌≤◌, ◌+◌, ◌*◌, ◌^◌, ℕ, List, length, take, drop, IfOk};
+ghost use Rattle.segment_codec.specs.Record.{Segment};
+ghost use Rattle.flat_segments.specs.Placed.{placed as placed_segments};
+ghost use Rattle.payload_tables.specs.Sections.{AreOthers};
+ghost use Rattle.flat_segments.specs.Kept.{IsSectionOf};
+ghost use Rattle.name_map.specs.Added.{every, names_from};
+ghost use Rattle.name_index.specs.Index.{IsIndexOf};
+ghost use Rattle.id_groups.specs.Lists.{AreDistinct};
+ghost use Rattle.batch_codec.specs.Lent.{payload_of, names_of};
+ghost use Rattle.name_map.specs.Adding.{placed};
+ghost use Rattle.batch_codec.specs.Payload.{payload_bytes};
+ghost use Rattle.payload_tables.specs.Kept.{AreOthersOf, AreNoOthers};
+
+use batch_codec::{BatchRef, NameSlice};
+use flat_segments::Section;
+use name_index::{IndexFault, NameIndex};
+use segment_codec::read_segment;
+use std::alloc::{AllocError, Global};
+use std::marker::Model;
+
+/// The records and the names of one payload's other ids, by their places in the log. Contracts see what is kept; whose it
+/// is, `AreOthersOf` says.
+#[derive(Drop)]
+pub struct OthersTable {
+    pub(crate) section: Section,
+    pub(crate) names: u64,
+    pub(crate) count: u32,
+    pub(crate) index: NameIndex,
+}
+
+impl Model for OthersTable {
+    ghost use Rattle.payload_tables.specs.Kept.{PlainOthers};
+
+    ghost Value = { PlainOthers };
+
+    ghost view = { λ t. record { section = t.section; names = t.names; count = t.count; index = t.index } };
+}
+
+impl OthersTable {
+    /// The table without ids. It takes no memory yet, and keeps the allocator.
+    pub fn empty(alloc: Global) -> OthersTable
+        ensures { AreNoOthers result }
+    {
+        OthersTable {
+            section: Section::empty(alloc),
+            names: 0,
+            count: 0,
+            index: NameIndex::empty(alloc),
+        }
+    }
+
+    /// The other ids of a payload that stands, or will stand, at the place `at` in the log. Where two of its names are the
+    /// same, names aren't found.
+    pub fn read(alloc: Global, batch: &BatchRef<'_>, at: u64) -> Result<OthersTable, AllocError>
+        requires { at + length (payload_bytes 1 (payload_of batch.now)) < 2 ^ 63 }
+        ensures { IfOk result (λ others. AreDistinct (payload_of batch.now).other_names → AreOthersOf others (placed at batch.now)) }
+    {
+        batch.is_payload();
+        let segments = batch.other_segments();
+        let section = section_of(alloc, segments.bytes(), at + segments.start())?;
+        let names = batch.other_names();
+        let start = at + names.start();
+        let index = index_of(alloc, &names, start)?;
+        Ok(OthersTable {
+            section,
+            names: start,
+            count: names.len(),
+            index,
+        })
+    }
+
+    /// The same table once more.
+    pub fn copy(&self, alloc: Global) -> Result<OthersTable, AllocError>
+        ensures { IfOk result (λ copy. copy ≡ self.now) }
+    {
+        let section = self.section.copy(alloc)?;
+        let index = self.index.copy(alloc)?;
+        Ok(OthersTable {
+            section,
+            names: self.names,
+            count: self.count,
+            index,
+        })
+    }
+
+    /// How many other ids there are.
+    pub fn count(&self) -> u32
+        ensures { result ≡ self.now.count }
+    {
+        self.count
+    }
+
+    /// Their names one after another, lent from the log's bytes, in which they stand.
+    pub fn names<'a>(&self, bytes: &'a [u8]) -> &'a [u8]
+        requires { self.now.names + 20 * self.now.count ≤ length bytes.now }
+        ensures { result.now ≡ take (20 * self.now.count) (drop self.now.names bytes.now) }
+    {
+        let (_, rest) = bytes.split_at(self.names as usize);
+        let (names, _) = rest.split_at(20 * self.count as usize);
+        names
+    }
+}
+
+/// The index of names that stand, or will stand, at a place; one of no names where two of them are the same.
+fn index_of(alloc: Global, names: &NameSlice<'_>, at: u64) -> Result<NameIndex, AllocError>
+    requires { at + 20 * length (names_of names.now) < 2 ^ 64 }
+    ensures { IfOk result (λ index. AreDistinct (names_of names.now) → IsIndexOf index (names_from at (names_of names.now))) }
+{
+    let places = places_every(alloc, at, names.len())?;
+    let mut index = NameIndex::empty(alloc);
+    match index.insert(&[], at, names.bytes(), places) {
+        Ok(()) => Ok(index),
+        Err(IndexFault::Double) => Ok(index),
+        Err(IndexFault::Memory) => Err(AllocError),
+    }
+}
+
+/// The section of records that stand, or will stand, at a place.
+fn section_of(alloc: Global, records: &[u8], at: u64) -> Result<Section, AllocError>
+    requires records { (segments : List Segment) × AreOthers segments records.now }
+    requires place { at + length records.now < 2 ^ 63 }
+    ensures { IfOk result (λ section. (segments : List Segment) → AreOthers segments records.now → IsSectionOf section (placed_segments at segments)) }
+{
+    let mut section = Section::empty(alloc);
+    let mut rest = records;
+    'records: while let Some((segment, after)) = read_segment(rest) {
+        section.push(segment, at + (records.len() - rest.len()) as u64)?;
+        rest = after;
+    }
+    Ok(section)
+}
+
+/// The places of so many names from the first on.
+fn places_every(alloc: Global, first: u64, count: u32) -> Result<Vec<u64>, AllocError>
+    requires { first + 20 * count < 2 ^ 64 }
+    ensures { IfOk result (λ places. places.items ≡ every first 20 count) }
+{
+    let mut places = Vec::with_capacity(alloc, count as usize)?;
+    'places: for i in 0..count {
+        places.push(first + 20 * u64::from(i))?;
+    }
+    Ok(places)
+}

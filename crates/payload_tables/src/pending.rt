@@ -1,0 +1,287 @@
+//! Rows that are pending.
+
+ghost use Rattle.std.specs.Prelude.{◌≡◌, ◌<◌, ◌≤◌, ◌++◌, ◌∷◌, [], List, ℕ, length, drop, slice_get, Some, IsSomeAnd, IfOk, OnOk, OnErr};
+ghost use Rattle.segment_codec.specs.Lent.{segment_of, parents_left};
+ghost use Rattle.segment_codec.specs.Record.{Segment, IsSegment, segment_bytes};
+ghost use Rattle.flat_segments.specs.Placed.{Placed};
+ghost use Rattle.flat_segments.specs.Kept.{IsSectionOf, MayPush};
+ghost use Rattle.std.specs.List.{AllByRecursion};
+ghost use Rattle.id_groups.specs.Name.{Name as NameBytes, IsName};
+ghost use Rattle.batch_codec.specs.Payload.{names_bytes};
+ghost use Rattle.payload_tables.specs.Pending.{IdRow, HoldsRows, MayPushRow, FindsRow, FindsNames};
+
+use crate::piece::piece;
+use flat_segments::Section;
+use id_groups::{Id, Name, NameRef};
+use name_index::{IndexFault, NameIndex};
+use segment_codec::{Parents, SegmentRef, read_segment, write_segment};
+use std::alloc::{AllocError, Global};
+use std::marker::Model;
+
+/// The rows that a session has added, as bytes: a record and a name for each. Contracts see what is kept; which rows it
+/// holds, `HoldsRows` says.
+#[derive(Drop)]
+pub struct PendingRows {
+    pub(crate) alloc: Global,
+    pub(crate) first: u64,
+    pub(crate) records: Vec<u8>,
+    pub(crate) places: Vec<u64>,
+    pub(crate) names: Vec<u8>,
+    pub(crate) section: Section,
+    pub(crate) index: NameIndex,
+}
+
+impl Model for PendingRows {
+    ghost use Rattle.payload_tables.specs.Pending.{PlainPending};
+
+    ghost Value = { PlainPending };
+
+    ghost view = { λ p. record { first = p.first; records = p.records.items; places = p.places.items; names = p.names.items; section = p.section; index = p.index } };
+}
+
+/// Puts a name, which stands or will stand behind these, into the index; one that is held already stays where it was. Want
+/// of memory changes nothing.
+fn add_name(
+    alloc: Global,
+    index: &mut NameIndex,
+    names: &[u8],
+    name: &Name,
+) -> Result<(), AllocError>
+    ensures found { (before : List NameBytes) → FindsNames index.old before → names.now ≡ names_bytes before → AllByRecursion IsName before
+        → OnOk result (FindsNames index.new (before ++ name.now ∷ [])) }
+    ensures unchanged { OnErr result (index.new ≡ index.old) }
+{
+    let at = names.len() as u64;
+    let places = one_place(alloc, at)?;
+    match index.insert(names, at, name.lend().bytes, places) {
+        Ok(()) => Ok(()),
+        Err(IndexFault::Double) => Ok(()),
+        Err(IndexFault::Memory) => Err(AllocError),
+    }
+}
+
+/// The list of one place.
+fn one_place(alloc: Global, place: u64) -> Result<Vec<u64>, AllocError>
+    ensures { IfOk result (λ places. places.items ≡ place ∷ []) }
+{
+    let mut places = Vec::new(alloc);
+    places.push(place)?;
+    Ok(places)
+}
+
+/// Adds a segment and a name. A refusal changes neither.
+fn add_found(
+    alloc: Global,
+    section: &mut Section,
+    index: &mut NameIndex,
+    names: &[u8],
+    segment: SegmentRef<'_>,
+    place: u64,
+    name: &Name,
+) -> Result<(), AllocError>
+    requires segment { MayPush section.old (segment_of segment) }
+    requires section { (records : List Placed) × IsSectionOf section.old records }
+    ensures section { OnOk result ((records : List Placed) → IsSectionOf section.old records → IsSectionOf section.new (records ++ record { place = place; segment = segment_of segment.entry } ∷ [])) }
+    ensures found { (before : List NameBytes) → FindsNames index.old before → names.now ≡ names_bytes before → AllByRecursion IsName before
+        → OnOk result (FindsNames index.new (before ++ name.now ∷ [])) }
+    ensures unchanged { OnErr result ((section.new ≡ section.old) × (index.new ≡ index.old)) }
+{
+    let len = section.len();
+    let end = section.end();
+    section.push(segment, place)?;
+    let added = add_name(alloc, index, names, name);
+    if added.is_err() {
+        section.cut_back(len, end);
+    }
+    added
+}
+
+/// Adds a name's bytes, and the parts that are found by it. A refusal changes nothing.
+fn add_named(
+    alloc: Global,
+    names: &mut Vec<u8>,
+    section: &mut Section,
+    index: &mut NameIndex,
+    segment: SegmentRef<'_>,
+    place: u64,
+    name: &Name,
+) -> Result<(), AllocError>
+    requires segment { MayPush section.old (segment_of segment) }
+    requires section { (records : List Placed) × IsSectionOf section.old records }
+    ensures section { OnOk result ((records : List Placed) → IsSectionOf section.old records → IsSectionOf section.new (records ++ record { place = place; segment = segment_of segment.entry } ∷ [])) }
+    ensures found { (before : List NameBytes) → FindsNames index.old before → names.old.items ≡ names_bytes before → AllByRecursion IsName before
+        → OnOk result (FindsNames index.new (before ++ name.now ∷ [])) }
+    ensures names { OnOk result (names.new.items ≡ names.old.items ++ name.now) }
+    ensures whole { OnOk result (IsName name.now) }
+    ensures unchanged { OnErr result ((names.new.items ≡ names.old.items) × (section.new ≡ section.old) × (index.new ≡ index.old)) }
+{
+    let len = names.len();
+    names.extend_from_slice(name.lend().bytes)?;
+    let (before, _) = names.split_at(len);
+    let added = add_found(alloc, section, index, before, segment, place, name);
+    if added.is_err() {
+        names.truncate(len);
+    }
+    added
+}
+
+/// Adds the place of a record, a name's bytes, and the parts that are found by them. A refusal changes nothing.
+fn add_parts(
+    alloc: Global,
+    places: &mut Vec<u64>,
+    names: &mut Vec<u8>,
+    section: &mut Section,
+    index: &mut NameIndex,
+    segment: SegmentRef<'_>,
+    place: u64,
+    name: &Name,
+) -> Result<(), AllocError>
+    requires segment { MayPush section.old (segment_of segment) }
+    requires section { (records : List Placed) × IsSectionOf section.old records }
+    ensures section { OnOk result ((records : List Placed) → IsSectionOf section.old records → IsSectionOf section.new (records ++ record { place = place; segment = segment_of segment.entry } ∷ [])) }
+    ensures found { (before : List NameBytes) → FindsNames index.old before → names.old.items ≡ names_bytes before → AllByRecursion IsName before
+        → OnOk result (FindsNames index.new (before ++ name.now ∷ [])) }
+    ensures names { OnOk result (names.new.items ≡ names.old.items ++ name.now) }
+    ensures whole { OnOk result (IsName name.now) }
+    ensures places { OnOk result (places.new.items ≡ places.old.items ++ place ∷ []) }
+    ensures unchanged { OnErr result ((places.new.items ≡ places.old.items) × (names.new.items ≡ names.old.items) × (section.new ≡ section.old) × (index.new ≡ index.old)) }
+{
+    let len = places.len();
+    places.push(place)?;
+    let added = add_named(alloc, names, section, index, segment, place, name);
+    if added.is_err() {
+        places.truncate(len);
+    }
+    added
+}
+
+/// The parents of the record at the place.
+fn parents_of(records: &[u8], place: u64) -> Option<Parents<'_>>
+    requires { place ≤ length records.now }
+    ensures { (s : Segment) (rest : List ℕ) → IsSegment s → drop place records.now ≡ segment_bytes s ++ rest → IsSomeAnd result (λ p. parents_left p ≡ s.parents) }
+{
+    let (segment, _) = read_segment(&records[place as usize..])?;
+    Some(segment.parents())
+}
+
+impl PendingRows {
+    /// No rows yet; the first one will have the place `first` among the other ids. It takes no memory yet, and keeps the
+    /// allocator.
+    pub fn empty(alloc: Global, first: u64) -> PendingRows
+        requires { first ≤ 65536 }
+        ensures rows { HoldsRows result [] }
+        ensures first { result.first ≡ first }
+    {
+        PendingRows {
+            alloc,
+            first,
+            records: Vec::new(alloc),
+            places: Vec::new(alloc),
+            names: Vec::new(alloc),
+            section: Section::empty(alloc),
+            index: NameIndex::empty(alloc),
+        }
+    }
+
+    /// Adds a row. Want of memory changes nothing.
+    pub fn push(&mut self, name: &Name, parents: &[Id]) -> Result<(), AllocError>
+        requires row { MayPushRow self.old.first (length self.old.places) parents.now }
+        requires rows { (rows : List IdRow) × HoldsRows self.old rows }
+        ensures pushed { (rows : List IdRow) → HoldsRows self.old rows → OnOk result (HoldsRows self.new (rows ++ record { name = name.now; parents = parents.now } ∷ [])) }
+        ensures first { self.new.first ≡ self.old.first }
+        ensures unchanged { OnErr result (self.new ≡ self.old) }
+    {
+        let id = Id::other(self.first + self.places.len() as u64);
+        let place = self.records.len();
+        write_segment(&mut self.records, id, id, 0, parents)?;
+        let Some((segment, _)) = read_segment(&self.records[place..]) else {
+            return Ok(());
+        };
+        let added = add_parts(
+            self.alloc,
+            &mut self.places,
+            &mut self.names,
+            &mut self.section,
+            &mut self.index,
+            segment,
+            place as u64,
+            name,
+        );
+        if added.is_err() {
+            self.records.truncate(place);
+        }
+        added
+    }
+
+    /// The same rows once more.
+    pub fn copy(&self, alloc: Global) -> Result<PendingRows, AllocError>
+        ensures { IfOk result (λ copy. copy ≡ self.now) }
+    {
+        let mut records = Vec::with_capacity(alloc, self.records.len())?;
+        records.extend_from_slice(&self.records)?;
+        let mut places = Vec::with_capacity(alloc, self.places.len())?;
+        places.extend_from_slice(&self.places)?;
+        let mut names = Vec::with_capacity(alloc, self.names.len())?;
+        names.extend_from_slice(&self.names)?;
+        let section = self.section.copy(alloc)?;
+        let index = self.index.copy(alloc)?;
+        Ok(PendingRows {
+            alloc,
+            first: self.first,
+            records,
+            places,
+            names,
+            section,
+            index,
+        })
+    }
+
+    /// The place of the first row among the other ids.
+    pub fn first(&self) -> u64
+        ensures { result ≡ self.now.first }
+    {
+        self.first
+    }
+
+    /// The rows' names, one after another.
+    pub fn names(&self) -> &[u8]
+        ensures { result.now ≡ self.now.names }
+    {
+        &self.names
+    }
+
+    /// How many rows there are.
+    pub fn len(&self) -> u32
+        requires { (rows : List IdRow) × HoldsRows self.now rows }
+        ensures len { (rows : List IdRow) → HoldsRows self.now rows → result ≡ length rows }
+        ensures places { result ≡ length self.now.places }
+    {
+        self.places.len() as u32
+    }
+
+    /// The name of row `i`, which is below `len`.
+    pub fn name(&self, i: u32) -> NameRef<'_>
+        requires { (rows : List IdRow) × HoldsRows self.now rows × (i < length rows) }
+        ensures { (rows : List IdRow) (row : IdRow) → HoldsRows self.now rows → slice_get rows i ≡ Some row → result.bytes.now ≡ row.name }
+    {
+        piece(&self.names, 20 * i as usize)
+    }
+
+    /// The ids of the parents of row `i`, which is below `len`, in order.
+    pub fn parents(&self, i: u32) -> Option<Parents<'_>>
+        requires { (rows : List IdRow) × HoldsRows self.now rows × (i < length rows) }
+        ensures { (rows : List IdRow) (row : IdRow) → HoldsRows self.now rows → slice_get rows i ≡ Some row → IsSomeAnd result (λ p. parents_left p ≡ row.parents) }
+    {
+        let place = self.places[i as usize];
+        parents_of(&self.records, place)
+    }
+
+    /// The row with the name; `None` exactly where none has it. A name that was pushed twice finds one of its rows.
+    pub fn find(&self, name: NameRef<'_>) -> Option<u32>
+        requires { (rows : List IdRow) × HoldsRows self.now rows }
+        ensures { (rows : List IdRow) → HoldsRows self.now rows → FindsRow rows name.entry.bytes.now result }
+    {
+        let place = self.index.find(&self.names, name)?;
+        Some((place / 20) as u32)
+    }
+}

@@ -1,0 +1,6 @@
+#![tactic(auto)]
+
+//! Tables of payloads that are spelled out.
+
+#[cfg(test)]
+mod tests;
