@@ -12,3 +12,9 @@ pub mod Planning
 pub mod Sizing
 pub mod Refusing
 pub mod Finding
+pub mod Fresh
+pub mod Numbered
+pub mod Invented
+pub mod Storing
+pub mod Looking
+pub mod Asking

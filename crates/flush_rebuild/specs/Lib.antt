@@ -5,3 +5,4 @@ pub mod Moves
 pub mod Plans
 pub mod Rebase
 pub mod Standard
+pub mod Asked

@@ -41,3 +41,8 @@ pub fn changes_are_lawful()
     ensures { (payloads : List PlainPayload) (old new : World NameBytes) → AreLawful [] payloads → StandFor payloads old → IsNamedWorld new → GrowsMaster old new
         → length new.master ≤ standard.master → length new.others ≤ standard.others → 0 < length (rows_of new) → MayFollow payloads (flush_change old new) }
 {}
+
+/// Lawful payloads stand for some world.
+pub fn payloads_stand_for_a_world()
+    ensures { (payloads : List PlainPayload) → AreLawful [] payloads → (w : World NameBytes) × IsNamedWorld w × StandFor payloads w }
+{}

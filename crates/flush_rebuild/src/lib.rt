@@ -13,11 +13,12 @@ mod runs;
 
 pub use fault::PlanFault;
 pub use laws::{
-    changes_are_lawful, flush_keeps_worlds, flush_payload_stands, nothing_stored, standard_limits,
+    changes_are_lawful, flush_keeps_worlds, flush_payload_stands, nothing_stored,
+    payloads_stand_for_a_world, standard_limits,
 };
 pub use limits::{Limit, Limits};
 pub use payload_tables::{BaseRef, OthersTable, PendingRows, TableFault, Tables};
-pub use plan::{Payload, Plan, plan_flush};
+pub use plan::{Change, Payload, plan_change};
 pub use rebasing::rebase;
 
 #[cfg(test)]
