@@ -3,13 +3,21 @@
 ghost use Rattle.std.specs.Prelude.{◌≡◌, ◌<◌, ◌^◌, length, slice_get, Some, None, MatchOption};
 ghost use Rattle.segment_codec.specs.Lent.{segment_of};
 ghost use Rattle.segment_codec.specs.Table.{segment_at};
-ghost use Rattle.flat_segments.specs.Views.{view_flats};
+ghost use Rattle.flat_segments.specs.Views.{view_flats, master_count};
 
 use crate::view::FlatView;
 use id_groups::{FIRST_OTHER, Id};
 use segment_codec::{Bounds, SegmentRef, SegmentTable, Steps};
 
 impl<'a> FlatView<'a> {
+    /// How many master ids the view has.
+    #[inline(always)]
+    pub fn master_count(&self) -> u64
+        ensures { result ≡ master_count self.now }
+    {
+        self.master.end
+    }
+
     /// The segment that has the id; `None` exactly where the id isn't in the bounds.
     #[inline(always)]
     fn find(&self, id: u64, steps: &mut Steps) -> Option<SegmentRef<'a>>

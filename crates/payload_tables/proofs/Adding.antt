@@ -1,5 +1,5 @@
 -- A payload that is added to the table of segments and to the map of names.
-use Rattle.std.proofs.Common.{◌≡◌, ◌≤◌, ℕ, ◌+◌, ◌^◌, not, List, [], ◌∷◌, ◌++◌, map, length, take, filter, flat_map, Result, Ok, Err, refl, sym, ap, ap₂, ◌∙◌, subst, arith, length-append, lit≤}
+use Rattle.std.proofs.Common.{◌≡◌, ◌<◌, ◌≤◌, ℕ, ◌+◌, ◌^◌, not, List, [], ◌∷◌, ◌++◌, map, length, take, filter, flat_map, Result, Ok, Err, refl, sym, ap, ap₂, ◌∙◌, subst, arith, length-append, lit≤}
 use Rattle.std.specs.List.{AllByRecursion}
 use Rattle.std.proofs.lemmas.List.{map-append, length-map, take_at}
 use Rattle.std.proofs.lemmas.List.Elements.{filter-append}
@@ -14,7 +14,7 @@ use Rattle.flat_segments.specs.Placed.{Placed as PlacedSegment, placed, segments
 use Rattle.flat_segments.specs.Kept.{Kept, entry_of, kept_of, IsTableOf, MayExtend}
 use Rattle.flat_segments.proofs.Callers.{follow-few}
 use Rattle.name_map.specs.Added.{Placed, payloads_of}
-use Rattle.payload_tables.specs.Kept.{AreBothOf, master_records, flat_fault}
+use Rattle.payload_tables.specs.Kept.{AreMastersOf, master_records, flat_fault}
 use Rattle.std.specs.Result.{IsErrAnd}
 use Rattle.flat_segments.specs.declared.fault.FlatFault.{FlatFault}
 use Rattle.flat_segments.specs.declared.fault.FlatFault.TheVariants.{BadSegment, Memory as FlatMemory}
@@ -22,16 +22,23 @@ use Rattle.payload_tables.specs.declared.fault.TableFault.{TableFault}
 use Rattle.payload_tables.specs.declared.fault.TableFault.TheVariants.{Unlawful}
 use Rattle.payload_tables.proofs.Lists.{flat-snoc}
 use Rattle.payload_tables.proofs.Joined.{follow-once}
+use Rattle.segment_levels.specs.Kept.{Kept as KeptLevels}
 use Rattle.payload_tables.proofs.Standing.{lawful-follow, masters-segments, masters-in}
 
-pub both-end : (table : Kept) (map : _) (added : List Placed) → AreBothOf table map added → table.end ≡ count_after 0 (payloads_of added)
-both-end table map added b =
+pub both-end : (table : Kept) (levels : KeptLevels) (map : _) (added : List Placed) → AreMastersOf table levels map added → table.end ≡ count_after 0 (payloads_of added)
+both-end table levels map added b =
     follow-once 0 table.end (count_after 0 (payloads_of added)) (segments_of (master_records added)) b.flat.in_turn
     (subst (Follow 0 (count_after 0 (payloads_of added))) (sym (masters-segments added)) (lawful-follow [] (payloads_of added) b.lawful))
 
 all-first : (segments : List Segment) → AllByRecursion (λ s. IsSegment s × (s.level ≡ 0)) segments → AllByRecursion IsSegment segments
 all-first [] h = tt
 all-first (s ∷ more) h = (h.0.0, all-first more h.1)
+
+-- with the payload's records there are few enough
+pub few-masters : (table : Kept) (added : List Placed) (p : Payload) → IsTableOf table (master_records added) → IsPayload p → p.before ≡ table.end → length (master_records added) + length p.master < 2 ^ 32
+few-masters table added p is h e =
+    let x = follow-few 0 table.end (segments_of (master_records added)) is.in_turn in let y = length-map (master_records added) (λ (r : PlacedSegment). r.segment) in
+    let z = follow-few p.before p.after p.master h.cover.master in let most = h.counts.master in omega (arith, x, y, z, most, e)
 
 -- the records of the payload may extend the table
 pub may-extend : (table : Kept) (added : List Placed) (p : Payload) (bytes : List ℕ) → IsTableOf table (master_records added) → IsPayload p → p.before ≡ table.end → bytes ≡ flat_map segment_bytes p.master
@@ -41,8 +48,7 @@ may-extend table added p bytes is h e b = record {
   table_of = is;
   segments = p.master;
   records = record { each = all-first p.master h.cover.flat_master; bytes_are = b };
-  few = (let x = follow-few 0 table.end (segments_of (master_records added)) is.in_turn in let y = length-map (master_records added) (λ (r : PlacedSegment). r.segment) in
-      let z = follow-few p.before p.after p.master h.cover.master in let most = h.counts.master in omega (arith, x, y, z, most, e));
+  few = few-masters table added p is h e;
 }
 
 pub are-records : (p : Payload) (bytes : List ℕ) → IsPayload p → bytes ≡ flat_map segment_bytes p.master → AreRecords p.master bytes
@@ -60,19 +66,20 @@ turn-master first place end [] f le h = tt
 turn-master first place end (s ∷ more) f le h =
     ((h.0, (let e = follow-few (s.high + 1) end more f.2 in omega (arith, e, le))), turn-master first (s.high + 1) end more f.2 le h.1)
 
--- and none may not come where it stands
-pub never-broken : (p : Payload) (first k : ℕ) → IsPayload p → first ≡ p.before → IsFirstBroken (MasterMayStandAt first) first p.master k → ⊥
-never-broken p first k h e broken =
-    subst (λ n. IsFirstBroken (MasterMayStandAt n) n p.master k → ⊥) (sym e)
-    (none-broken (MasterMayStandAt p.before) p.before p.master k
-    (turn-master p.before p.before p.after p.master h.cover.master (let most = h.counts.master in let l : 16777216 ≤ 2 ^ 56 = lit≤ tt in omega (arith, most, l)) (stand-in-turn p.before p.after p.master h.cover.master h.maximal.master h.cover.flat_master)))
-    broken
+-- they stand in turn
+pub masters-turn : (p : Payload) (first : ℕ) → IsPayload p → first ≡ p.before → StandInTurn (MasterMayStandAt first) first p.master
+masters-turn p first h e =
+    subst (λ n. StandInTurn (MasterMayStandAt n) n p.master) (sym e)
+    (turn-master p.before p.before p.after p.master h.cover.master (let most = h.counts.master in let l : 16777216 ≤ 2 ^ 56 = lit≤ tt in omega (arith, most, l)) (stand-in-turn p.before p.after p.master h.cover.master h.maximal.master h.cover.flat_master))
 
--- the table with them
-pub table-more : (table : Kept) (added : List Placed) (a : Placed) (place : ℕ) → place ≡ a.at + master_start → IsTableOf table (master_records added ++ placed place a.payload.master)
-    → IsTableOf table (master_records (added ++ a ∷ []))
-table-more table added a place e is =
-    subst (IsTableOf table) (ap (λ n. master_records added ++ placed n a.payload.master) e ∙ sym (flat-snoc (λ (b : Placed). placed (b.at + master_start) b.payload.master) added a)) is
+-- records that stand in turn break no rule
+pub never-broken : (first k : ℕ) (segments : List Segment) → StandInTurn (MasterMayStandAt first) first segments → IsFirstBroken (MasterMayStandAt first) first segments k → ⊥
+never-broken first k segments h broken = none-broken (MasterMayStandAt first) first segments k h broken
+
+-- the records with them
+pub records-more : (added : List Placed) (a : Placed) (place : ℕ) → place ≡ a.at + master_start → master_records added ++ placed place a.payload.master ≡ master_records (added ++ a ∷ [])
+records-more added a place e =
+    ap (λ n. master_records added ++ placed n a.payload.master) e ∙ sym (flat-snoc (λ (b : Placed). placed (b.at + master_start) b.payload.master) added a)
 
 kept-append : (xs ys : List PlacedSegment) → kept_of (xs ++ ys) ≡ kept_of xs ++ kept_of ys
 kept-append xs ys = ap (map entry_of) (filter-append (λ (r : PlacedSegment). not (goes_on r.segment)) xs ys)

@@ -23,7 +23,7 @@ use Rattle.flat_segments.specs.declared.view.FlatView.{FlatView}
 use Rattle.flat_segments.specs.Views.{master_count}
 use Rattle.flat_segments.proofs.Callers.{placed-stand, follow-few, few-flats}
 use Rattle.name_map.specs.Added.{Placed, StandsAt, AllStand, payloads_of, Follow as Following}
-use Rattle.payload_tables.specs.Tables.{StandFor, newest, others_in, other_names_in}
+use Rattle.change_rules.specs.Tables.{StandFor, newest, others_in, other_names_in}
 use Rattle.payload_tables.specs.Kept.{PlainTables, PlainOthers, AreTablesOf, AreOthersIn, master_records, other_records}
 use Rattle.payload_tables.specs.Pending.{IdRow, PlainPending, HoldsRows, segments_from}
 use Rattle.payload_tables.specs.Bases.{MayBase, id_row, AreSegmentsOf}

@@ -8,6 +8,8 @@ use Rattle.batch_codec.specs.Grammar.{IsPayload, AreLawful, MayFollow}
 use Rattle.flat_segments.specs.Kept.{IsTableOf}
 use Rattle.name_map.specs.Added.{Placed, payloads_of}
 use Rattle.name_map.specs.Map.{IsMapOf, names_with}
+use Rattle.segment_levels.specs.Kept.{AreLevelsOf}
+use Rattle.segment_levels.specs.Flats.{flats_of}
 use Rattle.payload_tables.specs.Kept.{PlainTables, AreTablesOf, AreOthersOf, AreOthersIn, master_records}
 use Rattle.payload_tables.proofs.Lists.{all-append, last-of, distinct-parts}
 
@@ -16,9 +18,9 @@ lawful-more before [] p h f = (subst (λ l. MayFollow l p) (append-nil before) f
 lawful-more before (q ∷ more) p h f = (h.0, lawful-more (before ++ q ∷ []) more p h.1 (subst (λ l. MayFollow l p) (sym (append_assoc before (q ∷ []) more)) f))
 
 pub tables-more : (tables : PlainTables) (new : PlainTables) (added : List Placed) (a : Placed) → AreTablesOf tables added → IsPayload a.payload → a.payload.kind ≡ 1 → a.payload.before ≡ tables.names.masters
-    → IsTableOf new.flat (master_records (added ++ a ∷ [])) → IsMapOf new.names (added ++ a ∷ []) → AreDistinct (names_with (payloads_of added) a.payload)
+    → IsTableOf new.flat (master_records (added ++ a ∷ [])) → AreLevelsOf new.levels (flats_of new.flat (master_records (added ++ a ∷ []))) → IsMapOf new.names (added ++ a ∷ []) → AreDistinct (names_with (payloads_of added) a.payload)
     → (AreDistinct a.payload.other_names → AreOthersOf new.others a) → AreTablesOf new (added ++ a ∷ [])
-tables-more tables new added a t h kind before flat names distinct others =
+tables-more tables new added a t h kind before flat levels names distinct others =
     let no-clone : a.payload.kind ≡ 2 → ⊥ = λ e. eqb-false 1 2 refl (sym kind ∙ e) in
     record {
       lawful = subst (AreLawful []) (sym (map-append (λ (b : Placed). b.payload) added (a ∷ [])))
@@ -29,8 +31,8 @@ tables-more tables new added a t h kind before flat names distinct others =
             clone_heads = λ e. absurd (no-clone e);
             distinct = distinct;
           }));
-      flushes = all-append (λ (b : Placed). b.payload.kind ≡ 1) added (a ∷ []) t.flushes (kind, tt);
       flat = flat;
+      levels = levels;
       names = names;
       others = subst (AreOthersIn new.others) (sym (last-of None added a)) (others (distinct-parts (flat_map known_names (payloads_of added ++ a.payload ∷ [])) a.payload.other_names distinct).1);
     }

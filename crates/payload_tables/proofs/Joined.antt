@@ -15,7 +15,7 @@ use Rattle.commit_graph.proofs.Places.{below-master, over-master, item-at}
 use Rattle.segment_codec.specs.Record.{Segment}
 use Rattle.segment_codec.specs.Table.{IsInSegment, Follow, parents_at, parents_in}
 use Rattle.segment_codec.proofs.Tables.{found-head, found-behind, head-or-behind, le_or_lt}
-use Rattle.payload_tables.specs.Tables.{followers, segment_parents, parents_in as all_parents}
+use Rattle.segment_rules.specs.Flat.{followers, segment_parents, parents_listed as all_parents}
 use Rattle.payload_tables.specs.Pending.{IdRow, segments_from}
 use Rattle.payload_tables.specs.Bases.{id_row, AreSegmentsOf}
 use Rattle.payload_tables.proofs.Lists.{same-self, same-exact, get-front, place-front, get-below}
@@ -65,7 +65,7 @@ followers-at id zero j lt = absurd (omega (arith, lt))
 followers-at id (suc n) zero lt = ap (λ k. Some (k ∷ [])) (let z : id ≡ id + 0 = omega arith in z)
 followers-at id (suc n) (suc j) lt = followers-at (id + 1) n j (omega (arith, lt)) ∙ ap (λ k. Some (k ∷ [])) (let z : id + 1 + j ≡ id + suc j = omega arith in z)
 
-followers-long : (id n : ℕ) → length (followers id n) ≡ n
+pub followers-long : (id n : ℕ) → length (followers id n) ≡ n
 followers-long id zero = refl
 followers-long id (suc n) = ap suc (followers-long (id + 1) n)
 

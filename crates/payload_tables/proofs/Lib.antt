@@ -6,6 +6,7 @@ pub mod Basing
 pub mod Sectioning
 pub mod Rows
 pub mod Adding
+pub mod Leveling
 pub mod Following
 pub mod Pushing
 pub mod Stored

@@ -17,7 +17,8 @@ use Rattle.batch_codec.specs.Payload.{Known, Payload}
 use Rattle.batch_codec.specs.Grammar.{count_after}
 use Rattle.name_map.specs.Map.{NamesAs, IsIdOf}
 use Rattle.name_map.proofs.Orders.{known-within}
-use Rattle.payload_tables.specs.Tables.{known_from, newest, other_names_in}
+use Rattle.change_rules.specs.Change.{known_from}
+use Rattle.change_rules.specs.Tables.{newest, other_names_in}
 use Rattle.payload_tables.specs.Kept.{PlainTables, PlainOthers, AreOthersIn}
 use Rattle.payload_tables.specs.Bases.{MayBase, stored_in}
 use Rattle.payload_tables.proofs.Basing.{OthersFacts, base-others}

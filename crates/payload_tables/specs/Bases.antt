@@ -11,7 +11,8 @@ use Rattle.batch_codec.specs.Payload.{Known}
 use Rattle.batch_codec.specs.Grammar.{count_after}
 use Rattle.name_map.specs.Added.{Placed, payloads_of, known_of, AllStand}
 use Rattle.payload_tables.specs.declared.base.BaseRef.{BaseRef}
-use Rattle.payload_tables.specs.Tables.{known_from, newest, other_names_in}
+use Rattle.change_rules.specs.Change.{known_from}
+use Rattle.change_rules.specs.Tables.{newest, other_names_in}
 use Rattle.payload_tables.specs.Kept.{PlainTables, PlainOthers, AreTablesOf, AreOthersIn, last_added}
 use Rattle.payload_tables.specs.Pending.{IdRow, PlainPending, HoldsRows}
 

@@ -15,6 +15,8 @@ use Rattle.payload_tables.specs.declared.fault.TableFault.{TableFault}
 use Rattle.payload_tables.specs.declared.fault.TableFault.TheVariants.{Unlawful, Memory}
 use Rattle.flat_segments.specs.Placed.{Placed as PlacedSegment, placed}
 use Rattle.flat_segments.specs.Kept.{Kept, IsTableOf, IsSectionOf}
+use Rattle.segment_levels.specs.Kept.{Kept as KeptLevels, AreLevelsOf}
+use Rattle.segment_levels.specs.Flats.{flats_of}
 
 -- what is kept of the other ids of one payload
 pub record PlainOthers : Type 0 where
@@ -28,6 +30,7 @@ pub record PlainOthers : Type 0 where
 -- what is kept of all payloads
 pub record PlainTables : Type 0 where
   pub flat : Kept
+  pub levels : KeptLevels
   pub names : PlainMap
   -- the other ids of the newest one
   pub others : PlainOthers
@@ -65,18 +68,19 @@ last_added added = last_or None added
 abbrev pub master_records : List Placed → List PlacedSegment
 master_records added = flat_map (λ a. placed (a.at + master_start) a.payload.master) added
 
--- The tables are those of the payloads that were added, in this order. The payloads are lawful, and each is a flush.
+-- The tables are those of the payloads that were added, in this order, which are lawful.
 pub record AreTablesOf (tables : PlainTables) (added : List Placed) : Type 0 where
   pub lawful : AreLawful [] (payloads_of added)
-  pub flushes : AllByRecursion (λ a. a.payload.kind ≡ 1) added
   pub flat : IsTableOf tables.flat (master_records added)
+  pub levels : AreLevelsOf tables.levels (flats_of tables.flat (master_records added))
   pub names : IsMapOf tables.names added
   pub others : AreOthersIn tables.others (last_added added)
 
--- the table and the map are those of the payloads
-pub record AreBothOf (table : Kept) (map : PlainMap) (added : List Placed) : Type 0 where
+-- the table, its levels and the map are those of the payloads
+pub record AreMastersOf (table : Kept) (levels : KeptLevels) (map : PlainMap) (added : List Placed) : Type 0 where
   pub lawful : AreLawful [] (payloads_of added)
   pub flat : IsTableOf table (master_records added)
+  pub levels_of : AreLevelsOf levels (flats_of table (master_records added))
   pub names : IsMapOf map added
 
 -- the causes, as the tables tell them

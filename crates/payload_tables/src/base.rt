@@ -3,17 +3,17 @@
 ghost use Rattle.std.specs.Prelude.{◌≡◌, ◌<◌, ◌++◌, ◌^◌, List, ◌∷◌, []};
 ghost use Rattle.id_groups.specs.Name.{Name};
 ghost use Rattle.commit_graph.specs.World.{Row, World, with_pending};
-ghost use Rattle.flat_segments.specs.Views.{view_flats};
+ghost use Rattle.high_segments.specs.Views.{flats_in};
 ghost use Rattle.name_map.specs.Map.{IsIdOf, NamesAs};
 ghost use Rattle.name_map.specs.Added.{Placed, payloads_of};
-ghost use Rattle.payload_tables.specs.Tables.{StandFor};
+ghost use Rattle.change_rules.specs.Tables.{StandFor};
 ghost use Rattle.payload_tables.specs.Bases.{MayBase, IsBaseOf, MayView, ArePending, AreSegmentsOf, stored_in};
 
 use crate::others::OthersTable;
 use crate::pending::PendingRows;
 use crate::piece::piece;
 use crate::tables::Tables;
-use flat_segments::FlatView;
+use high_segments::View;
 use id_groups::{FIRST_OTHER, Id, NameRef};
 
 /// The world of a session, lent: the tables' master ids below a count, and the other ids of one payload.
@@ -43,21 +43,22 @@ impl<'a> BaseRef<'a> {
         }
     }
 
-    /// The segments of the base, and behind them those of the pending rows.
-    pub fn view(&self, pending: &'a PendingRows) -> FlatView<'a>
+    /// The segments of the base with the levels of its master ids, and behind them those of the pending rows.
+    pub fn view(&self, pending: &'a PendingRows) -> View<'a>
         requires { (added : List Placed) × IsBaseOf self.now added × MayView self.now added pending.now }
         ensures { (added : List Placed) (w : World Name) (rows : List (Row Name)) → IsBaseOf self.now added → StandFor (payloads_of added) w → ArePending w pending.now rows
-            → AreSegmentsOf (with_pending w rows) (view_flats result) }
+            → AreSegmentsOf (with_pending w rows) (flats_in result) }
     {
         let tables = self.tables;
         let others = self.others;
         let masters = tables.flat.view(self.bytes, self.below);
-        masters.join(
+        let flat = masters.join(
             &others.section,
             self.bytes,
             &pending.section,
             &pending.records,
-        )
+        );
+        View::new(flat, &tables.levels)
     }
 
     /// The stored name of the id, lent from the log's bytes; `None` exactly where the base stores none.

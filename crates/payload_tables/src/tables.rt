@@ -7,17 +7,22 @@ ghost use Rattle.name_map.specs.Added.{Placed, AllStand, payloads_of};
 ghost use Rattle.name_map.specs.Adding.{placed};
 ghost use Rattle.batch_codec.specs.Payload.{payload_bytes};
 ghost use Rattle.payload_tables.specs.declared.fault.TableFault.TheVariants.{Unlawful};
-ghost use Rattle.id_groups.specs.Lists.{AreDistinct};
-ghost use Rattle.flat_segments.specs.Kept.{IsTableOf};
-ghost use Rattle.name_map.specs.Map.{IsMapOf, names_with};
-ghost use Rattle.payload_tables.specs.Kept.{AreTablesOf, AreBothOf, master_records};
+ghost use Rattle.segment_levels.specs.Kept.{AreLevelsOf};
+ghost use Rattle.payload_tables.specs.Kept.{AreTablesOf};
 ghost use Rattle.payload_tables.specs.Bases.{IsBaseOf};
+ghost use Rattle.id_groups.specs.Name.{Name, same_name};
+ghost use Rattle.commit_graph.specs.World.{World};
+ghost use Rattle.commit_graph.specs.Ids.{parent_ids};
+ghost use Rattle.segment_rules.specs.Flat.{flat_segments_of};
+ghost use Rattle.change_rules.specs.Tables.{StandFor};
 
 use crate::base::BaseRef;
 use crate::fault::TableFault;
+use crate::masters::extend_masters;
 use crate::others::OthersTable;
 use batch_codec::BatchRef;
 use flat_segments::FlatTable;
+use high_segments::Levels;
 use name_map::NameMap;
 use std::alloc::Global;
 use std::marker::Model;
@@ -25,12 +30,13 @@ use std::marker::Model;
 /// The kind of a flush's payload.
 const FLUSH: u8 = 1;
 
-/// What is kept of the payloads of a log: the segments and the names of all master ids, and the other ids of the newest
-/// payload. Contracts see what is kept; of which payloads, `AreTablesOf` says.
+/// What is kept of the payloads of a log: the segments of all master ids with their levels, their names, and the other ids of
+/// the newest payload. Contracts see what is kept; of which payloads, `AreTablesOf` says.
 #[derive(Drop)]
 pub struct Tables {
     pub(crate) alloc: Global,
     pub(crate) flat: FlatTable,
+    pub(crate) levels: Levels,
     pub(crate) names: NameMap,
     pub(crate) others: OthersTable,
 }
@@ -40,40 +46,7 @@ impl Model for Tables {
 
     ghost Value = { PlainTables };
 
-    ghost view = { λ t. record { flat = t.flat; names = t.names; others = t.others } };
-}
-
-/// Adds a payload to both, where those that were added before stand in `bytes`. A refusal changes neither: what the table
-/// took is taken back where the map takes nothing.
-fn extend_both(
-    flat: &mut FlatTable,
-    names: &mut NameMap,
-    bytes: &[u8],
-    batch: &BatchRef<'_>,
-    at: u64,
-) -> Result<(), TableFault>
-    requires room { at + length (payload_bytes 1 (payload_of batch.now)) < 2 ^ 63 }
-    requires tables { (added : List Placed) × AreBothOf flat.old names.old added × AllStand bytes.now added }
-    requires follows { (payload_of batch.now).before ≡ names.old.masters }
-    ensures added { (added : List Placed) → AreBothOf flat.old names.old added → AllStand bytes.now added
-        → OnOk result (IsTableOf flat.new (master_records (added ++ placed at batch.now ∷ [])) × IsMapOf names.new (added ++ placed at batch.now ∷ [])
-        × AreDistinct (names_with (payloads_of added) (payload_of batch.now))) }
-    ensures unlawful { (added : List Placed) → AreBothOf flat.old names.old added → AllStand bytes.now added → result ≡ Err Unlawful
-        → AreDistinct (names_with (payloads_of added) (payload_of batch.now)) → ⊥ }
-    ensures unchanged { OnErr result ((flat.new ≡ flat.old) × (names.new ≡ names.old)) }
-{
-    batch.is_payload();
-    let len = flat.len();
-    let count = flat.count();
-    let masters = batch.master_segments();
-    flat.extend(bytes, masters.bytes(), at + masters.start())?;
-    match names.add_batch(bytes, batch, at) {
-        Ok(()) => Ok(()),
-        Err(fault) => {
-            flat.cut_back(len, count);
-            Err(TableFault::from(fault))
-        }
-    }
+    ghost view = { λ t. record { flat = t.flat; levels = t.levels; names = t.names; others = t.others } };
 }
 
 impl Tables {
@@ -84,6 +57,7 @@ impl Tables {
         Tables {
             alloc,
             flat: FlatTable::empty(alloc),
+            levels: Levels::empty(alloc),
             names: NameMap::empty(alloc),
             others: OthersTable::empty(alloc),
         }
@@ -109,7 +83,14 @@ impl Tables {
         }
         batch.is_payload();
         let others = OthersTable::read(self.alloc, batch, at)?;
-        extend_both(&mut self.flat, &mut self.names, bytes, batch, at)?;
+        extend_masters(
+            &mut self.flat,
+            &mut self.levels,
+            &mut self.names,
+            bytes,
+            batch,
+            at,
+        )?;
         self.others = others;
         Ok(())
     }
@@ -119,6 +100,15 @@ impl Tables {
         ensures { result ≡ self.now.flat.end }
     {
         self.flat.count()
+    }
+
+    /// The levels of the master group.
+    pub fn levels(&self) -> &Levels
+        ensures levels { result.now ≡ self.now.levels }
+        ensures graph { (added : List Placed) (w : World Name) → AreTablesOf self.now added → StandFor (payloads_of added) w
+            → AreLevelsOf result.now (flat_segments_of 0 (parent_ids same_name w w.master)) }
+    {
+        &self.levels
     }
 
     /// What is kept of the other ids of the newest payload.

@@ -7,6 +7,7 @@ mod flat;
 mod head;
 mod laws;
 mod lent;
+mod level;
 mod number;
 mod reading;
 mod segment;
@@ -16,6 +17,7 @@ mod writing;
 
 pub use laws::{numbers_are_spelled, records_are_spelled, segments_go_on, tables_spelled_out};
 pub use lent::{Parents, SegmentRef};
+pub use level::write_numbers;
 pub use reading::{read_high, read_segment};
 pub use steps::Steps;
 pub use table::{Bounds, SegmentTable};

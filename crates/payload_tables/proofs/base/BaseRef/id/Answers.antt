@@ -4,7 +4,7 @@ use Rattle.id_groups.specs.Lists.{IsIn}
 use Rattle.name_index.specs.Index.{IsIndexOf}
 use Rattle.name_map.specs.Map.{IsMapOf}
 use Rattle.name_map.specs.Added.{names_from, payloads_of}
-use Rattle.payload_tables.specs.Tables.{newest, other_names_in}
+use Rattle.change_rules.specs.Tables.{newest, other_names_in}
 use Rattle.payload_tables.specs.Bases.{stored_in}
 use Rattle.payload_tables.specs.Kept.{PlainTables, PlainOthers}
 use Rattle.payload_tables.proofs.Stored.{others-index, others-named, id-front, id-none, place-is}

@@ -1,4 +1,4 @@
-use Rattle.std.proofs.Common.{◌∙◌, ◌++◌, [], map, flat_map, append-nil, ap, ap₂, sym, subst, ◌≤◌}
+use Rattle.std.proofs.Common.{◌≡◌, ◌∙◌, ◌++◌, [], map, flat_map, append-nil, ap, ap₂, sym, subst, ◌≤◌, zero-le, arith}
 use Rattle.id_groups.specs.Id.{other_id}
 use Rattle.commit_graph.specs.World.{with_pending}
 use Rattle.segment_codec.specs.Record.{segment_bytes}
@@ -8,12 +8,16 @@ use Rattle.flat_segments.proofs.Callers.{placed-stand}
 use Rattle.flat_segments.specs.Kept.{IsTableOf}
 use Rattle.flat_segments.specs.Joined.{MayJoin, StandAs}
 use Rattle.name_map.specs.Added.{payloads_of}
-use Rattle.payload_tables.specs.Tables.{newest}
+use Rattle.change_rules.specs.Tables.{newest}
 use Rattle.payload_tables.specs.Kept.{PlainTables, PlainOthers, master_records}
 use Rattle.payload_tables.specs.Pending.{PlainPending, segments_from}
 use Rattle.payload_tables.specs.Bases.{id_row, AreSegmentsOf}
 use Rattle.payload_tables.proofs.Standing.{masters-stand, placed-segments}
-use Rattle.payload_tables.proofs.Basing.{base-others, base-below, may-join, base-view}
+use Rattle.flat_segments.specs.Views.{master_count}
+use Rattle.segment_levels.specs.Kept.{AreLevelsOf}
+use Rattle.segment_levels.specs.Flats.{flats_of}
+use Rattle.payload_tables.proofs.Leveling.{counts-small}
+use Rattle.payload_tables.proofs.Basing.{table-end, base-others, base-below, may-join, base-view}
 use Rattle.payload_tables.proofs.base.BaseRef.view.Goals as goal
 
 pub view-masters-requires-clause-records : goal.view-masters-requires-clause-records
@@ -26,8 +30,8 @@ view-masters-requires-clause-below c =
     let r = c.requires in
     subst (λ (t : PlainTables). c.args.self.now.below ≤ t.flat.end) (sym c.tables.view_is) (base-below c.args.self.now.bytes.now c.args.self.now.tables.now c.args.self.now.others.now c.args.self.now.below r.0 r.1)
 
-pub join-requires : goal.join-requires
-join-requires c =
+pub join-flat-requires : goal.join-flat-requires
+join-flat-requires c =
     let r = c.requires in let s = c.args.self.now in let p = c.args.pending.now in
     subst (λ (o : PlainOthers). MayJoin c.view-masters.result o.section s.bytes.now c.pending.inside.section c.deref.result.now) (sym c.others.view_is)
     (subst (λ (q : PlainPending). MayJoin c.view-masters.result s.others.now.section s.bytes.now q.section c.deref.result.now) (sym c.pending.view_is)
@@ -44,11 +48,29 @@ returns c = λ added w rows b stand pend.
     let facts = base-others s.bytes.now s.tables.now s.others.now s.below added b in
     let bytes = c.deref.ensures.value ∙ ap (λ (q : PlainPending). q.records) c.pending.view_is in
     let table = subst (λ (t : PlainTables). IsTableOf t.flat all) (sym c.tables.view_is) b.tables_of.flat in
-    let master = c.join.ensures.master ∙ c.view-masters.ensures.master ∙ c.view-masters.ensures.flats all table (masters-stand s.bytes.now (added ++ b.behind) b.stand)
+    let master = c.join-flat.ensures.master ∙ c.view-masters.ensures.master ∙ c.view-masters.ensures.flats all table (masters-stand s.bytes.now (added ++ b.behind) b.stand)
     ∙ ap (λ (t : PlainTables). cut s.below (maximal t.flat.end (segments_of all))) c.tables.view_is in
     let first = subst (λ (o : PlainOthers). StandAs o.section s.bytes.now facts.records) (sym c.others.view_is) (record { section_of = facts.section; stand = facts.stand }) in
     let second = subst (λ (q : PlainPending). StandAs q.section c.deref.result.now (placed 0 segs)) (sym c.pending.view_is)
     (record { section_of = pend.held.section; stand = placed-stand c.deref.result.now [] 0 segs (bytes ∙ pend.held.records ∙ sym (append-nil (flat_map segment_bytes segs))) }) in
-    let others = c.join.ensures.others facts.records (placed 0 segs) first second
+    let others = c.join-flat.ensures.others facts.records (placed 0 segs) first second
     ∙ ap₂ (λ x y. x ++ y) facts.segments (placed-segments 0 segs ∙ ap (λ n. segments_from (other_id n) (map (id_row v) rows)) pend.first) in
-    subst (AreSegmentsOf v) (sym (ap₂ (λ x y. x ++ y) master others)) (base-view s.bytes.now s.tables.now s.others.now s.below added b w rows stand pend.view)
+    subst (AreSegmentsOf v) (sym (c.new.ensures.flats ∙ ap₂ (λ x y. x ++ y) master others)) (base-view s.bytes.now s.tables.now s.others.now s.below added b w rows stand pend.view)
+
+pub new-requires : goal.new-requires
+new-requires c =
+    let r = c.requires in let b = r.1 in let s = c.args.self.now in
+    let all = master_records (r.0 ++ b.behind) in
+    let table = subst (λ (t : PlainTables). IsTableOf t.flat all) (sym c.tables.view_is) b.tables_of.flat in
+    let count : master_count c.join-flat.result ≡ s.below = c.join-flat.ensures.count ∙ c.view-masters.ensures.count in (
+      s.tables.now.flat,
+      all,
+      record {
+        table_of = b.tables_of.flat;
+        small = (let e = table-end s.tables.now (r.0 ++ b.behind) b.tables_of in let n = counts-small 0 (r.0 ++ b.behind) b.tables_of.names.follow zero-le in omega (arith, e, n));
+        levels_of = subst (λ (t : PlainTables). AreLevelsOf t.levels (flats_of s.tables.now.flat all)) (sym c.tables.view_is) b.tables_of.levels;
+        flats = c.join-flat.ensures.master ∙ c.view-masters.ensures.master ∙ c.view-masters.ensures.flats all table (masters-stand s.bytes.now (r.0 ++ b.behind) b.stand)
+            ∙ ap (λ (t : PlainTables). cut s.below (maximal t.flat.end (segments_of all))) c.tables.view_is ∙ ap (λ n. cut n (flats_of s.tables.now.flat all)) (sym count);
+        below = subst (λ n. n ≤ s.tables.now.flat.end) (sym count) (base-below s.bytes.now s.tables.now s.others.now s.below r.0 b);
+      },
+    )

@@ -1,0 +1,141 @@
+//! Which segments form the next group, and its parents.
+
+ghost use Rattle.std.specs.List.{list_any};
+ghost use Rattle.std.specs.Prelude.{◌≡◌, ◌≤◌, ◌+◌, ◌++◌, ℕ, [], ◌∷◌, length, take, drop, filter, not, nat_eq, nat_lt, OnOk, IfOk};
+ghost use Rattle.id_groups.specs.Lists.{is_in};
+ghost use Rattle.segment_codec.specs.Lent.{segment_of};
+ghost use Rattle.segment_rules.specs.Levels.{group_limit, group_size as size_of, parents_below as below_of, ascending};
+ghost use Rattle.segment_levels.specs.Kept.{segments_in};
+ghost use Rattle.segment_levels.specs.Sound.{IsSound};
+
+use crate::level::Level;
+use segment_codec::SegmentRef;
+use std::alloc::AllocError;
+
+/// A group is decided once there are so many segments, and has no more.
+pub(crate) const GROUP_LIMIT: usize = 16;
+
+/// Takes the number away.
+fn remove(heads: &mut Vec<u64>, number: u64)
+    ensures { heads.new.items ≡ filter (λ h. not (nat_eq h number)) heads.old.items }
+{
+    heads.retain(move |head| *head != number);
+}
+
+/// Takes from the heads those that are parents of the segment, and adds its highest id.
+fn add_head(heads: &mut Vec<u64>, segment: SegmentRef<'_>) -> Result<(), AllocError>
+    ensures { OnOk result (heads.new.items ≡ filter (λ h. not (is_in nat_eq h (segment_of segment.entry).parents)) heads.old.items ++ (segment_of segment.entry).high ∷ []) }
+{
+    let mut rest = segment.parents();
+    'parents: while let Some(parent) = rest.next() {
+        remove(heads, parent.number());
+    }
+    heads.push(segment.high().number())?;
+    Ok(())
+}
+
+/// Whether the id is a parent of the segment.
+fn has_parent(segment: SegmentRef<'_>, id: u64) -> bool
+    ensures { result ≡ is_in nat_eq id (segment_of segment.entry).parents }
+{
+    let mut rest = segment.parents();
+    'parents: while let Some(parent) = rest.next() {
+        if parent.number() == id {
+            return true;
+        }
+    }
+    false
+}
+
+/// Whether the id is a parent of one of so many segments from a place on.
+fn has_child(below: &Level, from: usize, count: usize, id: u64) -> bool
+    requires sound { IsSound below.now }
+    requires room { from + count ≤ length below.now.entries }
+    ensures { result ≡ list_any (λ t. is_in nat_eq id t.parents) (take count (drop from (segments_in below.now))) }
+{
+    let _count = below.len();
+    for k in 0..count {
+        if has_parent(below.at(from + k), id) {
+            return true;
+        }
+    }
+    false
+}
+
+/// How many of the sixteen segments from a place on form a group, by their heads. What `heads` has is written over.
+fn scan_group(heads: &mut Vec<u64>, below: &Level, from: usize) -> Result<usize, AllocError>
+    requires sound { IsSound below.now }
+    requires room { from + 16 ≤ length below.now.entries }
+    ensures { IfOk result (λ n. n ≡ size_of group_limit (drop from (segments_in below.now))) }
+{
+    let _count = below.len();
+    heads.clear();
+    let mut size = 0;
+    for k in 0..GROUP_LIMIT {
+        add_head(heads, below.at(from + k))?;
+        if heads.len() == 1 {
+            size = k + 1;
+        }
+    }
+    Ok(size)
+}
+
+/// How many of the sixteen segments from a place on form a group. What `heads` has is written over.
+pub(crate) fn group_size(
+    heads: &mut Vec<u64>,
+    below: &Level,
+    from: usize,
+) -> Result<usize, AllocError>
+    requires sound { IsSound below.now }
+    requires room { from + 16 ≤ length below.now.entries }
+    ensures { IfOk result (λ n. n ≡ size_of group_limit (drop from (segments_in below.now))) }
+{
+    let _count = below.len();
+    let first = below.at(from).high().number();
+    if !has_child(below, from + 1, GROUP_LIMIT - 1, first) {
+        return Ok(1);
+    }
+    scan_group(heads, below, from)
+}
+
+/// Adds the parents of the segment that lie below an id.
+fn add_below(found: &mut Vec<u64>, segment: SegmentRef<'_>, low: u64) -> Result<(), AllocError>
+    ensures { OnOk result (found.new.items ≡ found.old.items ++ filter (λ p. nat_lt p low) (segment_of segment.entry).parents) }
+{
+    let mut rest = segment.parents();
+    'parents: while let Some(parent) = rest.next() {
+        if parent.number() < low {
+            found.push(parent.number())?;
+        }
+    }
+    Ok(())
+}
+
+/// Puts the numbers in order, each once.
+fn put_in_order(numbers: &mut Vec<u64>)
+    ensures { numbers.new.items ≡ ascending numbers.old.items }
+{
+    numbers.sort_unstable();
+    numbers.dedup();
+}
+
+/// Puts the parents below an id of so many segments from a place on, ascending, in place of what is found.
+pub(crate) fn find_parents(
+    found: &mut Vec<u64>,
+    below: &Level,
+    from: usize,
+    size: usize,
+    low: u64,
+) -> Result<(), AllocError>
+    requires sound { IsSound below.now }
+    requires room { from + size ≤ length below.now.entries }
+    ensures { OnOk result (found.new.items ≡ ascending (below_of low (take size (drop from (segments_in below.now))))) }
+{
+    let _count = below.len();
+    found.clear();
+    for k in 0..size {
+        add_below(found, below.at(from + k), low)?;
+    }
+    put_in_order(found);
+    Ok(())
+}

@@ -1,0 +1,7 @@
+pub mod CloneData
+pub mod Mirror
+pub mod Known
+pub mod Honest
+pub mod Calls
+pub mod Serving
+pub mod Asking

@@ -1,0 +1,42 @@
+use Rattle.std.proofs.Common.{inl, refl}
+use Rattle.change_rules.specs.Standard.{standard}
+use Rattle.segment_codec.specs.Number.{number_bytes}
+use Rattle.segment_codec.specs.Record.{segment_bytes}
+use Rattle.batch_codec.specs.Payload.{payload_bytes}
+use Rattle.worked_rows.proofs.Plainly.{plainly}
+use Rattle.worked_rows.specs.Rows.{fresh, a_flush_on_others_said}
+use Rattle.worked_rows.proofs.a_flush_on_others.Goals as goal
+
+pub returns : goal.returns
+unfolding payload_bytes segment_bytes number_bytes
+returns c = plainly standard fresh a_flush_on_others_said (
+  _,
+  inl (refl, refl),
+  tt,
+  record { stored = refl; base = refl },
+  (
+    _,
+    inl (refl, refl),
+    tt,
+    record { stored = refl; base = refl },
+    (
+      _,
+      inl (refl, refl),
+      tt,
+      record { stored = refl; base = refl },
+      (
+        _,
+        inl (refl, refl),
+        tt,
+        record { stored = refl; base = refl },
+        (
+          _,
+          inl (refl, refl),
+          tt,
+          record { stored = refl; base = refl },
+          tt,
+        ),
+      ),
+    ),
+  ),
+)
