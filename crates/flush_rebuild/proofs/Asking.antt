@@ -15,7 +15,8 @@ use Rattle.batch_codec.specs.Grammar.{AreLawful, count_after}
 use Rattle.name_map.specs.Added.{Placed, AllStand, payloads_of, known_of}
 use Rattle.flat_segments.specs.Placed.{Placed as PlacedSegment, placed}
 use Rattle.assign_ids.specs.Numbers.{AreBelow}
-use Rattle.payload_tables.specs.Tables.{newest, other_names_in, known_from}
+use Rattle.change_rules.specs.Tables.{newest, other_names_in}
+use Rattle.change_rules.specs.Change.{known_from}
 use Rattle.payload_tables.specs.Kept.{PlainTables, AreTablesOf}
 use Rattle.payload_tables.specs.Pending.{IdRow, PlainPending, HoldsRows, row_names, segments_from}
 use Rattle.payload_tables.specs.Bases.{ArePending, id_row, stored_in}

@@ -21,8 +21,9 @@ use Rattle.batch_codec.proofs.Ascending.{ascend-each, ascend-parts, increasing-a
 use Rattle.batch_codec.proofs.Meanings.{ascend-length}
 use Rattle.name_map.specs.Part.{upward}
 use Rattle.name_map.proofs.Ids.{in-upward}
-use Rattle.payload_tables.specs.Tables.{followers}
-use Rattle.payload_tables.specs.Tables.{segment_parents, parents_in, newest, others_in, other_names_in, StandFor}
+use Rattle.segment_rules.specs.Flat.{followers}
+use Rattle.segment_rules.specs.Flat.{segment_parents, parents_listed as parents_in}
+use Rattle.change_rules.specs.Tables.{newest, others_in, other_names_in, StandFor}
 use Rattle.payload_tables.specs.Pending.{IdRow, row_names}
 use Rattle.payload_tables.specs.Bases.{id_row}
 use Rattle.payload_tables.proofs.Lists.{all-append, names-length, parents-known, count-last}

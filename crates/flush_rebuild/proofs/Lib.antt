@@ -1,7 +1,4 @@
-pub mod Flats
-pub mod Flushes
-pub mod Changes
-pub mod Lawful
+pub mod Spans
 pub mod Renumber
 pub mod Moving
 pub mod Marking

@@ -12,21 +12,21 @@ use Rattle.segment_codec.specs.Record.{Segment}
 use Rattle.batch_codec.specs.Payload.{Payload, payload_bytes, known_names}
 use Rattle.batch_codec.specs.Grammar.{MayFollow, AreLawful, count_after}
 use Rattle.name_map.specs.Added.{Placed, payloads_of}
-use Rattle.flush_rebuild.specs.declared.limits.Limits.{Limits}
+use Rattle.change_rules.specs.declared.Limits.{Limits}
 use Rattle.flush_rebuild.specs.declared.plan.Change.{Change}
-use Rattle.flush_rebuild.specs.Standard.{AreLimits}
-use Rattle.flush_rebuild.specs.Flush.{flushed}
-use Rattle.flush_rebuild.specs.Change.{flush_change}
-use Rattle.payload_tables.specs.Tables.{known_from}
+use Rattle.change_rules.specs.Standard.{AreLimits}
+use Rattle.change_rules.specs.Flush.{flushed}
+use Rattle.change_rules.specs.Change.{flush_change}
+use Rattle.change_rules.specs.Change.{known_from}
 use Rattle.payload_tables.specs.Kept.{PlainTables}
 use Rattle.payload_tables.specs.Pending.{PlainPending}
-use Rattle.payload_tables.specs.Tables.{newest, other_names_in, StandFor}
+use Rattle.change_rules.specs.Tables.{newest, other_names_in, StandFor}
 use Rattle.flush_rebuild.specs.Moves.{rest_of, name_at, change_in}
 use Rattle.flush_rebuild.specs.Asked.{others_count}
 use Rattle.flush_rebuild.specs.Plans.{IsStorable, MayBeStored}
 use Rattle.payload_tables.proofs.Lists.{names-length}
-use Rattle.flush_rebuild.proofs.Flushes.{flush-grows, flush-keeps, name-in}
-use Rattle.flush_rebuild.proofs.Lawful.{change-follows, history-distinct}
+use Rattle.change_rules.proofs.Flushes.{flush-grows, flush-keeps, name-in}
+use Rattle.change_rules.proofs.Lawful.{change-follows, history-distinct}
 use Rattle.payload_tables.proofs.Lists.{distinct-parts}
 use Rattle.flush_rebuild.proofs.Planning.{MoveFacts}
 use Rattle.flush_rebuild.proofs.Sizing.{moving, next, next-named, Changes, f-master, f-others, f-change, f-some, f-same}

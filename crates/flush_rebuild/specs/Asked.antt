@@ -7,7 +7,7 @@ use Rattle.id_groups.specs.Id.{other_id}
 use Rattle.batch_codec.specs.Grammar.{count_after}
 use Rattle.name_map.specs.Added.{Placed, payloads_of, AllStand}
 use Rattle.payload_tables.specs.declared.base.BaseRef.{BaseRef}
-use Rattle.payload_tables.specs.Tables.{newest, other_names_in}
+use Rattle.change_rules.specs.Tables.{newest, other_names_in}
 use Rattle.payload_tables.specs.Kept.{PlainTables, AreTablesOf}
 use Rattle.payload_tables.specs.Pending.{IdRow, PlainPending, HoldsRows, row_names}
 use Rattle.payload_tables.specs.Bases.{IsBaseOf, stored_in}

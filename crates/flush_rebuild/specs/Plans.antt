@@ -7,16 +7,16 @@ use Rattle.id_groups.specs.Name.{Name, same_name}
 use Rattle.commit_graph.specs.World.{Row, World, IsWorld, IsNamedWorld, GrowsMaster, KeepsRows, rows_of, names_of, with_pending}
 use Rattle.commit_graph.specs.Ids.{id_in}
 use Rattle.name_map.specs.Added.{Placed, payloads_of, AllStand}
-use Rattle.flush_rebuild.specs.declared.limits.Limits.{Limits}
-use Rattle.flush_rebuild.specs.declared.limits.Limit.{Limit}
-use Rattle.flush_rebuild.specs.declared.limits.Limit.TheVariants.{Others, Master, Log}
+use Rattle.change_rules.specs.declared.Limits.{Limits}
+use Rattle.change_rules.specs.declared.Limit.{Limit}
+use Rattle.change_rules.specs.declared.Limit.TheVariants.{Others, Master, Log}
 use Rattle.payload_tables.specs.declared.base.BaseRef.{BaseRef}
 use Rattle.flush_rebuild.specs.declared.plan.Change.{Change}
 use Rattle.flush_rebuild.specs.declared.fault.PlanFault.{PlanFault}
 use Rattle.flush_rebuild.specs.declared.fault.PlanFault.TheVariants.{Unknown, Conflict, Full, Memory}
-use Rattle.flush_rebuild.specs.Flush.{flushed}
-use Rattle.flush_rebuild.specs.Change.{flush_payload}
-use Rattle.payload_tables.specs.Tables.{StandFor, newest, other_names_in}
+use Rattle.change_rules.specs.Flush.{flushed}
+use Rattle.change_rules.specs.Change.{flush_change}
+use Rattle.change_rules.specs.Tables.{StandFor, newest, other_names_in}
 use Rattle.payload_tables.specs.Kept.{PlainTables, AreTablesOf}
 use Rattle.payload_tables.specs.Pending.{IdRow, PlainPending, HoldsRows}
 use Rattle.id_groups.specs.Id.{other_id}
@@ -25,6 +25,10 @@ use Rattle.payload_tables.specs.Bases.{ArePending, IsBaseOf}
 use Rattle.flush_rebuild.specs.Asked.{others_count, IsStored}
 use Rattle.batch_codec.specs.Payload.{Payload, payload_bytes, known_names}
 use Rattle.batch_codec.specs.Grammar.{MayFollow, count_after}
+
+-- the bytes of the change that a flush makes
+abbrev pub flush_payload : World Name → World Name → List ℕ
+flush_payload old new = payload_bytes 1 (flush_change old new)
 
 -- the id of a name in the world, if it has the name
 abbrev pub stored_id : World Name → Name → Option ℕ

@@ -7,11 +7,11 @@ ghost use Rattle.commit_graph.specs.World.{Row, World, rows_of, names_of, with_p
 ghost use Rattle.commit_graph.specs.Ids.{id_in};
 ghost use Rattle.flush_rebuild.specs.declared.fault.PlanFault.TheVariants.{Memory};
 ghost use Rattle.assign_ids.specs.Numbers.{AreBelow, HaveOlderParents, others_of, order_of};
-ghost use Rattle.flush_rebuild.specs.Flush.{flushed};
+ghost use Rattle.change_rules.specs.Flush.{flushed};
 ghost use Rattle.flush_rebuild.specs.Moves.{node_of, nodes_in, rest_of};
 ghost use Rattle.payload_tables.specs.Bases.{ArePending};
 ghost use Rattle.payload_tables.specs.Pending.{IdRow, HoldsRows};
-ghost use Rattle.flush_rebuild.specs.Standard.{AreLimits};
+ghost use Rattle.change_rules.specs.Standard.{AreLimits};
 ghost use Rattle.flush_rebuild.specs.Plans.{MayLook, MayFind, stored_id, unknown_fault, first_unknown, MayFlush, MayMove, flush_refusal, size_refusal, over, IsPlanOf, IsChangeOf, MayBeStored};
 ghost use Rattle.flush_rebuild.specs.Asked.{MayPlan};
 ghost use Rattle.name_map.specs.Added.{Placed};
@@ -19,7 +19,7 @@ ghost use Rattle.id_groups.specs.Id.{other_id};
 
 use crate::building::{Names, payload_of};
 use crate::fault::PlanFault;
-use crate::limits::{Limit, Limits};
+use change_rules::{Limit, Limits};
 use crate::numbers::{graph_of, rest};
 use assign_ids::place;
 use id_groups::{FIRST_OTHER, Id, Name};

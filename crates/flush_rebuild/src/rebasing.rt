@@ -4,7 +4,7 @@ ghost use Rattle.std.specs.Prelude.{◌≡◌, ◌⊎◌, ◌++◌, List, Option
 ghost use Rattle.id_groups.specs.Name.{Name as NameBytes, same_name};
 ghost use Rattle.commit_graph.specs.World.{Row, World, with_pending};
 ghost use Rattle.flush_rebuild.specs.declared.fault.PlanFault.TheVariants.{Memory};
-ghost use Rattle.flush_rebuild.specs.Rebase.{first_conflict, left_of};
+ghost use Rattle.change_rules.specs.Rebase.{first_conflict, left_of};
 ghost use Rattle.payload_tables.specs.Bases.{ArePending};
 ghost use Rattle.flush_rebuild.specs.Plans.{MayRebase, conflict_fault};
 

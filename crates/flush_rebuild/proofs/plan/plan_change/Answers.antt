@@ -3,7 +3,7 @@ use Rattle.std.specs.Prelude.{MatchResult}
 use Rattle.id_groups.specs.Name.{same_name}
 use Rattle.commit_graph.specs.World.{with_pending}
 use Rattle.flush_rebuild.specs.declared.fault.PlanFault.TheVariants.{Memory}
-use Rattle.flush_rebuild.specs.Flush.{flushed}
+use Rattle.change_rules.specs.Flush.{flushed}
 use Rattle.flush_rebuild.specs.Plans.{MayFind, MayMove, first_of, unknown_fault, size_refusal, IsPlanOf}
 use Rattle.flush_rebuild.proofs.Finding.{known-at}
 use Rattle.flush_rebuild.proofs.Planning.{flush-small}
