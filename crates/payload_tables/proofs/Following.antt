@@ -1,38 +1,87 @@
 -- Tables with one payload more.
-use Rattle.std.proofs.Common.{◌≡◌, List, [], ◌∷◌, ◌++◌, flat_map, None, refl, sym, ◌∙◌, subst, append_assoc, append-nil}
+use Rattle.std.proofs.Common.{◌≡◌, ◌<◌, ◌==◌, ℕ, ◌⊎◌, List, [], ◌∷◌, ◌++◌, length, flat_map, Option, Some, None, is_some, refl, sym, ap, ◌∙◌, subst, append_assoc, append-nil, if◌then◌else◌, ⊎_elim, arith, true≢false}
+use Rattle.std.specs.List.{last_or}
 use Rattle.std.proofs.lemmas.List.{map-append}
-use Rattle.std.proofs.lemmas.Bool.{eqb-false}
 use Rattle.id_groups.specs.Lists.{AreDistinct}
 use Rattle.batch_codec.specs.Payload.{Payload, known_names}
-use Rattle.batch_codec.specs.Grammar.{IsPayload, AreLawful, MayFollow}
+use Rattle.batch_codec.specs.Grammar.{IsPayload, IsFlush, IsClone, AreLawful, MayFollow, count_after, head_names}
 use Rattle.flat_segments.specs.Kept.{IsTableOf}
-use Rattle.name_map.specs.Added.{Placed, payloads_of}
-use Rattle.name_map.specs.Map.{IsMapOf, names_with}
 use Rattle.segment_levels.specs.Kept.{AreLevelsOf}
 use Rattle.segment_levels.specs.Flats.{flats_of}
-use Rattle.payload_tables.specs.Kept.{PlainTables, AreTablesOf, AreOthersOf, AreOthersIn, master_records}
-use Rattle.payload_tables.proofs.Lists.{all-append, last-of, distinct-parts}
+use Rattle.name_map.specs.Added.{Placed, payloads_of, Follow as Following}
+use Rattle.name_map.specs.Map.{IsMapOf, names_with}
+use Rattle.change_rules.specs.Tables.{remote_heads, cloned_count}
+use Rattle.payload_tables.specs.Kept.{PlainTables, PlainOthers, AreTablesOf, AreOthersOf, AreOthersIn, master_records, last_added, by_kind}
+use Rattle.payload_tables.proofs.Lists.{flat-snoc, last-of, distinct-parts}
 
 lawful-more : (before more : List Payload) (p : Payload) → AreLawful before more → MayFollow (before ++ more) p → AreLawful before (more ++ p ∷ [])
 lawful-more before [] p h f = (subst (λ l. MayFollow l p) (append-nil before) f, tt)
 lawful-more before (q ∷ more) p h f = (h.0, lawful-more (before ++ q ∷ []) more p h.1 (subst (λ l. MayFollow l p) (sym (append_assoc before (q ∷ []) more)) f))
 
-pub tables-more : (tables : PlainTables) (new : PlainTables) (added : List Placed) (a : Placed) → AreTablesOf tables added → IsPayload a.payload → a.payload.kind ≡ 1 → a.payload.before ≡ tables.names.masters
-    → IsTableOf new.flat (master_records (added ++ a ∷ [])) → AreLevelsOf new.levels (flats_of new.flat (master_records (added ++ a ∷ []))) → IsMapOf new.names (added ++ a ∷ []) → AreDistinct (names_with (payloads_of added) a.payload)
-    → (AreDistinct a.payload.other_names → AreOthersOf new.others a) → AreTablesOf new (added ++ a ∷ [])
-tables-more tables new added a t h kind before flat levels names distinct others =
-    let no-clone : a.payload.kind ≡ 2 → ⊥ = λ e. eqb-false 1 2 refl (sym kind ∙ e) in
+-- the heads and the count of a clone, with one payload more
+heads-more : (payloads : List Payload) (p : Payload) → IsPayload p → (p.kind ≡ 2 → payloads ≡ []) → by_kind p.kind p.heads (remote_heads payloads) ≡ remote_heads (payloads ++ p ∷ [])
+heads-more payloads p h first = ⊎_elim
+    (λ (f : IsFlush p). ap (λ b. if b then p.heads else remote_heads payloads) (ap (λ n. n == 2) f.kind)
+    ∙ sym (flat-snoc (λ (q : Payload). q.heads) payloads p ∙ ap (λ l. remote_heads payloads ++ l) f.no_heads ∙ append-nil (remote_heads payloads)))
+    (λ (c : IsClone p). ap (λ b. if b then p.heads else remote_heads payloads) (ap (λ n. n == 2) c.kind) ∙ sym (ap (λ l. remote_heads (l ++ p ∷ [])) (first c.kind) ∙ append-nil p.heads)) h.by_kind
+
+count-behind : (payloads : List Payload) (p : Payload) → p.kind ≡ 1 → cloned_count (payloads ++ p ∷ []) ≡ cloned_count payloads
+count-behind [] p e = ap (λ b. if b then p.after else 0) (ap (λ n. n == 2) e)
+count-behind (q ∷ payloads) p e = ap (λ n. if q.kind == 2 then q.after else n) (count-behind payloads p e)
+
+count-more : (payloads : List Payload) (p : Payload) → IsPayload p → (p.kind ≡ 2 → payloads ≡ []) → by_kind p.kind p.after (cloned_count payloads) ≡ cloned_count (payloads ++ p ∷ [])
+count-more payloads p h first = ⊎_elim
+    (λ (f : IsFlush p). ap (λ b. if b then p.after else cloned_count payloads) (ap (λ n. n == 2) f.kind) ∙ sym (count-behind payloads p f.kind))
+    (λ (c : IsClone p). ap (λ b. if b then p.after else cloned_count payloads) (ap (λ n. n == 2) c.kind)
+    ∙ sym (ap (λ l. cloned_count (l ++ p ∷ [])) (first c.kind) ∙ ap (λ b. if b then p.after else 0) (ap (λ n. n == 2) c.kind))) h.by_kind
+
+no-payloads : (added : List Placed) → added ≡ [] → payloads_of added ≡ []
+no-payloads added e = ap payloads_of e
+
+pub tables-more : (tables : PlainTables) (new : PlainTables) (added : List Placed) (a : Placed) → AreTablesOf tables added → IsPayload a.payload → a.payload.before ≡ tables.names.masters
+    → (a.payload.kind ≡ 2 → (added ≡ []) × (a.payload.heads ≡ head_names a.payload))
+    → IsTableOf new.flat (master_records (added ++ a ∷ [])) → AreLevelsOf new.levels (flats_of new.flat (master_records (added ++ a ∷ []))) → IsMapOf new.names (added ++ a ∷ [])
+    → AreDistinct (names_with (payloads_of added) a.payload) → (AreDistinct a.payload.other_names → AreOthersOf new.others a)
+    → new.heads ≡ by_kind a.payload.kind a.payload.heads tables.heads → new.cloned ≡ by_kind a.payload.kind a.payload.after tables.cloned → AreTablesOf new (added ++ a ∷ [])
+tables-more tables new added a t h before clone flat levels names distinct others heads cloned =
+    let all : payloads_of (added ++ a ∷ []) ≡ payloads_of added ++ a.payload ∷ [] = map-append (λ (b : Placed). b.payload) added (a ∷ []) in
+    let first : a.payload.kind ≡ 2 → payloads_of added ≡ [] = λ e. no-payloads added (clone e).0 in
     record {
-      lawful = subst (AreLawful []) (sym (map-append (λ (b : Placed). b.payload) added (a ∷ [])))
+      lawful = subst (AreLawful []) (sym all)
           (lawful-more [] (payloads_of added) a.payload t.lawful (record {
             whole = h;
             count = before ∙ t.names.masters;
-            clone_first = λ e. absurd (no-clone e);
-            clone_heads = λ e. absurd (no-clone e);
+            clone_first = first;
+            clone_heads = λ e. (clone e).1;
             distinct = distinct;
           }));
       flat = flat;
       levels = levels;
       names = names;
       others = subst (AreOthersIn new.others) (sym (last-of None added a)) (others (distinct-parts (flat_map known_names (payloads_of added ++ a.payload ∷ [])) a.payload.other_names distinct).1);
+      heads = heads ∙ ap (by_kind a.payload.kind a.payload.heads) t.heads ∙ heads-more (payloads_of added) a.payload h first ∙ ap remote_heads (sym all);
+      cloned = cloned ∙ ap (by_kind a.payload.kind a.payload.after) t.cloned ∙ count-more (payloads_of added) a.payload h first ∙ ap cloned_count (sym all);
     }
+
+-- ---- whether there is any payload
+
+abbrev ends_at : ℕ → Option Placed → Type 0
+ends_at n None = n ≡ 0
+ends_at n (Some a) = (n ≡ a.payload.after) × IsPayload a.payload
+
+has-ids : (others : PlainOthers) (a : Placed) → IsPayload a.payload → AreOthersOf others a → a.payload.after ≡ 0 → others.count ≡ 0 → ⊥
+has-ids others a h are after none = ⊎_elim
+    (λ (f : IsFlush a.payload). ⊎_elim (λ (lt : 0 < a.payload.after). omega (arith, lt, after)) (λ (lt : 0 < length a.payload.other_names). let c = are.count in omega (arith, lt, c, none)) f.something)
+    (λ (c : IsClone a.payload). let lt = c.something in omega (arith, lt, after)) h.by_kind
+
+nothing-since : (others : PlainOthers) (n : ℕ) (o : Option Placed) (added : List Placed) → Following n added → ends_at n o → AreOthersIn others (last_or o added) → count_after n (payloads_of added) ≡ 0 → others.count ≡ 0 → (added ≡ []) × (o ≡ None)
+nothing-since others n None [] f at are count none = (refl, refl)
+nothing-since others n (Some a) [] f at are count none = absurd (has-ids others a at.1 are (sym at.0 ∙ count) none)
+nothing-since others n o (a ∷ added) f at are count none = absurd (true≢false (ap is_some (nothing-since others a.payload.after (Some a) added f.2 (refl, f.0) are count none).1))
+
+pub none-added : (tables : PlainTables) (added : List Placed) → AreTablesOf tables added → tables.names.masters ≡ 0 → tables.others.count ≡ 0 → added ≡ []
+none-added tables added t masters count = (nothing-since tables.others 0 None added t.names.follow refl t.others (sym t.names.masters ∙ masters) count).0
+
+pub nothing-there : (tables : PlainTables) (added : List Placed) → AreTablesOf tables added → added ≡ [] → (tables.names.masters ≡ 0) × (tables.others.count ≡ 0)
+nothing-there tables added t e =
+    (t.names.masters ∙ ap (λ l. count_after 0 (payloads_of l)) e, (subst (λ l. AreOthersIn tables.others (last_added l)) e t.others).count)

@@ -7,6 +7,7 @@ pub mod Sectioning
 pub mod Rows
 pub mod Adding
 pub mod Leveling
+pub mod Heading
 pub mod Following
 pub mod Pushing
 pub mod Stored

@@ -1,8 +1,10 @@
 -- What is kept of the payloads that were added, and which payloads it is that of.
-use Rattle.std.specs.Prelude.{◌≡◌, ℕ, ◌+◌, List, [], Option, Some, None, length, flat_map}
+use Rattle.std.specs.Prelude.{◌≡◌, ℕ, ◌+◌, List, [], Option, Some, None, length, flat_map, ◌==◌, if◌then◌else◌}
 use Rattle.std.specs.List.{last_or, AllByRecursion}
 use Rattle.batch_codec.specs.Payload.{master_start, others_start, names_start}
+use Rattle.id_groups.specs.Name.{Name}
 use Rattle.batch_codec.specs.Grammar.{AreLawful}
+use Rattle.change_rules.specs.Tables.{remote_heads, cloned_count}
 use Rattle.name_index.specs.Index.{NamedPlace, IsIndexOf}
 use Rattle.name_index.specs.declared.entry.Entry.{Entry}
 use Rattle.name_map.specs.Added.{Placed, payloads_of, names_from}
@@ -34,6 +36,9 @@ pub record PlainTables : Type 0 where
   pub names : PlainMap
   -- the other ids of the newest one
   pub others : PlainOthers
+  -- the heads of the remote that was cloned, and how many commits came
+  pub heads : List Name
+  pub cloned : ℕ
 
 -- the records of a payload's other ids, at their places
 abbrev pub other_records : Placed → List PlacedSegment
@@ -75,6 +80,8 @@ pub record AreTablesOf (tables : PlainTables) (added : List Placed) : Type 0 whe
   pub levels : AreLevelsOf tables.levels (flats_of tables.flat (master_records added))
   pub names : IsMapOf tables.names added
   pub others : AreOthersIn tables.others (last_added added)
+  pub heads : tables.heads ≡ remote_heads (payloads_of added)
+  pub cloned : tables.cloned ≡ cloned_count (payloads_of added)
 
 -- the table, its levels and the map are those of the payloads
 pub record AreMastersOf (table : Kept) (levels : KeptLevels) (map : PlainMap) (added : List Placed) : Type 0 where
@@ -91,3 +98,7 @@ flat_fault FlatMemory = Memory
 abbrev pub map_fault : MapFault → TableFault
 map_fault Double = Unlawful
 map_fault MapMemory = Memory
+
+-- what a payload of this kind leaves: a clone its own, a flush what was there
+abbrev pub by_kind : {X : Type 0} → ℕ → X → X → X
+by_kind kind own old = if kind == 2 then own else old

@@ -4,6 +4,7 @@
 
 mod base;
 mod fault;
+mod heads;
 mod masters;
 mod others;
 mod pending;
