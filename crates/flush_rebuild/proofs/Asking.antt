@@ -76,17 +76,22 @@ asked tables bytes pending numbers added t stand s below =
     let rows = st.pending in
     let first : pending.first ≡ length w.others = s.first ∙ ap (length {A = Name}) st.stand.names ∙ names-length w.others in
     let many : length s.rows ≡ length rows = ap (length {A = IdRow}) st.rows_are ∙ length-map rows (id_row (with_pending w rows)) in
-    let h = heads-of w rows st.view numbers (subst (λ n. AreBelow n numbers) (let l = length-append w.others rows in let z : pending.first + length s.rows ≡ length (w.others ++ rows) = omega (arith, first, many, l) in z) below) in
-    (w, rows, h.heads, record {
-      added = added;
-      tables_of = t;
-      stand = stand;
-      stand_for = st.stand;
-      world = st.named;
-      pending_rows = record { first = first; held = subst (HoldsRows pending) st.rows_are s.held; view = st.view };
-      known = h.known;
-      numbers_are = h.numbers_are;
-    }, refl)
+    let h = heads-of w rows st.view numbers (subst (λ n. AreBelow n numbers) (let l = length-append w.others rows in let z : pending.first + length s.rows ≡ length (w.others ++ rows) = omega (arith, first, many, l) in z) below) in (
+      w,
+      rows,
+      h.heads,
+      record {
+        added = added;
+        tables_of = t;
+        stand = stand;
+        stand_for = st.stand;
+        world = st.named;
+        pending_rows = record { first = first; held = subst (HoldsRows pending) st.rows_are s.held; view = st.view };
+        known = h.known;
+        numbers_are = h.numbers_are;
+      },
+      refl,
+    )
 
 zip-weaker : {A B : Type 0} (R Q : A → B → Type 0) → ((x : A) (y : B) → R x y → Q x y) → (xs : List A) (ys : List B) → AllZip R xs ys → AllZip Q xs ys
 zip-weaker R Q f [] [] h = tt

@@ -57,8 +57,7 @@ fresh-number (suc n) (x ∷ xs) le = by_test (is_in nat_eq (suc n) (x ∷ xs)) r
     by_test true e rec =
         let lt = shorter (λ k. not (nat_eq k (suc n))) (suc n) (x ∷ xs) (found nat_eq same-exact same-self (suc n) (x ∷ xs) e) (ap not (same-self (suc n))) in
         let r = rec (omega (arith, lt, le)) in
-        let below = r.1 in
-        (
+        let below = r.1 in (
           r.0,
           omega (arith, below),
           λ i. r.2 (stays (λ k. not (nat_eq k (suc n))) r.0 (x ∷ xs) i

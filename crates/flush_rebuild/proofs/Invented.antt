@@ -369,10 +369,10 @@ module _ (payloads : List Payload) (lawful : AreLawful [] payloads) (rows : List
       (named-apart name (upward 0 (count_after 0 payloads)) (λ x y i j e. names-one t known room known_apart ids_apart used found.2 known_used x y (id-fits x i) (id-fits y j) e) (upward-apart 0 (count_after 0 payloads)))
       (distinct-join others (row_names rows) (distinct-parts (flat_map known_names payloads) others names_apart).1 fit.distinct (λ x i j. fit.new x j (inr i)))
       (λ x i j.
-          let n = map-in-back name x (upward 0 (count_after 0 payloads)) i in
-          let k : IsIn x (flat_map known_names payloads) = subst (IsIn x) (known-named payloads)
-              (name-apart t known room known_apart ids_apart used found.2 known_used n.0 x (sym n.2) (in-right x (map (λ (k : Known). k.name) known) (others ++ row_names rows) j)) in
-          ⊎_elim (λ o. (distinct-parts (flat_map known_names payloads) others names_apart).2 x k o) (λ o. fit.new x o (inl k)) (in-append x others (row_names rows) j)))
+      let n = map-in-back name x (upward 0 (count_after 0 payloads)) i in
+      let k : IsIn x (flat_map known_names payloads) = subst (IsIn x) (known-named payloads)
+      (name-apart t known room known_apart ids_apart used found.2 known_used n.0 x (sym n.2) (in-right x (map (λ (k : Known). k.name) known) (others ++ row_names rows) j)) in
+      ⊎_elim (λ o. (distinct-parts (flat_map known_names payloads) others names_apart).2 x k o) (λ o. fit.new x o (inl k)) (in-append x others (row_names rows) j)))
 
   bs_stand : AllRows (Behind (length ms)) 0 bs
   bs_stand = subst (λ n. AllRows (Behind n) 0 bs) (sym ms_long) bs_behind

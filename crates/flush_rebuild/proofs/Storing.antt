@@ -90,8 +90,11 @@ module _ (tables : PlainTables) (bytes : List ℕ) (pending : PlainPending) (num
       record {
         master_fits = lm;
         others_fit = lo;
-        stays = λ s. (payload, master ∙ ap (λ (x : World Name). length x.master) e ∙ sym stand.count,
-            others ∙ ap (λ (x : World Name). length x.others) e ∙ sym (ap (length {A = Name}) stand.names ∙ names-length w.others));
+        stays = λ s. (
+          payload,
+          master ∙ ap (λ (x : World Name). length x.master) e ∙ sym stand.count,
+          others ∙ ap (λ (x : World Name). length x.others) e ∙ sym (ap (length {A = Name}) stand.names ∙ names-length w.others),
+        );
         changes = λ s. absurd (true≢false (sym same ∙ s));
       }
 
@@ -106,14 +109,17 @@ module _ (tables : PlainTables) (bytes : List ℕ) (pending : PlainPending) (num
         master_fits = lm;
         others_fit = lo;
         stays = λ s. absurd (true≢false (sym s ∙ same));
-        changes = λ s. (last, record {
-          payload = payload;
-          follows = subst (MayFollow (payloads_of added)) change-is (follows (omega (arith, lm, master, b)) (omega (arith, lo, others, a)) (f-some tables bytes pending numbers flats names n before w rows heads f c));
-          flush = refl;
-          master = master ∙ ap (λ (p : Payload). p.after) change-is;
-          others = others ∙ sym (names-length new.others) ∙ ap (λ (p : Payload). length p.other_names) change-is;
-          fits = fits;
-          keeps = λ x i. subst (λ (p : Payload). IsIn x (known_names p) ⊎ IsIn x p.other_names) change-is
-              (⊎_elim (λ j. inl (subst (IsIn x) (sym names_known) j)) (λ j. inr j) (keeps x (subst (IsIn x) old_names i)));
-        });
+        changes = λ s. (
+          last,
+          record {
+            payload = payload;
+            follows = subst (MayFollow (payloads_of added)) change-is (follows (omega (arith, lm, master, b)) (omega (arith, lo, others, a)) (f-some tables bytes pending numbers flats names n before w rows heads f c));
+            flush = refl;
+            master = master ∙ ap (λ (p : Payload). p.after) change-is;
+            others = others ∙ sym (names-length new.others) ∙ ap (λ (p : Payload). length p.other_names) change-is;
+            fits = fits;
+            keeps = λ x i. subst (λ (p : Payload). IsIn x (known_names p) ⊎ IsIn x p.other_names) change-is
+                (⊎_elim (λ j. inl (subst (IsIn x) (sym names_known) j)) (λ j. inr j) (keeps x (subst (IsIn x) old_names i)));
+          },
+        );
       }

@@ -10,9 +10,9 @@ mod plan;
 mod rebasing;
 mod runs;
 
+pub use change_rules::{Limit, Limits};
 pub use fault::PlanFault;
 pub use laws::payloads_stand_for_a_world;
-pub use change_rules::{Limit, Limits};
 pub use payload_tables::{BaseRef, OthersTable, PendingRows, TableFault, Tables};
 pub use plan::{Change, Payload, plan_change};
 pub use rebasing::rebase;

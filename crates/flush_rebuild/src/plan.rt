@@ -19,9 +19,9 @@ ghost use Rattle.id_groups.specs.Id.{other_id};
 
 use crate::building::{Names, payload_of};
 use crate::fault::PlanFault;
-use change_rules::{Limit, Limits};
 use crate::numbers::{graph_of, rest};
 use assign_ids::place;
+use change_rules::{Limit, Limits};
 use id_groups::{FIRST_OTHER, Id, Name};
 use payload_tables::{OthersTable, PendingRows, Tables};
 use segment_codec::SegmentTable;

@@ -22,24 +22,25 @@ returns-in_default-clause-worlds c = λ w rows f.
     inr (ap unknown_fault (unknown-at (with_pending w rows) c.args.heads.now c.heads.i h lt c.index-heads-i.is inv.0 none) ∙ ap (λ z. unknown_fault (Some z)) same)
 
 pub heads-preserved : goal.heads-preserved
-heads-preserved c = (λ rows held.
-    let lt = c.heads-test.true in
-    more-below (c.args.pending.now.first + length rows) c.in-Some.id c.heads.numbers.items c.add_number.new.numbers.items
-    (look-below c.args.pending.now c.args.heads.now c.args.found.now rows c.requires c.heads.i c.index-heads-i.result c.index-found-i.result c.in-Some.id lt c.index-heads-i.is c.index-found-i.is (c.in-Some.ensures.small rows held))
-    (c.heads.invariant.0 rows held) c.in_ok-add_number.ensures, λ w rows f.
-    let lt = c.heads-test.true in
-    let here = c.in-Some.ensures.worlds w rows f.pending_rows (map-at (stored_id w) c.args.heads.now c.heads.i c.index-heads-i.result c.index-found-i.result c.args.found.now f.found_are lt c.index-heads-i.is c.index-found-i.is) in
-    let inv = c.heads.invariant.1 w rows f in
-    (
-      all-next (with_pending w rows) c.args.heads.now c.heads.i c.index-heads-i.result lt c.index-heads-i.is inv.0 here.0,
-      numbers-next (with_pending w rows) c.args.heads.now c.heads.i c.index-heads-i.result c.heads.numbers.items c.add_number.new.numbers.items c.in-Some.id lt c.index-heads-i.is inv.1 here.1 c.in_ok-add_number.ensures,
-    ))
+heads-preserved c = (
+  λ rows held.
+      let lt = c.heads-test.true in
+      more-below (c.args.pending.now.first + length rows) c.in-Some.id c.heads.numbers.items c.add_number.new.numbers.items
+      (look-below c.args.pending.now c.args.heads.now c.args.found.now rows c.requires c.heads.i c.index-heads-i.result c.index-found-i.result c.in-Some.id lt c.index-heads-i.is c.index-found-i.is (c.in-Some.ensures.small rows held))
+      (c.heads.invariant.0 rows held) c.in_ok-add_number.ensures,
+  λ w rows f.
+      let lt = c.heads-test.true in
+      let here = c.in-Some.ensures.worlds w rows f.pending_rows (map-at (stored_id w) c.args.heads.now c.heads.i c.index-heads-i.result c.index-found-i.result c.args.found.now f.found_are lt c.index-heads-i.is c.index-found-i.is) in
+      let inv = c.heads.invariant.1 w rows f in (
+        all-next (with_pending w rows) c.args.heads.now c.heads.i c.index-heads-i.result lt c.index-heads-i.is inv.0 here.0,
+        numbers-next (with_pending w rows) c.args.heads.now c.heads.i c.index-heads-i.result c.heads.numbers.items c.add_number.new.numbers.items c.in-Some.id lt c.index-heads-i.is inv.1 here.1 c.in_ok-add_number.ensures,
+      ),
+)
 
 pub returns-clause-worlds : goal.returns-clause-worlds
 returns-clause-worlds c = λ w rows f.
     let inv = c.heads.invariant.1 w rows f in
-    let all = all-taken c.args.heads.now c.heads.i (let ge = c.heads-test.false in omega (arith, ge)) in
-    (
+    let all = all-taken c.args.heads.now c.heads.i (let ge = c.heads-test.false in omega (arith, ge)) in (
       subst (λ l. AreAllIn l (names_of (rows_of (with_pending w rows)))) all inv.0,
       inv.1 ∙ ap (λ l. others_of (map node_of (map (id_in same_name (with_pending w rows)) l))) all,
     )
