@@ -31,7 +31,6 @@ use Rattle.commit_graph.proofs.Down.{in-down}
 use Rattle.commit_graph.proofs.Naming.{each}
 use Rattle.change_rules.proofs.Alone.{IsPlain, segments-plain}
 use Rattle.change_rules.proofs.Cloned.{Rises, in-flat, get-some, get-name, one-place, pick-next, follow, highest-rise, is-there, in-filter, in-range, filter-back, rises-lower}
-
 abbrev or_this : {X : Type 0} → X → Option X → X
 or_this d None = d
 or_this d (Some x) = x
