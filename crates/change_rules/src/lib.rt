@@ -56,6 +56,22 @@ pub enum Limit {
     Log,
 }
 
+impl Limits {
+    /// Those of the program.
+    pub fn standard() -> Limits
+        ensures { result ≡ standard }
+    {
+        Limits {
+            pending: 1 << 16,
+            others: 1 << 16,
+            master: 1 << 24,
+            log: 1 << 30,
+            answer: 1 << 20,
+            input: 1 << 30,
+        }
+    }
+}
+
 /// The standard limits are limits that a run may have.
 pub fn standard_limits()
     ensures { AreLimits standard }

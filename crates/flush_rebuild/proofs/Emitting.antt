@@ -5,8 +5,8 @@ use Rattle.id_groups.specs.Name.{Name}
 use Rattle.segment_codec.specs.Record.{Segment}
 use Rattle.batch_codec.specs.Payload.{Known}
 use Rattle.flush_rebuild.specs.Flat.{Span}
-use Rattle.flush_rebuild.specs.Change.{flat_record}
-use Rattle.payload_tables.specs.Tables.{known_from}
+use Rattle.flush_rebuild.specs.Moves.{flat_record}
+use Rattle.change_rules.specs.Change.{known_from}
 
 pub run-more : (front : List Segment) (runs : List Span) (i : ℕ) (r : Span) (s : Segment) → i < length runs → r ≡ get_or runs i r → s ≡ flat_record r
     → (front ++ map flat_record (take i runs)) ++ s ∷ [] ≡ front ++ map flat_record (take (i + 1) runs)

@@ -15,7 +15,7 @@ use Rattle.assign_ids.specs.declared.graph.Node.{Node}
 use Rattle.assign_ids.specs.declared.graph.Node.TheVariants.{Placed, Other}
 use Rattle.flush_rebuild.specs.Moves.{node_of}
 use Rattle.payload_tables.proofs.Lists.{names-length}
-use Rattle.flush_rebuild.proofs.Lawful.{place-below}
+use Rattle.flush_rebuild.proofs.Spans.{place-below}
 use Rattle.commit_graph.proofs.Histories.{in-append}
 use Rattle.commit_graph.proofs.Down.{in-left, in-right}
 use Rattle.commit_graph.proofs.Places.{id-in-others, name-at}

@@ -1,7 +1,4 @@
-pub mod Flats
-pub mod Flushes
-pub mod Changes
-pub mod Lawful
+pub mod Spans
 pub mod Renumber
 pub mod Moving
 pub mod Marking
@@ -12,3 +9,9 @@ pub mod Planning
 pub mod Sizing
 pub mod Refusing
 pub mod Finding
+pub mod Fresh
+pub mod Numbered
+pub mod Invented
+pub mod Storing
+pub mod Looking
+pub mod Asking

@@ -1,4 +1,5 @@
 -- The change of a flush is the change by numbers.
+use Rattle.flush_rebuild.proofs.Spans.{same-change}
 use Rattle.std.proofs.Common.{◌≡◌, ◌<◌, ◌≤◌, ℕ, zero, suc, ◌+◌, ◌-◌, ◌^◌, Bool, true, false, not, cond, ◌⊎◌, inl, inr, List, [], ◌∷◌, ◌++◌, length, map, reverse, filter, drop, Option, Some, None, slice_get, get_or, refl, sym, ap, ap₂, subst, ◌∙◌, if◌then◌else◌, ⊎_elim, true≢false, append_assoc, length-append, drop_at, arith, nat_eq, le_refl, zero-lt-suc, is_some, lit≤}
 use Rattle.std.specs.List.{cons_option}
 use Rattle.std.proofs.lemmas.List.{map-append, length-map}
@@ -23,12 +24,13 @@ use Rattle.assign_ids.proofs.NumberLemmas.{same-self, same-exact}
 use Rattle.batch_codec.specs.Payload.{Payload}
 use Rattle.name_map.specs.Part.{upward}
 use Rattle.flush_rebuild.specs.Flat.{flat_segments}
-use Rattle.flush_rebuild.specs.Flush.{flushed, master_after, rows_named, rows_outside}
-use Rattle.flush_rebuild.specs.Change.{flat_record, flush_change}
-use Rattle.payload_tables.specs.Tables.{known_from}
+use Rattle.change_rules.specs.Flush.{flushed, master_after, rows_named, rows_outside}
+use Rattle.flush_rebuild.specs.Moves.{flat_record}
+use Rattle.change_rules.specs.Change.{flush_change}
+use Rattle.change_rules.specs.Change.{known_from}
 use Rattle.flush_rebuild.specs.Moves.{node_of, rest_of, moved_id, moved_parents, moved_change}
-use Rattle.flush_rebuild.proofs.Flushes.{row-found, front-rows, newest-down}
-use Rattle.flush_rebuild.proofs.Changes.{id-front}
+use Rattle.change_rules.proofs.Flushes.{row-found, front-rows, newest-down}
+use Rattle.change_rules.proofs.Changes.{id-front}
 use Rattle.payload_tables.proofs.Lists.{names-length, get-below}
 use Rattle.flush_rebuild.proofs.Renumber.{in-map, Agree, placed-in, order-same}
 
@@ -349,7 +351,7 @@ module _ (v : World Name) (whole : IsWorld v) (small : length v.master ≤ 16777
   -- the change by numbers is the change
   pub change-same : flush_change v new ≡ moved_change (length v.master) n parents name order
   change-same =
-      ap (λ l. change (length new.master) (parent_ids same_name new l) (names_of l) (parent_ids same_name new new.others) (names_of new.others)) behind
+      same-change v new ∙ ap (λ l. change (length new.master) (parent_ids same_name new l) (names_of l) (parent_ids same_name new new.others) (names_of new.others)) behind
       ∙ ap (λ k. change k (parent_ids same_name new (map row order)) (names_of (map row order)) (parent_ids same_name new new.others) (names_of new.others)) master-size
       ∙ ap₂ (λ a b. change (length v.master + length order) a b (parent_ids same_name new new.others) (names_of new.others)) (parents-moved order moves.0) (names-by order moves.0)
       ∙ ap₂ (λ a b. change (length v.master + length order) (moved_parents (length v.master) n order parents order) (map name order) a b)

@@ -16,9 +16,9 @@ use Rattle.assign_ids.specs.Numbers.{AreBelow, HaveOlderParents, others_of, rows
 use Rattle.assign_ids.specs.Placing.{place_all}
 use Rattle.assign_ids.specs.declared.graph.Node.{Node}
 use Rattle.name_map.specs.Part.{upward}
-use Rattle.flush_rebuild.specs.Flush.{flushed}
-use Rattle.flush_rebuild.specs.Change.{flush_change}
-use Rattle.payload_tables.specs.Tables.{StandFor, newest, other_names_in}
+use Rattle.change_rules.specs.Flush.{flushed}
+use Rattle.change_rules.specs.Change.{flush_change}
+use Rattle.change_rules.specs.Tables.{StandFor, newest, other_names_in}
 use Rattle.payload_tables.specs.Kept.{PlainTables, AreTablesOf}
 use Rattle.payload_tables.specs.Pending.{IdRow, PlainPending, row_names, segments_from}
 use Rattle.flush_rebuild.specs.Plans.{MayMove}

@@ -6,14 +6,14 @@ use Rattle.commit_graph.specs.World.{Row, World, with_pending}
 use Rattle.segment_codec.specs.Record.{Segment}
 use Rattle.batch_codec.specs.Payload.{Payload, payload_bytes}
 use Rattle.name_map.specs.Added.{Placed, AllStand, payloads_of}
-use Rattle.flush_rebuild.specs.declared.limits.Limits.{Limits}
-use Rattle.flush_rebuild.specs.declared.limits.Limit.{Limit}
-use Rattle.flush_rebuild.specs.declared.limits.Limit.TheVariants.{Others, Master, Log}
+use Rattle.change_rules.specs.declared.Limits.{Limits}
+use Rattle.change_rules.specs.declared.Limit.{Limit}
+use Rattle.change_rules.specs.declared.Limit.TheVariants.{Others, Master, Log}
 use Rattle.flush_rebuild.specs.declared.fault.PlanFault.{PlanFault}
 use Rattle.flush_rebuild.specs.declared.fault.PlanFault.TheVariants.{Full}
 use Rattle.payload_tables.specs.Kept.{PlainTables, AreTablesOf}
 use Rattle.payload_tables.specs.Pending.{PlainPending}
-use Rattle.payload_tables.specs.Tables.{StandFor}
+use Rattle.change_rules.specs.Tables.{StandFor}
 use Rattle.payload_tables.specs.Bases.{ArePending, AreSegmentsOf}
 use Rattle.flush_rebuild.specs.Plans.{MayMove, over, first_of, length_with, size_refusal}
 use Rattle.payload_tables.proofs.Adding.{masters-fit}

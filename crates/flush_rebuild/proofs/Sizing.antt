@@ -15,17 +15,18 @@ use Rattle.assign_ids.specs.Numbers.{AreBelow, HaveOlderParents, others_of, orde
 use Rattle.assign_ids.specs.declared.graph.Node.{Node}
 use Rattle.assign_ids.proofs.NumberLemmas.{same-exact}
 use Rattle.name_map.specs.Part.{upward}
-use Rattle.flush_rebuild.specs.declared.limits.Limits.{Limits}
-use Rattle.flush_rebuild.specs.Flush.{flushed}
-use Rattle.flush_rebuild.specs.Change.{flush_change}
+use Rattle.change_rules.specs.declared.Limits.{Limits}
+use Rattle.change_rules.specs.Flush.{flushed}
+use Rattle.change_rules.specs.Change.{flush_change}
 use Rattle.payload_tables.specs.Kept.{PlainTables}
-use Rattle.flush_rebuild.specs.Standard.{AreLimits}
+use Rattle.change_rules.specs.Standard.{AreLimits}
 use Rattle.flush_rebuild.specs.Plans.{IsChangeOf}
 use Rattle.payload_tables.specs.Pending.{PlainPending, IdRow, row_names, segments_from}
 use Rattle.flush_rebuild.specs.Moves.{node_of, nodes_in, rest_of, change_in}
 use Rattle.commit_graph.specs.Ids.{id_in, place_of}
-use Rattle.flush_rebuild.proofs.Flushes.{flush-world, flush-grows, flush-names}
-use Rattle.flush_rebuild.proofs.Lawful.{change-follows, place-below}
+use Rattle.change_rules.proofs.Flushes.{flush-world, flush-grows, flush-names}
+use Rattle.change_rules.proofs.Lawful.{change-follows}
+use Rattle.flush_rebuild.proofs.Spans.{place-below}
 use Rattle.std.specs.Result.{IsErrAnd}
 use Rattle.std.specs.Prelude.{MatchResult}
 use Rattle.id_groups.specs.Id.{other_id}
@@ -36,7 +37,7 @@ use Rattle.flat_segments.specs.Placed.{Placed as PlacedSegment, placed}
 use Rattle.name_map.specs.Added.{Placed, payloads_of}
 use Rattle.payload_tables.specs.declared.base.BaseRef.{BaseRef}
 use Rattle.flush_rebuild.specs.declared.fault.PlanFault.{PlanFault}
-use Rattle.payload_tables.specs.Tables.{StandFor}
+use Rattle.change_rules.specs.Tables.{StandFor}
 use Rattle.payload_tables.specs.Bases.{MayBase, MayView, ArePending, id_row}
 use Rattle.payload_tables.proofs.Lists.{names-length}
 use Rattle.flush_rebuild.proofs.Moving.{by-numbers}

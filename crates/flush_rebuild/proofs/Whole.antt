@@ -10,8 +10,8 @@ use Rattle.segment_codec.proofs.Tables.{parent-below, le_or_lt}
 use Rattle.batch_codec.specs.Payload.{Payload}
 use Rattle.assign_ids.specs.Numbers.{AreBelow}
 use Rattle.flush_rebuild.specs.Flat.{Span, flat_segments}
-use Rattle.flush_rebuild.specs.Change.{flat_record}
-use Rattle.payload_tables.specs.Tables.{known_from}
+use Rattle.flush_rebuild.specs.Moves.{flat_record}
+use Rattle.change_rules.specs.Change.{known_from}
 use Rattle.flush_rebuild.specs.Moves.{new_id, moved_id, moved_parents, rest_of, name_at, change_in}
 use Rattle.flush_rebuild.proofs.Moving.{map-in, map-below}
 

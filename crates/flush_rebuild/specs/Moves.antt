@@ -12,8 +12,11 @@ use Rattle.segment_codec.specs.Record.{Segment}
 use Rattle.segment_codec.specs.Table.{parents_at}
 use Rattle.batch_codec.specs.Payload.{Payload}
 use Rattle.flush_rebuild.specs.Flat.{Span, single, flat_segments}
-use Rattle.flush_rebuild.specs.Change.{flat_record}
-use Rattle.payload_tables.specs.Tables.{known_from}
+use Rattle.change_rules.specs.Change.{known_from}
+
+-- the record of a segment
+abbrev pub flat_record : Span → Segment
+flat_record s = record { low = s.low; high = s.high; level = 0; parents = s.parents }
 
 -- a parent, by its id: those in master are placed already
 abbrev pub node_of : ℕ → Node

@@ -1,24 +1,34 @@
 -- What a plan of a flush answers.
-use Rattle.std.specs.Prelude.{◌≡◌, ◌↔◌, ◌≤◌, ℕ, ◌+◌, List, [], ◌∷◌, Option, Some, None, length, map, nat_lt, IsTrue, if◌then◌else◌}
-use Rattle.id_groups.specs.Lists.{is_in, AreAllIn}
+use Rattle.std.specs.Prelude.{◌≡◌, ◌↔◌, ◌<◌, ◌≤◌, ◌^◌, ◌⊎◌, Bool, true, false, ℕ, ◌+◌, List, [], ◌∷◌, ◌++◌, Option, Some, None, IfSome, length, map, nat_lt, IsTrue, if◌then◌else◌}
+use Rattle.id_groups.specs.Lists.{IsIn, is_in, AreAllIn}
 use Rattle.assign_ids.specs.Numbers.{others_of}
 use Rattle.flush_rebuild.specs.Moves.{node_of}
 use Rattle.id_groups.specs.Name.{Name, same_name}
 use Rattle.commit_graph.specs.World.{Row, World, IsWorld, IsNamedWorld, GrowsMaster, KeepsRows, rows_of, names_of, with_pending}
 use Rattle.commit_graph.specs.Ids.{id_in}
 use Rattle.name_map.specs.Added.{Placed, payloads_of, AllStand}
-use Rattle.flush_rebuild.specs.declared.limits.Limits.{Limits}
-use Rattle.flush_rebuild.specs.declared.limits.Limit.{Limit}
-use Rattle.flush_rebuild.specs.declared.limits.Limit.TheVariants.{Others, Master, Log}
+use Rattle.change_rules.specs.declared.Limits.{Limits}
+use Rattle.change_rules.specs.declared.Limit.{Limit}
+use Rattle.change_rules.specs.declared.Limit.TheVariants.{Others, Master, Log}
 use Rattle.payload_tables.specs.declared.base.BaseRef.{BaseRef}
-use Rattle.flush_rebuild.specs.declared.plan.Plan.{Plan}
+use Rattle.flush_rebuild.specs.declared.plan.Change.{Change}
 use Rattle.flush_rebuild.specs.declared.fault.PlanFault.{PlanFault}
-use Rattle.flush_rebuild.specs.declared.fault.PlanFault.TheVariants.{Unknown, Conflict, Full}
-use Rattle.flush_rebuild.specs.Change.{flush_payload}
-use Rattle.payload_tables.specs.Tables.{StandFor}
+use Rattle.flush_rebuild.specs.declared.fault.PlanFault.TheVariants.{Unknown, Conflict, Full, Memory}
+use Rattle.change_rules.specs.Flush.{flushed}
+use Rattle.change_rules.specs.Change.{flush_change}
+use Rattle.change_rules.specs.Tables.{StandFor, newest, other_names_in}
 use Rattle.payload_tables.specs.Kept.{PlainTables, AreTablesOf}
-use Rattle.payload_tables.specs.Pending.{PlainPending}
+use Rattle.payload_tables.specs.Pending.{IdRow, PlainPending, HoldsRows}
+use Rattle.id_groups.specs.Id.{other_id}
+use Rattle.std.specs.List.{AllZip}
 use Rattle.payload_tables.specs.Bases.{ArePending, IsBaseOf}
+use Rattle.flush_rebuild.specs.Asked.{others_count, IsStored}
+use Rattle.batch_codec.specs.Payload.{Payload, payload_bytes, known_names}
+use Rattle.batch_codec.specs.Grammar.{MayFollow, count_after}
+
+-- the bytes of the change that a flush makes
+abbrev pub flush_payload : World Name → World Name → List ℕ
+flush_payload old new = payload_bytes 1 (flush_change old new)
 
 -- the id of a name in the world, if it has the name
 abbrev pub stored_id : World Name → Name → Option ℕ
@@ -58,7 +68,7 @@ abbrev pub flush_refusal : Limits → ℕ → World Name → World Name → List
 flush_refusal limits log view new heads payload = first_of (unknown_fault (first_unknown view heads)) (size_refusal limits log new payload)
 
 -- The plan is that of the change from the old world to the new one; where they are the same, there is nothing to write.
-pub record IsPlanOf (plan : Plan) (old new : World Name) (payload : List ℕ) : Type 0 where
+pub record IsPlanOf (plan : Change) (old new : World Name) (payload : List ℕ) : Type 0 where
   pub payload_is : plan.payload ≡ payload
   pub master : plan.master ≡ length new.master
   pub others : plan.others ≡ length new.others
@@ -81,7 +91,7 @@ pub record MayFlush (tables : PlainTables) (bytes : List ℕ) (pending : PlainPe
   pub found_are : found ≡ map (stored_id w) heads
 
 -- What a session rebases: its base is that of some of the payloads, and the tables that of all, whose world keeps each row of
--- the base's and has its master at the front. For the name of each pending row its id in the newer world was found.
+-- the base's and has its master at the front; the names of the base's others are stored. For the name of each pending row its id in the newer world was found.
 pub record MayRebase (tables : PlainTables) (bytes : List ℕ) (base : BaseRef) (pending : PlainPending) (found : List (Option ℕ)) (w old : World Name) (rows : List (Row Name)) : Type 0 where
   pub added : List Placed
   pub tables_of : AreTablesOf tables added
@@ -94,6 +104,7 @@ pub record MayRebase (tables : PlainTables) (bytes : List ℕ) (base : BaseRef) 
   pub pending_rows : ArePending old pending rows
   pub grows : GrowsMaster old w
   pub keeps : KeepsRows old w
+  pub others_stored : (name : Name) → IsIn name (names_of old.others) → IsStored added name
   pub found_are : found ≡ map (stored_id w) (names_of rows)
 
 abbrev pub conflict_fault : Option Name → Option PlanFault
@@ -111,8 +122,32 @@ pub record MayMove (tables : PlainTables) (bytes : List ℕ) (pending : PlainPen
   pub known : AreAllIn heads (names_of (rows_of (with_pending w rows)))
   pub numbers_are : numbers ≡ others_of (map node_of (map (id_in same_name (with_pending w rows)) heads))
 
+-- pending rows, and of each head an id that is a master id or below theirs, or none
+pub record MayLook (pending : PlainPending) (heads : List Name) (found : List (Option ℕ)) : Type 0 where
+  pub rows : List IdRow
+  pub held : HoldsRows pending rows
+  pub found_are : AllZip (λ name o. IfSome o (λ id. (id < 2 ^ 56) ⊎ ((2 ^ 56 ≤ id) × (id < other_id pending.first)))) heads found
+
 -- the pending rows of a session, and the id in the stored world of each head
 pub record MayFind (pending : PlainPending) (heads : List Name) (found : List (Option ℕ)) (w : World Name) (rows : List (Row Name)) : Type 0 where
   pub small : length w.master ≤ 16777216
   pub pending_rows : ArePending w pending rows
   pub found_are : found ≡ map (stored_id w) heads
+
+-- The payload is one that may be stored behind these: a flush in the grammar, which may follow them and has room in the log.
+-- No name of the others is lost by it.
+pub record IsStorable (limits : Limits) (log : ℕ) (added : List Placed) (change : Change) (last : Payload) : Type 0 where
+  pub payload : change.payload ≡ payload_bytes 1 last
+  pub follows : MayFollow (payloads_of added) last
+  pub flush : last.kind ≡ 1
+  pub master : change.master ≡ last.after
+  pub others : change.others ≡ length last.other_names
+  pub fits : log + 9 + length change.payload ≤ limits.log
+  pub keeps : (name : Name) → IsIn name (other_names_in (newest (payloads_of added))) → IsIn name (known_names last) ⊎ IsIn name last.other_names
+
+-- what a change means for the payloads, whatever world they stand for
+pub record MayBeStored (limits : Limits) (log : ℕ) (added : List Placed) (change : Change) : Type 0 where
+  pub master_fits : change.master ≤ limits.master
+  pub others_fit : change.others ≤ limits.others
+  pub stays : change.same ≡ true → (change.payload ≡ []) × (change.master ≡ count_after 0 (payloads_of added)) × (change.others ≡ others_count added)
+  pub changes : change.same ≡ false → (last : Payload) × IsStorable limits log added change last

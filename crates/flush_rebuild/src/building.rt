@@ -7,8 +7,8 @@ ghost use Rattle.batch_codec.specs.Payload.{Payload as PlainPayload, payload_byt
 ghost use Rattle.batch_codec.specs.Grammar.{IsPayload};
 ghost use Rattle.batch_codec.specs.Building.{IsBuilt};
 ghost use Rattle.assign_ids.specs.Numbers.{AreBelow};
-ghost use Rattle.flush_rebuild.specs.Change.{flat_record};
-ghost use Rattle.payload_tables.specs.Tables.{known_from};
+ghost use Rattle.flush_rebuild.specs.Moves.{flat_record};
+ghost use Rattle.change_rules.specs.Change.{known_from};
 ghost use Rattle.flush_rebuild.specs.Moves.{name_at, rest_of, change_in};
 
 use crate::numbers::ids_of;

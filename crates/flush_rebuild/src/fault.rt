@@ -1,6 +1,6 @@
 //! Why there is no plan.
 
-use crate::limits::Limit;
+use change_rules::Limit;
 use id_groups::Name;
 use std::alloc::AllocError;
 

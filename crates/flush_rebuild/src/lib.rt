@@ -5,19 +5,16 @@
 mod building;
 mod fault;
 mod laws;
-mod limits;
 mod numbers;
 mod plan;
 mod rebasing;
 mod runs;
 
+pub use change_rules::{Limit, Limits};
 pub use fault::PlanFault;
-pub use laws::{
-    changes_are_lawful, flush_keeps_worlds, flush_payload_stands, nothing_stored, standard_limits,
-};
-pub use limits::{Limit, Limits};
+pub use laws::payloads_stand_for_a_world;
 pub use payload_tables::{BaseRef, OthersTable, PendingRows, TableFault, Tables};
-pub use plan::{Payload, Plan, plan_flush};
+pub use plan::{Change, Payload, plan_change};
 pub use rebasing::rebase;
 
 #[cfg(test)]

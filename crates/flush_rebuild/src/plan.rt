@@ -1,24 +1,27 @@
 //! The plan of a flush.
 
-ghost use Rattle.std.specs.Prelude.{◌≡◌, ◌≤◌, ◌+◌, ◌*◌, ◌^◌, ◌⊎◌, ◌++◌, ◌∷◌, ◌<◌, List, [], map, length, take, drop, slice_index_or, Option, None, Some, ℕ, OnOk, IfOk, IfErr, MatchOption, MatchResult};
+ghost use Rattle.std.specs.Prelude.{◌≡◌, ◌≤◌, ◌+◌, ◌*◌, ◌^◌, ◌⊎◌, ◌++◌, ◌∷◌, ◌<◌, List, [], map, length, take, drop, slice_index_or, Option, None, Some, ℕ, OnOk, IfOk, IfErr, IfSome, MatchOption, MatchResult};
 ghost use Rattle.id_groups.specs.Name.{Name as NameBytes, same_name};
 ghost use Rattle.id_groups.specs.Lists.{IsIn, AreAllIn};
 ghost use Rattle.commit_graph.specs.World.{Row, World, rows_of, names_of, with_pending};
 ghost use Rattle.commit_graph.specs.Ids.{id_in};
 ghost use Rattle.flush_rebuild.specs.declared.fault.PlanFault.TheVariants.{Memory};
 ghost use Rattle.assign_ids.specs.Numbers.{AreBelow, HaveOlderParents, others_of, order_of};
-ghost use Rattle.flush_rebuild.specs.Flush.{flushed};
+ghost use Rattle.change_rules.specs.Flush.{flushed};
 ghost use Rattle.flush_rebuild.specs.Moves.{node_of, nodes_in, rest_of};
 ghost use Rattle.payload_tables.specs.Bases.{ArePending};
 ghost use Rattle.payload_tables.specs.Pending.{IdRow, HoldsRows};
-ghost use Rattle.flush_rebuild.specs.Standard.{AreLimits};
-ghost use Rattle.flush_rebuild.specs.Plans.{MayFind, stored_id, unknown_fault, first_unknown, MayFlush, MayMove, flush_refusal, size_refusal, over, IsPlanOf, IsChangeOf};
+ghost use Rattle.change_rules.specs.Standard.{AreLimits};
+ghost use Rattle.flush_rebuild.specs.Plans.{MayLook, MayFind, stored_id, unknown_fault, first_unknown, MayFlush, MayMove, flush_refusal, size_refusal, over, IsPlanOf, IsChangeOf, MayBeStored};
+ghost use Rattle.flush_rebuild.specs.Asked.{MayPlan};
+ghost use Rattle.name_map.specs.Added.{Placed};
+ghost use Rattle.id_groups.specs.Id.{other_id};
 
 use crate::building::{Names, payload_of};
 use crate::fault::PlanFault;
-use crate::limits::{Limit, Limits};
 use crate::numbers::{graph_of, rest};
 use assign_ids::place;
+use change_rules::{Limit, Limits};
 use id_groups::{FIRST_OTHER, Id, Name};
 use payload_tables::{OthersTable, PendingRows, Tables};
 use segment_codec::SegmentTable;
@@ -48,9 +51,9 @@ impl Payload {
     }
 }
 
-/// What a flush is to write, and the sizes of the world that follows.
+/// What a change is to write, and the sizes of the world that follows.
 #[derive(Drop)]
-pub struct Plan {
+pub struct Change {
     /// The payload of the change; empty where nothing changes.
     pub payload: Payload,
     /// How many master rows there are then.
@@ -124,15 +127,17 @@ fn plan_moves(
     pending: &PendingRows,
     numbers: &[u32],
     limits: Limits,
-) -> Result<Plan, PlanFault>
+) -> Result<Change, PlanFault>
     requires limits { AreLimits limits }
     requires log { length bytes.now ≤ 2 ^ 32 }
     requires world { (w : World NameBytes) × (rows : List (Row NameBytes)) × (heads : List NameBytes) × MayMove tables.now bytes.now pending.now numbers.now w rows heads }
-    ensures { (w : World NameBytes) (rows : List (Row NameBytes)) (heads : List NameBytes) (payload : List ℕ) → MayMove tables.now bytes.now pending.now numbers.now w rows heads
+    ensures worlds { (w : World NameBytes) (rows : List (Row NameBytes)) (heads : List NameBytes) (payload : List ℕ) → MayMove tables.now bytes.now pending.now numbers.now w rows heads
         → IsChangeOf w (flushed same_name (with_pending w rows) heads) payload
         → MatchResult result
         (λ plan. (size_refusal limits (length bytes.now) (flushed same_name (with_pending w rows) heads) payload ≡ None) × IsPlanOf plan w (flushed same_name (with_pending w rows) heads) payload)
         (λ fault. (fault ≡ Memory) ⊎ (size_refusal limits (length bytes.now) (flushed same_name (with_pending w rows) heads) payload ≡ Some fault)) }
+    ensures stored { (w : World NameBytes) (rows : List (Row NameBytes)) (heads : List NameBytes) (m : MayMove tables.now bytes.now pending.now numbers.now w rows heads)
+        → IfOk result (MayBeStored limits (length bytes.now) m.added) }
 {
     let base = tables.newest(bytes);
     let view = base.view(pending);
@@ -145,7 +150,7 @@ fn plan_moves(
     check(Limit::Others, others, u64::from(limits.others))?;
     check(Limit::Master, master, u64::from(limits.master))?;
     if order.is_empty() && names.more == 0 {
-        return Ok(Plan {
+        return Ok(Change {
             payload: Payload {
                 bytes: Vec::new(alloc),
             },
@@ -160,7 +165,7 @@ fn plan_moves(
         bytes.len() as u64 + 9 + payload.len() as u64,
         limits.log,
     )?;
-    Ok(Plan {
+    Ok(Change {
         payload: Payload { bytes: payload },
         master,
         others,
@@ -170,8 +175,9 @@ fn plan_moves(
 
 /// The id of a head in a session's view: the one that was found in the stored world, or that of a pending row.
 fn head_id(pending: &PendingRows, head: &Name, found: Option<Id>) -> Option<Id>
-    requires { (w : World NameBytes) × (rows : List (Row NameBytes)) × ArePending w pending.now rows }
-    ensures { (w : World NameBytes) (rows : List (Row NameBytes)) → ArePending w pending.now rows → found ≡ stored_id w head.now
+    requires { (rows : List IdRow) × HoldsRows pending.now rows }
+    ensures small { (rows : List IdRow) → HoldsRows pending.now rows → IfSome result (λ id. (found ≡ Some id) ⊎ ((2 ^ 56 ≤ id) × (id < other_id (pending.now.first + length rows)))) }
+    ensures worlds { (w : World NameBytes) (rows : List (Row NameBytes)) → ArePending w pending.now rows → found ≡ stored_id w head.now
         → MatchOption result (IsIn head.now (names_of (rows_of (with_pending w rows))) → ⊥) (λ id. IsIn head.now (names_of (rows_of (with_pending w rows))) × (id ≡ id_in same_name (with_pending w rows) head.now)) }
 {
     if found.is_some() {
@@ -199,8 +205,9 @@ fn head_numbers(
     heads: &[Name],
     found: &[Option<Id>],
 ) -> Result<Vec<u32>, PlanFault>
-    requires { (w : World NameBytes) × (rows : List (Row NameBytes)) × MayFind pending.now heads.now found.now w rows }
-    ensures { (w : World NameBytes) (rows : List (Row NameBytes)) → MayFind pending.now heads.now found.now w rows
+    requires { MayLook pending.now heads.now found.now }
+    ensures below { (rows : List IdRow) → HoldsRows pending.now rows → IfOk result (λ numbers. AreBelow (pending.now.first + length rows) numbers.items) }
+    ensures worlds { (w : World NameBytes) (rows : List (Row NameBytes)) → MayFind pending.now heads.now found.now w rows
         → MatchResult result
         (λ numbers. AreAllIn heads.now (names_of (rows_of (with_pending w rows))) × (numbers.items ≡ others_of (map node_of (map (id_in same_name (with_pending w rows)) heads.now))))
         (λ fault. (fault ≡ Memory) ⊎ (unknown_fault (first_unknown (with_pending w rows) heads.now) ≡ Some fault)) }
@@ -215,10 +222,14 @@ fn head_numbers(
     Ok(numbers)
 }
 
-/// The plan of a flush of these heads, each with its id in the stored world where that has it: the heads and all that they
-/// reach move into master, and the pending rows are stored with the rest. It is what it is for each world for which the
-/// tables stand. It changes nothing; the tables that follow are those with the payload added.
-pub fn plan_flush(
+/// What a flush of these heads writes: the heads and all that they reach move into master, and the pending rows are stored
+/// with the rest. `found` has for each head its id in the stored world, where that has it. The change is what it is for each
+/// world for which the tables stand, and its payload may be added to them. This only reads: the tables that follow are those
+/// with the payload added.
+///
+/// `Unknown` names the first head that is neither found nor pending; `Full` the first of the others, the master rows and
+/// the log's bytes that would exceed its limit.
+pub fn plan_change(
     alloc: Global,
     tables: &Tables,
     bytes: &[u8],
@@ -226,16 +237,17 @@ pub fn plan_flush(
     heads: &[Name],
     found: &[Option<Id>],
     limits: Limits,
-) -> Result<Plan, PlanFault>
+) -> Result<Change, PlanFault>
     requires limits { AreLimits limits }
     requires log { length bytes.now ≤ 2 ^ 32 }
-    requires world { (w : World NameBytes) × (rows : List (Row NameBytes)) × MayFlush tables.now bytes.now pending.now heads.now found.now w rows }
-    ensures { (w : World NameBytes) (rows : List (Row NameBytes)) (payload : List ℕ) → MayFlush tables.now bytes.now pending.now heads.now found.now w rows
+    requires tables { (added : List Placed) × MayPlan tables.now bytes.now pending.now heads.now found.now added }
+    ensures worlds { (w : World NameBytes) (rows : List (Row NameBytes)) (payload : List ℕ) → MayFlush tables.now bytes.now pending.now heads.now found.now w rows
         → IsChangeOf w (flushed same_name (with_pending w rows) heads.now) payload
         → MatchResult result
-        (λ plan. (flush_refusal limits (length bytes.now) (with_pending w rows) (flushed same_name (with_pending w rows) heads.now) heads.now payload ≡ None)
-        × IsPlanOf plan w (flushed same_name (with_pending w rows) heads.now) payload)
+        (λ change. (flush_refusal limits (length bytes.now) (with_pending w rows) (flushed same_name (with_pending w rows) heads.now) heads.now payload ≡ None)
+        × IsPlanOf change w (flushed same_name (with_pending w rows) heads.now) payload)
         (λ fault. (fault ≡ Memory) ⊎ (flush_refusal limits (length bytes.now) (with_pending w rows) (flushed same_name (with_pending w rows) heads.now) heads.now payload ≡ Some fault)) }
+    ensures stored { (added : List Placed) → MayPlan tables.now bytes.now pending.now heads.now found.now added → IfOk result (MayBeStored limits (length bytes.now) added) }
 {
     let numbers = head_numbers(alloc, pending, heads, found)?;
     plan_moves(alloc, tables, bytes, pending, &numbers, limits)

@@ -1,6 +1,6 @@
 //! Flushes spelled out.
 
-use crate::{Limits, PendingRows, Tables, plan_flush};
+use crate::{Limits, PendingRows, Tables, plan_change};
 use batch_codec::BatchRef;
 use id_groups::{Id, Name};
 use std::alloc::{AllocError, Global};
@@ -33,7 +33,7 @@ fn brothers_move(rt: HostRuntime) -> Result<(), Fail> {
     pending.push(&short(0xa1), &[])?;
     pending.push(&short(0xb1), &[Id::other(0)])?;
     pending.push(&short(0xc1), &[Id::other(0)])?;
-    let Ok(plan) = plan_flush(
+    let Ok(plan) = plan_change(
         alloc,
         &tables,
         &[0],
@@ -69,7 +69,7 @@ fn brothers_move(rt: HostRuntime) -> Result<(), Fail> {
     };
     assert!(rt; tables.add_batch(&[0], &batch, 9).is_ok());
     let none = PendingRows::empty(alloc, 1);
-    let Ok(next) = plan_flush(
+    let Ok(next) = plan_change(
         alloc,
         &tables,
         &log,
@@ -83,7 +83,7 @@ fn brothers_move(rt: HostRuntime) -> Result<(), Fail> {
     };
     assert_eq!(rt; next.master, 3);
     assert_eq!(rt; next.others, 0);
-    let Ok(same) = plan_flush(
+    let Ok(same) = plan_change(
         alloc,
         &tables,
         &log,

@@ -1,7 +1,7 @@
 use Rattle.std.proofs.Common.{◌∙◌, ◌++◌, ◌+◌, subst, take, map}
 use Rattle.assign_ids.proofs.NumberLemmas.{below-at}
 use Rattle.batch_codec.specs.Building.{IsBuilt}
-use Rattle.payload_tables.specs.Tables.{known_from}
+use Rattle.change_rules.specs.Change.{known_from}
 use Rattle.flush_rebuild.specs.Moves.{name_at}
 use Rattle.flush_rebuild.proofs.Emitting.{known-more}
 use Rattle.flush_rebuild.proofs.building.add_known.Goals as goal

@@ -1,7 +1,7 @@
 use Rattle.std.proofs.Common.{◌≡◌, ◌++◌, map, take}
 use Rattle.batch_codec.specs.Payload.{Payload}
 use Rattle.batch_codec.specs.Building.{IsBuilt}
-use Rattle.flush_rebuild.specs.Change.{flat_record}
+use Rattle.flush_rebuild.specs.Moves.{flat_record}
 use Rattle.flush_rebuild.proofs.building.add_masters.Given as goal
 
 abbrev pub invariant-runs : goal.invariant-runs

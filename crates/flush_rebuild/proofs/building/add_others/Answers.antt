@@ -1,6 +1,6 @@
 use Rattle.std.proofs.Common.{◌∙◌, ◌++◌, ap, subst, take, map}
 use Rattle.batch_codec.specs.Building.{IsBuilt}
-use Rattle.flush_rebuild.specs.Change.{flat_record}
+use Rattle.flush_rebuild.specs.Moves.{flat_record}
 use Rattle.flush_rebuild.proofs.Emitting.{run-more}
 use Rattle.flush_rebuild.proofs.building.add_others.Goals as goal
 

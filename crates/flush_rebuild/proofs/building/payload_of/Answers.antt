@@ -7,7 +7,7 @@ use Rattle.segment_codec.specs.Table.{parents_at}
 use Rattle.batch_codec.specs.Building.{IsBuilt, empty_payload}
 use Rattle.assign_ids.specs.Numbers.{AreBelow}
 use Rattle.flush_rebuild.specs.Flat.{Span, flat_segments}
-use Rattle.flush_rebuild.specs.Change.{flat_record}
+use Rattle.flush_rebuild.specs.Moves.{flat_record}
 use Rattle.flush_rebuild.specs.Moves.{rest_of, name_at, moved_parents, change_in}
 use Rattle.flush_rebuild.proofs.Marking.{rest-below}
 use Rattle.flush_rebuild.proofs.Whole.{spans-are, segments-only, sections, sections-are}
