@@ -169,8 +169,11 @@ whole told h =
     let heads = named-fit told.names ids told.heads h.heads in
     both-none _ _ (none-fails 0 (segments_fit 0 told.segments) (stand-fit 0 told.segments h.segments))
     (both-none _ _ (none-fails named (names_fit (place_behind 0 told.segments) [] told.names) (turn-fit (place_behind 0 told.segments) [] told.names h.names))
-    (both-none _ _ (none-fails headed (has_needed_names told ∷ []) (in-all-true (λ (s : Segment). list_all (λ id. is_in nat_eq id (map (λ k. k.id) told.names)) (s.high ∷ merge_parents s.parents)) told.segments
-        (λ s i. in-all-true (λ id. is_in nat_eq id (map (λ k. k.id) told.names)) (s.high ∷ merge_parents s.parents) (λ id j. true-in id (map (λ k. k.id) told.names) (h.needed s id i j))), tt))
+    (both-none _ _ (none-fails headed (has_needed_names told ∷ []) (
+      in-all-true (λ (s : Segment). list_all (λ id. is_in nat_eq id (map (λ k. k.id) told.names)) (s.high ∷ merge_parents s.parents)) told.segments
+          (λ s i. in-all-true (λ id. is_in nat_eq id (map (λ k. k.id) told.names)) (s.high ∷ merge_parents s.parents) (λ id j. true-in id (map (λ k. k.id) told.names) (h.needed s id i j))),
+      tt,
+    ))
     (both-none _ _ (none-fails headed (heads_fit told.names ids told.heads) heads.0)
     (none-fails (headed + length told.heads) (nat_le (length ids) (length told.heads) ∷ []) (le-leb (length ids) (length told.heads) heads.1, tt)))))
 

@@ -14,13 +14,13 @@ pub returns-then-is_some : goal.returns-then-is_some
 returns-then-is_some c = λ added b.
     let s = c.args.self.now in
     id-front s.bytes.now s.tables.now s.others.now s.below added b c.args.name.bytes.now c.id-known.result (sym c.if-is_some.ensures)
-    (c.id-known.ensures (added ++ b.behind) (subst (λ (t : PlainTables). IsMapOf t.names (added ++ b.behind)) (sym c.tables.view_is) b.tables_of.names) b.stand)
+    (c.id-known.ensures.id (added ++ b.behind) (subst (λ (t : PlainTables). IsMapOf t.names (added ++ b.behind)) (sym c.tables.view_is) b.tables_of.names) b.stand)
 
 pub returns-in_err-place : goal.returns-in_err-place
 returns-in_err-place c = λ added b.
     let s = c.args.self.now in
     id-none s.bytes.now s.tables.now s.others.now s.below added b c.args.name.bytes.now c.id-known.result c.from_residual.result (sym c.if-is_some.ensures) c.from_residual.ensures
-    (c.id-known.ensures (added ++ b.behind) (subst (λ (t : PlainTables). IsMapOf t.names (added ++ b.behind)) (sym c.tables.view_is) b.tables_of.names) b.stand)
+    (c.id-known.ensures.id (added ++ b.behind) (subst (λ (t : PlainTables). IsMapOf t.names (added ++ b.behind)) (sym c.tables.view_is) b.tables_of.names) b.stand)
     (c.in_err-place.ensures (names_from s.others.now.names (other_names_in (newest (payloads_of added)))) (subst (λ (o : PlainOthers). IsIndexOf o.index (names_from s.others.now.names (other_names_in (newest (payloads_of added))))) (sym c.others.view_is) (others-index s.bytes.now s.tables.now s.others.now s.below added b))
     (others-named s.bytes.now s.tables.now s.others.now s.below added b))
 
