@@ -15,3 +15,6 @@ pub mod Invented
 pub mod Storing
 pub mod Looking
 pub mod Asking
+pub mod Rebased
+pub mod Moved
+pub mod LeftSoFar
