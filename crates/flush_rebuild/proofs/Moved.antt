@@ -122,12 +122,3 @@ zip-join R (a ∷ xs) (b ∷ ys) x y h r = (h.0, zip-join R xs ys x y h.1 r)
 pub zip-more : (R : ℕ → ℕ → Type 0) (xs : List ℕ) (i x : ℕ) (ys : List ℕ) (y : ℕ) (more : List ℕ) → i < length xs → x ≡ get_or xs i x → AllZip R (take i xs) ys → R x y → more ≡ ys ++ y ∷ [] → AllZip R (take (i + 1) xs) more
 zip-more R xs i x ys y more lt e h r m =
     subst (λ l. AllZip R (take (i + 1) xs) l) (sym m) (subst (λ l. AllZip R l (ys ++ y ∷ [])) (sym (take_more xs i x lt ∙ ap (λ z. take i xs ++ z ∷ []) (sym e))) (zip-join R (take i xs) ys x y h r))
-
-pub all-taken : (xs : List ℕ) (i : ℕ) → length xs ≤ i → take i xs ≡ xs
-all-taken [] i le = take-nil i
-  where
-    take-nil : (i : ℕ) → take i [] ≡ []
-    take-nil zero = refl
-    take-nil (suc i) = refl
-all-taken (x ∷ xs) zero le = absurd (let z : ⊥ = omega (arith, le) in z)
-all-taken (x ∷ xs) (suc i) le = ap (λ l. x ∷ l) (all-taken xs i (omega (arith, le)))

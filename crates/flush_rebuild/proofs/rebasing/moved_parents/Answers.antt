@@ -1,7 +1,8 @@
 use Rattle.std.proofs.Common.{◌≡◌, ◌≤◌, ◌<◌, ◌+◌, take, arith, length, sym, subst, List, ℕ, ap, ◌∙◌}
 use Rattle.std.specs.List.{AllZip}
 use Rattle.flush_rebuild.specs.Rebasing.{IsMoved}
-use Rattle.flush_rebuild.proofs.Moved.{zip-more, all-taken}
+use Rattle.flush_rebuild.proofs.Marking.{all-taken}
+use Rattle.flush_rebuild.proofs.Moved.{zip-more}
 use Rattle.commit_graph.proofs.Places.{read-at}
 use Rattle.flush_rebuild.proofs.rebasing.moved_parents.Goals as goal
 
