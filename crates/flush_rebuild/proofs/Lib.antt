@@ -15,3 +15,8 @@ pub mod Invented
 pub mod Storing
 pub mod Looking
 pub mod Asking
+pub mod Rebased
+pub mod Moved
+pub mod LeftSoFar
+pub mod Stepping
+pub mod OnWorlds

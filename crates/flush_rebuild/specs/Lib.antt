@@ -2,3 +2,4 @@ pub mod Flat
 pub mod Moves
 pub mod Plans
 pub mod Asked
+pub mod Rebasing

@@ -7,6 +7,7 @@ mod fault;
 mod laws;
 mod numbers;
 mod plan;
+mod rebasing;
 mod runs;
 
 pub use change_rules::{Limit, Limits};
@@ -14,6 +15,7 @@ pub use fault::PlanFault;
 pub use laws::payloads_stand_for_a_world;
 pub use payload_tables::{BaseRef, OthersTable, PendingRows, TableFault, Tables};
 pub use plan::{Change, Payload, plan_change};
+pub use rebasing::rebase;
 
 #[cfg(test)]
 mod tests;

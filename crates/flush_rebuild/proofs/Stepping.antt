@@ -1,0 +1,153 @@
+-- One step of a rebase's loop, by what the rebase is asked.
+use Rattle.std.proofs.Common.{◌≡◌, ◌<◌, ◌≤◌, ◌+◌, ◌^◌, ℕ, zero, suc, ◌⊎◌, inl, inr, List, [], ◌∷◌, ◌++◌, length, map, take, drop, Option, Some, None, slice_get, get_or, is_some, refl, sym, ap, ap₂, subst, ◌∙◌, ⊎_elim, arith, true≢false, append-nil, length-append, lit≤}
+use Rattle.std.specs.List.{AllByRecursion, AllZip}
+use Rattle.std.proofs.lemmas.List.{length-map}
+use Rattle.id_groups.specs.Lists.{IsIn, AreDistinct}
+use Rattle.id_groups.specs.Name.{Name}
+use Rattle.id_groups.specs.Id.{other_id}
+use Rattle.segment_codec.specs.Record.{Segment}
+use Rattle.batch_codec.specs.Grammar.{count_after}
+use Rattle.name_map.specs.Added.{Placed, payloads_of, AllStand}
+use Rattle.payload_tables.specs.declared.base.BaseRef.{BaseRef}
+use Rattle.payload_tables.specs.Kept.{PlainTables, AreTablesOf}
+use Rattle.payload_tables.specs.Pending.{IdRow, PlainPending, HoldsRows, row_names}
+use Rattle.payload_tables.specs.Bases.{IsBaseOf, MayBase, MayView}
+use Rattle.payload_tables.proofs.Basing.{base-others, table-end}
+use Rattle.flush_rebuild.specs.Asked.{others_count, IsFoundIn, MayRebaseOn, MayStore}
+use Rattle.flush_rebuild.specs.Rebasing.{IsMoved, IsRebased}
+use Rattle.flush_rebuild.proofs.LeftSoFar.{LeftSoFar, IsNewId, next-so-far, moved-new, row-parents-below, parents-at}
+
+pub split-at : {X : Type 0} (xs : List X) (i : ℕ) (x : X) → slice_get xs i ≡ Some x → xs ≡ take i xs ++ x ∷ drop (suc i) xs
+split-at [] i x e = absurd (true≢false (sym (ap is_some e)))
+split-at {X} (y ∷ xs) zero x e = ap (λ z. z ∷ xs) (ap some_or e)
+  where
+    some_or : Option X → X
+    some_or None = y
+    some_or (Some a) = a
+split-at (y ∷ xs) (suc i) x e = ap (λ l. y ∷ l) (split-at xs i x e)
+
+take-snoc : {X : Type 0} (xs : List X) (i : ℕ) (x : X) → slice_get xs i ≡ Some x → take (suc i) xs ≡ take i xs ++ x ∷ []
+take-snoc [] i x e = absurd (true≢false (sym (ap is_some e)))
+take-snoc {X} (y ∷ xs) zero x e = ap (λ z. z ∷ []) (ap some_or e)
+  where
+    some_or : Option X → X
+    some_or None = y
+    some_or (Some a) = a
+take-snoc (y ∷ xs) (suc i) x e = ap (λ l. y ∷ l) (take-snoc xs i x e)
+
+take-long : {X : Type 0} (xs : List X) (i : ℕ) (x : X) → slice_get xs i ≡ Some x → length (take i xs) ≡ i
+take-long [] i x e = absurd (true≢false (sym (ap is_some e)))
+take-long (y ∷ xs) zero x e = refl
+take-long (y ∷ xs) (suc i) x e = ap suc (take-long xs i x e)
+
+pub take-next : {X : Type 0} (xs : List X) (i : ℕ) (x : X) → slice_get xs i ≡ Some x → take (i + 1) xs ≡ take i xs ++ x ∷ []
+take-next xs i x e = ap (λ n. take n xs) (let z : i + 1 ≡ suc i = omega arith in z) ∙ take-snoc xs i x e
+
+under : {X : Type 0} (xs : List X) (i : ℕ) (x : X) → slice_get xs i ≡ Some x → i < length xs
+under [] i x e = absurd (true≢false (sym (ap is_some e)))
+under (y ∷ xs) zero x e = omega arith
+under (y ∷ xs) (suc i) x e = let r = under xs i x e in omega (arith, r)
+
+all-weaker : (P Q : ℕ → Type 0) → ((x : ℕ) → P x → Q x) → (xs : List ℕ) → AllByRecursion P xs → AllByRecursion Q xs
+all-weaker P Q f [] h = tt
+all-weaker P Q f (x ∷ xs) h = (f x h.0, all-weaker P Q f xs h.1)
+
+zip-found : (added : List Placed) (rows : List IdRow) (found : List (Option ℕ)) (i : ℕ) (row : IdRow) (o : Option ℕ) → AllZip (IsFoundIn added) (row_names rows) found → slice_get rows i ≡ Some row → slice_get found i ≡ Some o → IsFoundIn added row.name o
+zip-found added [] found i row o h e f = absurd (true≢false (sym (ap is_some e)))
+zip-found added (r ∷ rows) [] i row o h e f = absurd h
+zip-found added (r ∷ rows) (p ∷ found) zero row o h e f = subst (λ (q : IdRow). IsFoundIn added q.name o) (ap row_or e) (subst (IsFoundIn added r.name) (ap option_or f) h.0)
+  where
+    row_or : Option IdRow → IdRow
+    row_or None = r
+    row_or (Some a) = a
+
+    option_or : Option (Option ℕ) → Option ℕ
+    option_or None = p
+    option_or (Some a) = a
+zip-found added (r ∷ rows) (p ∷ found) (suc i) row o h e f = zip-found added rows found i row o h.1 e f
+
+pub zip-long : {X Y : Type 0} (R : X → Y → Type 0) (xs : List X) (ys : List Y) → AllZip R xs ys → length xs ≡ length ys
+zip-long R [] [] h = refl
+zip-long R [] (y ∷ ys) h = absurd h
+zip-long R (x ∷ xs) [] h = absurd h
+zip-long R (x ∷ xs) (y ∷ ys) h = ap suc (zip-long R xs ys h.1)
+
+pub found-under : (added : List Placed) (rows : List IdRow) (found : List (Option ℕ)) (i : ℕ) → AllZip (IsFoundIn added) (row_names rows) found → i < length rows → i < length found
+found-under added rows found i h lt = let a = zip-long (IsFoundIn added) (row_names rows) found h in let b = length-map rows (λ (r : IdRow). r.name) in omega (arith, a, b, lt)
+
+pub get-is : {X : Type 0} (xs : List X) (i : ℕ) (x : X) → i < length xs → x ≡ get_or xs i x → slice_get xs i ≡ Some x
+get-is [] i x lt e = absurd (let z : ⊥ = omega (arith, lt) in z)
+get-is (y ∷ xs) zero x lt e = ap Some (sym e)
+get-is (y ∷ xs) (suc i) x lt e = get-is xs i x (omega (arith, lt)) e
+
+pub rebased-as : (o : Option ℕ) (flats : List Segment) (kept next : PlainPending) (a b : Name) (ps qs : List ℕ) (id : ℕ) → a ≡ b → ps ≡ qs → IsRebased o flats kept next a ps id → IsRebased o flats kept next b qs id
+rebased-as o flats kept next a b ps qs id e f h = subst (λ x. IsRebased o flats kept next x qs id) e (subst (λ l. IsRebased o flats kept next a l id) f h)
+
+tables-base : (tables : PlainTables) (bytes : List ℕ) (added : List Placed) → AreTablesOf tables added → AllStand bytes added → MayBase bytes tables tables.others tables.flat.end added
+tables-base tables bytes added t stand = record {
+  behind = [];
+  tables_of = subst (AreTablesOf tables) (sym (append-nil added)) t;
+  stand = subst (AllStand bytes) (sym (append-nil added)) stand;
+  others_of = t.others;
+  count = table-end tables added t;
+}
+
+pub tables-count : (tables : PlainTables) (bytes : List ℕ) (added : List Placed) → AreTablesOf tables added → AllStand bytes added → tables.others.count ≡ others_count added
+tables-count tables bytes added t stand = (base-others bytes tables tables.others tables.flat.end added (tables-base tables bytes added t stand)).count
+
+pub tables-few : (tables : PlainTables) (bytes : List ℕ) (added : List Placed) → AreTablesOf tables added → AllStand bytes added → others_count added ≤ 65536
+tables-few tables bytes added t stand = (base-others bytes tables tables.others tables.flat.end added (tables-base tables bytes added t stand)).few
+
+pub no-rows-viewed : (newer : BaseRef) (added : List Placed) (none : PlainPending) → none.first ≡ others_count added → HoldsRows none [] → MayView newer added none
+no-rows-viewed newer added none e h = record { rows = []; held = h; first = e; parents = tt }
+
+pub first-left : (added : List Placed) (none : PlainPending) → none.first ≡ others_count added → HoldsRows none [] → LeftSoFar added [] [] none
+first-left added none e h = record {
+  some = [];
+  held = h;
+  first = e;
+  parents = tt;
+  distinct = tt;
+  within = λ x i. i;
+  fresh = λ x i s. i;
+  few = omega arith;
+  ids_long = refl;
+  ids_new = tt;
+}
+
+module _ (tables : PlainTables) (bytes : List ℕ) (base : BaseRef) (pending : PlainPending) (found : List (Option ℕ)) (added before : List Placed) (m : MayRebaseOn tables bytes base pending found added before)
+    (newer : BaseRef) (n : IsBaseOf newer added) (i : ℕ) (row : IdRow) (at : slice_get m.rows i ≡ Some row) (ids : List ℕ) (kept : PlainPending) (l : LeftSoFar added (take i m.rows) ids kept) where
+  ids-count : length ids ≡ i
+  ids-count = l.ids_long ∙ take-long m.rows i row at
+
+  pub parents-under : AllByRecursion (λ p. p < other_id (pending.first + length ids)) row.parents
+  parents-under = let c = ids-count in all-weaker (λ p. p < other_id pending.first + i) (λ p. p < other_id (pending.first + length ids)) (λ x lt. omega (arith, lt, c)) row.parents (row-parents-below (other_id pending.first) 0 m.rows m.held.section.flat i row at).0
+
+  pub parents-few : length row.parents ≤ 8
+  parents-few = (row-parents-below (other_id pending.first) 0 m.rows m.held.section.flat i row at).1
+
+  new-of : (moved : List ℕ) → AllZip (IsMoved before added pending.first ids) row.parents moved → (others : ℕ) → AllByRecursion (IsNewId (count_after 0 (payloads_of added)) (others_count added + others)) ids
+      → AllByRecursion (IsNewId (count_after 0 (payloads_of added)) (others_count added + others)) moved
+  new-of moved z others new = moved-new newer base added before n n.count m.grows pending.first ids others m.first new row.parents moved
+      (parents-at (λ (q : IdRow). AllByRecursion (λ p. (p < base.below) ⊎ (2 ^ 56 ≤ p)) q.parents) m.rows i row m.parents at) parents-under z
+
+  pub moved-few : (moved : List ℕ) → AllZip (IsMoved before added pending.first ids) row.parents moved → length moved ≤ 8
+  moved-few moved z = let e = zip-long (IsMoved before added pending.first ids) row.parents moved z in let f = parents-few in omega (arith, e, f)
+
+  pub some-few : length l.some < 65536
+  some-few = let a = l.few in let b = take-long m.rows i row at in let c = under m.rows i row at in let d = m.held.few in omega (arith, a, b, c, d)
+
+  pub moved-under : (moved : List ℕ) → AllZip (IsMoved before added pending.first ids) row.parents moved → (count : ℕ) → count ≡ length l.some → AllByRecursion (λ p. p < other_id (kept.first + count)) moved
+  moved-under moved z count many =
+      let first = l.first in let small = (base-others newer.bytes.now newer.tables.now newer.others.now newer.below added n).small in let c = n.count in let k : 16777216 ≤ 2 ^ 56 = lit≤ tt in
+      all-weaker (IsNewId (count_after 0 (payloads_of added)) (others_count added + length l.some)) (λ p. p < other_id (kept.first + count))
+      (λ x h. ⊎_elim (λ a. omega (arith, a, small, c, k)) (λ b. let hi = b.1 in omega (arith, hi, first, many)) h) moved (new-of moved z (length l.some) l.ids_new)
+
+  pub so-far-more : (next : PlainPending) (flats : List Segment) (moved : List ℕ) → AllZip (IsMoved before added pending.first ids) row.parents moved → (o : Option ℕ) → slice_get found i ≡ Some o
+      → (id : ℕ) → IsRebased o flats kept next row.name moved id → LeftSoFar added (take (i + 1) m.rows) (ids ++ id ∷ []) next
+  so-far-more next flats moved z o f id h =
+      subst (λ q. LeftSoFar added q (ids ++ id ∷ []) next) (sym (take-next m.rows i row at))
+      (next-so-far added (take i m.rows) (drop (suc i) m.rows) row ids kept next flats (subst (λ q. AreDistinct (row_names q)) (split-at m.rows i row at) m.distinct) l o id moved (zip-found added m.rows found i row o m.found_are at f) h (new-of moved z))
+
+pub stored-left : (added : List Placed) (rows : List IdRow) (ids : List ℕ) (kept : PlainPending) → LeftSoFar added rows ids kept → MayStore kept added
+stored-left added rows ids kept l = record { rows = l.some; held = l.held; first = l.first; parents = l.parents; distinct = l.distinct; fresh = l.fresh }

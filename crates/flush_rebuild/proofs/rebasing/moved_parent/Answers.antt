@@ -1,0 +1,20 @@
+use Rattle.std.proofs.Common.{◌≡◌, ◌<◌, ◌≤◌, ◌∙◌, ◌-◌, ◌^◌, arith}
+use Rattle.id_groups.specs.Id.{other_id}
+use Rattle.flush_rebuild.specs.Asked.{others_count}
+use Rattle.flush_rebuild.proofs.Moved.{unnamed, moved-stored, place-other}
+use Rattle.flush_rebuild.proofs.rebasing.moved_parent.Goals as goal
+
+pub returns-in_err-name : goal.returns-in_err-name
+returns-in_err-name c = λ added before n b e.
+    let num = c.number.ensures.number in let f = c.if-number-lt-FIRST_OTHER.false in
+    let lo : 2 ^ 56 ≤ c.args.parent = omega (arith, num, f) in
+    let p = c.place-place.ensures.place ∙ place-other c.args.parent lo in
+    absurd (unnamed c.args.base.now before c.args.parent lo (let t = c.if-place-first.false in omega (arith, p, t, e, lo)) (c.in_err-name.ensures before b))
+
+pub returns : goal.returns
+returns c = λ added before n b e.
+    let num = c.number.ensures.number in let f = c.if-number-lt-FIRST_OTHER.false in
+    let lo : 2 ^ 56 ≤ c.args.parent = omega (arith, num, f) in
+    let p = c.place-place.ensures.place ∙ place-other c.args.parent lo in
+    moved-stored c.args.newest.now c.args.base.now added before n b c.args.first c.args.parent c.args.ids.now c.in_ok-name.field-0.bytes.now e lo
+    (let t = c.if-place-first.false in omega (arith, p, t, lo)) (c.in_ok-name.ensures before b) c.id.result (c.id.ensures added n)
