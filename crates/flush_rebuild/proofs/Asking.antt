@@ -1,5 +1,5 @@
 -- What is asked of tables and payloads is met by a world for which they stand.
-use Rattle.std.proofs.Common.{◌≡◌, ◌<◌, ◌≤◌, ◌+◌, ◌^◌, ℕ, zero, suc, ◌⊎◌, inl, inr, List, [], ◌∷◌, ◌++◌, length, map, flat_map, Option, Some, None, refl, sym, ap, ap₂, subst, ◌∙◌, ⊎_elim, arith, length-append, lit≤}
+use Rattle.std.proofs.Common.{◌≡◌, ◌<◌, ◌≤◌, ◌+◌, ◌^◌, ℕ, ◌⊎◌, inl, inr, List, [], ◌∷◌, ◌++◌, length, map, flat_map, Option, Some, None, refl, sym, ap, ap₂, subst, ◌∙◌, ⊎_elim, arith, length-append, lit≤}
 use Rattle.std.specs.Prelude.{IfSome}
 use Rattle.std.specs.List.{AllByRecursion, AllZip}
 use Rattle.std.proofs.lemmas.List.{map-append, length-map}
@@ -18,15 +18,15 @@ use Rattle.assign_ids.specs.Numbers.{AreBelow}
 use Rattle.change_rules.specs.Tables.{newest, other_names_in}
 use Rattle.change_rules.specs.Change.{known_from}
 use Rattle.payload_tables.specs.Kept.{PlainTables, AreTablesOf}
-use Rattle.payload_tables.specs.Pending.{IdRow, PlainPending, HoldsRows, row_names, segments_from}
-use Rattle.payload_tables.specs.Bases.{ArePending, id_row, stored_in}
+use Rattle.payload_tables.specs.Pending.{IdRow, PlainPending, HoldsRows, segments_from}
+use Rattle.payload_tables.specs.Bases.{id_row, stored_in}
 use Rattle.payload_tables.proofs.Lists.{names-length}
 use Rattle.payload_tables.proofs.Naming.{whole-names}
-use Rattle.flush_rebuild.specs.Asked.{others_count, IsBaseId, IsStored, IsFoundIn, HaveParents, MayStore, MayPlan}
+use Rattle.flush_rebuild.specs.Asked.{others_count, IsFoundIn, HaveParents, MayStore, MayPlan}
 use Rattle.flush_rebuild.specs.Plans.{MayLook, MayMove}
 use Rattle.flush_rebuild.proofs.Numbered.{AllRows, Behind}
-use Rattle.flush_rebuild.proofs.Invented.{FitBehind, Stands, some-world, in-turn, count-small}
-use Rattle.flush_rebuild.proofs.Looking.{HeadsOf, heads-of}
+use Rattle.flush_rebuild.proofs.Invented.{FitBehind, some-world, in-turn, count-small}
+use Rattle.flush_rebuild.proofs.Looking.{heads-of}
 
 pub lawful-small : (added : List Placed) → AreLawful [] (payloads_of added) → count_after 0 (payloads_of added) ≤ 16777216
 lawful-small added h = count-small 0 (payloads_of added) (let z : 0 ≤ 16777216 = lit≤ tt in z) (in-turn [] (payloads_of added) h)

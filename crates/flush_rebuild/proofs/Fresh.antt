@@ -1,5 +1,5 @@
 -- Names that no log has, for commits whose names aren't stored.
-use Rattle.std.proofs.Common.{◌≡◌, ◌<◌, ◌≤◌, ◌+◌, ◌-◌, ◌%◌, ◌^◌, ℕ, zero, suc, Bool, true, false, not, cond, ◌⊎◌, inl, inr, List, [], ◌∷◌, ◌++◌, length, map, take, drop, filter, nat_eq, refl, sym, ap, subst, ◌∙◌, ⊎_elim, if◌then◌else◌, arith, true≢false, le_refl, zero-le, lit<}
+use Rattle.std.proofs.Common.{◌≡◌, ◌<◌, ◌≤◌, ◌%◌, ◌^◌, ℕ, zero, suc, Bool, true, false, not, cond, ◌⊎◌, inl, inr, List, [], ◌∷◌, ◌++◌, length, map, take, drop, filter, nat_eq, refl, sym, ap, subst, ◌∙◌, ⊎_elim, if◌then◌else◌, arith, true≢false, le_refl, zero-le, lit<}
 use Rattle.std.specs.List.{AllByRecursion}
 use Rattle.std.specs.Int.{w64, byte_at, bytes_high_first, to_be_bytes, from_be_bytes}
 use Rattle.std.proofs.lemmas.List.{take_at, drop_at}
@@ -11,7 +11,7 @@ use Rattle.id_groups.proofs.Listing.{found, missing}
 use Rattle.assign_ids.proofs.NumberLemmas.{same-self, same-exact}
 use Rattle.batch_codec.specs.Payload.{Known}
 use Rattle.commit_graph.proofs.Naming.{each}
-use Rattle.flush_rebuild.proofs.Renumber.{in-map, map-in-back}
+use Rattle.flush_rebuild.proofs.Renumber.{in-map}
 
 -- ---- a number that isn't in a list
 

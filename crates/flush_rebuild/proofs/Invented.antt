@@ -1,11 +1,9 @@
 -- Lawful payloads stand for some world, and pending rows behind them are rows of a session that sees it.
-use Rattle.std.proofs.Common.{◌≡◌, ◌<◌, ◌≤◌, ◌+◌, ◌-◌, ◌^◌, ℕ, zero, suc, Bool, true, false, ◌⊎◌, inl, inr, List, [], ◌∷◌, ◌++◌, length, map, flat_map, Option, Some, None, slice_get, get_or, is_some, refl, sym, ap, ap₂, subst, ◌∙◌, ⊎_elim, arith, true≢false, append_assoc, append-nil, length-append, lit≤, lit<}
+use Rattle.std.proofs.Common.{◌≡◌, ◌<◌, ◌≤◌, ◌+◌, ◌-◌, ◌^◌, ℕ, zero, suc, true, ◌⊎◌, inl, inr, List, [], ◌∷◌, ◌++◌, length, map, flat_map, Option, Some, None, slice_get, get_or, refl, sym, ap, ap₂, subst, ◌∙◌, ⊎_elim, arith, append_assoc, append-nil, length-append, lit≤}
 use Rattle.std.specs.List.{AllByRecursion, last_or}
 use Rattle.std.proofs.lemmas.List.{map-append, length-map}
-use Rattle.std.proofs.lemmas.Grind.{flat_map-append}
 use Rattle.id_groups.specs.Lists.{IsIn, AreDistinct}
 use Rattle.id_groups.specs.Name.{Name, IsName, same_name}
-use Rattle.id_groups.specs.Id.{other_id}
 use Rattle.commit_graph.specs.World.{Row, World, IsWorld, IsHistory, IsNamedWorld, names_of, rows_of, with_pending}
 use Rattle.commit_graph.specs.Ids.{id_in, parent_ids}
 use Rattle.commit_graph.proofs.Histories.{history-front, in-all, in-append}
@@ -13,10 +11,9 @@ use Rattle.commit_graph.proofs.Down.{in-left, in-right}
 use Rattle.commit_graph.proofs.Naming.{each, all-each}
 use Rattle.segment_codec.specs.Record.{Segment, IsSegment, HasLevelsParents}
 use Rattle.segment_codec.specs.Table.{Follow}
-use Rattle.segment_codec.specs.Flat.{IsFlat}
 use Rattle.batch_codec.specs.Payload.{Payload, Known, known_ids, known_names}
 use Rattle.batch_codec.specs.Reading.{ids_ascend}
-use Rattle.batch_codec.specs.Grammar.{IsPayload, HasOthersParents, AreFlat, MayFollow, AreLawful, count_after}
+use Rattle.batch_codec.specs.Grammar.{IsPayload, HasOthersParents, AreFlat, AreLawful, count_after}
 use Rattle.batch_codec.proofs.Ascending.{ascend-each, ascend-parts, increasing-ascend}
 use Rattle.batch_codec.proofs.Meanings.{ascend-length}
 use Rattle.name_map.specs.Part.{upward}
@@ -26,12 +23,12 @@ use Rattle.segment_rules.specs.Flat.{segment_parents, parents_listed as parents_
 use Rattle.change_rules.specs.Tables.{newest, others_in, other_names_in, StandFor}
 use Rattle.payload_tables.specs.Pending.{IdRow, row_names}
 use Rattle.payload_tables.specs.Bases.{id_row}
-use Rattle.payload_tables.proofs.Lists.{all-append, names-length, parents-known, count-last}
-use Rattle.payload_tables.proofs.Joined.{get-map, follow-join, seen-id}
+use Rattle.payload_tables.proofs.Lists.{all-append, parents-known, count-last}
+use Rattle.payload_tables.proofs.Joined.{get-map, seen-id}
 use Rattle.payload_tables.proofs.Standing.{lawful-follow}
 use Rattle.payload_tables.proofs.Lists.{distinct-join, distinct-parts}
 use Rattle.flush_rebuild.proofs.Renumber.{in-map, map-in-back}
-use Rattle.flush_rebuild.proofs.Fresh.{family, name-of-id, fresh-number, distinct-one, name-known, names-one, name-apart, name-whole}
+use Rattle.flush_rebuild.proofs.Fresh.{family, name-of-id, fresh-number, name-known, names-one, name-apart, name-whole}
 use Rattle.flush_rebuild.proofs.Numbered.{AllRows, Below, Behind, rows-join, row, world, is-world, row-again}
 
 -- ---- payloads in turn

@@ -1,14 +1,13 @@
 -- What is left of the first pending rows, whatever world it is.
-use Rattle.std.proofs.Common.{◌≡◌, ◌<◌, ◌≤◌, ◌+◌, ◌-◌, ◌^◌, ℕ, zero, suc, ◌⊎◌, inl, inr, List, [], ◌∷◌, ◌++◌, length, map, take, Option, Some, None, slice_get, get_or, is_some, refl, sym, ap, ap₂, subst, ◌∙◌, ⊎_elim, arith, true≢false, length-append, append-nil, lit≤}
+use Rattle.std.proofs.Common.{◌≡◌, ◌<◌, ◌≤◌, ◌+◌, ◌-◌, ◌^◌, ℕ, zero, suc, ◌⊎◌, inl, inr, List, [], ◌∷◌, ◌++◌, length, Option, Some, None, slice_get, is_some, refl, sym, ap, subst, ◌∙◌, ⊎_elim, arith, true≢false, length-append}
 use Rattle.std.specs.List.{AllByRecursion, AllZip}
-use Rattle.std.proofs.lemmas.List.{map-append, length-map}
+use Rattle.std.proofs.lemmas.List.{map-append}
 use Rattle.std.proofs.lemmas.Bool.{cases_lt}
 use Rattle.id_groups.specs.Lists.{IsIn, AreDistinct}
 use Rattle.id_groups.specs.Name.{Name}
 use Rattle.id_groups.specs.Id.{other_id}
 use Rattle.commit_graph.proofs.Histories.{in-append}
 use Rattle.commit_graph.proofs.Down.{in-left, in-right}
-use Rattle.batch_codec.specs.Payload.{Known}
 use Rattle.batch_codec.specs.Grammar.{count_after}
 use Rattle.segment_codec.specs.Record.{Segment}
 use Rattle.segment_codec.specs.Flat.{IsFlat}
@@ -17,10 +16,10 @@ use Rattle.name_map.specs.Added.{Placed, payloads_of}
 use Rattle.change_rules.specs.Tables.{newest, other_names_in}
 use Rattle.payload_tables.specs.declared.base.BaseRef.{BaseRef}
 use Rattle.payload_tables.specs.Pending.{IdRow, PlainPending, HoldsRows, row_names, segments_from}
-use Rattle.payload_tables.specs.Bases.{IsBaseOf, stored_in}
+use Rattle.payload_tables.specs.Bases.{IsBaseOf}
 use Rattle.payload_tables.proofs.Lists.{all-append, distinct-join}
 use Rattle.payload_tables.proofs.Rows.{get-below, count-rows}
-use Rattle.flush_rebuild.specs.Asked.{others_count, IsStored, IsFoundIn, IsBaseId, HaveParents}
+use Rattle.flush_rebuild.specs.Asked.{others_count, IsStored, IsFoundIn, HaveParents}
 use Rattle.flush_rebuild.specs.Rebasing.{IsMoved, IsRebased}
 use Rattle.flush_rebuild.proofs.Moved.{stored-bound}
 

@@ -1,15 +1,14 @@
 -- Heads that are looked up: the numbers that are found are those of other ids.
-use Rattle.std.proofs.Common.{◌≡◌, ◌<◌, ◌≤◌, ◌+◌, ◌-◌, ◌^◌, ℕ, zero, suc, ◌⊎◌, inl, inr, List, [], ◌∷◌, ◌++◌, length, map, Option, Some, None, get_or, slice_get, refl, sym, ap, subst, ◌∙◌, ⊎_elim, if◌then◌else◌, arith, length-append}
+use Rattle.std.proofs.Common.{◌≡◌, ◌<◌, ◌≤◌, ◌+◌, ◌-◌, ◌^◌, ℕ, zero, suc, ◌⊎◌, inl, inr, List, [], ◌∷◌, ◌++◌, length, map, Option, Some, get_or, refl, sym, ap, subst, ◌∙◌, ⊎_elim, if◌then◌else◌, arith}
 use Rattle.std.specs.Prelude.{IfSome}
-use Rattle.std.specs.List.{AllByRecursion, AllZip}
-use Rattle.std.proofs.lemmas.List.{length-map}
+use Rattle.std.specs.List.{AllZip}
 use Rattle.id_groups.specs.Lists.{IsIn, AreAllIn}
 use Rattle.id_groups.specs.Name.{Name, same_name}
-use Rattle.id_groups.specs.Id.{is_master_id, other_id}
+use Rattle.id_groups.specs.Id.{other_id}
 use Rattle.id_groups.proofs.Names.{same_name-exact, same_name-self}
 use Rattle.commit_graph.specs.World.{Row, World, IsWorld, names_of, rows_of, with_pending}
 use Rattle.commit_graph.specs.Ids.{id_in}
-use Rattle.commit_graph.proofs.Places.{chosen, left-out, below-master, over-master, other-place, id-in-others, name-at}
+use Rattle.commit_graph.proofs.Places.{below-master, over-master, other-place, id-in-others, name-at}
 use Rattle.commit_graph.proofs.Down.{in-right}
 use Rattle.std.proofs.lemmas.List.{map-append}
 use Rattle.assign_ids.specs.Numbers.{AreBelow, others_of}

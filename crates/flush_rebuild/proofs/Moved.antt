@@ -1,15 +1,13 @@
 -- Parents by their ids in a newer base, whatever world it is.
-use Rattle.std.proofs.Common.{◌≡◌, ◌<◌, ◌≤◌, ◌+◌, ◌-◌, ◌^◌, ℕ, zero, suc, ◌⊎◌, inl, inr, List, [], ◌∷◌, ◌++◌, length, map, take, Option, Some, None, slice_get, get_or, is_some, refl, sym, ap, ap₂, subst, ◌∙◌, ⊎_elim, arith, true≢false, length-append, lit≤}
+use Rattle.std.proofs.Common.{◌≡◌, ◌<◌, ◌≤◌, ◌+◌, ◌-◌, ◌^◌, ℕ, zero, suc, ◌⊎◌, inl, inr, List, [], ◌∷◌, ◌++◌, length, map, take, Option, Some, None, slice_get, get_or, is_some, refl, sym, ap, ap₂, subst, ◌∙◌, ⊎_elim, arith, true≢false, lit≤}
 use Rattle.std.specs.Prelude.{MatchOption}
 use Rattle.std.proofs.lemmas.List.{take_more}
-use Rattle.std.specs.List.{AllByRecursion, AllZip}
-use Rattle.id_groups.specs.Lists.{IsIn, AreDistinct}
+use Rattle.std.specs.List.{AllZip}
+use Rattle.id_groups.specs.Lists.{IsIn}
 use Rattle.id_groups.specs.Name.{Name}
 use Rattle.id_groups.specs.Id.{other_id, place_of, is_master_id}
-use Rattle.id_groups.specs.declared.name.NameRef.{NameRef}
 use Rattle.commit_graph.proofs.Histories.{in-append}
-use Rattle.commit_graph.proofs.Down.{in-left, in-right}
-use Rattle.commit_graph.proofs.Naming.{each}
+use Rattle.commit_graph.proofs.Down.{in-right}
 use Rattle.commit_graph.proofs.Places.{left-out, over-master}
 use Rattle.batch_codec.specs.Payload.{Known}
 use Rattle.batch_codec.specs.Grammar.{count_after}
@@ -22,7 +20,7 @@ use Rattle.payload_tables.specs.declared.base.BaseRef.{BaseRef}
 use Rattle.payload_tables.specs.Bases.{IsBaseOf, stored_in}
 use Rattle.payload_tables.proofs.Basing.{following-front, base-others}
 use Rattle.payload_tables.proofs.Rows.{get-below}
-use Rattle.flush_rebuild.specs.Asked.{others_count, IsStored}
+use Rattle.flush_rebuild.specs.Asked.{others_count}
 use Rattle.flush_rebuild.specs.Rebasing.{IsOtherName, IsMoved, IsLost}
 use Rattle.flush_rebuild.proofs.Rebased.{known-from-at}
 

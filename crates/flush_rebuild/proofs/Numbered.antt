@@ -1,15 +1,15 @@
 -- Rows whose parents are ids make a world, if their names are distinct and each parent stands before its child.
-use Rattle.std.proofs.Common.{◌≡◌, ◌<◌, ◌≤◌, ◌+◌, ◌-◌, ◌^◌, ℕ, zero, suc, Bool, true, false, ◌⊎◌, inl, inr, List, [], ◌∷◌, ◌++◌, length, map, flat_map, Option, Some, None, slice_get, get_or, is_some, refl, sym, ap, ap₂, subst, ◌∙◌, ⊎_elim, if◌then◌else◌, arith, true≢false, append_assoc, append-nil, length-append}
+use Rattle.std.proofs.Common.{◌≡◌, ◌<◌, ◌≤◌, ◌+◌, ◌-◌, ◌^◌, ℕ, zero, suc, ◌⊎◌, inl, inr, List, [], ◌∷◌, ◌++◌, length, map, Option, Some, None, slice_get, get_or, is_some, refl, sym, ap, ap₂, subst, ◌∙◌, ⊎_elim, if◌then◌else◌, arith, true≢false, append_assoc, length-append}
 use Rattle.std.specs.List.{AllByRecursion}
 use Rattle.std.proofs.lemmas.List.{map-append, length-map}
 use Rattle.id_groups.specs.Lists.{IsIn, AreAllIn, AreDistinct}
 use Rattle.id_groups.specs.Name.{Name, same_name}
 use Rattle.id_groups.specs.Id.{is_master_id, other_id}
 use Rattle.id_groups.proofs.Names.{same_name-exact, same_name-self}
-use Rattle.commit_graph.specs.World.{Row, World, IsWorld, IsHistory, IsNext, names_of, rows_of}
+use Rattle.commit_graph.specs.World.{Row, World, IsWorld, IsHistory}
 use Rattle.commit_graph.specs.Ids.{id_in}
 use Rattle.commit_graph.proofs.Naming.{each}
-use Rattle.commit_graph.proofs.Places.{chosen, left-out, below-master, over-master, other-place, id-in-master, id-in-others}
+use Rattle.commit_graph.proofs.Places.{chosen, left-out, below-master, over-master, id-in-master, id-in-others}
 use Rattle.payload_tables.specs.Pending.{IdRow, row_names}
 use Rattle.payload_tables.proofs.Lists.{distinct-parts}
 use Rattle.flush_rebuild.proofs.Renumber.{map-in-back}

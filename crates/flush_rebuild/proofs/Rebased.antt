@@ -1,39 +1,37 @@
 -- A rebase by ids is the rebase of the rows.
-use Rattle.std.proofs.Common.{◌≡◌, ◌≢◌, ◌<◌, ◌≤◌, ◌+◌, ◌-◌, ◌^◌, ℕ, zero, suc, Bool, true, false, not, cond, ◌&&◌, ◌⊎◌, inl, inr, List, [], ◌∷◌, ◌++◌, length, map, flat_map, filter, Option, Some, None, slice_get, is_some, refl, sym, ap, ap₂, subst, ◌∙◌, ⊎_elim, if◌then◌else◌, arith, true≢false, append_assoc, append-nil, length-append, lit≤, le_refl}
-use Rattle.std.specs.Prelude.{MatchOption}
-use Rattle.std.specs.List.{AllByRecursion, AllZip}
+use Rattle.std.proofs.Common.{◌≡◌, ◌<◌, ◌≤◌, ◌+◌, ◌-◌, ◌^◌, ℕ, zero, suc, Bool, true, false, not, cond, ◌&&◌, ◌⊎◌, inl, inr, List, [], ◌∷◌, ◌++◌, length, map, flat_map, filter, Option, Some, None, slice_get, is_some, refl, sym, ap, ap₂, subst, ◌∙◌, ⊎_elim, if◌then◌else◌, arith, true≢false, append_assoc, append-nil, length-append, lit≤}
+use Rattle.std.specs.List.{AllZip}
 use Rattle.std.specs.Cmp.Lexicographic.{pointwise}
 use Rattle.std.proofs.lemmas.List.{map-append, length-map}
 use Rattle.std.proofs.lemmas.Bool.{false_from_ne_true}
-use Rattle.id_groups.specs.Lists.{IsIn, is_in, AreAllIn, AreDistinct}
+use Rattle.id_groups.specs.Lists.{IsIn, is_in, AreDistinct}
 use Rattle.id_groups.specs.Name.{Name, same_name}
 use Rattle.id_groups.specs.Id.{is_master_id, other_id}
 use Rattle.id_groups.proofs.Names.{same_name-exact, same_name-self}
-use Rattle.id_groups.proofs.Listing.{found, there, missing}
+use Rattle.id_groups.proofs.Listing.{found, there}
 use Rattle.commit_graph.specs.World.{Row, World, IsWorld, IsHistory, GrowsMaster, KeepsRows, names_of, rows_of, row_named, with_pending}
-use Rattle.commit_graph.specs.Ids.{id_in, row_at}
-use Rattle.commit_graph.proofs.Histories.{history-front, history-rest, in-all, in-append}
+use Rattle.commit_graph.specs.Ids.{id_in}
+use Rattle.commit_graph.proofs.Histories.{history-rest, in-all, in-append}
 use Rattle.commit_graph.proofs.Down.{in-left, in-right}
 use Rattle.commit_graph.proofs.Naming.{each}
-use Rattle.commit_graph.proofs.Places.{at-name, name-at, id-in-master, id-in-others, named-at, chosen, left-out, below-master, over-master, other-place, place-left, place-right}
+use Rattle.commit_graph.proofs.Places.{at-name, id-in-master, id-in-others, named-at, chosen, left-out, below-master, over-master, other-place, place-left, place-right}
 use Rattle.segment_codec.specs.Record.{Segment}
 use Rattle.segment_codec.specs.Table.{parents_at}
-use Rattle.batch_codec.specs.Payload.{Payload, Known}
-use Rattle.batch_codec.specs.Grammar.{count_after}
+use Rattle.batch_codec.specs.Payload.{Known}
 use Rattle.name_map.specs.Added.{Placed, payloads_of, known_of}
 use Rattle.change_rules.specs.Change.{known_from}
 use Rattle.change_rules.specs.Tables.{newest, other_names_in, StandFor}
 use Rattle.change_rules.specs.Rebase.{left_of, has_parents, conflicts, first_conflict}
 use Rattle.change_rules.proofs.Flushes.{name-in, rebase-world}
-use Rattle.payload_tables.specs.Pending.{IdRow, PlainPending, HoldsRows}
+use Rattle.payload_tables.specs.Pending.{PlainPending, HoldsRows}
 use Rattle.payload_tables.specs.Bases.{id_row, stored_in, AreSegmentsOf}
-use Rattle.payload_tables.proofs.Lists.{names-length, parents-known}
+use Rattle.payload_tables.proofs.Lists.{parents-known}
 use Rattle.payload_tables.proofs.Joined.{seen-id}
 use Rattle.payload_tables.proofs.Rows.{count-rows}
 use Rattle.flush_rebuild.proofs.Renumber.{map-in-back}
 use Rattle.flush_rebuild.specs.Asked.{IsStored}
 use Rattle.flush_rebuild.specs.Plans.{stored_id}
-use Rattle.flush_rebuild.specs.Rebasing.{IsOtherName, IsMoved, IsLost, IsRebased, Disagrees}
+use Rattle.flush_rebuild.specs.Rebasing.{IsMoved, IsLost, IsRebased, Disagrees}
 
 pub known-from-at : (id : ℕ) (names : List Name) (k : Known) → IsIn k (known_from id names) → (j : ℕ) × (k.id ≡ id + j) × (slice_get names j ≡ Some k.name)
 known-from-at id [] k i = absurd i

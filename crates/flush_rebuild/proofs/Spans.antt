@@ -6,7 +6,6 @@ use Rattle.id_groups.specs.Name.{Name, same_name}
 use Rattle.id_groups.proofs.Names.{same_name-self}
 use Rattle.commit_graph.specs.World.{World, names_of}
 use Rattle.commit_graph.specs.Ids.{parent_ids, place_of}
-use Rattle.segment_codec.specs.Record.{Segment}
 use Rattle.segment_codec.specs.Turns.{is_only}
 use Rattle.segment_rules.specs.Flat as rules
 use Rattle.segment_rules.specs.Flat.{flat_segments_of}

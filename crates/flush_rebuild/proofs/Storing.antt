@@ -1,35 +1,32 @@
 -- What a change means for the payloads: it may be stored behind them.
-use Rattle.std.proofs.Common.{◌≡◌, ◌<◌, ◌≤◌, ℕ, ◌+◌, ◌-◌, ◌*◌, ◌^◌, Bool, true, false, ◌⊎◌, inl, inr, List, [], ◌∷◌, ◌++◌, length, map, drop, refl, sym, ap, ap₂, subst, ◌∙◌, ⊎_elim, arith, append-nil, append_assoc, length-append, true≢false, drop_at}
-use Rattle.std.proofs.lemmas.List.{length-map, map-append}
+use Rattle.std.proofs.Common.{◌≡◌, ◌<◌, ◌≤◌, ℕ, ◌+◌, true, false, ◌⊎◌, inl, inr, List, [], ◌∷◌, ◌++◌, length, map, drop, refl, sym, ap, subst, ◌∙◌, ⊎_elim, arith, true≢false, drop_at}
+use Rattle.std.proofs.lemmas.List.{map-append}
 use Rattle.id_groups.specs.Lists.{IsIn, AreDistinct}
 use Rattle.id_groups.specs.Name.{Name, same_name}
 use Rattle.id_groups.proofs.Names.{same_name-exact, same_name-self}
-use Rattle.commit_graph.specs.World.{Row, World, IsHistory, names_of, rows_of, with_pending}
+use Rattle.commit_graph.specs.World.{Row, World, names_of, rows_of, with_pending}
 use Rattle.commit_graph.proofs.Histories.{in-append}
 use Rattle.commit_graph.proofs.Down.{in-left, in-right}
-use Rattle.commit_graph.proofs.Places.{at-name, item-at}
 use Rattle.segment_codec.specs.Record.{Segment}
 use Rattle.batch_codec.specs.Payload.{Payload, payload_bytes, known_names}
-use Rattle.batch_codec.specs.Grammar.{MayFollow, AreLawful, count_after}
+use Rattle.batch_codec.specs.Grammar.{MayFollow, AreLawful}
 use Rattle.name_map.specs.Added.{Placed, payloads_of}
 use Rattle.change_rules.specs.declared.Limits.{Limits}
 use Rattle.flush_rebuild.specs.declared.plan.Change.{Change}
 use Rattle.change_rules.specs.Standard.{AreLimits}
-use Rattle.change_rules.specs.Flush.{flushed}
 use Rattle.change_rules.specs.Change.{flush_change}
 use Rattle.change_rules.specs.Change.{known_from}
 use Rattle.payload_tables.specs.Kept.{PlainTables}
 use Rattle.payload_tables.specs.Pending.{PlainPending}
 use Rattle.change_rules.specs.Tables.{newest, other_names_in, StandFor}
-use Rattle.flush_rebuild.specs.Moves.{rest_of, name_at, change_in}
-use Rattle.flush_rebuild.specs.Asked.{others_count}
-use Rattle.flush_rebuild.specs.Plans.{IsStorable, MayBeStored}
+use Rattle.flush_rebuild.specs.Moves.{change_in}
+use Rattle.flush_rebuild.specs.Plans.{MayBeStored}
 use Rattle.payload_tables.proofs.Lists.{names-length}
 use Rattle.change_rules.proofs.Flushes.{flush-grows, flush-keeps, name-in}
 use Rattle.change_rules.proofs.Lawful.{change-follows, history-distinct}
 use Rattle.payload_tables.proofs.Lists.{distinct-parts}
 use Rattle.flush_rebuild.proofs.Planning.{MoveFacts}
-use Rattle.flush_rebuild.proofs.Sizing.{moving, next, next-named, Changes, f-master, f-others, f-change, f-some, f-same}
+use Rattle.flush_rebuild.proofs.Sizing.{moving, next, next-named, Changes, f-change, f-some, f-same}
 
 names-of-known : (n : ℕ) (names : List Name) → map (λ k. k.name) (known_from n names) ≡ names
 names-of-known n [] = refl

@@ -1,5 +1,5 @@
 -- Flat segments: ranges of ids in which each id but the lowest has its predecessor as its only parent.
-use Rattle.std.specs.Prelude.{ℕ, zero, suc, ◌+◌, ◌-◌, List, [], ◌∷◌, flat_map, nat_eq, if◌then◌else◌}
+use Rattle.std.specs.Prelude.{ℕ, ◌+◌, ◌-◌, List, [], ◌∷◌, flat_map, nat_eq, if◌then◌else◌}
 use Rattle.segment_rules.specs.Flat.{followers}
 use Rattle.std.specs.Cmp.Lexicographic.{pointwise}
 

@@ -1,5 +1,5 @@
 -- What a plan of a flush answers.
-use Rattle.std.specs.Prelude.{◌≡◌, ◌↔◌, ◌<◌, ◌≤◌, ◌^◌, ◌⊎◌, Bool, true, false, ℕ, ◌+◌, List, [], ◌∷◌, ◌++◌, Option, Some, None, IfSome, length, map, nat_lt, IsTrue, if◌then◌else◌}
+use Rattle.std.specs.Prelude.{◌≡◌, ◌↔◌, ◌<◌, ◌≤◌, ◌^◌, ◌⊎◌, true, false, ℕ, ◌+◌, List, [], ◌∷◌, Option, Some, None, IfSome, length, map, nat_lt, IsTrue, if◌then◌else◌}
 use Rattle.id_groups.specs.Lists.{IsIn, is_in, AreAllIn}
 use Rattle.assign_ids.specs.Numbers.{others_of}
 use Rattle.flush_rebuild.specs.Moves.{node_of}
@@ -13,8 +13,7 @@ use Rattle.change_rules.specs.declared.Limit.TheVariants.{Others, Master, Log}
 use Rattle.payload_tables.specs.declared.base.BaseRef.{BaseRef}
 use Rattle.flush_rebuild.specs.declared.plan.Change.{Change}
 use Rattle.flush_rebuild.specs.declared.fault.PlanFault.{PlanFault}
-use Rattle.flush_rebuild.specs.declared.fault.PlanFault.TheVariants.{Unknown, Conflict, Full, Memory}
-use Rattle.change_rules.specs.Flush.{flushed}
+use Rattle.flush_rebuild.specs.declared.fault.PlanFault.TheVariants.{Unknown, Conflict, Full}
 use Rattle.change_rules.specs.Change.{flush_change}
 use Rattle.change_rules.specs.Tables.{StandFor, newest, other_names_in}
 use Rattle.payload_tables.specs.Kept.{PlainTables, AreTablesOf}

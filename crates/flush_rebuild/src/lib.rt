@@ -16,6 +16,3 @@ pub use laws::payloads_stand_for_a_world;
 pub use payload_tables::{BaseRef, OthersTable, PendingRows, TableFault, Tables};
 pub use plan::{Change, Payload, plan_change};
 pub use rebasing::rebase;
-
-#[cfg(test)]
-mod tests;

@@ -15,7 +15,7 @@ ghost use Rattle.payload_tables.specs.Bases.{IsBaseOf, ArePending};
 ghost use Rattle.payload_tables.specs.Pending.{IdRow, HoldsRows};
 ghost use Rattle.change_rules.specs.Rebase.{first_conflict, left_of};
 ghost use Rattle.flush_rebuild.specs.Plans.{MayRebase, conflict_fault};
-ghost use Rattle.flush_rebuild.specs.Asked.{others_count, IsBaseId, MayStore, MayRebaseOn};
+ghost use Rattle.flush_rebuild.specs.Asked.{others_count, MayStore, MayRebaseOn};
 ghost use Rattle.flush_rebuild.specs.Rebasing.{IsMoved, IsLost, IsRebased, Disagrees};
 
 use crate::fault::PlanFault;

@@ -6,7 +6,7 @@ use Rattle.id_groups.specs.Name.{same_name}
 use Rattle.id_groups.specs.Id.{other_id}
 use Rattle.commit_graph.specs.World.{rows_of, names_of, with_pending}
 use Rattle.commit_graph.specs.Ids.{id_in}
-use Rattle.payload_tables.specs.Pending.{PlainPending, row_names}
+use Rattle.payload_tables.specs.Pending.{row_names}
 use Rattle.flush_rebuild.proofs.Finding.{head-stored, head-nowhere, head-pending}
 use Rattle.flush_rebuild.proofs.plan.head_id.Goals as goal
 

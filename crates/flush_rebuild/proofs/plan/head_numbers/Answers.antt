@@ -1,6 +1,6 @@
-use Rattle.std.proofs.Common.{◌≡◌, ◌∙◌, ◌<◌, ◌≤◌, ◌+◌, ◌^◌, List, map, take, length, ℕ, Some, inr, ap, sym, subst, arith}
+use Rattle.std.proofs.Common.{◌∙◌, ◌+◌, map, length, Some, inr, ap, sym, subst, arith}
 use Rattle.id_groups.specs.Lists.{AreAllIn}
-use Rattle.id_groups.specs.Name.{Name, same_name}
+use Rattle.id_groups.specs.Name.{same_name}
 use Rattle.commit_graph.specs.World.{rows_of, names_of, with_pending}
 use Rattle.commit_graph.specs.Ids.{id_in}
 use Rattle.assign_ids.specs.Numbers.{others_of}
@@ -8,7 +8,7 @@ use Rattle.flush_rebuild.specs.Moves.{node_of}
 use Rattle.flush_rebuild.specs.Plans.{stored_id, unknown_fault}
 use Rattle.flush_rebuild.proofs.Marking.{all-taken}
 use Rattle.flush_rebuild.proofs.Growing.{any-default}
-use Rattle.flush_rebuild.proofs.Finding.{map-at, unknown-at, all-next, numbers-next, id-small, view-few}
+use Rattle.flush_rebuild.proofs.Finding.{map-at, unknown-at, all-next, numbers-next}
 use Rattle.flush_rebuild.proofs.Looking.{zip-long, look-below, more-below, id-fits}
 use Rattle.flush_rebuild.proofs.plan.head_numbers.Goals as goal
 

@@ -1,7 +1,6 @@
 use Rattle.std.proofs.Common.{◌≡◌, ◌∙◌, ◌<◌, ◌≤◌, ◌+◌, ◌*◌, ◌++◌, refl, ap, sym, subst, map, take, drop, length, arith, inl, inr, ℕ}
 use Rattle.high_segments.specs.Views.{flats_in}
 use Rattle.assign_ids.specs.Numbers.{AreBelow}
-use Rattle.std.proofs.lemmas.List.{length-map}
 use Rattle.id_groups.specs.Name.{same_name}
 use Rattle.commit_graph.specs.World.{with_pending}
 use Rattle.change_rules.specs.Flush.{flushed}

@@ -1,6 +1,4 @@
-use Rattle.std.proofs.Common.{◌≡◌, ◌<◌, ◌≤◌, ◌∙◌, ◌-◌, ◌^◌, arith}
-use Rattle.id_groups.specs.Id.{other_id}
-use Rattle.flush_rebuild.specs.Asked.{others_count}
+use Rattle.std.proofs.Common.{◌≤◌, ◌∙◌, ◌^◌, arith}
 use Rattle.flush_rebuild.proofs.Moved.{unnamed, moved-stored, place-other}
 use Rattle.flush_rebuild.proofs.rebasing.moved_parent.Goals as goal
 

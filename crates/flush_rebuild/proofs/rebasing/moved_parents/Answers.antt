@@ -1,4 +1,4 @@
-use Rattle.std.proofs.Common.{◌≡◌, ◌≤◌, ◌<◌, ◌+◌, take, arith, length, sym, subst, List, ℕ, ap, ◌∙◌}
+use Rattle.std.proofs.Common.{arith, subst}
 use Rattle.std.specs.List.{AllZip}
 use Rattle.flush_rebuild.specs.Rebasing.{IsMoved}
 use Rattle.flush_rebuild.proofs.Marking.{all-taken}

@@ -1,4 +1,4 @@
-use Rattle.std.proofs.Common.{◌≡◌, ◌<◌, ◌≤◌, ◌+◌, ◌∙◌, ◌⊎◌, inl, inr, ⊎_elim, ℕ, List, [], map, take, length, ap, sym, subst, arith}
+use Rattle.std.proofs.Common.{◌<◌, ◌≤◌, ◌+◌, ◌∙◌, inl, inr, ⊎_elim, [], map, take, length, ap, sym, subst, arith}
 use Rattle.std.specs.List.{AllByRecursion, AllZip}
 use Rattle.id_groups.specs.Id.{other_id}
 use Rattle.high_segments.specs.Views.{flats_in}
@@ -6,8 +6,6 @@ use Rattle.commit_graph.specs.World.{with_pending}
 use Rattle.payload_tables.specs.Kept.{PlainOthers}
 use Rattle.payload_tables.specs.Bases.{id_row}
 use Rattle.payload_tables.proofs.Rows.{get-below, count-rows}
-use Rattle.flush_rebuild.specs.declared.fault.PlanFault.{PlanFault}
-use Rattle.flush_rebuild.specs.declared.fault.PlanFault.TheVariants.{Memory, Conflict}
 use Rattle.flush_rebuild.specs.Rebasing.{IsMoved, Disagrees}
 use Rattle.flush_rebuild.proofs.Sizing.{err-match}
 use Rattle.flush_rebuild.proofs.LeftSoFar.{LeftSoFar}

@@ -1,4 +1,4 @@
-use Rattle.std.proofs.Common.{◌≡◌, ◌∙◌, inr, subst, sym, ap, List, ℕ}
+use Rattle.std.proofs.Common.{◌∙◌, inr, subst, ap, ℕ}
 use Rattle.std.specs.Prelude.{MatchOption}
 use Rattle.std.specs.List.{AllZip}
 use Rattle.id_groups.specs.Lists.{IsIn}

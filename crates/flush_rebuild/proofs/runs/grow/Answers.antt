@@ -1,4 +1,4 @@
-use Rattle.std.proofs.Common.{◌∙◌, ◌∷◌, [], ap, sym, arith, set, nat_eq, ◌-◌, false, true}
+use Rattle.std.proofs.Common.{◌∙◌, ◌∷◌, [], ap, sym, arith, set, nat_eq, ◌-◌}
 use Rattle.std.specs.Cmp.Lexicographic.{pointwise}
 use Rattle.flush_rebuild.specs.Flat.{Span}
 use Rattle.flush_rebuild.proofs.Growing.{grown-last, grown-more, grown-none}
