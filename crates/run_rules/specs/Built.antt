@@ -6,7 +6,7 @@ use Rattle.step_rules.specs.Verb.{Verb, Add, Flush, Reload, Discard, Query, Coun
 abbrev pub sessions_built : ℕ
 sessions_built = 16
 
--- the verbs that are built; the words and calls of expressions have a table of their own
+-- the verbs that are built; expressions are built whole
 abbrev pub is_built : Verb → Bool
 is_built (Add name parents) = true
 is_built (Query e) = true

@@ -2,8 +2,7 @@
 use Rattle.std.specs.Prelude.{◌≡◌, ◌≢◌, ◌≤◌, ℕ, List, [], ◌∷◌, ◌++◌, length, codes, decimal, flat_map}
 use Rattle.std.specs.List.{AllZip}
 use Rattle.id_groups.specs.Name.{Name, SpellsName}
-use Rattle.set_expr.specs.Spelling.{SpellsNumber}
-use Rattle.set_expr.specs.Built.{SpellsBuilt}
+use Rattle.set_expr.specs.Spelling.{SpellsExpr, SpellsNumber}
 use Rattle.step_rules.specs.Verb.{Verb, Add, Flush, Reload, Discard, Query, Count, IdOf, Status, Levels, Clone, Pull, Strip, CountMirrors, Drop}
 use Rattle.run_rules.specs.Built.{IsBuilt}
 
@@ -21,8 +20,8 @@ SpellsVerb text (Add name parents) = (length parents ≤ 8) × SpellsNames text 
 SpellsVerb text (Flush heads) = SpellsNames text (codes "flush") heads
 SpellsVerb text Reload = text ≡ codes "reload"
 SpellsVerb text Discard = text ≡ codes "discard"
-SpellsVerb text (Query e) = (a : List ℕ) × SpellsBuilt a e × (text ≡ codes "query " ++ a)
-SpellsVerb text (Count e) = (a : List ℕ) × SpellsBuilt a e × (text ≡ codes "count " ++ a)
+SpellsVerb text (Query e) = (a : List ℕ) × SpellsExpr a e × (text ≡ codes "query " ++ a)
+SpellsVerb text (Count e) = (a : List ℕ) × SpellsExpr a e × (text ≡ codes "count " ++ a)
 SpellsVerb text (IdOf name) = (a : List ℕ) × SpellsName a name × (text ≡ codes "id " ++ a)
 SpellsVerb text Status = text ≡ codes "status"
 SpellsVerb text Levels = text ≡ codes "levels"
