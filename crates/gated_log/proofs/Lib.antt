@@ -10,3 +10,4 @@ pub mod Commits
 pub mod Rooms
 pub mod Counted
 pub mod Fresh
+pub mod Sureness

@@ -26,7 +26,7 @@ Kept old new = SureSince (λ moment. IsImage old.now) old new
 pub kept-same : (t : Told) → Kept t t
 kept-same t = started (λ moment. IsImage t.now) t (λ image left. left-now t image left)
 
-kept-pass : (a b : Told) → OrRefuses Passes a b → Kept a b
+pub kept-pass : (a b : Told) → OrRefuses Passes a b → Kept a b
 kept-pass a b w = fails_past (λ moment. IsImage a.now) a a b (kept-same a) (λ moment image le is. is) w
 
 kept-sync : (a b : Told) → IsSound a → Syncs a b → Kept a b
@@ -40,7 +40,7 @@ kept-join a b c f g =
     (weakened (λ moment. IsImage b.now) (λ moment. IsImage a.now) b c (λ moment image is. f.since (moment_of b) image f.later (omega arith) (now-left b image is)) g)
 
 -- ... keep the payloads
-kept-payloads : (limit : ℕ) (ps : List (List ℕ)) (a b : Told) → Kept a b → KeepsPayloads limit ps a b
+pub kept-payloads : (limit : ℕ) (ps : List (List ℕ)) (a b : Told) → Kept a b → KeepsPayloads limit ps a b
 kept-payloads limit ps a b k has = weakened (λ moment. IsImage a.now) (λ moment. IsLogWithin limit ps) a b (λ moment image is. has image (now-left a image is)) k
 
 pub images_kept : (a b : Option Told) → Goes Kept a b → Goes KeepsImages a b
@@ -49,7 +49,7 @@ images_kept a b k = goes-map Kept KeepsImages a b (λ x y h long. h) k
 pub payloads_kept : (limit : ℕ) (ps : List (List ℕ)) (a b : Option Told) → Goes Kept a b → Goes (KeepsPayloads limit ps) a b
 payloads_kept limit ps a b k = goes-map Kept (KeepsPayloads limit ps) a b (λ x y h. kept-payloads limit ps x y h) k
 
-keeps-join : (limit : ℕ) (ps : List (List ℕ)) (a b c : Told) → KeepsPayloads limit ps a b → KeepsPayloads limit ps b c → KeepsPayloads limit ps a c
+pub keeps-join : (limit : ℕ) (ps : List (List ℕ)) (a b c : Told) → KeepsPayloads limit ps a b → KeepsPayloads limit ps b c → KeepsPayloads limit ps a c
 keeps-join limit ps a b c f g has = (let s = f has in joined (λ moment. IsLogWithin limit ps) a b c s (g (λ image left. s.since (moment_of b) image s.later (omega arith) left)))
 
 -- ---- what both calls before the read do
@@ -100,7 +100,7 @@ sized_keeps a c s = goes-map IsSized Kept a c (λ x y r. r.kept) s
 abbrev pub ReadsOnce : Told → Told → Type 0
 ReadsOnce old new = (new ≡ old) ⊎ Passes old new
 
-once-kept : (a b : Told) → ReadsOnce a b → Kept a b
+pub once-kept : (a b : Told) → ReadsOnce a b → Kept a b
 once-kept a b (inl same) = subst (Kept a) (sym same) (kept-same a)
 once-kept a b (inr passes) = subst (Kept a) (sym passes) (goes_on (λ moment. IsImage a.now) a a a.now a.now a.bytes (kept-same a) (λ moment image le is. is) (λ moment image le is. is))
 

@@ -1,6 +1,6 @@
 -- What loading answers, and what it does to a disk.
 use Rattle.std.specs.Prelude.{◌≡◌, ◌<◌, ◌≤◌, ◌⊎◌, ◌+◌, ◌*◌, ℕ, List, [], ◌∷◌, ◌++◌, length, replicate, Result, Ok, Err, ⊤}
-use Rattle.disk_trait.specs.Images.{Told, IsImage, moment_of, surely}
+use Rattle.disk_trait.specs.Images.{Told, IsImage, LeftAt, moment_of, surely}
 use Rattle.disk_trait.specs.Since.{SureSince}
 use Rattle.gated_log.specs.Log.{IsLog, IsDamaged}
 use Rattle.gated_log.specs.Held.{Held}
@@ -39,6 +39,13 @@ LeavesFresh old new = SureSince (λ moment image. length image ≤ 1) old new
 -- where the payloads are these whatever a crash leaves, they stay so at each moment since
 abbrev pub KeepsPayloads : ℕ → List (List ℕ) → Told → Told → Type 0
 KeepsPayloads limit payloads old new = HasPayloads limit old payloads → SureSince (λ moment. IsLogWithin limit payloads) old new
+
+-- Where the bytes that a read gives are the log of these payloads, each list that a crash may leave is so too from the return of
+-- the first call on, which is a sync.
+abbrev pub IsSureOf : ℕ → List (List ℕ) → Told → Told → Type 0
+IsSureOf limit payloads old new =
+    IsLogWithin limit payloads old.bytes
+    → (moment : ℕ) (image : List ℕ) → moment_of old + 2 ≤ moment → moment ≤ moment_of new → LeftAt new moment image → IsLogWithin limit payloads image
 
 -- after loading: four calls for a fresh file, which has one closed gate then, and three for any other
 pub record IsLoaded (log : Held) (old new : Told) : Type 0 where

@@ -3,6 +3,7 @@ use Rattle.disk_trait.proofs.Telling.{of_told}
 use Rattle.gated_log.specs.Load.{Loads}
 use Rattle.gated_log.proofs.LoadCalls.{sync_fails, size_fails, sized, sized_keeps, images_kept, payloads_kept, start_images, start_keeps, read_keeps, size_is, read_done, start_done}
 use Rattle.gated_log.proofs.Fresh.{old_kept, fresh_started}
+use Rattle.gated_log.proofs.Sureness.{sure_behind, sure_sized, sure_read}
 use Rattle.gated_log.proofs.Log.load.Goals as goal
 
 pub returns-in_err-sync-clause-moments : goal.returns-in_err-sync-clause-moments
@@ -48,3 +49,12 @@ returns-then-size-le1-clause-done g c = start_done c.in_ok-size.size (g.D.Disk.t
 
 pub returns-clause-fresh : goal.returns-clause-fresh
 returns-clause-fresh g c = old_kept (g.D.Disk.told c.args.disk.now) (g.D.Disk.told c.read_all.new.disk) (read_keeps (g.D.Disk.told c.args.disk.now) (g.D.Disk.told c.size.new.self) (g.D.Disk.told c.read_all.new.disk) (sized (g.D.Disk.told c.args.disk.now) (g.D.Disk.told c.sync.new.self) (g.D.Disk.told c.size.new.self) (g.met.D.Disk.sound c.args.disk.now) c.in_ok-sync.ensures.ok c.in_ok-size.ensures.ok) c.read_all.ensures.reads)
+
+pub returns-then-size-limit-clause-sure : goal.returns-then-size-limit-clause-sure
+returns-then-size-limit-clause-sure g c = λ no ps. sure_sized c.args.limit ps (g.D.Disk.told c.args.disk.now) (g.D.Disk.told c.sync.new.self) (g.D.Disk.told c.size.new.self) c.in_ok-sync.ensures.ok c.in_ok-size.ensures.ok
+
+pub returns-then-size-le1-clause-sure : goal.returns-then-size-le1-clause-sure
+returns-then-size-le1-clause-sure g c = λ no ps. sure_behind c.args.limit ps (g.D.Disk.told c.args.disk.now) (g.D.Disk.told c.sync.new.self) (g.D.Disk.told c.size.new.self) (g.D.Disk.told c.start.new.disk) c.in_ok-sync.ensures.ok c.in_ok-size.ensures.ok (c.start.ensures.moments ps)
+
+pub returns-clause-sure : goal.returns-clause-sure
+returns-clause-sure g c = λ no ps. sure_read c.args.limit ps (g.D.Disk.told c.args.disk.now) (g.D.Disk.told c.sync.new.self) (g.D.Disk.told c.size.new.self) (g.D.Disk.told c.read_all.new.disk) c.in_ok-sync.ensures.ok c.in_ok-size.ensures.ok c.read_all.ensures.reads
