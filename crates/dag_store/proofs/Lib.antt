@@ -2,3 +2,4 @@ pub mod Sees
 pub mod Standing
 pub mod Sizes
 pub mod QueryNames
+pub mod QueryGraph
