@@ -2,3 +2,4 @@ pub mod Sees
 pub mod Standing
 pub mod Sizes
 pub mod Newest
+pub mod Loads

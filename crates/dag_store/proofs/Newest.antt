@@ -1,19 +1,21 @@
 -- A session on all payloads.
 use Rattle.std.proofs.Common.{◌≡◌, ◌≤◌, ◌<◌, ◌+◌, ◌^◌, ℕ, zero, suc, inl, inr, List, [], ◌∷◌, ◌++◌, length, map, take, drop, Option, Some, None, refl, sym, ap, subst, ◌∙◌, arith, get_or, append-nil, zero-le, le_refl}
 use Rattle.std.specs.List.{AllByRecursion, last_or}
-use Rattle.std.proofs.lemmas.List.{take_all, map-append, take-append-drop}
+use Rattle.std.proofs.lemmas.List.{take_all, map-append, take-append-drop, length-map}
 use Rattle.id_groups.specs.Lists.{IsIn}
 use Rattle.id_groups.specs.Name.{Name}
 use Rattle.commit_graph.proofs.Down.{in-right}
 use Rattle.batch_codec.specs.Payload.{Payload, Known}
 use Rattle.batch_codec.specs.Grammar.{count_after}
+use Rattle.gated_log.specs.Held.{Held}
 use Rattle.name_map.specs.Added.{Placed, payloads_of, known_of, AllStand, Follow}
-use Rattle.change_rules.specs.Change.{known_from}
+use Rattle.change_rules.specs.Change.{known_from, text_of}
 use Rattle.change_rules.specs.Tables.{newest, other_names_in}
 use Rattle.payload_tables.specs.Kept.{PlainTables, PlainOthers, AreTablesOf, AreOthersIn, last_added}
 use Rattle.payload_tables.specs.Pending.{PlainPending, HoldsRows}
 use Rattle.payload_tables.specs.Bases.{MayBase, stored_in}
 use Rattle.payload_tables.proofs.Basing.{table-end}
+use Rattle.payload_tables.proofs.Lists.{all-append}
 use Rattle.flush_rebuild.specs.Asked.{MayStore, IsStored, others_count}
 use Rattle.dag_store.specs.Kept.{PlainSession, IsSessionOf, base_added}
 use Rattle.dag_store.specs.Loading.{IsOnNewest}
@@ -71,3 +73,18 @@ may-base bytes tables added x of t stand =
       others_of = of.others;
       count = of.below;
     }
+
+-- each of the sessions is on all payloads of the log
+abbrev pub AllOnNewest : Held → PlainTables → List PlainSession → Type 0
+AllOnNewest log tables sessions = (added : List Placed) → AreTablesOf tables added → log.payloads ≡ map text_of (payloads_of added) → AllByRecursion (IsOnNewest added) sessions
+
+pub one-at : {X : Type 0} (P : X → Type 0) (xs : List X) (d : X) (s : ℕ) → AllByRecursion P xs → s < length xs → P (get_or xs s d)
+one-at P [] d s h lt = absurd (omega (arith, lt))
+one-at P (x ∷ xs) d zero h lt = h.0
+one-at P (x ∷ xs) d (suc s) h lt = one-at P xs d s h.1 (omega (arith, lt))
+
+pub session-more : (log : Held) (tables : PlainTables) (sessions : List PlainSession) (x : PlainSession) (n : ℕ) → AllOnNewest log tables sessions → n ≡ length log.payloads
+    → ((added : List Placed) → AreTablesOf tables added → n ≡ length added → IsOnNewest added x) → AllOnNewest log tables (sessions ++ x ∷ [])
+session-more log tables sessions x n all size new = λ added t texts.
+    all-append (IsOnNewest added) sessions (x ∷ []) (all added t texts)
+    (new added t (size ∙ ap (length {A = List ℕ}) texts ∙ length-map (payloads_of added) text_of ∙ length-map added (λ (a : Placed). a.payload)), tt)
