@@ -1,5 +1,7 @@
 pub mod Sees
 pub mod Standing
 pub mod Sizes
+pub mod Newest
+pub mod Loads
 pub mod QueryNames
 pub mod QueryGraph
