@@ -2,3 +2,5 @@ pub mod Sees
 pub mod Standing
 pub mod Sizes
 pub mod StoredNames
+pub mod ParentTests
+pub mod Counting

@@ -37,7 +37,7 @@ use Rattle.flush_rebuild.proofs.Renumber.{in-map, map-in-back}
 use Rattle.step_rules.specs.Worlds.{has}
 use Rattle.dag_store.specs.Looking.{is_asked_in, FindsName}
 
-known-all : (added : List Placed) → known_of added ≡ known_in (payloads_of added)
+pub known-all : (added : List Placed) → known_of added ≡ known_in (payloads_of added)
 known-all [] = refl
 known-all (a ∷ added) = ap (λ l. a.payload.known ++ l) (known-all added)
 
@@ -74,7 +74,7 @@ all-kept : (p : Known → Bool) (ks : List Known) → ((k : Known) → IsIn k ks
 all-kept p [] h = refl
 all-kept p (k ∷ ks) h = ap (λ b. if b then k ∷ filter p ks else filter p ks) (h k (inl refl)) ∙ ap (λ l. k ∷ l) (all-kept p ks (λ j i. h j (inr i)))
 
-in-range : (a n id : ℕ) → a ≤ id → id < a + n → IsIn id (range_with_len a n)
+pub in-range : (a n id : ℕ) → a ≤ id → id < a + n → IsIn id (range_with_len a n)
 in-range a zero id low high = absurd (omega (arith, low, high))
 in-range a (suc n) id low high = ⊎_elim (λ e. inl (sym e)) (λ lt. inr (in-range (a + 1) n id (omega (arith, lt)) (omega (arith, high)))) (eq-or-lt_of_le low)
 
