@@ -4,3 +4,5 @@ pub mod Sizes
 pub mod StoredNames
 pub mod ParentTests
 pub mod Counting
+pub mod AddingIds
+pub mod AddingTests
