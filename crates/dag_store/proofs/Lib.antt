@@ -3,5 +3,13 @@ pub mod Standing
 pub mod Sizes
 pub mod Newest
 pub mod Loads
+pub mod StoredNames
+pub mod ParentTests
+pub mod Counting
+pub mod AddingIds
+pub mod AddingTests
 pub mod QueryNames
 pub mod QueryGraph
+pub mod QueryWorld
+pub mod QueryLazy
+pub mod QueryAnswers

@@ -50,8 +50,7 @@ fn has_name(names: &[Name], name: &Name) -> bool
 
 /// Refuses the first parent that equals an earlier one.
 fn refuse_twice(parents: &[Name]) -> Result<(), Refusal>
-    ensures ok { OnOk result (twice [] parents.now ≡ None) }
-    ensures err { IfErr result (λ refusal. twice [] parents.now ≡ Some refusal) }
+    ensures { MatchResult result (λ _. twice [] parents.now ≡ None) (λ refusal. twice [] parents.now ≡ Some refusal) }
 {
     for place in 0..parents.len() {
         let parent = parents[place];
