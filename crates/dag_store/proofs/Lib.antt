@@ -11,5 +11,4 @@ pub mod AddingTests
 pub mod QueryNames
 pub mod QueryGraph
 pub mod QueryWorld
-pub mod QueryLazy
 pub mod QueryAnswers

@@ -1,9 +1,9 @@
 -- How an expression is answered in a session's view.
 use Rattle.std.specs.Prelude.{◌≡◌, ◌&&◌, ◌||◌, ◌^◌, ℕ, Bool, List, [], ◌∷◌, Option, None, Some, Result, Ok, Err, is_some, length, map, nat_le, nat_lt}
 use Rattle.std.specs.List.{list_any}
-use Rattle.id_groups.specs.Lists.{is_in}
+use Rattle.id_groups.specs.Lists.{AreAllIn, is_in}
 use Rattle.id_groups.specs.Name.{Name, same_name}
-use Rattle.commit_graph.specs.World.{Row, World, names_of, with_pending}
+use Rattle.commit_graph.specs.World.{Row, World, names_of, rows_of, with_pending}
 use Rattle.commit_graph.specs.Graph.{graph_of}
 use Rattle.commit_graph.specs.Ids.{id_in}
 use Rattle.batch_codec.specs.Payload.{Payload, Known}
@@ -27,6 +27,7 @@ abbrev pub Evaluates : List Payload → World Name → List (Row Name) → Expr 
 Evaluates payloads w rows e (Ok answer) =
     (first_some (name_refusals payloads w rows (commits_in e)) ≡ None)
     × (names : List Name) × IsAnswer (graph_of same_name (with_pending w rows)) e names × (ids_of answer.set ≡ map (id_in same_name (with_pending w rows)) names)
+    × AreAllIn names (names_of (rows_of (with_pending w rows)))
 Evaluates payloads w rows e (Err refusal) = IsWhy (name_refusals payloads w rows (commits_in e)) refusal
 
 -- whether an id has a stored name, where the other ids all have one, or are pending

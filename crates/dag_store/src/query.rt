@@ -96,6 +96,7 @@ fn members(
     let Ok(answer) = eval(alloc, &base.view(&session.pending), expr, &ids) else {
         return Err(Refusal::Memory);
     };
+    let _spans = answer.set().spans();
     Ok(answer)
 }
 
