@@ -12,3 +12,5 @@ pub mod QueryNames
 pub mod QueryGraph
 pub mod QueryWorld
 pub mod QueryAnswers
+pub mod QueryLazy
+pub mod QuerySteps

@@ -1,7 +1,7 @@
 //! The answers of expressions in a session's view.
 
-ghost use Rattle.std.specs.Prelude.{◌≡◌, ◌<◌, ℕ, List, None, Some, length, map, MatchResult};
-ghost use Rattle.std.specs.List.{list_all};
+ghost use Rattle.std.specs.Prelude.{◌≡◌, ◌<◌, ℕ, List, None, Some, length, map, not, MatchResult};
+ghost use Rattle.std.specs.List.{list_all, list_any};
 ghost use Rattle.id_groups.specs.Lists.{AreAllIn};
 ghost use Rattle.id_groups.specs.Name.{Name as NameBytes, same_name};
 ghost use Rattle.commit_graph.specs.World.{Row, World, names_of, rows_of, with_pending};
@@ -21,7 +21,7 @@ ghost use Rattle.dag_store.specs.Stands.{Stands};
 ghost use Rattle.dag_store.specs.Looking.{Sees};
 ghost use Rattle.dag_store.specs.Adding.{IsSeen, IsWhy};
 ghost use Rattle.dag_store.specs.Names.{names_left, stored_at};
-ghost use Rattle.dag_store.specs.Querying.{Evaluates, answer_refusals, is_named_id, name_refusals};
+ghost use Rattle.dag_store.specs.Querying.{Evaluates, answer_refusals, is_lazy_name, is_named_id, name_refusals};
 ghost use Rattle.dag_store.specs.Steps.{AreIdsOf, CountStep, QueryStep};
 
 use crate::adding::find_parent;
@@ -121,6 +121,20 @@ fn are_named(base: &BaseRef<'_>, set: &IdSet) -> bool
     true
 }
 
+/// Whether each id of a set in the view of a session has a stored name, or is pending.
+fn has_all_names(bytes: &[u8], tables: &Tables, session: &Session, set: &IdSet) -> bool
+    requires { (added : List Placed) × AreTablesOf tables.now added × AllStand bytes.now added × IsSessionOf added session.now }
+    ensures { (added : List Placed) (w : World NameBytes) (rows : List (Row NameBytes)) (names : List NameBytes) → AreTablesOf tables.now added → AllStand bytes.now added
+        → IsSessionOf added session.now → IsSeen added session.now w rows → AreAllIn names (names_of (rows_of (with_pending w rows)))
+        → ids_of set.now ≡ map (id_in same_name (with_pending w rows)) names → result ≡ not (list_any (is_lazy_name (payloads_of (base_added added session.now)) w) names) }
+{
+    if !has_unnamed(tables, session.below) {
+        return true;
+    }
+    let base = session.base(bytes, tables);
+    are_named(&base, set)
+}
+
 /// Refuses an answer that has more names than so many, or one that isn't stored.
 fn check_names(
     bytes: &[u8],
@@ -140,8 +154,7 @@ fn check_names(
     if count > u64::from(most) {
         return Err(Refusal::Answer(count));
     }
-    let base = session.base(bytes, tables);
-    if has_unnamed(tables, session.below) && !are_named(&base, answer.set()) {
+    if !has_all_names(bytes, tables, session, answer.set()) {
         return Err(Refusal::NoRemote);
     }
     Ok(())
