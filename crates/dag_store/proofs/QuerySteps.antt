@@ -9,18 +9,17 @@ use Rattle.id_groups.specs.Name.{Name, same_name}
 use Rattle.commit_graph.specs.World.{Row, World, names_of, rows_of, with_pending}
 use Rattle.commit_graph.specs.Ids.{id_in}
 use Rattle.commit_graph.specs.Graph.{graph_of}
-use Rattle.batch_codec.specs.Payload.{Payload}
 use Rattle.batch_codec.specs.Grammar.{AreLawful}
-use Rattle.gated_log.specs.Held.{Held, log_bytes}
+use Rattle.gated_log.specs.Held.{Held}
 use Rattle.span_set.specs.Members.{ids_of}
 use Rattle.set_expr.specs.Expr.{Expr, commits_in}
 use Rattle.set_expr.specs.Meaning.{IsAnswer}
 use Rattle.set_query.specs.declared.evaluation.Answer.{Answer}
-use Rattle.name_map.specs.Added.{Placed, payloads_of, AllStand}
+use Rattle.name_map.specs.Added.{payloads_of}
 use Rattle.change_rules.specs.declared.Limits.{Limits}
 use Rattle.change_rules.specs.Lazy.{is_lazy}
 use Rattle.remote_rules.specs.CloneData.{KnownName}
-use Rattle.payload_tables.specs.Kept.{PlainTables, AreTablesOf}
+use Rattle.payload_tables.specs.Kept.{PlainTables}
 use Rattle.step_rules.specs.declared.Refusal.{Refusal}
 use Rattle.step_rules.specs.declared.Refusal.TheVariants as why
 use Rattle.step_rules.specs.State.{Stored, session, pending_of, base_of, view_of, seen_by}
@@ -30,7 +29,7 @@ use Rattle.step_rules.specs.Asked.{is_asked, found_as, lazy_among}
 use Rattle.step_rules.specs.Tests.{Test, named, looked_up, unknown, refuse_if, first_some, tests}
 use Rattle.step_rules.specs.Lone.{lone, lone_answer_refusals, LoneStep}
 use Rattle.dag_store.specs.declared.query.Found.{Found}
-use Rattle.dag_store.specs.Kept.{PlainSession, PlainStore, IsKept, IsSessionOf, session_at, base_added, sixteen}
+use Rattle.dag_store.specs.Kept.{PlainSession, PlainStore, IsKept, session_at, base_added, sixteen}
 use Rattle.dag_store.specs.Stands.{Stands}
 use Rattle.dag_store.specs.Adding.{IsSeen, IsWhy, looked}
 use Rattle.dag_store.specs.Querying.{Evaluates, name_refusals, answer_refusals, is_lazy_name}
@@ -47,12 +46,6 @@ none-among (x ∷ xs) e = let some : nat_lt 0 (length (x ∷ xs)) ≡ true = gri
 
 module _ (log : Held) (tables : PlainTables) (sessions : List PlainSession) (limits : Limits) (k : IsKept log tables sessions limits) (began : ℕ) (st : Stored)
     (h : Stands began (record { log = log; sessions = sessions; limits = limits }) st) (s : ℕ) (lt : s < sixteen) where
-  abbrev kept : PlainStore
-  kept = record { log = log; sessions = sessions; limits = limits }
-
-  abbrev payloads : List Payload
-  payloads = payloads_of (base_added k.added (session_at sessions s))
-
   pub session-seen : IsSeen k.added (session_at sessions s) (base_of st s) (pending_of st s)
   session-seen =
       let holds = base-holds log tables sessions limits k began st h s lt in
@@ -75,27 +68,34 @@ module _ (log : Held) (tables : PlainTables) (sessions : List PlainSession) (lim
 
   lazy-same : (names : List Name) → nat_lt 0 (length (lazy_among st (base_of st s) names)) ≡ list_any (is_lazy_name (payloads_of (base_added k.added (session_at sessions s))) (base_of st s)) names
   lazy-same [] = let z : nat_lt 0 0 ≡ false = grind (arith, nat_tests) in z
-  lazy-same (name ∷ names) = by_test (is_in same_name name (names_of (base_of st s).master) && is_lazy st.payloads (base_of st s) (id_in same_name (base_of st s) name)) refl
+  lazy-same (name ∷ names) = by_test (lazy-same names) (is_in same_name name (names_of (base_of st s).master) && is_lazy st.payloads (base_of st s) (id_in same_name (base_of st s) name)) refl
     where
       same : (is_in same_name name (names_of (base_of st s).master) && is_lazy st.payloads (base_of st s) (id_in same_name (base_of st s) name))
           ≡ is_lazy_name (payloads_of (base_added k.added (session_at sessions s))) (base_of st s) name
       same = ap (λ b. is_in same_name name (names_of (base_of st s).master) && b) (lazy-id (id_in same_name (base_of st s) name))
 
-      by_test : (b : Bool) → (is_in same_name name (names_of (base_of st s).master) && is_lazy st.payloads (base_of st s) (id_in same_name (base_of st s) name)) ≡ b
+      by_test : nat_lt 0 (length (lazy_among st (base_of st s) names)) ≡ list_any (is_lazy_name (payloads_of (base_added k.added (session_at sessions s))) (base_of st s)) names
+          → (b : Bool) → (is_in same_name name (names_of (base_of st s).master) && is_lazy st.payloads (base_of st s) (id_in same_name (base_of st s) name)) ≡ b
           → nat_lt 0 (length (lazy_among st (base_of st s) (name ∷ names))) ≡ list_any (is_lazy_name (payloads_of (base_added k.added (session_at sessions s))) (base_of st s)) (name ∷ names)
-      by_test true e =
+      by_test more true e =
           let one : KnownName = record { id = id_in same_name (base_of st s) name; name = name } in
           ap (λ b. nat_lt 0 (length ((if b then one ∷ [] else []) ++ lazy_among st (base_of st s) names))) e
           ∙ (let z : nat_lt 0 (length (one ∷ lazy_among st (base_of st s) names)) ≡ true = grind (arith, nat_tests) in z)
           ∙ sym (ap (λ b. b || list_any (is_lazy_name (payloads_of (base_added k.added (session_at sessions s))) (base_of st s)) names) (sym same ∙ e))
-      by_test false e =
+      by_test more false e =
           let one : KnownName = record { id = id_in same_name (base_of st s) name; name = name } in
           ap (λ b. nat_lt 0 (length ((if b then one ∷ [] else []) ++ lazy_among st (base_of st s) names))) e
-          ∙ lazy-same names
+          ∙ more
           ∙ sym (ap (λ b. b || list_any (is_lazy_name (payloads_of (base_added k.added (session_at sessions s))) (base_of st s)) names) (sym same ∙ e))
 
   answer-same : (names : List Name) → lone_answer_refusals limits st s names ≡ answer_refusals limits.answer (payloads_of (base_added k.added (session_at sessions s))) (base_of st s) names
   answer-same names = ap (λ b. refuse_if (nat_lt limits.answer (length names)) (why.Answer (length names)) ∷ refuse_if b why.NoRemote ∷ []) (lazy-same names)
+
+  -- names of which none is lazy
+  pub none-lazy-there : (names : List Name) → lazy_among st (base_of st s) names ≡ []
+      → list_any (is_lazy_name (payloads_of (base_added k.added (session_at sessions s))) (base_of st s)) names ≡ false
+  none-lazy-there names e =
+      sym (lazy-same names) ∙ ap (λ (l : List KnownName). nat_lt 0 (length l)) e ∙ (let z : nat_lt 0 0 ≡ false = grind (arith, nat_tests) in z)
 
   -- ---- the steps
 
@@ -110,12 +110,12 @@ module _ (log : Held) (tables : PlainTables) (sessions : List PlainSession) (lim
 
     pub query-refused : (refusal : Refusal) → IsWhy (name_refusals (payloads_of (base_added k.added (session_at sessions s))) (base_of st s) (pending_of st s) (commits_in e)) refusal
         → LoneStep limits st s (Query e) (Refused refusal) st
-    query-refused refusal (inl m) = inr (tt, ap Refused m, refl)
+    query-refused refusal (inl m) = inr (tt, (ap Refused m, refl))
     query-refused refusal (inr some) = inl (rw (stopped refusal some) (refl, refl))
 
     count-refused : (refusal : Refusal) → IsWhy (name_refusals (payloads_of (base_added k.added (session_at sessions s))) (base_of st s) (pending_of st s) (commits_in e)) refusal
         → LoneStep limits st s (Count e) (Refused refusal) st
-    count-refused refusal (inl m) = inr (tt, ap Refused m, refl)
+    count-refused refusal (inl m) = inr (tt, (ap Refused m, refl))
     count-refused refusal (inr some) = inl (rw (stopped refusal some) (refl, refl))
 
     pub count-of : (r : Result Answer Refusal) → Evaluates (payloads_of (base_added k.added (session_at sessions s))) (base_of st s) (pending_of st s) e r
@@ -157,7 +157,7 @@ module _ (log : Held) (tables : PlainTables) (sessions : List PlainSession) (lim
         inl (rw (passed none) (names, is, inl (rw (ap first_some (answer-same names) ∙ some) (refl, refl))))
 
 -- a refusal that is handed on
-pub err-query : (kept : PlainStore) (st : Stored) (s : ℕ) (e : Expr Name) (r : Result Found Refusal) (refusal : Refusal) → IsErrAnd r (λ g. g ≡ refusal)
-    → LoneStep kept.limits st s (Query e) (Refused refusal) st → QueryStep kept st s e r
-err-query kept st s e (Ok f) refusal h step = absurd h
-err-query kept st s e (Err g) refusal h step = subst (λ z. LoneStep kept.limits st s (Query e) (Refused z) st) (sym h) step
+pub err-query : (store : PlainStore) (st : Stored) (s : ℕ) (e : Expr Name) (r : Result Found Refusal) (refusal : Refusal) → IsErrAnd r (λ g. g ≡ refusal)
+    → LoneStep store.limits st s (Query e) (Refused refusal) st → QueryStep store st s e r
+err-query store st s e (Ok f) refusal h step = absurd h
+err-query store st s e (Err g) refusal h step = subst (λ z. LoneStep store.limits st s (Query e) (Refused z) st) (sym h) step
