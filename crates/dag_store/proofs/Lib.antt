@@ -3,3 +3,4 @@ pub mod Standing
 pub mod Sizes
 pub mod Newest
 pub mod Loads
+pub mod Opening

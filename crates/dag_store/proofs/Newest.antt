@@ -1,5 +1,5 @@
 -- A session on all payloads.
-use Rattle.std.proofs.Common.{◌≡◌, ◌≤◌, ◌<◌, ◌+◌, ◌^◌, ℕ, zero, suc, inl, inr, List, [], ◌∷◌, ◌++◌, length, map, take, drop, Option, Some, None, refl, sym, ap, subst, ◌∙◌, arith, get_or, append-nil, zero-le, le_refl}
+use Rattle.std.proofs.Common.{◌≡◌, ◌≤◌, ◌<◌, ◌+◌, ◌^◌, ℕ, zero, suc, inl, inr, List, [], ◌∷◌, ◌++◌, length, map, take, drop, Option, Some, None, refl, sym, ap, subst, ◌∙◌, arith, get_or, length-append, zero-le}
 use Rattle.std.specs.List.{AllByRecursion, last_or}
 use Rattle.std.proofs.lemmas.List.{take_all, map-append, take-append-drop, length-map}
 use Rattle.id_groups.specs.Lists.{IsIn}
@@ -88,3 +88,6 @@ pub session-more : (log : Held) (tables : PlainTables) (sessions : List PlainSes
 session-more log tables sessions x n all size new = λ added t texts.
     all-append (IsOnNewest added) sessions (x ∷ []) (all added t texts)
     (new added t (size ∙ ap (length {A = List ℕ}) texts ∙ length-map (payloads_of added) text_of ∙ length-map added (λ (a : Placed). a.payload)), tt)
+
+pub count-more : {X : Type 0} (xs items : List X) (x : X) (n : ℕ) → items ≡ xs ++ x ∷ [] → length xs ≡ n → length items ≡ n + 1
+count-more xs items x n is size = ap length is ∙ length-append xs (x ∷ []) ∙ ap (λ m. m + 1) size
