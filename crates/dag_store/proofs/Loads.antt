@@ -70,8 +70,7 @@ first-unlawful before [] (t ∷ texts) (suc k) h e lt none = absurd (cc e)
 first-unlawful before (p ∷ ps) (t ∷ texts) zero h e lt none = absurd (cc e)
 first-unlawful before (p ∷ ps) (t ∷ texts) (suc k) h e lt none =
     let first : t ≡ text_of p = cc e in
-    let rest : map text_of ps ≡ take k texts = cc e in
-    (
+    let rest : map text_of ps ≡ take k texts = cc e in (
       p,
       (first, h.0),
       first-unlawful (before ++ p ∷ []) ps texts k h.1 rest (omega (arith, lt)) (λ q may. none q (subst (λ l. MayStand l (get_or texts k []) q) (append_assoc before (p ∷ []) ps) may)),

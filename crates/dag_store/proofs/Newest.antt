@@ -47,8 +47,7 @@ others-few tables added t =
 pub on-newest : (tables : PlainTables) (added : List Placed) (x : PlainSession) → AreTablesOf tables added → x.payloads ≡ length added → x.below ≡ tables.flat.end → x.others ≡ tables.others
     → HoldsRows x.pending [] → x.pending.first ≡ tables.others.count → IsOnNewest added x
 on-newest tables added x t payloads below others held first =
-    let all : base_added added x ≡ added = take_all x.payloads added (let e = payloads in omega (arith, e)) in
-    (
+    let all : base_added added x ≡ added = take_all x.payloads added (let e = payloads in omega (arith, e)) in (
       record {
         payloads = (let e = payloads in omega (arith, e));
         below = below ∙ table-end tables added t ∙ ap (λ l. count_after 0 (payloads_of l)) (sym all);

@@ -1,5 +1,4 @@
-use Rattle.std.proofs.Common.{◌≡◌, ◌<◌, length, subst, sym, arith}
-use Rattle.std.specs.List.{AllByRecursion}
+use Rattle.std.proofs.Common.{subst, sym, arith}
 use Rattle.dag_store.specs.Kept.{no_session}
 use Rattle.dag_store.specs.Loading.{IsOnNewest}
 use Rattle.dag_store.proofs.Newest.{AllOnNewest, count-more, one-at, session-more}

@@ -1,10 +1,9 @@
-use Rattle.std.proofs.Common.{◌≡◌, ◌∙◌, List, Ok, Err, refl, sym, ap, subst, arith, ℕ}
+use Rattle.std.proofs.Common.{Ok, Err, refl}
 use Rattle.std.proofs.lemmas.Result.{err_from_is_err_and}
 use Rattle.gated_log.specs.Load.{Loads, IsLogOf}
 use Rattle.change_rules.specs.Holding.{HoldAs}
-use Rattle.dag_store.specs.declared.replies.LoadFault.TheVariants.{Memory}
 use Rattle.dag_store.specs.Kept.{PlainStore}
-use Rattle.dag_store.specs.Loading.{LoadAnswers, Opens, fault_of}
+use Rattle.dag_store.specs.Loading.{Opens, fault_of}
 use Rattle.dag_store.proofs.Opening.{loaded-kept, opened, refused, log-refused, tables-refused, if-some, load-keeps, load-done}
 use Rattle.dag_store.proofs.store.Store.load.Goals as goal
 
