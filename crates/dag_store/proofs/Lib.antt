@@ -4,3 +4,4 @@ pub mod Sizes
 pub mod Newest
 pub mod Loads
 pub mod Opening
+pub mod Showing

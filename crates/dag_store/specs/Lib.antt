@@ -5,3 +5,4 @@ pub mod Names
 pub mod Steps
 pub mod Loading
 pub mod Flushes
+pub mod Shown
