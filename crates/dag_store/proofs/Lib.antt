@@ -6,3 +6,6 @@ pub mod ParentTests
 pub mod Counting
 pub mod AddingIds
 pub mod AddingTests
+pub mod AddingSeek
+pub mod AddingRows
+pub mod AddingWorlds
