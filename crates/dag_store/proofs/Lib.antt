@@ -9,3 +9,7 @@ pub mod AddingTests
 pub mod AddingSeek
 pub mod AddingRows
 pub mod AddingWorlds
+pub mod Newest
+pub mod Loads
+pub mod Opening
+pub mod AddingSession

@@ -73,12 +73,11 @@ module _ (log : Held) (tables : PlainTables) (sessions : List PlainSession) (lim
       let w = base_of st s in
       let one = h.sessions s small in
       let fine = h.state.sessions s in
-      let named = alone w (h.state.worlds y.base fine.base) in
-      (
+      let named = alone w (h.state.worlds y.base fine.base) in (
         inl (ap Discarded (pending-many w x.pending (pending_of st s) n one.pending counts), refl),
         stands-with began kept st s (record x { pending = none }) (record { base = y.base; pending = [] }) small k.count h
-        (record { base = fine.base; view = named })
-        (record { payloads = one.payloads; pending = record { first = first ∙ one.pending.first; held = held; view = named.world } }),
+            (record { base = fine.base; view = named })
+            (record { payloads = one.payloads; pending = record { first = first ∙ one.pending.first; held = held; view = named.world } }),
       )
 
   -- and may go on
