@@ -1,12 +1,12 @@
 -- A store is shown by the payloads and the rows of what it stands for.
-use Rattle.std.proofs.Common.{◌≡◌, ◌<◌, ℕ, List, [], ◌∷◌, length, map, refl, sym, ap, subst, ◌∙◌}
+use Rattle.std.proofs.Common.{◌≡◌, ℕ, List, [], ◌∷◌, map, refl, ap, subst}
 use Rattle.id_groups.specs.Name.{Name}
 use Rattle.commit_graph.specs.World.{Row, World}
-use Rattle.payload_tables.specs.Pending.{IdRow as HeldRow, HoldsRows}
+use Rattle.payload_tables.specs.Pending.{HoldsRows}
 use Rattle.payload_tables.specs.Bases.{id_row as held_id_row}
-use Rattle.step_rules.specs.State.{Stored, no_names, session, pending_of, view_of}
+use Rattle.step_rules.specs.State.{Stored, no_names, pending_of, view_of}
 use Rattle.step_rules.specs.Stands.{KeptStore, StandsFor, id_row}
-use Rattle.dag_store.specs.Kept.{PlainStore, session_at, sixteen}
+use Rattle.dag_store.specs.Kept.{PlainStore, session_at}
 use Rattle.dag_store.specs.Stands.{Stands}
 use Rattle.dag_store.specs.Shown.{held_row, IsShownAs, lone_state}
 

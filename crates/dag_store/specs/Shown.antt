@@ -1,5 +1,5 @@
 -- A store as the rules of the whole store see one, without mirrors and without names that were fetched.
-use Rattle.std.specs.Prelude.{◌≡◌, ◌<◌, ℕ, List, [], None, map}
+use Rattle.std.specs.Prelude.{◌≡◌, ◌<◌, ℕ, [], None, map}
 use Rattle.change_rules.specs.Change.{text_of}
 use Rattle.payload_tables.specs.Pending.{IdRow as HeldRow, HoldsRows}
 use Rattle.step_rules.specs.State.{State, Stored, no_names}
