@@ -13,3 +13,4 @@ pub mod Newest
 pub mod Loads
 pub mod Opening
 pub mod AddingSession
+pub mod AddingSteps
