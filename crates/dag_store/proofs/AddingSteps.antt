@@ -1,5 +1,7 @@
 -- The step of an add, and of the id of a name.
 use Rattle.std.proofs.Common.{◌≡◌, ◌<◌, ◌≤◌, ◌+◌, ℕ, zero, suc, ◌⊎◌, inl, inr, Bool, true, false, not, List, [], ◌∷◌, ◌++◌, length, map, Option, Some, None, Result, Ok, Err, MatchOption, get_or, set, refl, sym, ap, ap₂, subst, ◌∙◌, ⊎_elim, arith, append_assoc, if◌then◌else◌, lt-ltb, le-ltb}
+use Rattle.std.specs.Prelude.{IsErrAnd}
+use Rattle.std.specs.Result.{OnOk}
 use Rattle.std.specs.Bool.{MatchBool}
 use Rattle.std.specs.List.{AllByRecursion}
 use Rattle.std.proofs.lemmas.List.{map-append}
@@ -191,3 +193,11 @@ module _ (log : Held) (tables : PlainTables) (sessions : List PlainSession) (lim
     id-refused refusal f = refused-at (IdOf name) refusal
         (ap first_some id-tests
         ∙ first-here (looked payloads (base_of st s) (pending_of st s) (unknown (view_of st s)) name) [] refusal (search-refused payloads (base_of st s) (pending_of st s) (unknown (view_of st s)) name refusal f))
+
+pub id-err : (store : PlainStore) (st : Stored) (s : ℕ) (name : Name) (r : Result ℕ Refusal) (f : Refusal) → IsErrAnd r (λ g. g ≡ f) → LoneStep store.limits st s (IdOf name) (Refused f) st → IdStep store st s name r
+id-err store st s name (Ok v) f h q = absurd h
+id-err store st s name (Err g) f h q = subst (λ r. LoneStep store.limits st s (IdOf name) (Refused r) st) (sym h) q
+
+pub on-ok-any : {X F : Type 0} {P : Type 0} (r : Result X F) → P → OnOk r P
+on-ok-any (Ok v) p = p
+on-ok-any (Err e) p = tt
