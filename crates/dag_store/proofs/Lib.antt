@@ -14,3 +14,4 @@ pub mod Loads
 pub mod Opening
 pub mod Showing
 pub mod AddingSession
+pub mod AddingSteps
