@@ -14,3 +14,10 @@ pub mod QueryWorld
 pub mod QueryAnswers
 pub mod QueryLazy
 pub mod QuerySteps
+pub mod AddingSeek
+pub mod AddingRows
+pub mod AddingWorlds
+pub mod Opening
+pub mod Showing
+pub mod AddingSession
+pub mod AddingSteps

@@ -1,8 +1,8 @@
 -- Reading a log's payloads in turn.
-use Rattle.std.proofs.Common.{◌≡◌, ◌≤◌, ◌<◌, ◌+◌, ◌^◌, ◌⊎◌, inl, inr, ℕ, zero, suc, List, [], ◌∷◌, ◌++◌, length, map, take, drop, refl, sym, ap, subst, ◌∙◌, arith, get_or, append-nil, append_assoc, length-append}
+use Rattle.std.proofs.Common.{◌≡◌, ◌≤◌, ◌<◌, ◌+◌, ℕ, zero, suc, List, [], ◌∷◌, ◌++◌, length, map, take, drop, refl, sym, ap, subst, ◌∙◌, arith, get_or, append-nil, append_assoc}
 use Rattle.std.proofs.lemmas.List.{take_more, take_all, map-append}
 use Rattle.std.proofs.Math.Seq.{drop-cons}
-use Rattle.batch_codec.specs.Payload.{Payload, payload_bytes}
+use Rattle.batch_codec.specs.Payload.{Payload}
 use Rattle.batch_codec.specs.Grammar.{AreLawful}
 use Rattle.gated_log.specs.Log.{log_length, StandBehind}
 use Rattle.name_map.specs.Added.{Placed, payloads_of, AllStand}
@@ -70,8 +70,7 @@ first-unlawful before [] (t ∷ texts) (suc k) h e lt none = absurd (cc e)
 first-unlawful before (p ∷ ps) (t ∷ texts) zero h e lt none = absurd (cc e)
 first-unlawful before (p ∷ ps) (t ∷ texts) (suc k) h e lt none =
     let first : t ≡ text_of p = cc e in
-    let rest : map text_of ps ≡ take k texts = cc e in
-    (
+    let rest : map text_of ps ≡ take k texts = cc e in (
       p,
       (first, h.0),
       first-unlawful (before ++ p ∷ []) ps texts k h.1 rest (omega (arith, lt)) (λ q may. none q (subst (λ l. MayStand l (get_or texts k []) q) (append_assoc before (p ∷ []) ps) may)),

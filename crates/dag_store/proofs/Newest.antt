@@ -1,5 +1,5 @@
 -- A session on all payloads.
-use Rattle.std.proofs.Common.{◌≡◌, ◌≤◌, ◌<◌, ◌+◌, ◌^◌, ℕ, zero, suc, inl, inr, List, [], ◌∷◌, ◌++◌, length, map, take, drop, Option, Some, None, refl, sym, ap, subst, ◌∙◌, arith, get_or, append-nil, zero-le, le_refl}
+use Rattle.std.proofs.Common.{◌≡◌, ◌≤◌, ◌<◌, ◌+◌, ◌^◌, ℕ, zero, suc, List, [], ◌∷◌, ◌++◌, length, map, drop, Option, Some, None, refl, sym, ap, subst, ◌∙◌, arith, get_or, length-append, zero-le}
 use Rattle.std.specs.List.{AllByRecursion, last_or}
 use Rattle.std.proofs.lemmas.List.{take_all, map-append, take-append-drop, length-map}
 use Rattle.id_groups.specs.Lists.{IsIn}
@@ -12,11 +12,11 @@ use Rattle.name_map.specs.Added.{Placed, payloads_of, known_of, AllStand, Follow
 use Rattle.change_rules.specs.Change.{known_from, text_of}
 use Rattle.change_rules.specs.Tables.{newest, other_names_in}
 use Rattle.payload_tables.specs.Kept.{PlainTables, PlainOthers, AreTablesOf, AreOthersIn, last_added}
-use Rattle.payload_tables.specs.Pending.{PlainPending, HoldsRows}
-use Rattle.payload_tables.specs.Bases.{MayBase, stored_in}
+use Rattle.payload_tables.specs.Pending.{HoldsRows}
+use Rattle.payload_tables.specs.Bases.{MayBase}
 use Rattle.payload_tables.proofs.Basing.{table-end}
 use Rattle.payload_tables.proofs.Lists.{all-append}
-use Rattle.flush_rebuild.specs.Asked.{MayStore, IsStored, others_count}
+use Rattle.flush_rebuild.specs.Asked.{MayStore, IsStored}
 use Rattle.dag_store.specs.Kept.{PlainSession, IsSessionOf, base_added}
 use Rattle.dag_store.specs.Loading.{IsOnNewest}
 use Rattle.dag_store.proofs.Sizes.{others-many}
@@ -47,8 +47,7 @@ others-few tables added t =
 pub on-newest : (tables : PlainTables) (added : List Placed) (x : PlainSession) → AreTablesOf tables added → x.payloads ≡ length added → x.below ≡ tables.flat.end → x.others ≡ tables.others
     → HoldsRows x.pending [] → x.pending.first ≡ tables.others.count → IsOnNewest added x
 on-newest tables added x t payloads below others held first =
-    let all : base_added added x ≡ added = take_all x.payloads added (let e = payloads in omega (arith, e)) in
-    (
+    let all : base_added added x ≡ added = take_all x.payloads added (let e = payloads in omega (arith, e)) in (
       record {
         payloads = (let e = payloads in omega (arith, e));
         below = below ∙ table-end tables added t ∙ ap (λ l. count_after 0 (payloads_of l)) (sym all);
@@ -88,3 +87,6 @@ pub session-more : (log : Held) (tables : PlainTables) (sessions : List PlainSes
 session-more log tables sessions x n all size new = λ added t texts.
     all-append (IsOnNewest added) sessions (x ∷ []) (all added t texts)
     (new added t (size ∙ ap (length {A = List ℕ}) texts ∙ length-map (payloads_of added) text_of ∙ length-map added (λ (a : Placed). a.payload)), tt)
+
+pub count-more : {X : Type 0} (xs items : List X) (x : X) (n : ℕ) → items ≡ xs ++ x ∷ [] → length xs ≡ n → length items ≡ n + 1
+count-more xs items x n is size = ap length is ∙ length-append xs (x ∷ []) ∙ ap (λ m. m + 1) size

@@ -7,3 +7,4 @@ pub mod Querying
 pub mod Steps
 pub mod Loading
 pub mod Flushes
+pub mod Shown

@@ -111,7 +111,7 @@ pub(crate) fn new_sessions(
     ensures err { IfErr result (λ fault. fault ≡ LoadFault.Memory) }
 {
     let mut sessions = Vec::with_capacity(alloc, 16)?;
-    'sessions: for _step in 0..16 {
+    'sessions: for _step in 0..16u32 {
         let session = Session::newest(alloc, tables, log.batch_count())?;
         sessions.push(session)?;
     }

@@ -1,4 +1,4 @@
-use Rattle.std.proofs.Common.{◌≡◌, ◌+◌, ℕ, List, refl, sym, subst, ◌<◌, length, inl, inr, ⊎_elim, arith}
+use Rattle.std.proofs.Common.{◌+◌, ℕ, List, refl, sym, subst, ◌<◌, length, inl, inr, ⊎_elim, arith}
 use Rattle.std.proofs.lemmas.Result.{err_from_is_err_and}
 use Rattle.name_map.specs.Added.{AllStand}
 use Rattle.dag_store.proofs.Loads.{read-next, read-unlawful}

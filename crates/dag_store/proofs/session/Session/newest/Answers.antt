@@ -1,4 +1,4 @@
-use Rattle.std.proofs.Common.{◌≡◌, ap, ◌∙◌, arith}
+use Rattle.std.proofs.Common.{ap, ◌∙◌, arith}
 use Rattle.payload_tables.specs.Kept.{PlainOthers}
 use Rattle.dag_store.proofs.Newest.{others-few, on-newest}
 use Rattle.dag_store.proofs.session.Session.newest.Goals as goal
