@@ -1,36 +1,41 @@
 -- A session that is kept sees some world, and with one more row behind it it may still be kept.
-use Rattle.std.proofs.Common.{◌≡◌, ◌<◌, ◌≤◌, ◌+◌, ◌^◌, ℕ, ◌⊎◌, inl, inr, List, [], ◌∷◌, ◌++◌, length, map, take, drop, flat_map, None, refl, sym, ap, subst, ◌∙◌, ⊎_elim, arith, append_assoc}
+use Rattle.std.proofs.Common.{◌≡◌, ◌<◌, ◌≤◌, ◌+◌, ◌^◌, ℕ, ◌⊎◌, inl, inr, List, [], ◌∷◌, ◌++◌, length, map, take, drop, flat_map, Option, Some, None, Result, Ok, Err, refl, sym, ap, ap₂, subst, ◌∙◌, ⊎_elim, arith, append_assoc, append-nil, lit≤}
 use Rattle.std.specs.List.{AllByRecursion}
 use Rattle.std.proofs.lemmas.List.{map-append, length-map, take-append-drop, length-append}
 use Rattle.id_groups.specs.Lists.{IsIn, AreAllIn, AreDistinct}
 use Rattle.id_groups.specs.Name.{Name, IsName, same_name}
 use Rattle.id_groups.specs.Id.{other_id}
-use Rattle.commit_graph.specs.World.{Row, World, IsHistory, names_of, rows_of, with_pending}
+use Rattle.commit_graph.specs.World.{Row, World, IsWorld, IsNamedWorld, IsHistory, names_of, rows_of, with_pending}
 use Rattle.commit_graph.specs.Ids.{id_in}
-use Rattle.commit_graph.proofs.Histories.{history-rest}
+use Rattle.commit_graph.proofs.Histories.{history-rest, in-append, in-all}
 use Rattle.commit_graph.proofs.Down.{in-left, in-right}
 use Rattle.commit_graph.proofs.Naming.{each, named-by, name-of, pending-names}
 use Rattle.segment_codec.specs.Record.{segment_bytes}
 use Rattle.segment_codec.specs.Flat.{IsFlat}
 use Rattle.batch_codec.specs.Payload.{Payload, known_names}
 use Rattle.batch_codec.specs.Grammar.{AreLawful, count_after}
-use Rattle.name_map.specs.Added.{Placed, payloads_of}
+use Rattle.name_map.specs.Added.{Placed, payloads_of, AllStand}
 use Rattle.flat_segments.specs.Placed.{Placed as PlacedSegment, placed}
 use Rattle.change_rules.specs.Tables.{StandFor, newest, other_names_in}
 use Rattle.payload_tables.specs.declared.base.BaseRef.{BaseRef}
+use Rattle.payload_tables.specs.Kept.{PlainTables, AreTablesOf}
 use Rattle.payload_tables.specs.Pending.{IdRow, PlainPending, HoldsRows, row_names, segments_from}
 use Rattle.payload_tables.specs.Bases.{IsBaseOf, MayView, ArePending, id_row}
 use Rattle.payload_tables.proofs.Lists.{names-length, parents-known}
 use Rattle.payload_tables.proofs.Naming.{whole-names}
 use Rattle.payload_tables.proofs.Rows.{count-rows}
-use Rattle.flush_rebuild.specs.Asked.{others_count, HaveParents, MayStore}
+use Rattle.flush_rebuild.specs.Asked.{others_count, IsStored, HaveParents, MayStore}
 use Rattle.flush_rebuild.proofs.Numbered.{AllRows, Behind}
 use Rattle.flush_rebuild.proofs.Invented.{FitBehind, some-world}
 use Rattle.flush_rebuild.proofs.Asking.{stored-names, lawful-small}
+use Rattle.step_rules.specs.Worlds.{has}
 use Rattle.step_rules.specs.Tests.{first_some}
+use Rattle.step_rules.specs.declared.Refusal.{Refusal}
+use Rattle.dag_store.specs.declared.replies.Added.{Added}
+use Rattle.dag_store.specs.declared.replies.Added.TheVariants.{New, Old}
 use Rattle.dag_store.specs.Kept.{PlainSession, IsSessionOf, base_added}
 use Rattle.dag_store.specs.Looking.{Sees}
-use Rattle.dag_store.specs.Adding.{IsSeen, MayBeParents, parent_refusals}
+use Rattle.dag_store.specs.Adding.{IsSeen, MayBeParents, AddsRow, parent_refusals, add_refusals}
 use Rattle.dag_store.proofs.StoredNames.{stored-there}
 use Rattle.dag_store.proofs.ParentTests.{distinct-parents}
 use Rattle.dag_store.proofs.AddingIds.{ids-below, ids-parts, ids-distinct}
