@@ -109,7 +109,7 @@ module _ (payloads : List Payload) (w : World Name) (rows : List (Row Name)) whe
       by_tests false true e f = found same_name same_name-exact same_name-self name (names_of (rows_of (with_pending w rows))) e
       by_tests false false e f = absurd (true≢false (ap is_some f))
 
-  known-all : (names : List Name) → first_some (map (looked payloads w rows (unknown (with_pending w rows))) names) ≡ None → AreAllIn names (names_of (rows_of (with_pending w rows)))
+  pub known-all : (names : List Name) → first_some (map (looked payloads w rows (unknown (with_pending w rows))) names) ≡ None → AreAllIn names (names_of (rows_of (with_pending w rows)))
   known-all [] h = tt
   known-all (name ∷ names) h =
       let parts = first-none-cons (looked payloads w rows (unknown (with_pending w rows)) name) (map (looked payloads w rows (unknown (with_pending w rows))) names) h in

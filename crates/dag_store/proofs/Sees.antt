@@ -97,7 +97,7 @@ module _ (front behind : List Payload) (w : World Name) (lawful : AreLawful [] (
   above = subst (λ n. AllByRecursion (λ (k : Known). n ≤ k.id) (known_in behind)) stand.count (known-above front behind (lawful-behind [] front behind lawful))
 
   -- those behind have names for none of its ids
-  lazy-front : (id : ℕ) → is_lazy (front ++ behind) w id ≡ is_lazy front w id
+  pub lazy-front : (id : ℕ) → is_lazy (front ++ behind) w id ≡ is_lazy front w id
   lazy-front id = by_test (nat_lt id (length w.master)) refl
     where
       by_test : (b : Bool) → nat_lt id (length w.master) ≡ b → (b && not (is_in nat_eq id (ids (known_in (front ++ behind))))) ≡ (b && not (is_in nat_eq id (ids (known_in front))))
@@ -123,7 +123,7 @@ module _ (log : Held) (tables : PlainTables) (sessions : List PlainSession) (lim
   whole = let c = h.count in take_all (began + length st.past) st.payloads (omega (arith, c))
 
   -- all payloads stand for the stored world
-  stored-holds : HoldPayloads st.payloads st.stored
+  pub stored-holds : HoldPayloads st.payloads st.stored
   stored-holds = subst (HoldPayloads st.payloads) (newest-now st) (subst (λ l. HoldPayloads l (world_at st (length st.past))) whole (h.worlds (length st.past) (le_refl _)))
 
   -- the payloads that were added are the state's
@@ -156,7 +156,7 @@ module _ (log : Held) (tables : PlainTables) (sessions : List PlainSession) (lim
   }
 
   -- the payloads behind a session's base
-  behind-base : (s : ℕ) → s < sixteen → st.payloads ≡ payloads_of (base_added k.added (session_at sessions s)) ++ drop (began + (session st s).base) st.payloads
+  pub behind-base : (s : ℕ) → s < sixteen → st.payloads ≡ payloads_of (base_added k.added (session_at sessions s)) ++ drop (began + (session st s).base) st.payloads
   behind-base s lt =
       let n = began + (session st s).base in
       sym (take-append-drop n st.payloads) ∙ ap (λ l. l ++ drop n st.payloads) (sym (base-are s lt))

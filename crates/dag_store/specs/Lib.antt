@@ -3,6 +3,7 @@ pub mod Stands
 pub mod Looking
 pub mod Adding
 pub mod Names
+pub mod Querying
 pub mod Steps
 pub mod Loading
 pub mod Flushes

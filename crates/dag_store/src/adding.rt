@@ -62,7 +62,7 @@ fn refuse_twice(parents: &[Name]) -> Result<(), Refusal>
 }
 
 /// The id of a parent. `Unknown` where it isn't there, and `NoRemote` where it has to be asked.
-fn find_parent(
+pub(crate) fn find_parent(
     base: &BaseRef<'_>,
     unnamed: bool,
     pending: &PendingRows,
