@@ -12,11 +12,10 @@ returns-in_default-number_of-clause-none c = λ s text small is.
 
 pub returns-then-number-lt-SESSIONS-clause-some : goal.returns-then-number-lt-SESSIONS-clause-some
 returns-then-number-lt-SESSIONS-clause-some c =
-    let line = c.args.line.now in
-    (
+    let line = c.args.line.now in (
       grind arith,
       session-line line (take (length line - (c.in-Some.len + 1)) (drop (c.in-Some.len + 1) line)) c.in-Some.len c.in-Some-number_of.number (sym c.in-Some.ensures) c.in-Some-number_of.ensures.some.1
-      (grind (arith, common_steps)),
+          (grind (arith, common_steps)),
     )
 
 pub returns-else-number-lt-SESSIONS-clause-none : goal.returns-else-number-lt-SESSIONS-clause-none
