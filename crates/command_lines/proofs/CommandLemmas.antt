@@ -1,5 +1,5 @@
 -- What the parts of a command's text say of the whole.
-use Rattle.std.proofs.Common.{◌≡◌, ◌==◌, ◌≤◌, ◌<◌, ℕ, List, [], ◌∷◌, ◌++◌, ◌⊎◌, inl, inr, length, get_or, refl, sym, ◌∙◌, ap, subst, arith, codes, decimal, Option, Some, None, Ok, Err, Bool, true, false, nat_eq, append-nil}
+use Rattle.std.proofs.Common.{◌≡◌, ◌<◌, ℕ, List, [], ◌∷◌, ◌++◌, ◌⊎◌, inl, inr, length, get_or, refl, sym, ◌∙◌, ap, subst, arith, codes, decimal, Option, Some, None, Ok, Err, true, nat_eq, append-nil}
 use Rattle.std.specs.Prelude.{IsTrue, IfOk, if◌then◌else◌}
 use Rattle.std.specs.Cmp.Lexicographic.{pointwise}
 use Rattle.std.specs.declared.result.Result.{Result}
@@ -8,8 +8,6 @@ use Rattle.std.proofs.lemmas.Slice.Zip.{AllZip-long}
 use Rattle.outside.specs.Parts.{HasNone, split_at}
 use Rattle.id_groups.specs.Name.{Name, SpellsName, name_of}
 use Rattle.id_groups.proofs.Names.{name_of-spelled}
-use Rattle.set_expr.specs.Expr.{Expr}
-use Rattle.set_expr.specs.Spelling.{SpellsExpr}
 use Rattle.set_expr.proofs.Marks.{part-same}
 use Rattle.step_rules.specs.Step.{MayWantMemory}
 use Rattle.step_rules.specs.Verb.{Verb, Add, Flush, Reload, Discard, Query, Count, IdOf, Status, Levels, Clone, Pull, Strip, CountMirrors, Drop}

@@ -1,5 +1,5 @@
 -- Texts of replies, and how they are sent.
-use Rattle.std.proofs.Common.{ℕ, ◌≤◌, ◌<◌, ◌+◌, ◌-◌, ◌^◌, ◌≡◌, Bool, true, false, List, [], ◌∷◌, ◌++◌, length, take, drop, get_or, map, refl, sym, ◌∙◌, ap, subst, arith, rules, decimal, append_assoc, append-nil, add-one, min, length-take, length-drop, Ok, Err, codes}
+use Rattle.std.proofs.Common.{ℕ, ◌≤◌, ◌<◌, ◌+◌, ◌-◌, ◌^◌, ◌≡◌, Bool, true, false, List, [], ◌∷◌, ◌++◌, length, take, drop, map, refl, sym, ◌∙◌, ap, subst, arith, rules, decimal, append_assoc, append-nil, add-one, min, length-take, length-drop, Ok, Err, codes}
 use borrow.Rule.Slice.PartMut.{mid_of}
 use Rattle.std.specs.Prelude.{Option, Some, Result, flat_map, slice_get}
 use Rattle.outside.specs.Told.{WhereTold, Puts}
@@ -10,9 +10,9 @@ use Rattle.std.proofs.Math.Seq.{take-append-add, take-suc}
 use Rattle.id_groups.specs.Name.{Name, hex_text}
 use Rattle.id_groups.specs.Id.{id_text, is_master_id}
 use Rattle.outside.specs.Told.{TookFront}
-use Rattle.std.proofs.lemmas.Grind.{flat_map-append}
+use Rattle.std.proofs.lemmas.Grind.{common_steps, flat_map-append}
 use Rattle.std.proofs.lemmas.Option.{slice_get_within, get_or_from_slice_get}
-use Rattle.step_rules.specs.Reply.{LevelSizes, reply_text, words_text}
+use Rattle.step_rules.specs.Reply.{LevelSizes, Listed, reply_text, words_text}
 use Rattle.command_lines.specs.Sending.{Sends, lines_text}
 
 decimal-short : (n : ℕ) → n < 2 ^ 64 → length (decimal n) ≤ 20
@@ -113,3 +113,31 @@ levels-split counts k =
 
 pub levels-end : (counts : List ℕ) (k : ℕ) → length counts ≤ k → reply_text (LevelSizes counts) ≡ levels_front counts k ++ 10 ∷ []
 levels-end counts k all = levels-whole counts ∙ ap (λ (l : List ℕ). words_text (codes "ok") (map decimal l) ++ 10 ∷ []) (sym (take_all k counts all))
+
+-- how many names there are, as the last line tells it
+abbrev pub count_lines : List Name → List (List ℕ)
+count_lines names = words_text (codes "ok") (decimal (length names) ∷ []) ∷ []
+
+-- one name more
+pub name-next : (done : List Name) (name : Name) → lines_text (map hex_text (done ++ name ∷ [])) ≡ lines_text (map hex_text done) ++ lines_text (hex_text name ∷ [])
+name-next done name = ap lines_text (map-append hex_text done (name ∷ [])) ∙ lines-append (map hex_text done) (hex_text name ∷ [])
+
+-- all lines of an answer, of which the first names were sent
+pub names-part : (all done left : List Name) → all ≡ done ++ left → (more : List ℕ) × (reply_text (Listed all) ≡ lines_text (map hex_text done) ++ more)
+names-part all done left is =
+    let last = count_lines all in (
+      lines_text (map hex_text left ++ last),
+      ap (λ (l : List Name). lines_text (map hex_text l ++ last)) is
+          ∙ ap (λ (l : List (List ℕ)). lines_text (l ++ last)) (map-append hex_text done left)
+          ∙ ap lines_text (append_assoc (map hex_text done) (map hex_text left) last)
+          ∙ lines-append (map hex_text done) (map hex_text left ++ last),
+    )
+
+pub names-all : (all done left : List Name) → all ≡ done ++ left → left ≡ [] → reply_text (Listed all) ≡ lines_text (map hex_text done) ++ lines_text (count_lines all)
+names-all all done left is none =
+    let same : all ≡ done = is ∙ ap (λ (l : List Name). done ++ l) none ∙ append-nil done in
+    ap (λ (l : List Name). lines_text (map hex_text l ++ count_lines all)) same ∙ lines-append (map hex_text done) (count_lines all)
+
+-- which is short
+pub count-short : (n : ℕ) → n < 2 ^ 64 → length (lines_text (words_text (codes "ok") (decimal n ∷ []) ∷ [])) ≤ 64
+count-short n h = let short = decimal-short n h in grind (arith, common_steps, short)

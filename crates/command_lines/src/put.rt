@@ -4,7 +4,8 @@ ghost use Rattle.std.specs.Prelude.{◌≡◌, ◌≤◌, ◌+◌, length, Match
 ghost use Rattle.outside.specs.Counts.{HasCause};
 ghost use Rattle.outside.specs.Told.{WhereTold, TookFront, Puts};
 ghost use Rattle.run_rules.specs.Ends.{disk_text};
-ghost use Rattle.step_rules.specs.Reply.{LevelSizes, reply_text};
+ghost use Rattle.step_rules.specs.Reply.{LevelSizes, Listed, reply_text};
+ghost use Rattle.dag_store.specs.Names.{names_left};
 ghost use Rattle.command_lines.specs.Sending.{Sends};
 ghost use Rattle.command_lines.specs.Told.{told};
 
@@ -14,7 +15,7 @@ use crate::reply_line::{
     sizes_line,
 };
 use arrayvec::ArrayVec;
-use dag_store::LevelCounts;
+use dag_store::{LevelCounts, Names};
 use line_io::{Sink, SinkFault};
 
 /// How many bytes of a long answer are put at once.
@@ -62,7 +63,23 @@ fn put_levels<O: Sink>(output: &mut O, counts: &LevelCounts) -> Result<(), SinkF
     output.put(block.as_slice())
 }
 
-/// Puts the reply.
+/// Puts names as they are lent, one a line, and how many they are.
+pub fn put_names<O: Sink>(output: &mut O, names: Names<'_>, count: u64) -> Result<(), SinkFault>
+    requires { count ≡ length (names_left names) }
+    ensures bytes { Puts (O.taken output.old) (O.taken output.new) result (reply_text (Listed (names_left names.entry))) }
+    ensures cause { HasCause (O.faults output.old) (O.faults output.new) result }
+{
+    let mut block = ArrayVec::new();
+    for name in names {
+        make_room(&mut block, output)?;
+        push_piece(&mut block, line_of(&name.to_name().to_hex()).as_slice());
+    }
+    make_room(&mut block, output)?;
+    push_piece(&mut block, number_line(b"ok", count).as_slice());
+    output.put(block.as_slice())
+}
+
+/// Puts the reply, one that isn't an answer of names.
 pub fn put_reply<O: Sink>(reply: &Reply, output: &mut O) -> Result<(), SinkFault>
     ensures bytes { Puts (O.taken output.old) (O.taken output.new) result (reply_text (told reply.now)) }
     ensures cause { HasCause (O.faults output.old) (O.faults output.new) result }

@@ -1,4 +1,4 @@
-use Rattle.std.proofs.Common.{◌≡◌, ◌+◌, ◌-◌, ◌++◌, ◌∷◌, List, ℕ, length, take, drop, arith, refl, sym, Some, None, append-nil}
+use Rattle.std.proofs.Common.{◌+◌, ◌-◌, List, ℕ, length, take, drop, arith, refl, sym, Some, None, append-nil}
 use Rattle.std.proofs.lemmas.Grind.{common_steps}
 use Rattle.outside.proofs.PartsLemmas.{position-none}
 use Rattle.command_lines.proofs.CommandLemmas.{in-parts, ok-parts}

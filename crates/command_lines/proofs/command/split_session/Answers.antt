@@ -1,4 +1,4 @@
-use Rattle.std.proofs.Common.{◌≡◌, ◌<◌, ◌+◌, ◌-◌, length, take, drop, arith, sym}
+use Rattle.std.proofs.Common.{◌≡◌, ◌+◌, ◌-◌, length, take, drop, arith, sym}
 use Rattle.std.proofs.lemmas.Grind.{common_steps}
 use Rattle.command_lines.proofs.TextLemmas.{some-blank, number-front, session-line, same-session}
 use Rattle.command_lines.proofs.command.split_session.Goals as goal
