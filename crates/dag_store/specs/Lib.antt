@@ -5,3 +5,5 @@ pub mod Names
 pub mod Steps
 pub mod Loading
 pub mod Flushes
+pub mod Changes
+pub mod Finishes

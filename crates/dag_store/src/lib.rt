@@ -3,10 +3,13 @@
 //! Sixteen sessions over one log.
 
 mod adding;
+mod changing;
+mod finding;
 mod flushing;
 mod loading;
 mod lookup;
 mod names;
+mod planning;
 mod query;
 mod replies;
 mod session;

@@ -1,12 +1,16 @@
 //! What is kept of a session.
 
-ghost use Rattle.std.specs.Prelude.{◌≡◌, List, length, take};
-ghost use Rattle.name_map.specs.Added.{Placed, AllStand};
+ghost use Rattle.std.specs.Prelude.{◌≡◌, List, length, map, take, IfOk};
+ghost use Rattle.name_map.specs.Added.{Placed, payloads_of, AllStand};
+ghost use Rattle.change_rules.specs.Change.{text_of};
 ghost use Rattle.payload_tables.specs.Kept.{AreTablesOf};
 ghost use Rattle.payload_tables.specs.Bases.{IsBaseOf};
 ghost use Rattle.dag_store.specs.Kept.{IsSessionOf, base_added};
+ghost use Rattle.dag_store.specs.Changes.{IsNewestSession};
 
 use flush_rebuild::{BaseRef, OthersTable, PendingRows, Tables};
+use gated_log::Log;
+use std::alloc::{AllocError, Global};
 use std::marker::Model;
 
 /// The first payloads of the log that make its base, and its rows that aren't stored. Contracts see what is kept.
@@ -27,6 +31,22 @@ impl Model for Session {
 }
 
 impl Session {
+    /// A session without rows on all payloads of the log.
+    pub(crate) fn newest(alloc: Global, log: &Log, tables: &Tables) -> Result<Session, AllocError>
+        requires { (added : List Placed) × AreTablesOf tables.now added × (log.now.payloads ≡ map text_of (payloads_of added)) }
+        ensures { (added : List Placed) → AreTablesOf tables.now added → log.now.payloads ≡ map text_of (payloads_of added)
+            → IfOk result (IsNewestSession added) }
+    {
+        let others = tables.others().copy(alloc)?;
+        let first = u64::from(others.count());
+        Ok(Session {
+            payloads: log.batch_count(),
+            below: tables.master_count(),
+            others,
+            pending: PendingRows::empty(alloc, first),
+        })
+    }
+
     /// Its base, lent with the log's bytes.
     pub(crate) fn base<'a>(&'a self, bytes: &'a [u8], tables: &'a Tables) -> BaseRef<'a>
         ensures { (added : List Placed) → IsSessionOf added self.now → AreTablesOf tables.now added → AllStand bytes.now added
