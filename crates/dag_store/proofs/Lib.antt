@@ -1,0 +1,3 @@
+pub mod FlushNames
+pub mod FlushLooks
+pub mod FlushGathers
