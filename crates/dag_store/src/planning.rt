@@ -1,6 +1,6 @@
 //! What a session's change is.
 
-ghost use Rattle.std.specs.Prelude.{◌≡◌, ℕ, List, [], length, map, IfOk, MatchResult};
+ghost use Rattle.std.specs.Prelude.{◌≡◌, ◌==◌, ◌&&◌, not, ℕ, List, [], length, map, IfOk, MatchResult};
 ghost use Rattle.gated_log.specs.Held.{log_bytes};
 ghost use Rattle.name_map.specs.Added.{Placed};
 ghost use Rattle.change_rules.specs.Lazy.{has_lazy};
@@ -31,6 +31,14 @@ fn refusal_of(fault: PlanFault) -> Refusal
     }
 }
 
+/// Whether the names of a session's rows have to be asked, where they aren't stored: the session isn't on the newest world, which
+/// has an id without a stored name.
+fn asks(log: &Log, session: &Session, unnamed: bool) -> bool
+    ensures { result ≡ (not (session.now.payloads == length log.now.payloads) && unnamed) }
+{
+    session.payloads != log.batch_count() && unnamed
+}
+
 /// The rows of a session that the newest world doesn't have, with their parents by their ids in it. `unnamed` says whether that
 /// world has an id without a stored name.
 pub(crate) fn rebased(
@@ -46,7 +54,7 @@ pub(crate) fn rebased(
         → IsOn began added session.now st s → unnamed ≡ has_lazy st.payloads st.stored → Rebases limits st s result }
 {
     let bytes = log.bytes();
-    let asks = unnamed && session.payloads != log.batch_count();
+    let asks = asks(log, session, unnamed);
     let found = look_up_rows(alloc, &tables.newest(bytes), asks, session)?;
     let base = session.base(bytes, tables);
     match rebase(alloc, tables, bytes, base, &session.pending, &found) {
