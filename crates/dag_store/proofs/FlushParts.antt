@@ -13,19 +13,21 @@ use Rattle.name_map.specs.Added.{Placed, payloads_of, AllStand, Follow as Follow
 use Rattle.change_rules.specs.Change.{text_of}
 use Rattle.change_rules.specs.Lazy.{has_lazy}
 use Rattle.payload_tables.specs.declared.base.BaseRef.{BaseRef}
-use Rattle.payload_tables.specs.Kept.{PlainTables, AreTablesOf}
+use Rattle.payload_tables.specs.Kept.{PlainTables, PlainOthers, AreTablesOf, AreOthersIn, last_added}
 use Rattle.payload_tables.specs.Pending.{IdRow, PlainPending, HoldsRows, row_names}
-use Rattle.payload_tables.specs.Bases.{IsBaseOf, ArePending}
+use Rattle.payload_tables.specs.Bases.{MayBase, IsBaseOf, ArePending}
 use Rattle.change_rules.specs.Tables.{StandFor}
 use Rattle.payload_tables.proofs.Basing.{count-front}
 use Rattle.flush_rebuild.specs.Asked.{IsFoundIn, IsStored, HaveParents, MayStore, MayRebaseOn}
-use Rattle.flush_rebuild.specs.Plans.{MayRebase, stored_id}
+use Rattle.flush_rebuild.specs.Plans.{MayRebase, MayFlush}
+use Rattle.change_rules.specs.Rebase.{left_of}
+use Rattle.gated_log.specs.Log.{log_length}
 use Rattle.step_rules.specs.State.{Stored, session, base_of, pending_of}
-use Rattle.step_rules.specs.Tests.{is_on_newest}
+use Rattle.step_rules.specs.Tests.{is_on_newest, first_some}
 use Rattle.step_rules.proofs.Sessions.{newest-now}
 use Rattle.dag_store.specs.Kept.{PlainSession, IsSessionOf, base_added}
-use Rattle.dag_store.specs.Changes.{IsOn, AreOver, AreFound, row_refusal}
-use Rattle.dag_store.proofs.FlushStates.{rows-found}
+use Rattle.dag_store.specs.Changes.{IsOn, AreOver, AreFound, head_refusal, row_refusal}
+use Rattle.dag_store.proofs.FlushStates.{rows-found, heads-found}
 
 module _ (log : Held) (tables : PlainTables) (added : List Placed) (over : AreOver log tables added) (x : PlainSession) (h : IsSessionOf added x) (bytes : List ℕ) (all : bytes ≡ log_bytes log) where
   abbrev before : List Placed
@@ -88,3 +90,34 @@ module _ (log : Held) (tables : PlainTables) (added : List Placed) (over : AreOv
       others_stored = λ name i. h.keeps name (subst (IsIn name) (sym o.base.stand.names) i);
       found_are = rows-found began s added x st o found f;
     }
+
+-- a session's base
+pub may-base : (bytes : List ℕ) (tables : PlainTables) (added : List Placed) (x : PlainSession) → IsSessionOf added x → AreTablesOf tables added → AllStand bytes added
+    → (others : PlainOthers) (below : ℕ) → others ≡ x.others → below ≡ x.below → MayBase bytes tables others below (base_added added x)
+may-base bytes tables added x h t s others below oe be =
+    let whole : base_added added x ++ drop x.payloads added ≡ added = take-append-drop x.payloads added in
+    record {
+      behind = drop x.payloads added;
+      tables_of = subst (AreTablesOf tables) (sym whole) t;
+      stand = subst (AllStand bytes) (sym whole) s;
+      others_of = subst (λ (o : PlainOthers). AreOthersIn o (last_added (base_added added x))) (sym oe) h.others;
+      count = be ∙ h.below;
+    }
+
+module _ (log : Held) (tables : PlainTables) (added : List Placed) (over : AreOver log tables added) (x : PlainSession) (h : IsSessionOf added x) (bytes : List ℕ) (all : bytes ≡ log_bytes log)
+    (began s : ℕ) (st : Stored) (o : IsOn began added x st s) where
+  pub may-flush : (left : PlainPending) → ArePending st.stored left (left_of same_name st.stored (pending_of st s)) → (heads : List Name) (found : List (Option ℕ))
+      → first_some (map (row_refusal st s) (names_of (pending_of st s))) ≡ None → AreFound st (head_refusal st s) heads found
+      → MayFlush tables bytes left heads found st.stored (left_of same_name st.stored (pending_of st s))
+  may-flush left p heads found r f = record {
+    added = added;
+    tables_of = over.tables_of;
+    stand = all-stand log tables added over x h bytes all;
+    stand_for = subst (λ l. StandFor l st.stored) (sym o.payloads) o.hold.stand;
+    world = o.hold.world;
+    pending_rows = p;
+    found_are = heads-found began s added x st o heads found r f;
+  }
+
+  pub log-size : length bytes ≡ log_length log.payloads → length bytes ≡ log_length (map text_of st.payloads)
+  log-size e = e ∙ ap log_length (over.texts ∙ ap (map text_of) o.payloads)
