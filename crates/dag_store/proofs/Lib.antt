@@ -4,3 +4,4 @@ pub mod FlushGathers
 pub mod FlushStates
 pub mod FlushRefusals
 pub mod FlushParts
+pub mod FlushSessions
