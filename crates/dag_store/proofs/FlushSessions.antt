@@ -11,15 +11,14 @@ use Rattle.batch_codec.specs.Grammar.{count_after, MayFollow}
 use Rattle.name_map.specs.Added.{Placed, payloads_of, known_of}
 use Rattle.change_rules.specs.Change.{known_from}
 use Rattle.change_rules.specs.Tables.{newest, other_names_in}
-use Rattle.payload_tables.specs.Kept.{PlainTables, PlainOthers, AreTablesOf, AreOthersIn, AreOthersOf, last_added}
+use Rattle.payload_tables.specs.Kept.{PlainTables, PlainOthers, AreOthersIn, AreOthersOf, last_added}
 use Rattle.payload_tables.specs.Pending.{IdRow, PlainPending, HoldsRows}
 use Rattle.payload_tables.specs.Bases.{stored_in}
-use Rattle.payload_tables.proofs.Lists.{count-last, last-of, flat-snoc}
-use Rattle.payload_tables.proofs.Basing.{table-end}
+use Rattle.payload_tables.proofs.Lists.{count-last, last-of, flat-snoc, distinct-parts}
 use Rattle.flush_rebuild.specs.Asked.{IsStored, MayStore, others_count}
 use Rattle.flush_rebuild.proofs.Asking.{stored-names}
 use Rattle.dag_store.specs.Kept.{PlainSession, IsSessionOf, base_added}
-use Rattle.dag_store.specs.Changes.{IsNewestSession}
+use Rattle.dag_store.specs.Loading.{IsOnNewest}
 
 -- the other names of the newest payload are stored
 newest-stored : (added : List Placed) (name : Name) → IsIn name (other_names_in (newest (payloads_of added))) → IsStored added name
@@ -55,22 +54,12 @@ others-kept others added h = by_last None added h
     by_last (Some a) [] h = h.count
     by_last o (a ∷ added) h = by_last (Some a) added h
 
-pub newest-session : (tables : PlainTables) (added : List Placed) → AreTablesOf tables added → (x : PlainSession) → x.payloads ≡ length added → x.below ≡ tables.flat.end → x.others ≡ tables.others
-    → x.pending.first ≡ tables.others.count → HoldsRows x.pending [] → IsNewestSession added x
-newest-session tables added t x n b o f h =
-    let others : AreOthersIn x.others (last_added added) = subst (λ (p : PlainOthers). AreOthersIn p (last_added added)) (sym o) t.others in
-    record {
-      session_of = all-session added x n (b ∙ table-end tables added t) others (none-to-store x.pending added h (f ∙ others-kept tables.others added t.others));
-      payloads = n;
-      none = h;
-    }
-
 -- the session on the newest payloads with rows that may be stored
-pub session-with : (added : List Placed) (x : PlainSession) (pending : PlainPending) → IsNewestSession added x → MayStore pending added
+pub session-with : (added : List Placed) (x : PlainSession) (pending : PlainPending) → IsOnNewest added x → MayStore pending added
     → IsSessionOf added (record { payloads = x.payloads; below = x.below; others = x.others; pending = pending }) × (x.payloads ≡ length added)
 session-with added x pending h p =
-    let s = h.session_of in
-    let n = h.payloads in
+    let s = h.0 in
+    let n = h.1 in
     let all : base_added added x ≡ added = take_all x.payloads added (omega (arith, n)) in
     (
       all-session added (record { payloads = x.payloads; below = x.below; others = x.others; pending = pending }) n
@@ -80,19 +69,24 @@ session-with added x pending h p =
 
 -- the session on a payload that comes behind these
 pub stored-session : (added : List Placed) (at : ℕ) (last : Payload) (x : PlainSession) → x.payloads ≡ length added + 1 → x.below ≡ last.after → AreOthersOf x.others (record { at = at; payload = last })
-    → x.pending.first ≡ x.others.count → HoldsRows x.pending [] → IsNewestSession (added ++ record { at = at; payload = last } ∷ []) x
+    → x.pending.first ≡ x.others.count → HoldsRows x.pending [] → IsOnNewest (added ++ record { at = at; payload = last } ∷ []) x
 stored-session added at last x n b o f h =
     let a : Placed = record { at = at; payload = last } in
     let more : List Placed = added ++ a ∷ [] in
     let long = length-append added (a ∷ []) in
     let are : payloads_of more ≡ payloads_of added ++ last ∷ [] = map-append (λ (p : Placed). p.payload) added (a ∷ []) in
     let others : AreOthersIn x.others (last_added more) = subst (AreOthersIn x.others) (sym (last-of None added a)) o in
-    let size : x.payloads ≡ length more = omega (arith, n, long) in
-    record {
-      session_of = all-session more x size (b ∙ sym (ap (count_after 0) are ∙ count-last 0 (payloads_of added) last)) others (none-to-store x.pending more h (f ∙ others-kept x.others more others));
-      payloads = size;
-      none = h;
-    }
+    let size : x.payloads ≡ length more = omega (arith, n, long) in (
+      all-session more x size (b ∙ sym (ap (count_after 0) are ∙ count-last 0 (payloads_of added) last)) others (none-to-store x.pending more h (f ∙ others-kept x.others more others)),
+      size,
+      h,
+    )
+
+pub other-names-distinct : (before : List Payload) (p : Payload) → MayFollow before p → AreDistinct p.other_names
+other-names-distinct before p m = (distinct-parts (flat_map known_names (before ++ p ∷ [])) p.other_names m.distinct).1
+
+pub others-few : (before : List Payload) (p : Payload) (at : ℕ) (others : PlainOthers) → MayFollow before p → AreOthersOf others (record { at = at; payload = p }) → others.count ≤ 65536
+others-few before p at others m h = let a = h.count in let b = m.whole.counts.others in omega (arith, a, b)
 
 -- a session on older payloads stays one where each name of the others is known or is one of the others still
 pub older-session : (added : List Placed) (at : ℕ) (last : Payload) (x : PlainSession) → IsSessionOf added x

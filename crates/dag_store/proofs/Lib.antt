@@ -5,3 +5,9 @@ pub mod FlushStates
 pub mod FlushRefusals
 pub mod FlushParts
 pub mod FlushSessions
+pub mod Sees
+pub mod Standing
+pub mod Sizes
+pub mod Newest
+pub mod Loads
+pub mod Opening

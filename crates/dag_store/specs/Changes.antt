@@ -32,6 +32,7 @@ use Rattle.step_rules.specs.Worlds.{flush_of}
 use Rattle.step_rules.specs.Lone.{lone}
 use Rattle.dag_store.specs.Kept.{PlainSession, IsSessionOf, base_added}
 use Rattle.dag_store.specs.Stands.{IsSessionFor}
+use Rattle.dag_store.specs.Loading.{IsOnNewest}
 
 -- the log and the tables are those of the payloads that were added
 pub record AreOver (log : Held) (tables : PlainTables) (added : List Placed) : Type 0 where
@@ -100,12 +101,6 @@ refusal_of (faults.Conflict name) = why.Conflict name
 refusal_of (faults.Full what limit) = why.Full what limit
 refusal_of faults.Memory = why.Memory
 
--- a session without rows on all of these payloads
-pub record IsNewestSession (added : List Placed) (x : PlainSession) : Type 0 where
-  pub session_of : IsSessionOf added x
-  pub payloads : x.payloads ≡ length added
-  pub none : HoldsRows x.pending []
-
 -- where the next payload stands in a log
 abbrev pub next_place : Held → ℕ
 next_place log = length (log_bytes log) + 8
@@ -122,9 +117,9 @@ pub record IsReady (limits : Limits) (old new : Held) (tables : PlainTables) (ad
   pub last : Payload
   pub storable : IsStorable limits (length (log_bytes old)) added change last
   pub tables_of : AreTablesOf tables (added_behind old added last)
-  pub session_of : IsNewestSession (added_behind old added last) x
+  pub session_of : IsOnNewest (added_behind old added last) x
 
 -- What was prepared: where nothing changes, the session is on the newest payloads; or all is ready for the payload.
 pub record IsPrepared (limits : Limits) (old new : Held) (before after : PlainTables) (added : List Placed) (change : Change) (x : PlainSession) : Type 0 where
-  pub same : change.same ≡ true → (after ≡ before) × IsNewestSession added x
+  pub same : change.same ≡ true → (after ≡ before) × IsOnNewest added x
   pub ready : change.same ≡ false → IsReady limits old new after added change x

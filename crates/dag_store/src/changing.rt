@@ -13,7 +13,8 @@ ghost use Rattle.change_rules.specs.Standard.{AreLimits};
 ghost use Rattle.payload_tables.specs.Kept.{AreTablesOf};
 ghost use Rattle.step_rules.specs.State.{Stored};
 ghost use Rattle.dag_store.specs.Kept.{IsSessionOf, IsKept};
-ghost use Rattle.dag_store.specs.Changes.{AreOver, IsOn, IsNewestSession, IsPrepared, IsFlushPlan, IsRefusedBy, Rebases, added_behind, flush_refusals, reload_refusals};
+ghost use Rattle.dag_store.specs.Loading.{IsOnNewest};
+ghost use Rattle.dag_store.specs.Changes.{AreOver, IsOn, IsPrepared, IsFlushPlan, IsRefusedBy, Rebases, added_behind, flush_refusals, reload_refusals};
 ghost use Rattle.dag_store.specs.Flushes.{HasRoom, FlushLeaves};
 ghost use Rattle.dag_store.specs.Finishes.{Finishes, IsBehind};
 
@@ -43,7 +44,7 @@ pub(crate) fn reloaded(
     ensures step { (began s : ℕ) (added : List Placed) (st : Stored) (limits : _) → AreOver log.now tables.now added → IsSessionOf added session.now
         → IsOn began added session.now st s → MatchResult result (λ x. Rebases limits st s (Ok x.pending)) (IsRefusedBy (reload_refusals limits st s)) }
 {
-    let Ok(mut newest) = Session::newest(alloc, log, tables) else {
+    let Ok(mut newest) = Session::newest(alloc, tables, log.batch_count()) else {
         return Err(Refusal::Memory);
     };
     let unnamed = has_unnamed(tables, newest.below);
@@ -58,9 +59,10 @@ fn stored_session(
     batch: &BatchRef<'_>,
     at: u64,
 ) -> Result<Session, AllocError>
-    requires { at + length (payload_bytes 1 (payload_of batch.now)) < 2 ^ 63 }
-    ensures { (added : List Placed) (last : Payload) → payload_of batch.now ≡ last → MayFollow (payloads_of added) last → payloads ≡ length added + 1
-        → IfOk result (IsNewestSession (added ++ record { at = at; payload = last } ∷ [])) }
+    requires room { at + length (payload_bytes 1 (payload_of batch.now)) < 2 ^ 63 }
+    requires follows { (added : List Placed) × MayFollow (payloads_of added) (payload_of batch.now) }
+    ensures { (added : List Placed) → MayFollow (payloads_of added) (payload_of batch.now) → payloads ≡ length added + 1
+        → IfOk result (IsOnNewest (added ++ record { at = at; payload = payload_of batch.now } ∷ [])) }
 {
     let others = OthersTable::read(alloc, batch, at)?;
     let first = u64::from(others.count());
@@ -86,7 +88,7 @@ fn add_change(
     ensures refused { OnErr result (tables.new ≡ tables.old) }
     ensures enough { OnOk result (longer log.old payload.now ≤ log.new.room) }
     ensures added { (added : List Placed) (last : Payload) → AreOver log.old tables.old added → MayFollow (payloads_of added) last → payload.now ≡ payload_bytes 1 last
-        → IfOk result (λ x. AreTablesOf tables.new (added_behind log.old added last) × IsNewestSession (added_behind log.old added last) x) }
+        → IfOk result (λ x. AreTablesOf tables.new (added_behind log.old added last) × IsOnNewest (added_behind log.old added last) x) }
 {
     match log.reserve(payload.len() as u64) {
         Ok(()) => {}
@@ -107,7 +109,7 @@ fn add_payload(
         × (payload.now ≡ payload_bytes 1 last) × (longer log.now payload.now ≤ log.now.limit) }
     ensures refused { OnErr result (tables.new ≡ tables.old) }
     ensures added { (added : List Placed) (last : Payload) → AreOver log.now tables.old added → MayFollow (payloads_of added) last → payload.now ≡ payload_bytes 1 last
-        → IfOk result (λ x. AreTablesOf tables.new (added_behind log.now added last) × IsNewestSession (added_behind log.now added last) x) }
+        → IfOk result (λ x. AreTablesOf tables.new (added_behind log.now added last) × IsOnNewest (added_behind log.now added last) x) }
 {
     let Some(batch) = BatchRef::read(payload) else {
         unreachable!()
@@ -148,7 +150,7 @@ pub(crate) fn prepare(
     ensures step { (began s : ℕ) (added : List Placed) (st : Stored) → AreOver log.old tables.old added → IsSessionOf added session.now
         → IsOn began added session.now st s → MatchResult result (λ next. IsFlushPlan limits st s heads.now next.change) (IsRefusedBy (flush_refusals limits st s heads.now)) }
 {
-    let Ok(newest) = Session::newest(alloc, log, tables) else {
+    let Ok(newest) = Session::newest(alloc, tables, log.batch_count()) else {
         return Err(Refusal::Memory);
     };
     let unnamed = has_unnamed(tables, newest.below);

@@ -1,15 +1,13 @@
 //! What is kept of a session.
 
-ghost use Rattle.std.specs.Prelude.{◌≡◌, List, length, map, take, IfOk};
-ghost use Rattle.name_map.specs.Added.{Placed, payloads_of, AllStand};
-ghost use Rattle.change_rules.specs.Change.{text_of};
+ghost use Rattle.std.specs.Prelude.{◌≡◌, List, length, take, IfOk};
+ghost use Rattle.name_map.specs.Added.{Placed, AllStand};
 ghost use Rattle.payload_tables.specs.Kept.{AreTablesOf};
 ghost use Rattle.payload_tables.specs.Bases.{IsBaseOf};
 ghost use Rattle.dag_store.specs.Kept.{IsSessionOf, base_added};
-ghost use Rattle.dag_store.specs.Changes.{IsNewestSession};
+ghost use Rattle.dag_store.specs.Loading.{IsOnNewest};
 
 use flush_rebuild::{BaseRef, OthersTable, PendingRows, Tables};
-use gated_log::Log;
 use std::alloc::{AllocError, Global};
 use std::marker::Model;
 
@@ -31,16 +29,19 @@ impl Model for Session {
 }
 
 impl Session {
-    /// A session without rows on all payloads of the log.
-    pub(crate) fn newest(alloc: Global, log: &Log, tables: &Tables) -> Result<Session, AllocError>
-        requires { (added : List Placed) × AreTablesOf tables.now added × (log.now.payloads ≡ map text_of (payloads_of added)) }
-        ensures { (added : List Placed) → AreTablesOf tables.now added → log.now.payloads ≡ map text_of (payloads_of added)
-            → IfOk result (IsNewestSession added) }
+    /// A session without rows on all of so many payloads, of which these are the tables.
+    pub(crate) fn newest(
+        alloc: Global,
+        tables: &Tables,
+        payloads: u32,
+    ) -> Result<Session, AllocError>
+        requires { (added : List Placed) × AreTablesOf tables.now added }
+        ensures { (added : List Placed) → AreTablesOf tables.now added → payloads ≡ length added → IfOk result (IsOnNewest added) }
     {
         let others = tables.others().copy(alloc)?;
         let first = u64::from(others.count());
         Ok(Session {
-            payloads: log.batch_count(),
+            payloads,
             below: tables.master_count(),
             others,
             pending: PendingRows::empty(alloc, first),

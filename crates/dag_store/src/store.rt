@@ -1,6 +1,6 @@
 //! A store, and what it tells without memory.
 
-ghost use Rattle.std.specs.Prelude.{◌≡◌, ◌<◌, ◌≤◌, ℕ, List, Err, length, map, IfOk, IfSome};
+ghost use Rattle.std.specs.Prelude.{◌≡◌, ◌<◌, ◌≤◌, ℕ, List, [], Err, length, map, IfOk, IfSome};
 ghost use Rattle.id_groups.specs.Name.{Name as NameBytes};
 ghost use Rattle.outside.specs.Counts.{Rose};
 ghost use Rattle.commit_graph.specs.World.{World};
@@ -51,11 +51,7 @@ impl Model for Store {
 
 impl Store {
     /// The store of a log: sixteen sessions on its newest world. While it is loaded, a crash leaves what holds that world.
-    pub fn load<D: Disk>(
-        alloc: Global,
-        disk: &mut D,
-        limits: Limits,
-    ) -> Result<Store, LoadFault>
+    pub fn load<D: Disk>(alloc: Global, disk: &mut D, limits: Limits) -> Result<Store, LoadFault>
         requires { AreLimits limits }
         ensures limits { IfOk result (λ store. store.limits ≡ limits) }
         ensures answers { IfSome (D.bytes disk.old) (λ bytes. LoadAnswers limits bytes result) }
