@@ -8,6 +8,15 @@ pub mod FlushSessions
 pub mod Sees
 pub mod Standing
 pub mod Sizes
+pub mod StoredNames
+pub mod ParentTests
+pub mod Counting
+pub mod AddingIds
+pub mod AddingTests
+pub mod AddingSeek
+pub mod AddingRows
+pub mod AddingWorlds
 pub mod Newest
 pub mod Loads
 pub mod Opening
+pub mod AddingSession

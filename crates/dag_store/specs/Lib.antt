@@ -1,6 +1,7 @@
 pub mod Kept
 pub mod Stands
 pub mod Looking
+pub mod Adding
 pub mod Names
 pub mod Steps
 pub mod Loading
