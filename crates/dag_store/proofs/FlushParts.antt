@@ -1,5 +1,5 @@
 -- What is asked of a rebase and of a plan.
-use Rattle.std.proofs.Common.{◌≡◌, ◌≤◌, ◌+◌, ◌^◌, ◌⊎◌, ⊎_elim, ℕ, Bool, not, ◌&&◌, List, [], ◌∷◌, ◌++◌, map, length, take, drop, Option, Some, None, refl, sym, ap, ap₂, subst, ◌∙◌, arith, le_refl, lit≤}
+use Rattle.std.proofs.Common.{◌≡◌, ◌≤◌, ◌<◌, ◌+◌, ◌*◌, ◌^◌, ◌⊎◌, ⊎_elim, ℕ, Bool, not, ◌&&◌, List, [], ◌∷◌, ◌++◌, map, length, take, drop, Option, Some, None, refl, sym, ap, ap₂, subst, ◌∙◌, arith, le_refl, lit≤}
 use Rattle.std.specs.Prelude.{◌==◌}
 use Rattle.std.specs.List.{AllZip}
 use Rattle.std.proofs.lemmas.List.{take-append-drop, length-map}
@@ -8,7 +8,9 @@ use Rattle.id_groups.specs.Lists.{IsIn}
 use Rattle.id_groups.specs.Name.{Name, same_name}
 use Rattle.commit_graph.specs.World.{World, GrowsMaster, names_of}
 use Rattle.batch_codec.specs.Grammar.{count_after}
-use Rattle.gated_log.specs.Held.{Held, log_bytes}
+use Rattle.gated_log.specs.Held.{Held, log_bytes, longer}
+use Rattle.gated_log.proofs.Places.{length-log}
+use Rattle.batch_codec.specs.Payload.{Payload}
 use Rattle.name_map.specs.Added.{Placed, payloads_of, AllStand, Follow as Following}
 use Rattle.change_rules.specs.Change.{text_of}
 use Rattle.change_rules.specs.Lazy.{has_lazy}
@@ -26,7 +28,7 @@ use Rattle.step_rules.specs.State.{Stored, session, base_of, pending_of}
 use Rattle.step_rules.specs.Tests.{is_on_newest, first_some}
 use Rattle.step_rules.proofs.Sessions.{newest-now}
 use Rattle.dag_store.specs.Kept.{PlainSession, IsSessionOf, base_added}
-use Rattle.dag_store.specs.Changes.{IsOn, AreOver, AreFound, head_refusal, row_refusal}
+use Rattle.dag_store.specs.Changes.{IsOn, AreOver, AreFound, head_refusal, row_refusal, added_behind, next_place}
 use Rattle.dag_store.proofs.FlushStates.{rows-found, heads-found}
 
 module _ (log : Held) (tables : PlainTables) (added : List Placed) (over : AreOver log tables added) (x : PlainSession) (h : IsSessionOf added x) (bytes : List ℕ) (all : bytes ≡ log_bytes log) where
@@ -121,3 +123,26 @@ module _ (log : Held) (tables : PlainTables) (added : List Placed) (over : AreOv
 
   pub log-size : length bytes ≡ log_length log.payloads → length bytes ≡ log_length (map text_of st.payloads)
   log-size e = e ∙ ap log_length (over.texts ∙ ap (map text_of) o.payloads)
+
+-- whether the stored world has lazy names, as the tables tell it
+pub lacking : (began s : ℕ) (added : List Placed) (x : PlainSession) (st : Stored) → IsOn began added x st s → (unnamed : Bool) → ((w : World Name) → StandFor (payloads_of added) w → unnamed ≡ has_lazy (payloads_of added) w)
+    → unnamed ≡ has_lazy st.payloads st.stored
+lacking began s added x st o unnamed f =
+    f st.stored (subst (λ l. StandFor l st.stored) (sym o.payloads) o.hold.stand) ∙ ap (λ l. has_lazy l st.stored) o.payloads
+
+pub count-added : (log : Held) (tables : PlainTables) (added : List Placed) → AreOver log tables added → length log.payloads ≡ length added
+count-added log tables added v = ap length v.texts ∙ length-map (payloads_of added) text_of ∙ length-map added (λ (a : Placed). a.payload)
+
+pub behind-is : (log : Held) (added : List Placed) (last p : Payload) (at : ℕ) → at ≡ next_place log → p ≡ last → added ++ record { at = at; payload = p } ∷ [] ≡ added_behind log added last
+behind-is log added last p at e f = ap₂ {C = List Placed} (λ n q. added ++ record { at = n; payload = q } ∷ []) e f
+
+many : (texts : List (List ℕ)) → 9 * length texts + 1 ≤ log_length texts
+many [] = omega arith
+many (t ∷ texts) = let m = many texts in omega (arith, m)
+
+-- a log within the bounds of the format has few payloads
+pub few-payloads : (log : Held) (payload : List ℕ) → longer log payload ≤ 2 ^ 32 → length log.payloads + 1 < 2 ^ 32
+few-payloads log payload le =
+    let m = many log.payloads in
+    let l = length-log log.payloads log.gate in
+    omega (arith, m, l, le)

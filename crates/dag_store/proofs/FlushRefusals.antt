@@ -64,17 +64,17 @@ module _ (st : Stored) (s : ℕ) where
   abbrev rows : List (Row Name)
   rows = pending_of st s
 
-  abbrev conflict : Option Refusal
+  abbrev pub conflict : Option Refusal
   conflict = option_map why.Conflict (first_conflict same_name st.stored rows)
 
-  abbrev lost : Option Refusal
+  abbrev pub lost : Option Refusal
   lost = option_map why.Lost (first_lost same_name st.stored rows)
 
   rows-lone : (rs : List (Row Name)) → map lone (map (pending_test st s) rs) ≡ map (row_refusal st s) (names_of rs)
   rows-lone [] = refl
   rows-lone (r ∷ rs) = ap (λ l. row_refusal st s r.name ∷ l) (rows-lone rs)
 
-  rebase-lone : map lone (rebase_tests st s) ≡ map (row_refusal st s) (names_of rows) ++ conflict ∷ lost ∷ []
+  pub rebase-lone : map lone (rebase_tests st s) ≡ map (row_refusal st s) (names_of rows) ++ conflict ∷ lost ∷ []
   rebase-lone =
       map-append lone (map (pending_test st s) rows) (plain conflict ∷ plain lost ∷ []) ∙ ap (λ l. l ++ conflict ∷ lost ∷ []) (rows-lone rows)
 
@@ -107,7 +107,7 @@ module _ (st : Stored) (s : ℕ) where
 
 -- ---- the tests of a flush
 
-abbrev sizes : Limits → Stored → World Name → List (Option Refusal)
+abbrev pub sizes : Limits → Stored → World Name → List (Option Refusal)
 sizes limits st new =
     full limit.Others limits.others (length new.others)
     ∷ full limit.Master limits.master (length new.master)
@@ -133,7 +133,7 @@ module _ (limits : Limits) (st : Stored) (s : ℕ) (heads : List Name) where
   heads-lone [] = refl
   heads-lone (n ∷ names) = ap (λ l. head_refusal st s n ∷ l) (heads-lone names)
 
-  flush-lone : flush_refusals limits st s heads ≡ map (head_refusal st s) heads ++ (map lone (rebase_tests st s) ++ sizes limits st new)
+  pub flush-lone : flush_refusals limits st s heads ≡ map (head_refusal st s) heads ++ (map lone (rebase_tests st s) ++ sizes limits st new)
   flush-lone =
       let lookups : List Test = map (looked_up st s st.stored (unknown (with_pending st.stored (pending_of st s)))) heads in
       let more : List Test = plain (full limit.Others limits.others (length new.others)) ∷ plain (full limit.Master limits.master (length new.master)) ∷ plain (full limit.Log limits.log (log_after st new (flush_change st.stored new))) ∷ [] in

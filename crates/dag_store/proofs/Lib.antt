@@ -20,3 +20,5 @@ pub mod Newest
 pub mod Loads
 pub mod Opening
 pub mod AddingSession
+pub mod FlushStored
+pub mod FlushSteps

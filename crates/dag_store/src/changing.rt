@@ -10,6 +10,12 @@ ghost use Rattle.gated_log.specs.Held.{Held, log_bytes, longer};
 ghost use Rattle.gated_log.specs.Holding.{IsOnDisk};
 ghost use Rattle.name_map.specs.Added.{Placed, payloads_of};
 ghost use Rattle.change_rules.specs.Standard.{AreLimits};
+ghost use Rattle.change_rules.specs.Lazy.{has_lazy};
+ghost use Rattle.change_rules.specs.Tables.{StandFor};
+ghost use Rattle.id_groups.specs.Name.{Name as NameBytes};
+ghost use Rattle.commit_graph.specs.World.{World};
+ghost use Rattle.flush_rebuild.specs.Asked.{MayStore};
+ghost use Rattle.flush_rebuild.specs.Plans.{MayBeStored};
 ghost use Rattle.payload_tables.specs.Kept.{AreTablesOf};
 ghost use Rattle.step_rules.specs.State.{Stored};
 ghost use Rattle.dag_store.specs.Kept.{IsSessionOf, IsKept};
@@ -18,7 +24,6 @@ ghost use Rattle.dag_store.specs.Changes.{AreOver, IsOn, IsPrepared, IsFlushPlan
 ghost use Rattle.dag_store.specs.Flushes.{HasRoom, FlushLeaves};
 ghost use Rattle.dag_store.specs.Finishes.{Finishes, IsBehind};
 
-use crate::lookup::has_unnamed;
 use crate::planning::{plan, rebased};
 use crate::replies::{Counts, Flushed};
 use crate::session::Session;
@@ -30,6 +35,33 @@ use gated_log::{Committed, Log, ReserveFault};
 use id_groups::Name;
 use std::alloc::{AllocError, Global};
 use step_rules::Refusal;
+
+/// Whether some master id has no stored name.
+fn lacks_names(tables: &Tables) -> bool
+    ensures { (added : List Placed) (w : World NameBytes) → AreTablesOf tables.now added → StandFor (payloads_of added) w → result ≡ has_lazy (payloads_of added) w }
+{
+    let count = tables.master_count();
+    tables.names().known_below(count) < count
+}
+
+/// The session on so many payloads, of which these are the tables, with these rows.
+fn session_with(
+    alloc: Global,
+    tables: &Tables,
+    payloads: u32,
+    pending: PendingRows,
+) -> Result<Session, AllocError>
+    ensures session { (added : List Placed) → AreTablesOf tables.now added → payloads ≡ length added → MayStore pending added → IfOk result (λ x. IsSessionOf added x × (x.payloads ≡ length added)) }
+    ensures pending { IfOk result (λ x. x.pending ≡ pending) }
+{
+    let others = tables.others().copy(alloc)?;
+    Ok(Session {
+        payloads,
+        below: tables.master_count(),
+        others,
+        pending,
+    })
+}
 
 /// The session on the newest world, with its rows that this doesn't have.
 pub(crate) fn reloaded(
@@ -44,12 +76,12 @@ pub(crate) fn reloaded(
     ensures step { (began s : ℕ) (added : List Placed) (st : Stored) (limits : _) → AreOver log.now tables.now added → IsSessionOf added session.now
         → IsOn began added session.now st s → MatchResult result (λ x. Rebases limits st s (Ok x.pending)) (IsRefusedBy (reload_refusals limits st s)) }
 {
-    let Ok(mut newest) = Session::newest(alloc, tables, log.batch_count()) else {
-        return Err(Refusal::Memory);
-    };
-    let unnamed = has_unnamed(tables, newest.below);
-    newest.pending = rebased(alloc, log, tables, session, unnamed)?;
-    Ok(newest)
+    let unnamed = lacks_names(tables);
+    let left = rebased(alloc, log, tables, session, unnamed)?;
+    match session_with(alloc, tables, log.batch_count(), left) {
+        Ok(session) => Ok(session),
+        Err(AllocError) => Err(Refusal::Memory),
+    }
 }
 
 /// A session without rows on so many payloads, the last of which stands, or will stand, at this place of the log.
@@ -82,8 +114,8 @@ fn add_change(
     tables: &mut Tables,
     payload: &[u8],
 ) -> Result<Session, AllocError>
-    requires { (added : List Placed) × (last : Payload) × AreOver log.old tables.old added × MayFollow (payloads_of added) last
-        × (payload.now ≡ payload_bytes 1 last) × (longer log.old payload.now ≤ log.old.limit) }
+    requires fits { (longer log.old payload.now ≤ log.old.limit) × (log.old.limit ≤ 2 ^ 32) }
+    requires lawful { (added : List Placed) × (last : Payload) × AreOver log.old tables.old added × MayFollow (payloads_of added) last × (payload.now ≡ payload_bytes 1 last) }
     ensures room { HasRoom log.old log.new }
     ensures refused { OnErr result (tables.new ≡ tables.old) }
     ensures enough { OnOk result (longer log.old payload.now ≤ log.new.room) }
@@ -105,8 +137,8 @@ fn add_payload(
     tables: &mut Tables,
     payload: &[u8],
 ) -> Result<Session, AllocError>
-    requires { (added : List Placed) × (last : Payload) × AreOver log.now tables.old added × MayFollow (payloads_of added) last
-        × (payload.now ≡ payload_bytes 1 last) × (longer log.now payload.now ≤ log.now.limit) }
+    requires fits { longer log.now payload.now ≤ 2 ^ 32 }
+    requires lawful { (added : List Placed) × (last : Payload) × AreOver log.now tables.old added × MayFollow (payloads_of added) last × (payload.now ≡ payload_bytes 1 last) }
     ensures refused { OnErr result (tables.new ≡ tables.old) }
     ensures added { (added : List Placed) (last : Payload) → AreOver log.now tables.old added → MayFollow (payloads_of added) last → payload.now ≡ payload_bytes 1 last
         → IfOk result (λ x. AreTablesOf tables.new (added_behind log.now added last) × IsOnNewest (added_behind log.now added last) x) }
@@ -122,6 +154,29 @@ fn add_payload(
         Err(TableFault::Memory) => Err(AllocError),
         Err(TableFault::Unlawful) => unreachable!(),
     }
+}
+
+/// Takes the memory for a change: where nothing changes, the session is on the newest payloads without rows; or the log and the
+/// tables are ready for the payload, and the session is on it.
+fn take_change(
+    alloc: Global,
+    log: &mut Log,
+    tables: &mut Tables,
+    change: &Change,
+    limits: Limits,
+) -> Result<Session, AllocError>
+    requires limits { AreLimits limits }
+    requires limit { log.old.limit ≡ limits.log }
+    requires stored { (added : List Placed) × AreOver log.old tables.old added × MayBeStored limits (length (log_bytes log.old)) added change.now }
+    ensures room { HasRoom log.old log.new }
+    ensures refused { OnErr result (tables.new ≡ tables.old) }
+    ensures ready { (added : List Placed) → AreOver log.old tables.old added → MayBeStored limits (length (log_bytes log.old)) added change.now
+        → IfOk result (IsPrepared limits log.old log.new tables.old tables.new added change.now) }
+{
+    if change.same {
+        return Session::newest(alloc, tables, log.batch_count());
+    }
+    add_change(alloc, log, tables, change.payload.bytes())
 }
 
 /// A change, and the session after it.
@@ -150,21 +205,12 @@ pub(crate) fn prepare(
     ensures step { (began s : ℕ) (added : List Placed) (st : Stored) → AreOver log.old tables.old added → IsSessionOf added session.now
         → IsOn began added session.now st s → MatchResult result (λ next. IsFlushPlan limits st s heads.now next.change) (IsRefusedBy (flush_refusals limits st s heads.now)) }
 {
-    let Ok(newest) = Session::newest(alloc, tables, log.batch_count()) else {
-        return Err(Refusal::Memory);
-    };
-    let unnamed = has_unnamed(tables, newest.below);
+    let unnamed = lacks_names(tables);
     let change = plan(alloc, log, tables, session, unnamed, heads, limits)?;
-    if change.same {
-        return Ok(Next {
-            change,
-            session: newest,
-        });
+    match take_change(alloc, log, tables, &change, limits) {
+        Ok(session) => Ok(Next { change, session }),
+        Err(AllocError) => Err(Refusal::Memory),
     }
-    let Ok(session) = add_change(alloc, log, tables, change.payload.bytes()) else {
-        return Err(Refusal::Memory);
-    };
-    Ok(Next { change, session })
 }
 
 /// Stores what was prepared, where something changes, for sessions as they are then.
