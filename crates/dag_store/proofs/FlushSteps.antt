@@ -44,7 +44,7 @@ use Rattle.dag_store.specs.Kept.{PlainSession, PlainStore, IsKept, session_at, s
 use Rattle.dag_store.specs.Stands.{Stands, IsSessionFor}
 use Rattle.dag_store.specs.Flushes.{FlushStep, flush_end, StoresBy, HasRoom}
 use Rattle.dag_store.specs.Finishes.{Finishes, CountsOf}
-use Rattle.dag_store.specs.Changes.{IsOn, IsFlushPlan, IsPrepared, IsReady, IsRefusedBy, added_behind, next_place, head_refusal, flush_refusals}
+use Rattle.dag_store.specs.Changes.{IsOn, IsFlushPlan, IsPrepared, IsReady, IsRefusedBy, added_behind, next_place, head_refusal, row_refusal, flush_refusals}
 use Rattle.dag_store.proofs.Sees.{once}
 use Rattle.dag_store.proofs.Standing.{stands-with}
 use Rattle.dag_store.proofs.FlushLooks.{lone-named}
@@ -84,7 +84,7 @@ module _ (limits : Limits) (fair : AreLimits limits) (began s : ℕ) (added : Li
 
   both-none : (conflict st s ≡ None) × (lost st s ≡ None)
   both-none =
-      let r = first-none-append _ (conflict st s ∷ lost st s ∷ []) (sym (ap first_some (rebase-lone st s)) ∙ rebase-parts.0) in
+      let r = first-none-append (map (row_refusal st s) (names_of (pending_of st s))) (conflict st s ∷ lost st s ∷ []) (sym (ap first_some (rebase-lone st s)) ∙ rebase-parts.0) in
       let c = first-none-cons (conflict st s) (lost st s ∷ []) r.1 in
       (c.0, (first-none-cons (lost st s) [] c.1).0)
 
@@ -248,8 +248,7 @@ module _ (began : ℕ) (kept : PlainStore) (tables : PlainTables) (k : IsKept ke
     flush-finished (ends.Done store counts None) f = (
       told counts.master counts.others f.2.0 f.2.1,
       subst (λ v. Stands began v (flush_end st s heads)) (sym f.1) (stands-same f.0),
-      ap (λ (z : Stored). z.past) (end-same f.0),
-      ap (λ (z : Stored). z.payloads) (end-same f.0),
+      (ap (λ (z : Stored). z.past) (end-same f.0), ap (λ (z : Stored). z.payloads) (end-same f.0)),
     )
     flush-finished (ends.Done store counts (Some clock)) f = (
       told counts.master counts.others f.3.0 f.3.1,
