@@ -22,3 +22,4 @@ pub mod Opening
 pub mod AddingSession
 pub mod FlushStored
 pub mod FlushSteps
+pub mod FlushDisk
