@@ -1,13 +1,14 @@
 -- From a plan, and how it ended, to the step of a state.
-use Rattle.std.proofs.Common.{◌≡◌, ◌≤◌, ◌<◌, ◌+◌, ◌⊎◌, inl, inr, ⊎_elim, ℕ, Bool, true, false, List, [], ◌∷◌, ◌++◌, length, map, set, Option, Some, None, MatchOption, Result, Ok, Err, refl, sym, ap, ap₂, subst, ◌∙◌, arith, length-append, le_refl, true≢false, if◌then◌else◌}
+use Rattle.std.proofs.Common.{◌≡◌, ◌≤◌, ◌<◌, ◌+◌, ◌⊎◌, inl, inr, ⊎_elim, ℕ, Bool, true, false, not, List, [], ◌∷◌, ◌++◌, length, map, set, Option, Some, None, MatchOption, Result, Ok, Err, refl, sym, ap, ap₂, subst, ◌∙◌, arith, length-append, le_refl, true≢false, if◌then◌else◌}
 use Rattle.std.specs.Option.{option_map}
 use Rattle.std.proofs.lemmas.List.{map-append, length-map}
-use Rattle.id_groups.specs.Lists.{IsIn, AreAllIn}
+use Rattle.id_groups.specs.Lists.{IsIn, is_in, AreAllIn}
 use Rattle.id_groups.specs.Name.{Name, same_name}
 use Rattle.id_groups.proofs.Names.{same_name-exact, same_name-self}
 use Rattle.commit_graph.specs.World.{Row, World, IsWorld, IsNamedWorld, GrowsMaster, KeepsRows, names_of, rows_of, with_pending}
 use Rattle.commit_graph.proofs.Histories.{in-append}
 use Rattle.commit_graph.proofs.Down.{in-left, in-right}
+use Rattle.commit_graph.proofs.Naming.{named-by, name-of, pending-names, pending-there}
 use Rattle.gated_log.specs.Held.{Held}
 use Rattle.batch_codec.specs.Payload.{Payload}
 use Rattle.name_map.specs.Added.{Placed, payloads_of}
@@ -17,10 +18,11 @@ use Rattle.change_rules.specs.Standard.{AreLimits, standard}
 use Rattle.change_rules.specs.Change.{text_of, flush_change}
 use Rattle.change_rules.specs.Holding.{HoldPayloads}
 use Rattle.change_rules.specs.Rebase.{left_of, first_conflict, first_lost}
-use Rattle.change_rules.proofs.Flushes.{rebase-world, flush-keeps}
+use Rattle.change_rules.proofs.Flushes.{rebase-world, flush-keeps, filtered-names}
 use Rattle.change_rules.proofs.Held.{change-held}
 use Rattle.payload_tables.specs.Kept.{PlainTables}
 use Rattle.payload_tables.specs.Bases.{ArePending}
+use Rattle.payload_tables.specs.Pending.{IdRow, HoldsRows}
 use Rattle.flush_rebuild.specs.declared.plan.Change.{Change}
 use Rattle.step_rules.specs.declared.Refusal.{Refusal}
 use Rattle.step_rules.specs.declared.Refusal.TheVariants as why
@@ -40,13 +42,14 @@ use Rattle.step_rules.proofs.Sessions.{newest-now}
 use Rattle.dag_store.specs.declared.replies.Counts.{Counts}
 use Rattle.dag_store.specs.declared.replies.Flushed.{Flushed as Ended}
 use Rattle.dag_store.specs.declared.replies.Flushed.TheVariants as ends
-use Rattle.dag_store.specs.Kept.{PlainSession, PlainStore, IsKept, session_at, sixteen}
+use Rattle.dag_store.specs.Kept.{PlainSession, PlainStore, IsKept, IsSessionOf, session_at, sixteen}
 use Rattle.dag_store.specs.Stands.{Stands, IsSessionFor}
 use Rattle.dag_store.specs.Flushes.{FlushStep, flush_end, StoresBy, HasRoom}
 use Rattle.dag_store.specs.Finishes.{Finishes, CountsOf}
-use Rattle.dag_store.specs.Changes.{IsOn, IsFlushPlan, IsPrepared, IsReady, IsRefusedBy, added_behind, next_place, head_refusal, row_refusal, flush_refusals}
+use Rattle.dag_store.specs.Changes.{IsOn, IsFlushPlan, IsPrepared, IsReady, IsRefusedBy, Rebases, added_behind, next_place, head_refusal, row_refusal, flush_refusals}
 use Rattle.dag_store.proofs.Sees.{once}
 use Rattle.dag_store.proofs.Standing.{stands-with}
+use Rattle.dag_store.proofs.Sizes.{pending-many}
 use Rattle.dag_store.proofs.FlushLooks.{lone-named}
 use Rattle.dag_store.proofs.FlushGathers.{first-behind}
 use Rattle.dag_store.proofs.FlushStates.{names-kept, heads-known}
@@ -257,3 +260,27 @@ module _ (began : ℕ) (kept : PlainStore) (tables : PlainTables) (k : IsKept ke
     )
     flush-finished (ends.Refused same refusal) f = absurd f
     flush-finished (ends.Disk fault) f = (told (length next_world.master) (length next_world.others) (sym plan.plan.master) (sym plan.plan.others), stores f)
+
+-- ---- a reload
+
+module _ (began : ℕ) (log : Held) (tables : PlainTables) (sessions : List PlainSession) (limits : Limits) (k : IsKept log tables sessions limits) (s : ℕ) (small : s < sixteen) (st : Stored)
+    (h : Stands began (record { log = log; sessions = sessions; limits = limits }) st) where
+  abbrev left : List (Row Name)
+  left = left_of same_name st.stored (pending_of st s)
+
+  at-session : IsOn began k.added (session_at sessions s) st s
+  at-session = on-of log tables sessions limits k began st h s small
+
+  rebased-named : IsWorld (with_pending st.stored left) → IsNamedWorld (with_pending st.stored left)
+  rebased-named world = named-by (with_pending st.stored left) world
+      (λ y i. ⊎_elim (λ j. name-of st.stored at-session.hold.world y j)
+      (λ j. name-of (with_pending (base_of st s) (pending_of st s)) (at-session.state.sessions s).view y
+      (pending-there (base_of st s) (pending_of st s) y (filtered-names (λ row. not (is_in same_name row.name (names_of (rows_of st.stored)))) y (pending_of st s) j)))
+      (pending-names st.stored left y i))
+
+  pub reload-done : (x : PlainSession) (n : ℕ) → IsSessionOf k.added x × (x.payloads ≡ length k.added) → ((rows : List IdRow) → HoldsRows x.pending rows → n ≡ length rows)
+      → Rebases limits st s (Ok x.pending) → LoneStep limits st s Reload (Reloaded n) (on_newest st s left) × Stands began (record { log = log; sessions = set sessions s x; limits = limits }) (on_newest st s left)
+  reload-done x n of len r = (
+    lone-told limits st (on_newest st s left) s Reload (Reloaded n) r.0 (ap Reloaded (pending-many st.stored x.pending left n r.1 len), refl),
+    newest-stands log tables sessions limits k s small x began st h of.1 left r.1 (rebased-named r.1.view),
+  )
