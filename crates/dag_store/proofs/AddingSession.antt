@@ -10,6 +10,7 @@ use Rattle.commit_graph.specs.World.{Row, World, with_pending}
 use Rattle.commit_graph.specs.Ids.{id_in}
 use Rattle.commit_graph.proofs.Down.{in-right}
 use Rattle.commit_graph.proofs.Naming.{each}
+use Rattle.batch_codec.specs.Payload.{Payload}
 use Rattle.batch_codec.specs.Grammar.{AreLawful}
 use Rattle.name_map.specs.Added.{Placed, payloads_of}
 use Rattle.change_rules.specs.declared.Limit.TheVariants as limit
@@ -28,7 +29,7 @@ use Rattle.dag_store.proofs.AddingRows.{next-id, next-pending}
 use Rattle.dag_store.proofs.AddingWorlds.{kept-of}
 
 module _ (added : List Placed) (x : PlainSession) (w : World Name) (rows : List (Row Name)) (s : IsSeen added x w rows) (name : Name) (parents : List Name) (few : length parents ≤ 8) (most : ℕ) where
-  abbrev payloads : List _
+  abbrev payloads : List Payload
   payloads = payloads_of (base_added added x)
 
   abbrev own : List IdRow

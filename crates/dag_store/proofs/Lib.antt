@@ -19,7 +19,9 @@ pub mod AddingWorlds
 pub mod Newest
 pub mod Loads
 pub mod Opening
+pub mod Showing
 pub mod AddingSession
 pub mod FlushStored
 pub mod FlushSteps
 pub mod FlushDisk
+pub mod AddingSteps

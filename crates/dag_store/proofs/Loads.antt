@@ -3,7 +3,7 @@ use Rattle.std.proofs.Common.{◌≡◌, ◌≤◌, ◌<◌, ◌+◌, ◌^◌, �
 use Rattle.std.specs.List.{AllByRecursion}
 use Rattle.std.proofs.lemmas.List.{take_more, take_all, drop_all, map-append}
 use Rattle.std.proofs.Math.Seq.{drop-cons}
-use Rattle.batch_codec.specs.Payload.{Payload, payload_bytes}
+use Rattle.batch_codec.specs.Payload.{Payload}
 use Rattle.batch_codec.specs.Grammar.{AreLawful}
 use Rattle.gated_log.specs.Log.{log_length, StandBehind}
 use Rattle.name_map.specs.Added.{Placed, payloads_of, AllStand}

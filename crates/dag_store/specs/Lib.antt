@@ -8,3 +8,4 @@ pub mod Loading
 pub mod Flushes
 pub mod Changes
 pub mod Finishes
+pub mod Shown
