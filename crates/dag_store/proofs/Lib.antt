@@ -12,5 +12,6 @@ pub mod AddingWorlds
 pub mod Newest
 pub mod Loads
 pub mod Opening
+pub mod Showing
 pub mod AddingSession
 pub mod AddingSteps

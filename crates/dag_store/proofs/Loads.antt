@@ -1,8 +1,8 @@
 -- Reading a log's payloads in turn.
-use Rattle.std.proofs.Common.{◌≡◌, ◌≤◌, ◌<◌, ◌+◌, ◌^◌, ◌⊎◌, inl, inr, ℕ, zero, suc, List, [], ◌∷◌, ◌++◌, length, map, take, drop, refl, sym, ap, subst, ◌∙◌, arith, get_or, append-nil, append_assoc, length-append}
+use Rattle.std.proofs.Common.{◌≡◌, ◌≤◌, ◌<◌, ◌+◌, ℕ, zero, suc, List, [], ◌∷◌, ◌++◌, length, map, take, drop, refl, sym, ap, subst, ◌∙◌, arith, get_or, append-nil, append_assoc}
 use Rattle.std.proofs.lemmas.List.{take_more, take_all, map-append}
 use Rattle.std.proofs.Math.Seq.{drop-cons}
-use Rattle.batch_codec.specs.Payload.{Payload, payload_bytes}
+use Rattle.batch_codec.specs.Payload.{Payload}
 use Rattle.batch_codec.specs.Grammar.{AreLawful}
 use Rattle.gated_log.specs.Log.{log_length, StandBehind}
 use Rattle.name_map.specs.Added.{Placed, payloads_of, AllStand}

@@ -1,5 +1,5 @@
 -- A session on all payloads.
-use Rattle.std.proofs.Common.{◌≡◌, ◌≤◌, ◌<◌, ◌+◌, ◌^◌, ℕ, zero, suc, inl, inr, List, [], ◌∷◌, ◌++◌, length, map, take, drop, Option, Some, None, refl, sym, ap, subst, ◌∙◌, arith, get_or, length-append, zero-le}
+use Rattle.std.proofs.Common.{◌≡◌, ◌≤◌, ◌<◌, ◌+◌, ◌^◌, ℕ, zero, suc, List, [], ◌∷◌, ◌++◌, length, map, drop, Option, Some, None, refl, sym, ap, subst, ◌∙◌, arith, get_or, length-append, zero-le}
 use Rattle.std.specs.List.{AllByRecursion, last_or}
 use Rattle.std.proofs.lemmas.List.{take_all, map-append, take-append-drop, length-map}
 use Rattle.id_groups.specs.Lists.{IsIn}
@@ -12,11 +12,11 @@ use Rattle.name_map.specs.Added.{Placed, payloads_of, known_of, AllStand, Follow
 use Rattle.change_rules.specs.Change.{known_from, text_of}
 use Rattle.change_rules.specs.Tables.{newest, other_names_in}
 use Rattle.payload_tables.specs.Kept.{PlainTables, PlainOthers, AreTablesOf, AreOthersIn, last_added}
-use Rattle.payload_tables.specs.Pending.{PlainPending, HoldsRows}
-use Rattle.payload_tables.specs.Bases.{MayBase, stored_in}
+use Rattle.payload_tables.specs.Pending.{HoldsRows}
+use Rattle.payload_tables.specs.Bases.{MayBase}
 use Rattle.payload_tables.proofs.Basing.{table-end}
 use Rattle.payload_tables.proofs.Lists.{all-append}
-use Rattle.flush_rebuild.specs.Asked.{MayStore, IsStored, others_count}
+use Rattle.flush_rebuild.specs.Asked.{MayStore, IsStored}
 use Rattle.dag_store.specs.Kept.{PlainSession, IsSessionOf, base_added}
 use Rattle.dag_store.specs.Loading.{IsOnNewest}
 use Rattle.dag_store.proofs.Sizes.{others-many}

@@ -1,17 +1,16 @@
 -- What a loaded store is, and what a crash leaves while it is loaded.
-use Rattle.std.proofs.Common.{◌≡◌, ◌≤◌, ◌<◌, ◌+◌, ◌⊎◌, inl, inr, ⊎_elim, ℕ, zero, suc, List, [], ◌∷◌, length, map, take, refl, sym, ap, subst, ◌∙◌, Option, Some, None, IfSome, Ok, Err, arith, get_or}
+use Rattle.std.proofs.Common.{◌≡◌, ◌≤◌, ◌<◌, ◌+◌, ◌⊎◌, inl, inr, ⊎_elim, ℕ, zero, suc, List, [], ◌∷◌, length, map, take, refl, sym, ap, subst, ◌∙◌, Option, Some, None, IfSome, Ok, Err, arith}
 use Rattle.std.proofs.lemmas.List.{take_all}
 use Rattle.id_groups.specs.Name.{Name}
-use Rattle.commit_graph.specs.World.{World, IsNamedWorld, KeepsRows, with_pending}
+use Rattle.commit_graph.specs.World.{World, KeepsRows}
 use Rattle.payload_tables.proofs.Lists.{names-length}
-use Rattle.disk_trait.specs.Images.{Told, IsImage, IsSound, moment_of}
+use Rattle.disk_trait.specs.Images.{Told, IsImage, IsSound}
 use Rattle.disk_trait.specs.Calls.{Goes}
 use Rattle.disk_trait.proofs.Loss.{last-append}
 use Rattle.disk_trait.proofs.Moments.{weakened}
 use Rattle.disk_trait.proofs.Telling.{goes-map, goes-from}
-use Rattle.gated_log.specs.Log.{IsLog}
 use Rattle.gated_log.specs.Held.{Held, log_bytes}
-use Rattle.gated_log.specs.Holding.{IsLogWithin, HasPayloads}
+use Rattle.gated_log.specs.Holding.{HasPayloads}
 use Rattle.gated_log.specs.Load.{Loads, IsLogOf, IsLoaded, LeavesOldOrFresh}
 use Rattle.gated_log.specs.declared.LoadLog.{LoadLog}
 use Rattle.gated_log.specs.declared.LoadLog.TheVariants as logs
@@ -22,12 +21,11 @@ use Rattle.change_rules.specs.declared.Limits.{Limits}
 use Rattle.change_rules.specs.Standard.{AreLimits}
 use Rattle.change_rules.specs.Change.{text_of}
 use Rattle.change_rules.specs.Tables.{newest, other_names_in}
-use Rattle.change_rules.specs.Holding.{IsSpelled, AreSpelled, HoldPayloads, HoldAs, HoldBytes, HoldsNow}
+use Rattle.change_rules.specs.Holding.{AreSpelled, HoldPayloads, HoldAs, HoldBytes, HoldsNow}
 use Rattle.change_rules.specs.Unlawful.{IsFirstUnlawful}
 use Rattle.change_rules.proofs.Refusals.{held-is-log}
 use Rattle.payload_tables.specs.Kept.{PlainTables, AreTablesOf}
-use Rattle.payload_tables.specs.Bases.{ArePending}
-use Rattle.step_rules.specs.State.{Session, new_session, start, session, world_at}
+use Rattle.step_rules.specs.State.{new_session, start, world_at}
 use Rattle.step_rules.proofs.Sessions.{copies}
 use Rattle.step_rules.proofs.States.{start-state, alone}
 use Rattle.dag_store.specs.declared.replies.LoadFault.{LoadFault}

@@ -6,3 +6,4 @@ pub mod Names
 pub mod Steps
 pub mod Loading
 pub mod Flushes
+pub mod Shown

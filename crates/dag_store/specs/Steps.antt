@@ -17,7 +17,7 @@ use Rattle.step_rules.specs.Lone.{LoneStep}
 use Rattle.dag_store.specs.declared.replies.Added.{Added}
 use Rattle.dag_store.specs.declared.replies.Added.TheVariants.{New, Old}
 use Rattle.dag_store.specs.declared.query.Found.{Found}
-use Rattle.dag_store.specs.Kept.{PlainSession, PlainStore, session_at, sixteen}
+use Rattle.dag_store.specs.Kept.{PlainSession, PlainStore}
 use Rattle.dag_store.specs.Stands.{Stands}
 
 -- only the session changes
