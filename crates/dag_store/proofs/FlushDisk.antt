@@ -1,17 +1,16 @@
 -- What a flush leaves of the disk and of the store.
-use Rattle.std.proofs.Common.{◌≡◌, ◌≤◌, ◌+◌, ℕ, true, false, List, [], ◌∷◌, ◌++◌, length, set, Option, Some, None, refl, sym, ap, subst, ◌∙◌}
-use Rattle.disk_trait.specs.Images.{Told, moment_of}
+use Rattle.std.proofs.Common.{◌≡◌, ℕ, true, List, [], ◌∷◌, ◌++◌, set, Option, Some, None, sym, ap, subst, ◌∙◌}
+use Rattle.disk_trait.specs.Images.{Told}
 use Rattle.disk_trait.specs.Calls.{Goes}
 use Rattle.disk_trait.proofs.Telling.{goes-both, goes-map}
 use Rattle.gated_log.specs.Held.{Held}
-use Rattle.gated_log.specs.Holding.{HasPayloads, IsOnDisk, KeepsOldOrNew, HasNew}
-use Rattle.gated_log.specs.Load.{WithinCalls}
+use Rattle.gated_log.specs.Holding.{HasPayloads, KeepsOldOrNew, HasNew}
 use Rattle.change_rules.specs.declared.Limits.{Limits}
 use Rattle.flush_rebuild.specs.declared.plan.Change.{Change}
 use Rattle.dag_store.specs.declared.replies.Flushed.{Flushed}
 use Rattle.dag_store.specs.declared.replies.Flushed.TheVariants.{Done, Refused, Disk}
 use Rattle.dag_store.specs.Kept.{PlainSession, PlainStore}
-use Rattle.dag_store.specs.Flushes.{HasRoom, HasStored, CutShort, FlushLeaves, IsQuiet, LeavesStore}
+use Rattle.dag_store.specs.Flushes.{HasRoom, HasStored, FlushLeaves, IsQuiet, LeavesStore}
 use Rattle.dag_store.specs.Finishes.{Finishes}
 
 -- the payload is stored

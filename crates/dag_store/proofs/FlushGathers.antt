@@ -1,5 +1,5 @@
 -- Names that are looked up one after another.
-use Rattle.std.proofs.Common.{◌≡◌, ◌<◌, ◌≤◌, ◌+◌, ℕ, zero, suc, List, [], ◌∷◌, ◌++◌, length, map, take, get_or, Option, Some, None, refl, sym, ap, ap₂, subst, ◌∙◌, arith, inl, inr, ⊎_elim}
+use Rattle.std.proofs.Common.{◌≡◌, ◌<◌, ◌≤◌, ◌+◌, ℕ, zero, suc, List, [], ◌∷◌, ◌++◌, length, map, take, get_or, Option, Some, None, refl, sym, ap, ap₂, subst, ◌∙◌, arith}
 use Rattle.std.specs.Prelude.{slice_get}
 use Rattle.std.specs.List.{AllZip}
 use Rattle.std.proofs.lemmas.List.{take_more, map-append, take-append-drop, take_all, length-map}
@@ -45,7 +45,7 @@ module _ (st : Stored) (f : Name → Option Refusal) (names : List Name) (i : �
   pub found-next : (ids more : List (Option ℕ)) (id : Option ℕ) → AreFound st f (take i names) ids → f x ≡ None → id ≡ stored_as st x → more ≡ ids ++ id ∷ [] → AreFound st f (take (i + 1) names) more
   found-next ids more id h none e m = (
     ap (λ l. first_some (map f l)) (next-name names i x lt at) ∙ ap first_some (map-append f (take i names) (x ∷ []))
-    ∙ first-behind (map f (take i names)) (f x ∷ []) h.0 ∙ ap (λ o. first_some (o ∷ [])) none,
+        ∙ first-behind (map f (take i names)) (f x ∷ []) h.0 ∙ ap (λ o. first_some (o ∷ [])) none,
     m ∙ ap₂ (λ a b. a ++ b ∷ []) h.1 e ∙ sym (map-append (stored_as st) (take i names) (x ∷ [])) ∙ ap (map (stored_as st)) (sym (next-name names i x lt at)),
   )
 

@@ -1,5 +1,5 @@
 -- What a look-up in the newest base answers of a state.
-use Rattle.std.proofs.Common.{◌≡◌, ◌^◌, ◌⊎◌, inl, inr, ℕ, zero, suc, Bool, true, false, not, ◌&&◌, ◌||◌, List, [], ◌∷◌, ◌++◌, map, length, nat_lt, Option, Some, None, is_some, refl, sym, ap, ap₂, subst, ◌∙◌, append_assoc, if◌then◌else◌, true≢false}
+use Rattle.std.proofs.Common.{◌≡◌, ◌^◌, inl, inr, ℕ, zero, suc, Bool, true, false, not, ◌&&◌, ◌||◌, List, [], ◌∷◌, ◌++◌, map, Option, Some, None, is_some, refl, sym, ap, ap₂, subst, ◌∙◌, append_assoc, if◌then◌else◌, true≢false}
 use Rattle.std.specs.Prelude.{slice_get}
 use Rattle.std.proofs.lemmas.List.{map-append}
 use Rattle.id_groups.specs.Lists.{IsIn, is_in}
@@ -19,9 +19,9 @@ use Rattle.payload_tables.specs.Pending.{IdRow, PlainPending, HoldsRows, FindsRo
 use Rattle.step_rules.specs.declared.Refusal.{Refusal}
 use Rattle.step_rules.specs.declared.Refusal.TheVariants as why
 use Rattle.step_rules.specs.State.{Stored, pending_of, base_of}
-use Rattle.step_rules.specs.Asked.{is_unnamed, is_asked, found_as}
+use Rattle.step_rules.specs.Asked.{found_as}
 use Rattle.step_rules.specs.Worlds.{has}
-use Rattle.step_rules.specs.Tests.{Test, is_on_newest, unknown, named, refuse_if}
+use Rattle.step_rules.specs.Tests.{is_on_newest, unknown, named, refuse_if}
 use Rattle.step_rules.specs.Lone.{lone}
 use Rattle.dag_store.specs.Kept.{PlainSession}
 use Rattle.dag_store.specs.Changes.{IsOn, head_refusal, row_refusal, stored_as}
@@ -126,7 +126,7 @@ module _ (began s : ℕ) (added : List Placed) (x : PlainSession) (st : Stored) 
       let p = find-parts (Some id) h in
       let i = stored-there added w stand o.hold.world.world name (found same_name same_name-exact same_name-self name (stored_names (payloads_of added) w) (subst (λ l. is_in same_name name (stored_names l w) ≡ true) (sym o.payloads) p.0)) in (
         head-is true is_pending p.0 refl ∙ stays (has_lazy st.payloads w) is_pending
-        ∙ known true is_pending (there same_name same_name-exact same_name-self name (names_of (rows_of w)) i) refl,
+            ∙ known true is_pending (there same_name same_name-exact same_name-self name (names_of (rows_of w)) i) refl,
         p.1,
       )
     where

@@ -1,20 +1,19 @@
 -- Names that are looked up in the newest base.
-use Rattle.std.proofs.Common.{◌≡◌, ◌<◌, ◌≤◌, ◌+◌, ◌-◌, ◌^◌, ◌⊎◌, inl, inr, ⊎_elim, ℕ, Bool, true, false, not, ◌&&◌, ◌||◌, List, [], ◌∷◌, ◌++◌, length, map, filter, flat_map, slice_get, nat_eq, nat_lt, Option, Some, None, is_some, refl, sym, ap, ap₂, subst, ◌∙◌, arith, true≢false, if◌then◌else◌, lit≤, zero, suc}
-use Rattle.std.specs.List.{AllByRecursion, list_any, range_with_len}
+use Rattle.std.proofs.Common.{◌≡◌, ◌<◌, ◌≤◌, ◌+◌, ◌^◌, inl, inr, ⊎_elim, ℕ, Bool, true, false, not, ◌&&◌, List, [], ◌∷◌, ◌++◌, length, map, filter, slice_get, nat_eq, nat_lt, Option, Some, None, is_some, refl, sym, ap, ap₂, subst, ◌∙◌, arith, true≢false, if◌then◌else◌, lit≤, zero, suc}
+use Rattle.std.specs.List.{range_with_len}
 use Rattle.std.proofs.lemmas.Bool.{lt-ltb, eq-eqb, eqb-true}
 use Rattle.std.proofs.lemmas.List.{map-append, length-map}
 use Rattle.id_groups.specs.Lists.{IsIn, is_in}
 use Rattle.id_groups.specs.Name.{Name, same_name}
-use Rattle.id_groups.specs.Id.{other_id}
 use Rattle.id_groups.proofs.Names.{same_name-exact, same_name-self}
-use Rattle.id_groups.proofs.Listing.{found, there, missing, in-any}
-use Rattle.commit_graph.specs.World.{Row, World, IsWorld, IsNamedWorld, names_of, rows_of, with_pending}
+use Rattle.id_groups.proofs.Listing.{found, there, in-any}
+use Rattle.commit_graph.specs.World.{Row, World, IsWorld, names_of, rows_of}
 use Rattle.commit_graph.specs.Ids.{id_in}
 use Rattle.commit_graph.proofs.Histories.{in-append}
 use Rattle.commit_graph.proofs.Down.{in-left, in-right}
 use Rattle.commit_graph.proofs.Naming.{each}
 use Rattle.commit_graph.proofs.Places.{id-in-master, id-in-others, at-name}
-use Rattle.batch_codec.specs.Payload.{Known, Payload}
+use Rattle.batch_codec.specs.Payload.{Known}
 use Rattle.name_map.specs.Added.{Placed, payloads_of, known_of}
 use Rattle.name_map.specs.Map.{IsIdOf}
 use Rattle.change_rules.specs.Change.{known_from}
@@ -24,7 +23,7 @@ use Rattle.change_rules.proofs.Cloned.{in-range}
 use Rattle.payload_tables.specs.declared.base.BaseRef.{BaseRef}
 use Rattle.payload_tables.specs.Bases.{IsBaseOf, stored_in}
 use Rattle.payload_tables.proofs.Basing.{base-others}
-use Rattle.flush_rebuild.specs.Asked.{IsFoundIn, IsStored, IsBaseId, others_count}
+use Rattle.flush_rebuild.specs.Asked.{IsFoundIn}
 use Rattle.flush_rebuild.proofs.Moved.{stored-bound}
 use Rattle.flush_rebuild.proofs.Rebased.{known-from-at}
 

@@ -1,5 +1,5 @@
 -- What is asked of a rebase and of a plan.
-use Rattle.std.proofs.Common.{◌≡◌, ◌≤◌, ◌<◌, ◌+◌, ◌*◌, ◌^◌, ◌⊎◌, ⊎_elim, ℕ, Bool, not, ◌&&◌, List, [], ◌∷◌, ◌++◌, map, length, take, drop, Option, Some, None, refl, sym, ap, ap₂, subst, ◌∙◌, arith, le_refl, lit≤}
+use Rattle.std.proofs.Common.{◌≡◌, ◌≤◌, ◌<◌, ◌+◌, ◌*◌, ◌^◌, ⊎_elim, ℕ, Bool, not, ◌&&◌, List, [], ◌∷◌, ◌++◌, map, length, drop, Option, None, sym, ap, ap₂, subst, ◌∙◌, arith, le_refl}
 use Rattle.std.specs.Prelude.{◌==◌}
 use Rattle.std.specs.List.{AllZip}
 use Rattle.std.proofs.lemmas.List.{take-append-drop, length-map}
@@ -20,7 +20,7 @@ use Rattle.payload_tables.specs.Pending.{IdRow, PlainPending, HoldsRows, row_nam
 use Rattle.payload_tables.specs.Bases.{MayBase, IsBaseOf, ArePending}
 use Rattle.change_rules.specs.Tables.{StandFor}
 use Rattle.payload_tables.proofs.Basing.{count-front}
-use Rattle.flush_rebuild.specs.Asked.{IsFoundIn, IsStored, HaveParents, MayStore, MayRebaseOn}
+use Rattle.flush_rebuild.specs.Asked.{IsFoundIn, HaveParents, MayRebaseOn}
 use Rattle.flush_rebuild.specs.Plans.{MayRebase, MayFlush}
 use Rattle.change_rules.specs.Rebase.{left_of}
 use Rattle.gated_log.specs.Log.{log_length}

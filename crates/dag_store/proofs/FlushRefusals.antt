@@ -1,43 +1,37 @@
 -- Why a rebase and a flush are refused, test by test.
-use Rattle.std.proofs.Common.{◌≡◌, ◌<◌, ◌≤◌, ◌+◌, ◌⊎◌, inl, inr, ⊎_elim, ℕ, zero, suc, Bool, true, false, not, ◌&&◌, List, [], ◌∷◌, ◌++◌, map, length, nat_lt, Option, Some, None, is_some, Result, Ok, Err, refl, sym, ap, ap₂, subst, ◌∙◌, append_assoc, append-nil, if◌then◌else◌, true≢false, arith, MatchResult, length-append, lit≤}
-use Rattle.std.specs.Prelude.{◌==◌}
+use Rattle.std.proofs.Common.{◌≡◌, ◌≤◌, ◌+◌, ◌⊎◌, inl, inr, ℕ, Bool, true, false, List, [], ◌∷◌, ◌++◌, map, length, nat_lt, Option, Some, None, is_some, refl, sym, ap, ap₂, subst, ◌∙◌, append_assoc, if◌then◌else◌, true≢false, arith}
 use Rattle.std.specs.Option.{option_map}
 use Rattle.std.specs.Cmp.Lexicographic.{pointwise, pointwise_decides}
-use Rattle.std.proofs.lemmas.List.{map-append, length-map}
+use Rattle.std.proofs.lemmas.List.{map-append}
 use Rattle.std.proofs.lemmas.Bool.{le-ltb}
-use Rattle.id_groups.specs.Lists.{IsIn, AreAllIn, is_in}
+use Rattle.id_groups.specs.Lists.{AreAllIn}
 use Rattle.id_groups.specs.Name.{Name, same_name}
 use Rattle.id_groups.proofs.Names.{same_name-exact, same_name-self}
 use Rattle.id_groups.proofs.Listing.{and_true, both_true, there}
 use Rattle.commit_graph.specs.World.{Row, World, names_of, rows_of, with_pending}
 use Rattle.gated_log.specs.Log.{log_length}
-use Rattle.batch_codec.specs.Payload.{Payload}
 use Rattle.change_rules.specs.declared.Limits.{Limits}
 use Rattle.change_rules.specs.declared.Limit.{Limit}
 use Rattle.change_rules.specs.declared.Limit.TheVariants as limit
 use Rattle.change_rules.specs.Change.{text_of, flush_change}
 use Rattle.change_rules.specs.Rebase.{left_of, first_conflict, first_lost}
-use Rattle.payload_tables.specs.Kept.{PlainTables}
-use Rattle.payload_tables.specs.Pending.{PlainPending}
-use Rattle.payload_tables.specs.Bases.{ArePending}
 use Rattle.flush_rebuild.specs.declared.fault.PlanFault.{PlanFault}
 use Rattle.flush_rebuild.specs.declared.fault.PlanFault.TheVariants as faults
 use Rattle.flush_rebuild.specs.declared.plan.Change.{Change}
 use Rattle.flush_rebuild.specs.Plans.{IsPlanOf, IsChangeOf, over, first_of, unknown_fault, first_unknown, flush_refusal, size_refusal, length_with, conflict_fault, flush_payload}
 use Rattle.flush_rebuild.proofs.Refusing.{written, has-bytes}
-use Rattle.name_map.specs.Added.{Placed, payloads_of}
+use Rattle.name_map.specs.Added.{Placed}
 use Rattle.step_rules.specs.declared.Refusal.{Refusal}
 use Rattle.step_rules.specs.declared.Refusal.TheVariants as why
-use Rattle.step_rules.specs.State.{Stored, session, pending_of}
-use Rattle.step_rules.specs.Verb.{Flush, Reload}
+use Rattle.step_rules.specs.State.{Stored, pending_of}
 use Rattle.step_rules.specs.Worlds.{flush_of, log_after, same_row, same_world}
-use Rattle.step_rules.specs.Tests.{Test, plain, full, first_some, looked_up, unknown, pending_test, rebase_tests, tests, refuse_if, is_on_newest}
+use Rattle.step_rules.specs.Tests.{Test, plain, full, first_some, looked_up, unknown, pending_test, rebase_tests, refuse_if}
 use Rattle.step_rules.specs.Lone.{lone}
-use Rattle.step_rules.proofs.Steps.{some-none, first-none-cons, first-none-append}
+use Rattle.step_rules.proofs.Steps.{first-none-append}
 use Rattle.dag_store.specs.Kept.{PlainSession}
-use Rattle.dag_store.specs.Changes.{IsOn, IsRefusedBy, IsFlushPlan, Rebases, PlansFlush, head_refusal, row_refusal, reload_refusals, flush_refusals, refusal_of}
+use Rattle.dag_store.specs.Changes.{IsOn, IsRefusedBy, IsFlushPlan, head_refusal, row_refusal, flush_refusals, refusal_of}
 use Rattle.dag_store.proofs.FlushGathers.{first-front, first-behind}
-use Rattle.dag_store.proofs.FlushStates.{never-lost, heads-known}
+use Rattle.dag_store.proofs.FlushStates.{heads-known}
 
 -- ---- worlds are the same where the test says so
 
@@ -206,7 +200,7 @@ module _ (limits : Limits) (st : Stored) (s : ℕ) (heads : List Name) where
       ap (λ b. if b then first_unknown v names else Some n) (there same_name same_name-exact same_name-self n (names_of (rows_of v)) h.0) ∙ none-unknown v names h.1
 
   module _ (began : ℕ) (added : List Placed) (x : PlainSession) (o : IsOn began added x st s) (h : first_some (map (head_refusal st s) heads) ≡ None) (r : first_some (map lone (rebase_tests st s)) ≡ None)
-    (log : ℕ) (e : log ≡ log_length (map text_of st.payloads)) (le : log ≤ limits.log) where
+      (log : ℕ) (e : log ≡ log_length (map text_of st.payloads)) (le : log ≤ limits.log) where
     abbrev view : World Name
     view = with_pending st.stored (left_of same_name st.stored (pending_of st s))
 

@@ -1,19 +1,17 @@
 -- Sessions on the newest payloads.
-use Rattle.std.proofs.Common.{◌≡◌, ◌<◌, ◌≤◌, ◌+◌, ◌⊎◌, inl, inr, ⊎_elim, ℕ, List, [], ◌∷◌, ◌++◌, length, map, take, flat_map, Option, Some, None, refl, sym, ap, subst, ◌∙◌, arith, length-append, le_refl, Result, Ok, Err}
+use Rattle.std.proofs.Common.{◌≡◌, ◌≤◌, ◌+◌, ◌⊎◌, inl, inr, ⊎_elim, ℕ, List, [], ◌∷◌, ◌++◌, length, take, flat_map, Option, Some, None, sym, ap, subst, ◌∙◌, arith, length-append}
 use Rattle.std.specs.List.{last_or}
-use Rattle.std.proofs.lemmas.List.{take_all, take-append-le, length-map, map-append}
+use Rattle.std.proofs.lemmas.List.{take_all, take-append-le, map-append}
 use Rattle.id_groups.specs.Lists.{IsIn, AreDistinct}
 use Rattle.id_groups.specs.Name.{Name}
 use Rattle.commit_graph.proofs.Histories.{in-append}
 use Rattle.commit_graph.proofs.Down.{in-left, in-right}
-use Rattle.batch_codec.specs.Payload.{Payload, Known, known_names}
+use Rattle.batch_codec.specs.Payload.{Payload, known_names}
 use Rattle.batch_codec.specs.Grammar.{count_after, MayFollow}
-use Rattle.name_map.specs.Added.{Placed, payloads_of, known_of}
-use Rattle.change_rules.specs.Change.{known_from}
+use Rattle.name_map.specs.Added.{Placed, payloads_of}
 use Rattle.change_rules.specs.Tables.{newest, other_names_in}
-use Rattle.payload_tables.specs.Kept.{PlainTables, PlainOthers, AreOthersIn, AreOthersOf, last_added}
-use Rattle.payload_tables.specs.Pending.{IdRow, PlainPending, HoldsRows}
-use Rattle.payload_tables.specs.Bases.{stored_in}
+use Rattle.payload_tables.specs.Kept.{PlainOthers, AreOthersIn, AreOthersOf, last_added}
+use Rattle.payload_tables.specs.Pending.{PlainPending, HoldsRows}
 use Rattle.payload_tables.proofs.Lists.{count-last, last-of, flat-snoc, distinct-parts}
 use Rattle.flush_rebuild.specs.Asked.{IsStored, MayStore, others_count}
 use Rattle.flush_rebuild.proofs.Asking.{stored-names}
@@ -60,8 +58,7 @@ pub session-with : (added : List Placed) (x : PlainSession) (pending : PlainPend
 session-with added x pending h p =
     let s = h.0 in
     let n = h.1 in
-    let all : base_added added x ≡ added = take_all x.payloads added (omega (arith, n)) in
-    (
+    let all : base_added added x ≡ added = take_all x.payloads added (omega (arith, n)) in (
       all-session added (record { payloads = x.payloads; below = x.below; others = x.others; pending = pending }) n
           (s.below ∙ ap (λ l. count_after 0 (payloads_of l)) all) (subst (λ l. AreOthersIn x.others (last_added l)) all s.others) p,
       n,

@@ -1,19 +1,17 @@
 -- What the look-ups of a flush and a reload settle, and why nothing is lost.
-use Rattle.std.proofs.Common.{◌≡◌, ◌≤◌, ◌⊎◌, inl, inr, ⊎_elim, ℕ, zero, suc, Bool, true, false, not, cond, ◌&&◌, ◌||◌, List, [], ◌∷◌, ◌++◌, map, length, Option, Some, None, is_some, refl, sym, ap, ap₂, subst, ◌∙◌, append_assoc, if◌then◌else◌, true≢false}
-use Rattle.std.specs.Prelude.{filter, ◌==◌}
-use Rattle.std.specs.Option.{option_map}
+use Rattle.std.proofs.Common.{◌≡◌, ◌⊎◌, inl, inr, ⊎_elim, ℕ, Bool, true, false, not, cond, ◌&&◌, List, [], ◌∷◌, ◌++◌, map, length, Option, Some, None, refl, sym, ap, ap₂, subst, ◌∙◌, append_assoc, if◌then◌else◌}
 use Rattle.std.proofs.lemmas.List.{map-append}
 use Rattle.std.proofs.lemmas.Bool.{eqb-true}
 use Rattle.id_groups.specs.Lists.{IsIn, is_in, AreAllIn}
 use Rattle.id_groups.specs.Name.{Name, same_name}
 use Rattle.id_groups.proofs.Names.{same_name-exact, same_name-self}
 use Rattle.id_groups.proofs.Listing.{found, there, missing}
-use Rattle.commit_graph.specs.World.{Row, World, IsWorld, IsNamedWorld, IsHistory, KeepsRows, names_of, rows_of, with_pending}
+use Rattle.commit_graph.specs.World.{Row, World, IsWorld, IsHistory, KeepsRows, names_of, rows_of, with_pending}
 use Rattle.commit_graph.specs.Ids.{id_in}
 use Rattle.commit_graph.proofs.Histories.{in-append, in-all, history-rest}
 use Rattle.commit_graph.proofs.Down.{in-left, in-right}
 use Rattle.change_rules.specs.Lazy.{has_lazy, stored_names}
-use Rattle.change_rules.specs.Rebase.{left_of, first_conflict, first_lost, first_missing, first_outside, or_else}
+use Rattle.change_rules.specs.Rebase.{left_of, first_lost, first_missing, first_outside, or_else}
 use Rattle.change_rules.specs.Tables.{StandFor}
 use Rattle.change_rules.proofs.Flushes.{name-in}
 use Rattle.name_map.specs.Added.{Placed, payloads_of}
@@ -21,16 +19,16 @@ use Rattle.flush_rebuild.specs.Plans.{stored_id}
 use Rattle.step_rules.specs.declared.Refusal.{Refusal}
 use Rattle.step_rules.specs.declared.Refusal.TheVariants as why
 use Rattle.step_rules.specs.State.{Stored, session, world_at, pending_of, base_of}
-use Rattle.step_rules.specs.Asked.{is_unnamed, is_asked, found_as}
+use Rattle.step_rules.specs.Asked.{is_asked, found_as}
 use Rattle.step_rules.specs.Worlds.{has}
-use Rattle.step_rules.specs.Tests.{is_on_newest, unknown, named, refuse_if, first_some}
+use Rattle.step_rules.specs.Tests.{is_on_newest, unknown, named, first_some}
 use Rattle.step_rules.specs.Lone.{lone}
 use Rattle.step_rules.proofs.Sessions.{newest-now}
-use Rattle.step_rules.proofs.Steps.{some-none, not-refused, first-none-cons, first-none-append}
+use Rattle.step_rules.proofs.Steps.{some-none, not-refused, first-none-cons}
 use Rattle.dag_store.specs.Kept.{PlainSession}
 use Rattle.dag_store.specs.Changes.{IsOn, AreFound, head_refusal, row_refusal, stored_as}
 use Rattle.dag_store.proofs.FlushNames.{stored-there, all-stored}
-use Rattle.dag_store.proofs.FlushLooks.{lone-named, has-both}
+use Rattle.dag_store.proofs.FlushLooks.{lone-named}
 
 -- rows that come behind others have new names
 fresh-rows : (before : List Name) (rows : List (Row Name)) → IsHistory before rows → (x : Name) → IsIn x (names_of rows) → IsIn x before → ⊥

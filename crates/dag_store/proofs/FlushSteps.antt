@@ -1,8 +1,7 @@
 -- From a plan, and how it ended, to the step of a state.
-use Rattle.std.proofs.Common.{◌≡◌, ◌≤◌, ◌<◌, ◌+◌, ◌⊎◌, inl, inr, ⊎_elim, ℕ, Bool, true, false, not, List, [], ◌∷◌, ◌++◌, length, map, set, Option, Some, None, MatchOption, Result, Ok, Err, refl, sym, ap, ap₂, subst, ◌∙◌, arith, length-append, le_refl, true≢false, if◌then◌else◌}
-use Rattle.std.specs.Option.{option_map}
+use Rattle.std.proofs.Common.{◌≡◌, ◌<◌, inl, inr, ⊎_elim, ℕ, Bool, true, false, not, List, [], ◌∷◌, ◌++◌, length, map, set, Option, Some, None, MatchOption, Ok, refl, sym, ap, ap₂, subst, ◌∙◌, arith, length-append, le_refl, true≢false, if◌then◌else◌}
 use Rattle.std.proofs.lemmas.List.{map-append, length-map}
-use Rattle.id_groups.specs.Lists.{IsIn, is_in, AreAllIn}
+use Rattle.id_groups.specs.Lists.{IsIn, is_in}
 use Rattle.id_groups.specs.Name.{Name, same_name}
 use Rattle.id_groups.proofs.Names.{same_name-exact, same_name-self}
 use Rattle.commit_graph.specs.World.{Row, World, IsWorld, IsNamedWorld, GrowsMaster, KeepsRows, names_of, rows_of, with_pending}
@@ -14,10 +13,10 @@ use Rattle.batch_codec.specs.Payload.{Payload}
 use Rattle.name_map.specs.Added.{Placed, payloads_of}
 use Rattle.change_rules.specs.declared.Limits.{Limits}
 use Rattle.change_rules.specs.declared.Limit.TheVariants as limit
-use Rattle.change_rules.specs.Standard.{AreLimits, standard}
+use Rattle.change_rules.specs.Standard.{AreLimits}
 use Rattle.change_rules.specs.Change.{text_of, flush_change}
 use Rattle.change_rules.specs.Holding.{HoldPayloads}
-use Rattle.change_rules.specs.Rebase.{left_of, first_conflict, first_lost}
+use Rattle.change_rules.specs.Rebase.{left_of}
 use Rattle.change_rules.proofs.Flushes.{rebase-world, flush-keeps, filtered-names}
 use Rattle.change_rules.proofs.Held.{change-held}
 use Rattle.payload_tables.specs.Kept.{PlainTables}
@@ -26,11 +25,11 @@ use Rattle.payload_tables.specs.Pending.{IdRow, HoldsRows}
 use Rattle.flush_rebuild.specs.declared.plan.Change.{Change}
 use Rattle.step_rules.specs.declared.Refusal.{Refusal}
 use Rattle.step_rules.specs.declared.Refusal.TheVariants as why
-use Rattle.step_rules.specs.State.{Stored, session, base_of, pending_of, world_at, with_stored, on_newest}
+use Rattle.step_rules.specs.State.{Stored, base_of, pending_of, with_stored, on_newest}
 use Rattle.step_rules.specs.Verb.{Verb, Flush, Reload}
 use Rattle.step_rules.specs.Reply.{Reply, Refused, Reloaded, Flushed}
 use Rattle.step_rules.specs.Worlds.{rebased, flush_of, same_world}
-use Rattle.step_rules.specs.Tests.{first_some, tests, unknown, full, looked_up, rebase_tests}
+use Rattle.step_rules.specs.Tests.{first_some, tests, unknown, full, rebase_tests}
 use Rattle.step_rules.specs.Asked.{is_asked, found_as}
 use Rattle.step_rules.specs.Step.{IsRefused, MayWantMemory}
 use Rattle.step_rules.specs.Lone.{lone, LoneStep, LoneAnswers}
@@ -38,14 +37,12 @@ use Rattle.step_rules.proofs.Own.{refusals}
 use Rattle.step_rules.proofs.Steps.{flushed-world, some-none, first-none-cons, first-none-append}
 use Rattle.step_rules.proofs.Held.{within-limit, has-some}
 use Rattle.step_rules.proofs.States.{alone, at-newest}
-use Rattle.step_rules.proofs.Sessions.{newest-now}
-use Rattle.dag_store.specs.declared.replies.Counts.{Counts}
 use Rattle.dag_store.specs.declared.replies.Flushed.{Flushed as Ended}
 use Rattle.dag_store.specs.declared.replies.Flushed.TheVariants as ends
 use Rattle.dag_store.specs.Kept.{PlainSession, PlainStore, IsKept, IsSessionOf, session_at, sixteen}
-use Rattle.dag_store.specs.Stands.{Stands, IsSessionFor}
+use Rattle.dag_store.specs.Stands.{Stands}
 use Rattle.dag_store.specs.Flushes.{FlushStep, flush_end, StoresBy, HasRoom}
-use Rattle.dag_store.specs.Finishes.{Finishes, CountsOf}
+use Rattle.dag_store.specs.Finishes.{Finishes}
 use Rattle.dag_store.specs.Changes.{IsOn, IsFlushPlan, IsPrepared, IsReady, IsRefusedBy, Rebases, added_behind, next_place, head_refusal, row_refusal, flush_refusals}
 use Rattle.dag_store.proofs.Sees.{once}
 use Rattle.dag_store.proofs.Standing.{stands-with}
@@ -160,7 +157,7 @@ module _ (began : ℕ) (kept : PlainStore) (tables : PlainTables) (k : IsKept ke
   )
 
   module _ (reserved : Held) (after : PlainTables) (change : Change) (x : PlainSession) (p : IsPrepared limits kept.log reserved tables after k.added change x) (room : HasRoom kept.log reserved)
-    (plan : IsFlushPlan limits st s heads change) where
+      (plan : IsFlushPlan limits st s heads change) where
     told : (m o : ℕ) → m ≡ change.master → o ≡ change.others → LoneStep limits st s (Flush heads) (Flushed m o) (flush_end st s heads)
     told m o em eo = lone-told limits st (flush_end st s heads) s (Flush heads) (Flushed m o) plan.passed (ap₂ {C = Reply} (λ a b. Flushed a b) (em ∙ plan.plan.master) (eo ∙ plan.plan.others), refl)
 

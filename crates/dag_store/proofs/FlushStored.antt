@@ -1,32 +1,30 @@
 -- What is kept after a change, and for which state it stands.
-use Rattle.std.proofs.Common.{◌≡◌, ◌≤◌, ◌<◌, ◌+◌, ◌⊎◌, inl, inr, ⊎_elim, ℕ, zero, suc, Bool, true, false, List, [], ◌∷◌, ◌++◌, length, map, take, drop, set, get_or, Option, Some, None, refl, sym, ap, ap₂, subst, ◌∙◌, arith, length-append, length-set, le_refl, eq-or-lt_of_le, append_assoc, append-nil, lit≤, true≢false, if◌then◌else◌}
+use Rattle.std.proofs.Common.{◌≡◌, ◌≤◌, ◌<◌, ◌+◌, ⊎_elim, ℕ, List, [], ◌∷◌, ◌++◌, length, map, take, drop, set, sym, ap, subst, ◌∙◌, arith, length-append, length-set, le_refl, eq-or-lt_of_le, append_assoc, append-nil}
 use Rattle.std.specs.List.{AllByRecursion}
 use Rattle.std.proofs.lemmas.List.{get_or-set_same, get_or-set_other, take-append-le, take_all, map-append, length-map, drop-append-le}
 use Rattle.std.proofs.lemmas.Bool.{cases_eq}
 use Rattle.id_groups.specs.Lists.{IsIn}
-use Rattle.id_groups.specs.Name.{Name, same_name}
-use Rattle.commit_graph.specs.World.{Row, World, IsWorld, IsNamedWorld, GrowsMaster, KeepsRows, names_of, rows_of, with_pending}
+use Rattle.id_groups.specs.Name.{Name}
+use Rattle.commit_graph.specs.World.{Row, World, IsNamedWorld, GrowsMaster, KeepsRows, rows_of, with_pending}
 use Rattle.gated_log.specs.Log.{batches, batch, log_length}
 use Rattle.gated_log.specs.Held.{Held, log_bytes}
 use Rattle.gated_log.proofs.Places.{length-log}
-use Rattle.batch_codec.specs.Payload.{Payload, payload_bytes}
+use Rattle.batch_codec.specs.Payload.{Payload}
 use Rattle.name_map.specs.Added.{Placed, payloads_of, AllStand, StandsAt}
 use Rattle.change_rules.specs.declared.Limits.{Limits}
-use Rattle.change_rules.specs.Change.{text_of, flush_change}
+use Rattle.change_rules.specs.Change.{text_of}
 use Rattle.change_rules.specs.Holding.{HoldPayloads}
-use Rattle.payload_tables.specs.Kept.{PlainTables, AreTablesOf}
+use Rattle.payload_tables.specs.Kept.{PlainTables}
 use Rattle.payload_tables.specs.Bases.{ArePending}
 use Rattle.change_rules.specs.Tables.{newest, other_names_in}
 use Rattle.std.proofs.lemmas.List.{length-drop}
 use Rattle.payload_tables.proofs.Lists.{all-append, names-length}
 use Rattle.flush_rebuild.specs.declared.plan.Change.{Change}
-use Rattle.flush_rebuild.specs.Asked.{MayStore}
-use Rattle.flush_rebuild.specs.Plans.{IsStorable}
-use Rattle.step_rules.specs.State.{Stored, Session, IsStore, IsSession, new_session, session, world_at, base_of, pending_of, with_stored, on_newest, with_session}
+use Rattle.step_rules.specs.State.{Stored, session, world_at, base_of, with_stored, on_newest}
 use Rattle.step_rules.proofs.States.{alone, with_stored-state, at-newest}
 use Rattle.step_rules.proofs.Sessions.{newest-now, world_at-stored}
 use Rattle.dag_store.specs.Kept.{PlainSession, PlainStore, IsKept, IsSessionOf, EndsWithin, session_at, no_session, sixteen, base_added}
-use Rattle.dag_store.specs.Stands.{Stands, IsSessionFor}
+use Rattle.dag_store.specs.Stands.{Stands}
 use Rattle.dag_store.specs.Loading.{IsOnNewest}
 use Rattle.dag_store.specs.Flushes.{HasRoom}
 use Rattle.dag_store.specs.Finishes.{IsBehind}

@@ -1,26 +1,23 @@
 -- What a session's change is asked over, and what it answers for each state that the store stands for.
 use Rattle.std.specs.Prelude.{◌≡◌, ◌≤◌, ◌+◌, ◌⊎◌, ◌&&◌, ◌++◌, not, true, false, ℕ, List, [], ◌∷◌, Option, Some, None, Result, Ok, Err, length, map, if◌then◌else◌}
-use Rattle.std.specs.List.{AllByRecursion}
 use Rattle.id_groups.specs.Lists.{is_in}
 use Rattle.id_groups.specs.Name.{Name, same_name}
-use Rattle.commit_graph.specs.World.{World, KeepsRows, with_pending}
+use Rattle.commit_graph.specs.World.{KeepsRows, with_pending}
 use Rattle.commit_graph.specs.Ids.{id_in}
-use Rattle.batch_codec.specs.Payload.{Payload, payload_bytes}
-use Rattle.batch_codec.specs.Grammar.{MayFollow, count_after}
+use Rattle.batch_codec.specs.Payload.{Payload}
 use Rattle.gated_log.specs.Held.{Held, log_bytes, longer}
 use Rattle.name_map.specs.Added.{Placed, payloads_of, AllStand}
 use Rattle.change_rules.specs.declared.Limits.{Limits}
-use Rattle.change_rules.specs.Change.{text_of, flush_change}
+use Rattle.change_rules.specs.Change.{text_of}
 use Rattle.change_rules.specs.Holding.{HoldPayloads}
 use Rattle.change_rules.specs.Lazy.{stored_names}
 use Rattle.change_rules.specs.Rebase.{left_of}
 use Rattle.payload_tables.specs.Kept.{PlainTables, AreTablesOf}
-use Rattle.payload_tables.specs.Pending.{PlainPending, HoldsRows}
+use Rattle.payload_tables.specs.Pending.{PlainPending}
 use Rattle.payload_tables.specs.Bases.{ArePending}
 use Rattle.flush_rebuild.specs.declared.fault.PlanFault.{PlanFault}
 use Rattle.flush_rebuild.specs.declared.fault.PlanFault.TheVariants as faults
 use Rattle.flush_rebuild.specs.declared.plan.Change.{Change}
-use Rattle.flush_rebuild.specs.Asked.{others_count}
 use Rattle.flush_rebuild.specs.Plans.{IsPlanOf, IsChangeOf, IsStorable}
 use Rattle.step_rules.specs.declared.Refusal.{Refusal}
 use Rattle.step_rules.specs.declared.Refusal.TheVariants as why
@@ -30,7 +27,7 @@ use Rattle.step_rules.specs.Asked.{is_unnamed, found_as}
 use Rattle.step_rules.specs.Tests.{first_some, looked_up, named, unknown, is_on_newest, tests}
 use Rattle.step_rules.specs.Worlds.{flush_of}
 use Rattle.step_rules.specs.Lone.{lone}
-use Rattle.dag_store.specs.Kept.{PlainSession, IsSessionOf, base_added}
+use Rattle.dag_store.specs.Kept.{PlainSession, base_added}
 use Rattle.dag_store.specs.Stands.{IsSessionFor}
 use Rattle.dag_store.specs.Loading.{IsOnNewest}
 

@@ -7,7 +7,7 @@ use Rattle.flush_rebuild.specs.declared.plan.Change.{Change}
 use Rattle.dag_store.specs.declared.replies.Counts.{Counts}
 use Rattle.dag_store.specs.declared.replies.Flushed.{Flushed}
 use Rattle.dag_store.specs.declared.replies.Flushed.TheVariants.{Done, Refused, Disk}
-use Rattle.dag_store.specs.Kept.{PlainSession, PlainStore}
+use Rattle.dag_store.specs.Kept.{PlainSession}
 
 -- the sizes of the new world
 abbrev pub CountsOf : Change → Counts → Type 0

@@ -1,4 +1,4 @@
-use Rattle.std.proofs.Common.{◌≡◌, List, ℕ, [], ◌∷◌, ◌++◌, ◌+◌, length, refl, ap, subst, ◌∙◌}
+use Rattle.std.proofs.Common.{List, ℕ, [], ◌∷◌, ◌++◌, ◌+◌, length, refl, ap, subst, ◌∙◌}
 use Rattle.disk_trait.specs.Calls.{Goes}
 use Rattle.gated_log.specs.Held.{log_bytes}
 use Rattle.gated_log.specs.Holding.{KeepsOldOrNew}

@@ -1,5 +1,5 @@
-use Rattle.std.proofs.Common.{◌≡◌, ◌∙◌, ◌++◌, [], List, sym, ap, subst, append-nil}
-use Rattle.name_map.specs.Added.{Placed, Follow, known_of}
+use Rattle.std.proofs.Common.{◌≡◌, ◌∙◌, [], sym, subst, append-nil}
+use Rattle.name_map.specs.Added.{Follow, known_of}
 use Rattle.name_map.specs.Map.{IsMapOf, count_known}
 use Rattle.payload_tables.proofs.Basing.{table-end}
 use Rattle.dag_store.proofs.Counting.{lazy-counted}

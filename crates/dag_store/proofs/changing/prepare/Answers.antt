@@ -1,4 +1,3 @@
-use Rattle.std.proofs.Common.{◌≡◌}
 use Rattle.std.proofs.lemmas.Result.{err_from_is_err_and}
 use Rattle.dag_store.proofs.FlushParts.{lacking}
 use Rattle.dag_store.proofs.changing.prepare.Goals as goal

@@ -1,4 +1,4 @@
-use Rattle.std.proofs.Common.{◌≡◌, ◌∙◌, sym, subst}
+use Rattle.std.proofs.Common.{◌∙◌, sym, subst}
 use Rattle.payload_tables.specs.Kept.{PlainOthers, AreOthersIn, last_added}
 use Rattle.payload_tables.proofs.Basing.{table-end}
 use Rattle.dag_store.proofs.FlushSessions.{all-session}

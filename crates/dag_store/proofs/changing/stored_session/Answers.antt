@@ -1,4 +1,4 @@
-use Rattle.std.proofs.Common.{◌≡◌, ◌≤◌, ◌∙◌, arith}
+use Rattle.std.proofs.Common.{◌∙◌, arith}
 use Rattle.batch_codec.specs.Lent.{payload_of}
 use Rattle.name_map.specs.Added.{payloads_of}
 use Rattle.dag_store.proofs.FlushSessions.{stored-session, other-names-distinct, others-few}

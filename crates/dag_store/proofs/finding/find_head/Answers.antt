@@ -1,4 +1,4 @@
-use Rattle.std.proofs.Common.{◌≡◌, ◌^◌, Some, None, sym, ap, subst, ◌∙◌}
+use Rattle.std.proofs.Common.{◌^◌, Some, None, sym, ap, subst, ◌∙◌}
 use Rattle.name_map.specs.Map.{IsIdOf}
 use Rattle.payload_tables.specs.Bases.{stored_in}
 use Rattle.dag_store.specs.Kept.{PlainSession}

@@ -1,4 +1,4 @@
-use Rattle.std.proofs.Common.{◌≡◌, Some, None, refl, sym}
+use Rattle.std.proofs.Common.{Some, None}
 use Rattle.dag_store.proofs.FlushNames.{found-in}
 use Rattle.dag_store.proofs.FlushLooks.{row-found, row-asked, row-none}
 use Rattle.dag_store.proofs.finding.find_row.Goals as goal

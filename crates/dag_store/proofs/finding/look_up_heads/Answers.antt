@@ -1,6 +1,5 @@
-use Rattle.std.proofs.Common.{◌≡◌, ◌≤◌, inl, inr, refl, sym, ap, subst, ◌∙◌, arith, rules}
+use Rattle.std.proofs.Common.{inr, arith}
 use Rattle.std.proofs.lemmas.Result.{err_from_is_err_and}
-use Rattle.step_rules.specs.State.{Stored}
 use Rattle.dag_store.specs.Changes.{head_refusal}
 use Rattle.dag_store.proofs.FlushGathers.{zip-next, found-next, refused-here, found-all, zip-all}
 use Rattle.dag_store.proofs.finding.look_up_heads.Goals as goal

@@ -1,9 +1,8 @@
-use Rattle.std.proofs.Common.{◌≡◌, ◌≤◌, inl, inr, refl, sym, ap, subst, ◌∙◌, arith, rules, length}
+use Rattle.std.proofs.Common.{inr, sym, subst, arith}
 use Rattle.std.proofs.lemmas.Result.{err_from_is_err_and}
-use Rattle.payload_tables.specs.Pending.{PlainPending, HoldsRows, row_names}
+use Rattle.payload_tables.specs.Pending.{HoldsRows, row_names}
 use Rattle.commit_graph.specs.World.{names_of}
-use Rattle.step_rules.specs.State.{Stored, pending_of}
-use Rattle.dag_store.specs.Kept.{PlainSession}
+use Rattle.step_rules.specs.State.{pending_of}
 use Rattle.dag_store.specs.Changes.{row_refusal}
 use Rattle.dag_store.proofs.FlushGathers.{zip-next, found-next, refused-here, found-all, zip-all, row-at, state-row, state-over, rows-over}
 use Rattle.dag_store.proofs.finding.look_up_rows.Goals as goal

@@ -1,11 +1,11 @@
-use Rattle.std.proofs.Common.{◌≡◌, ◌≤◌, ◌^◌, inl, inr, ⊎_elim, refl, sym, ap, subst, ◌∙◌, List, ℕ, Option, length, arith, lit≤, Ok, Err}
+use Rattle.std.proofs.Common.{◌≤◌, ◌^◌, sym, subst, List, ℕ, length, arith, lit≤}
 use Rattle.std.specs.List.{AllZip}
 use Rattle.std.proofs.lemmas.Result.{err_from_is_err_and}
-use Rattle.id_groups.specs.Name.{Name, same_name}
+use Rattle.id_groups.specs.Name.{same_name}
 use Rattle.change_rules.specs.Rebase.{left_of}
 use Rattle.flush_rebuild.specs.Asked.{IsFoundIn}
 use Rattle.flush_rebuild.specs.Plans.{MayBeStored}
-use Rattle.step_rules.specs.State.{Stored, pending_of}
+use Rattle.step_rules.specs.State.{pending_of}
 use Rattle.dag_store.specs.Changes.{AreFound, IsRefusedBy, head_refusal, flush_refusals}
 use Rattle.dag_store.proofs.FlushParts.{all-stand, may-flush, log-size}
 use Rattle.dag_store.proofs.FlushRefusals.{rows-passed, flush-head, flush-rebase, flush-fault, flush-plan, payload_is, change-is}

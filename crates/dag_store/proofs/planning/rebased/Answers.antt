@@ -1,11 +1,10 @@
-use Rattle.std.proofs.Common.{◌≡◌, inl, inr, ⊎_elim, refl, sym, ap, subst, ◌∙◌, List, ℕ, Option}
+use Rattle.std.proofs.Common.{inl, inr, ⊎_elim, sym, ap, subst}
 use Rattle.std.specs.List.{AllZip}
 use Rattle.std.proofs.lemmas.Result.{err_from_is_err_and}
-use Rattle.name_map.specs.Added.{Placed}
 use Rattle.commit_graph.specs.World.{names_of}
 use Rattle.payload_tables.specs.Pending.{row_names}
 use Rattle.flush_rebuild.specs.Asked.{IsFoundIn}
-use Rattle.step_rules.specs.State.{Stored, pending_of}
+use Rattle.step_rules.specs.State.{pending_of}
 use Rattle.dag_store.specs.Kept.{PlainSession}
 use Rattle.dag_store.specs.Changes.{AreFound, IsRefusedBy, row_refusal, reload_refusals}
 use Rattle.dag_store.proofs.FlushStates.{never-lost}

@@ -1,4 +1,4 @@
-use Rattle.std.proofs.Common.{◌≡◌, ◌<◌, ℕ, List, [], true, false, length, set, refl, sym, ap, subst, ◌∙◌, IfSome}
+use Rattle.std.proofs.Common.{ℕ, List, [], set, refl, sym, ap, subst, IfSome}
 use Rattle.disk_trait.specs.Calls.{Goes}
 use Rattle.disk_trait.proofs.Telling.{goes-same}
 use Rattle.gated_log.specs.Held.{Held}
@@ -6,7 +6,7 @@ use Rattle.gated_log.specs.Holding.{IsOnDisk}
 use Rattle.payload_tables.specs.Kept.{PlainTables}
 use Rattle.step_rules.specs.State.{Stored}
 use Rattle.dag_store.specs.declared.replies.Flushed.TheVariants.{Refused}
-use Rattle.dag_store.specs.Kept.{PlainSession, PlainStore, IsKept, IsSessionOf, session_at}
+use Rattle.dag_store.specs.Kept.{PlainSession, PlainStore, IsKept, IsSessionOf}
 use Rattle.dag_store.specs.Stands.{Stands}
 use Rattle.dag_store.specs.Flushes.{FlushStep, FlushLeaves, LeavesStore}
 use Rattle.dag_store.specs.Finishes.{Finishes}

@@ -1,9 +1,9 @@
-use Rattle.std.proofs.Common.{◌≡◌, ◌<◌, ℕ, List, Ok, Err, length, set, refl, sym, ap, subst, ◌∙◌}
+use Rattle.std.proofs.Common.{ℕ, Ok, set, refl, sym, subst}
 use Rattle.std.proofs.lemmas.Result.{err_from_is_err_and}
-use Rattle.payload_tables.specs.Pending.{IdRow, HoldsRows}
+use Rattle.payload_tables.specs.Pending.{HoldsRows}
 use Rattle.step_rules.specs.State.{Stored}
 use Rattle.step_rules.specs.Verb.{Reload}
-use Rattle.dag_store.specs.Kept.{PlainSession, PlainStore, IsKept, IsSessionOf, session_at}
+use Rattle.dag_store.specs.Kept.{PlainSession, PlainStore, IsKept, IsSessionOf}
 use Rattle.dag_store.specs.Stands.{Stands}
 use Rattle.dag_store.specs.Steps.{ReloadStep}
 use Rattle.dag_store.specs.Changes.{IsOn}
