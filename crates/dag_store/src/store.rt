@@ -80,6 +80,14 @@ impl Store {
         })
     }
 
+    /// How many bytes the log may have.
+    pub fn log_limit(&self) -> u64
+        ensures limits { result ≡ self.now.limits.log }
+        ensures log { result ≡ self.now.log.limit }
+    {
+        self.limits.log
+    }
+
     /// The sizes of what a session works on.
     pub fn status(&self, s: u8) -> Counts
         requires { s < 16 }
