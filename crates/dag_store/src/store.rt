@@ -1,6 +1,6 @@
 //! A store, and what it tells without memory.
 
-ghost use Rattle.std.specs.Prelude.{◌≡◌, ◌<◌, ◌≤◌, ℕ, List, Err, length, map, IfOk, IfSome};
+ghost use Rattle.std.specs.Prelude.{◌≡◌, ◌<◌, ◌≤◌, ℕ, List, [], Err, length, map, IfOk, IfSome};
 ghost use Rattle.id_groups.specs.Name.{Name as NameBytes};
 ghost use Rattle.outside.specs.Counts.{Rose};
 ghost use Rattle.commit_graph.specs.World.{World};
