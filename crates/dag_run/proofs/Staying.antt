@@ -141,15 +141,14 @@ module _ (limits : Limits) (w : World Name) (payloads : List Payload) (changes :
       })
 
   -- the disk failed in it
-  pub stopped-short : CutShort kept payload a b → Stopped limits.log w payloads changes next old b
+  abbrev pub stopped-short : CutShort kept payload a b → Stopped limits.log w payloads changes next old b
   stopped-short s = cut-short limits.log w payloads changes last next changed.change kept.log old a b h.stopped h.stored sure-by (let le = h.begun in omega (arith, le)) before after changed.past changed.payloads bound texts
       (subst (λ t. KeepsOldOrNew kept.log t a b) changed.text s.since) s.since.later
 
   pub short-sure : (s : CutShort kept payload a b) → (stopped-short s).sure ≤ moment_of old + 2
-  unfolding stopped-short
   short-sure s =
       let e = h.sure in
-      let same = cut-short-sure limits.log w payloads changes last next changed.change kept.log old a b h.stopped h.stored sure-by (let le = h.begun in omega (arith, le)) before after changed.past changed.payloads bound texts
+      let same : (stopped-short s).sure ≡ h.stopped.sure = cut-short-sure limits.log w payloads changes last next changed.change kept.log old a b h.stopped h.stored sure-by (let le = h.begun in omega (arith, le)) before after changed.past changed.payloads bound texts
       (subst (λ t. KeepsOldOrNew kept.log t a b) changed.text s.since) s.since.later in
       omega (arith, same, e)
 
