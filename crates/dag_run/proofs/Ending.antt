@@ -246,7 +246,7 @@ module _ (limits : Limits) (fair : AreLimits limits) (w : World Name) (payloads 
   abbrev Opening : Stop → Told → Type 0
   Opening stop t = HoldAs limits.log t.bytes payloads w → OpensRun payloads w (Err stop)
 
-  pub load-stops : (stop : Stop) → IfSome d (Opening stop) → Goes (KeepsHolding limits.log w) d e → ((Err stop ≡ Err stops.NotLoaded → ⊥) → Goes (IsSureOf limits.log (map text_of payloads)) d e) → Goes LoadCalls d e → IsLoadStop stop
+  pub load-stops : (stop : Stop) → IfSome d (Opening stop) → Goes (KeepsHolding limits.log w) d e → ((stop ≡ stops.NotLoaded → ⊥) → Goes (IsSureOf limits.log (map text_of payloads)) d e) → Goes LoadCalls d e → IsLoadStop stop
       → WhereTold o q (LoadPuts SinkFailed (Err stop)) → WhereTold (seen d i o) (seen e i q) (MeansSo (Err stop))
   load-stops stops.Memory opens keeps sure calls is put =
       let Q : Told → Told → Type 0 = λ x y. KeepsHolding limits.log w x y × IsSureOf limits.log (map text_of payloads) x y in
