@@ -1,3 +1,4 @@
 pub mod Sees
 pub mod Standing
 pub mod Sizes
+pub mod QueryNames
