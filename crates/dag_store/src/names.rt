@@ -4,7 +4,8 @@ ghost use Rattle.std.specs.Prelude.{◌≡◌, List};
 ghost use Rattle.name_map.specs.Added.{Placed};
 ghost use Rattle.payload_tables.specs.Bases.{IsBaseOf};
 ghost use Rattle.payload_tables.specs.Pending.{IdRow, HoldsRows};
-ghost use Rattle.dag_store.specs.Names.{lent_name, name_in, pending_name};
+ghost use Rattle.dag_store.specs.Names.{lent_name, name_in, named_front, names_left, pending_name};
+ghost use Rattle.span_set.specs.Down.{ids_left};
 
 use flush_rebuild::{BaseRef, PendingRows};
 use id_groups::{FIRST_OTHER, Id, NameRef};
@@ -55,6 +56,21 @@ fn name_of_id<'a>(base: &BaseRef<'a>, pending: &'a PendingRows, id: Id) -> Optio
         return Some(name);
     }
     name_of_row(pending, id)
+}
+
+impl<'a> Names<'a> {
+    /// The names of these ids.
+    pub(crate) fn over(
+        ids: IdsDown<'a>,
+        base: BaseRef<'a>,
+        pending: &'a PendingRows,
+    ) -> Names<'a>
+        requires base { (added : List Placed) × IsBaseOf base added }
+        requires pending { (rows : List IdRow) × HoldsRows pending.now rows }
+        ensures { names_left result ≡ named_front base.entry pending.now (ids_left ids.entry) }
+    {
+        Names { ids, base, pending }
+    }
 }
 
 impl<'a> Iterator for Names<'a> {
