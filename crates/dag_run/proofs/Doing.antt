@@ -44,7 +44,7 @@ use Rattle.step_rules.specs.Verb.{Add, Reload, IdOf, Count}
 use Rattle.step_rules.specs.Reply.{Added as IsAdded, Old as IsOld, Reloaded, Identified, Counted, Listed}
 use Rattle.dag_store.specs.declared.replies.Added.{Added}
 use Rattle.dag_store.specs.declared.replies.Added.TheVariants as adds
-use Rattle.std.proofs.Common.{length-map}
+use Rattle.std.proofs.lemmas.List.{length-map}
 use Rattle.commit_graph.specs.Ids.{id_in}
 use Rattle.step_rules.specs.State.{view_of}
 use Rattle.command_lines.specs.Sending.{listed_text}
@@ -251,4 +251,4 @@ line-passed SinkFailed kept line before silent began st stands = inl (silent, re
 pub listed-is : (st : Stored) (s : ℕ) (ids : List ℕ) (names told : List Name) (count : ℕ) → AreIdsOf st s ids names → told ≡ names → count ≡ length ids → listed_text told count ≡ reply_text (Listed names)
 listed-is st s ids names told count are same is =
     ap (λ ns. listed_text ns count) same
-    ∙ ap (λ n. listed_text names n) (is ∙ ap length are.ids_are ∙ length-map (id_in same_name (view_of st s)) names)
+    ∙ ap (λ n. listed_text names n) (is ∙ ap length are.ids_are ∙ length-map names (id_in same_name (view_of st s)))

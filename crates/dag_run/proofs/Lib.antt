@@ -6,3 +6,4 @@ pub mod Staying
 pub mod Going
 pub mod Ending
 pub mod Doing
+pub mod Statuses

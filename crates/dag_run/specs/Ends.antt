@@ -1,20 +1,21 @@
 -- What a run over a disk, a source and a sink says of its status, where they tell.
-use Rattle.std.specs.Prelude.{ℕ, ◌≡◌, List, [], length, Result, Ok, Err, ⊤}
+use Rattle.std.specs.Prelude.{ℕ, ◌≡◌, ◌⊎◌, List, [], length, Result, Ok, Err, ⊤}
 use Rattle.id_groups.specs.Name.{Name}
 use Rattle.commit_graph.specs.World.{World}
 use Rattle.line_io.specs.Lines.{lines_of}
 use Rattle.batch_codec.specs.Payload.{Payload}
 use Rattle.change_rules.specs.declared.Limits.{Limits}
 use Rattle.run_rules.specs.Ends.{End, status_of}
-use Rattle.run_rules.specs.Means.{Means, IsComplete, RefusesLog}
+use Rattle.run_rules.specs.Means.{Means, IsComplete}
 use Rattle.run_rules.specs.Premises.{Start}
+use Rattle.change_rules.specs.Unlawful.{IsNoLog}
 use Rattle.step_rules.specs.State.{start}
 use Rattle.dag_store.specs.Kept.{PlainStore}
 use Rattle.dag_store.specs.Stands.{Stands}
 use Rattle.dag_run.specs.Seen.{Seen, streams}
 use Rattle.dag_run.specs.Lines.{PutsFault}
 use Rattle.dag_run.specs.declared.stops.Stop.{Stop}
-use Rattle.dag_run.specs.declared.stops.Stop.TheVariants.{NoLog, NotLoaded}
+use Rattle.dag_run.specs.declared.stops.Stop.TheVariants.{Memory, NoLog, NotLoaded}
 
 -- the disk holds the world, by these payloads
 abbrev pub Begins : Limits → World Name → List Payload → Seen → Type 0
@@ -27,9 +28,21 @@ StatusMeans limits w payloads room DiskFailed SourceFailed SinkFailed status cha
     × (m : Means limits w payloads room [] [] (streams before after) SinkFailed before.disk after.disk end changes)
     × IsComplete limits [] [] (streams before after) DiskFailed SourceFailed SinkFailed end m.replies
 
--- the status is that of an end which refuses exactly what is no log
-abbrev pub StatusRefuses : Limits → ℕ → Seen → Seen → Type 0
-StatusRefuses limits status before after = (end : End) × (status ≡ status_of end) × RefusesLog limits.log (streams before after) before.disk after.disk end
+-- Status 4 comes only where a read gives what is no log, and over such bytes always, unless a call of loading failed or memory was
+-- wanting before the first line.
+abbrev pub StatusRefuses : ℕ → List ℕ → ℕ → Type 0
+StatusRefuses limit bytes status = (status ≡ 4 → IsNoLog limit bytes) × (IsNoLog limit bytes → (status ≡ 4) ⊎ ((status ≡ 3) ⊎ (status ≡ 7)))
+
+-- the same of a run's result
+abbrev pub RunRefuses : ℕ → List ℕ → Result Unit Stop → Type 0
+RunRefuses limit bytes result =
+    (result ≡ Err NoLog → IsNoLog limit bytes) × (IsNoLog limit bytes → (result ≡ Err NoLog) ⊎ ((result ≡ Err NotLoaded) ⊎ (result ≡ Err Memory)))
+
+-- and of loading
+abbrev pub LoadRefuses : ℕ → List ℕ → Result PlainStore Stop → Type 0
+LoadRefuses limit bytes (Ok store) = IsNoLog limit bytes → ⊥
+LoadRefuses limit bytes (Err NoLog) = IsNoLog limit bytes
+LoadRefuses limit bytes (Err _) = ⊤
 
 -- where the disk holds the world, a run begins, unless the disk or the memory fails
 abbrev pub OpensRun : List Payload → World Name → Result PlainStore Stop → Type 0

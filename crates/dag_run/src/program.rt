@@ -12,11 +12,11 @@ ghost use Rattle.change_rules.specs.Holding.{HoldAs};
 ghost use Rattle.change_rules.specs.Standard.{AreLimits, standard};
 ghost use Rattle.run_rules.specs.Means.{Means};
 ghost use Rattle.run_rules.specs.Ends.{status_of as end_status};
-ghost use Rattle.dag_store.specs.Loading.{KeepsHolding, IsLoadedStore};
+ghost use Rattle.dag_store.specs.Loading.{KeepsHolding, IsLoadedStore, SameBytes};
 ghost use Rattle.dag_run.specs.Seen.{seen, streams};
 ghost use Rattle.dag_run.specs.Stops.{end_of, IsLoadStop, IsRunStatus, IsStatus};
 ghost use Rattle.dag_run.specs.Lines.{PutsFault};
-ghost use Rattle.dag_run.specs.Ends.{Begins, OpensRun, LoadPuts, StatusMeans};
+ghost use Rattle.dag_run.specs.Ends.{Begins, OpensRun, LoadPuts, LoadRefuses, RunRefuses, StatusMeans, StatusRefuses};
 
 use crate::execute::execute;
 use crate::replies::tell_fault;
@@ -43,6 +43,8 @@ fn load<D: Disk, O: Sink>(
     ensures calls { Goes LoadCalls (D.told log.old) (D.told log.new) }
     ensures puts { WhereTold (O.taken output.old) (O.taken output.new) (LoadPuts (Rose (O.faults output.old) (O.faults output.new)) result) }
     ensures quiet { (result ≡ Err Stop.NotLoaded → ⊥) → output.new ≡ output.old }
+    ensures lawful { IfSome (D.bytes log.old) (λ bytes. LoadRefuses limits.log bytes result) }
+    ensures unwritten { result ≡ Err Stop.NoLog → Goes SameBytes (D.told log.old) (D.told log.new) }
     ensures stop { IfErr result IsLoadStop }
     ensures cause { result ≡ Err Stop.NotLoaded → Rose (D.faults log.old) (D.faults log.new) }
     ensures later { D.faults log.old ≤ D.faults log.new }
@@ -75,6 +77,8 @@ fn run<D: Disk, I: Source, O: Sink>(
     ensures means { (w : World Name) (payloads : List Payload) (room : ℕ) → WhereTold (seen (D.told log.old) (I.left input.old) (O.taken output.old)) (seen (D.told log.new) (I.left input.new) (O.taken output.new))
         (λ before after. Begins limits w payloads before
         → Means limits w payloads room [] [] (streams before after) (Rose (O.faults output.old) (O.faults output.new)) before.disk after.disk (end_of result) changes.new.items) }
+    ensures refuses { IfSome (D.bytes log.old) (λ bytes. RunRefuses limits.log bytes result) }
+    ensures unwritten { result ≡ Err Stop.NoLog → Goes SameBytes (D.told log.old) (D.told log.new) × (output.new ≡ output.old) }
     ensures quiet { result ≡ Err Stop.Memory → (input.new ≡ input.old) × (output.new ≡ output.old) }
     ensures disk { (result ≡ Err Stop.NotLoaded) ⊎ (result ≡ Err Stop.NotStored) → Rose (D.faults log.old) (D.faults log.new) }
     ensures source { result ≡ Err Stop.Source → Rose (I.faults input.old) (I.faults input.new) }
@@ -120,6 +124,8 @@ pub fn run_lines<D: Disk, I: Source, O: Sink>(
     ensures means { (w : World Name) (payloads : List Payload) (room : ℕ) → WhereTold (seen (D.told log.old) (I.left input.old) (O.taken output.old)) (seen (D.told log.new) (I.left input.new) (O.taken output.new))
         (λ before after. Begins limits w payloads before → StatusMeans limits w payloads room
         (Rose (D.faults log.old) (D.faults log.new)) (Rose (I.faults input.old) (I.faults input.new)) (Rose (O.faults output.old) (O.faults output.new)) result.status result.changes before after) }
+    ensures refuses { IfSome (D.bytes log.old) (λ bytes. StatusRefuses limits.log bytes result.status) }
+    ensures unwritten { result.status ≡ 4 → Goes SameBytes (D.told log.old) (D.told log.new) × (output.new ≡ output.old) }
     ensures quiet { result.status ≡ 7 → (input.new ≡ input.old) × (output.new ≡ output.old) }
     ensures disk { result.status ≡ 3 → Rose (D.faults log.old) (D.faults log.new) }
     ensures source { result.status ≡ 5 → Rose (I.faults input.old) (I.faults input.new) }
@@ -129,7 +135,7 @@ pub fn run_lines<D: Disk, I: Source, O: Sink>(
     let end = run(alloc, limits, log, input, output, &mut changes);
     Report {
         status: status(end),
-        changes: Moments::new(changes),
+        changes: Moments::of(changes),
     }
 }
 
@@ -159,6 +165,8 @@ pub fn top<D: Disk, I: Source, O: Sink>(
         → WhereTold (seen (D.told log.old) (I.left input.old) (O.taken output.old)) (seen (D.told log.new) (I.left input.new) (O.taken output.new))
         (λ before after. Begins standard w payloads before → StatusMeans standard w payloads room
         (Rose (D.faults log.old) (D.faults log.new)) (Rose (I.faults input.old) (I.faults input.new)) (Rose (O.faults output.old) (O.faults output.new)) result.status result.changes before after) }
+    ensures refuses { map string_bytes words.now ≡ codes "run" ∷ [] → IfSome (D.bytes log.old) (λ bytes. StatusRefuses standard.log bytes result.status) }
+    ensures unwritten { result.status ≡ 4 → Goes SameBytes (D.told log.old) (D.told log.new) × (output.new ≡ output.old) }
     ensures quiet { (result.status ≡ 2) ⊎ (result.status ≡ 7) → (input.new ≡ input.old) × (output.new ≡ output.old) }
     ensures untouched { result.status ≡ 2 → log.new ≡ log.old }
     ensures disk { result.status ≡ 3 → Rose (D.faults log.old) (D.faults log.new) }
@@ -169,7 +177,7 @@ pub fn top<D: Disk, I: Source, O: Sink>(
     if !is_run(words) {
         return Report {
             status: 2,
-            changes: Moments::new(Vec::new(alloc)),
+            changes: Moments::of(Vec::new(alloc)),
         };
     }
     run_lines(alloc, Limits::standard(), log, input, output)

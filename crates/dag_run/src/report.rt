@@ -20,7 +20,7 @@ impl Model for Moments {
 
 impl Moments {
     /// The list of these moments.
-    pub(crate) fn new(moments: Vec<u64>) -> Moments
+    pub(crate) fn of(moments: Vec<u64>) -> Moments
         ensures { result ≡ moments.items }
     {
         Moments { moments }

@@ -23,6 +23,8 @@ use Rattle.dag_run.proofs.Doing.{ready-line}
 use Rattle.dag_run.proofs.Seeing.{Each, seen-each, seen-step, sound-told, same-told, rose-since}
 use Rattle.dag_run.proofs.Going.{Going, going-start, going-line}
 use Rattle.dag_run.proofs.Ending.{RunMeans, ends-unread, going-end, going-fault, going-stop, load-stops}
+use Rattle.dag_run.specs.Stops.{stop_of}
+use Rattle.dag_run.proofs.Statuses.{refuses-nothing, load-refuses, line-refuses, fault-no-log, stop-no-log, log-not-loaded}
 use Rattle.dag_run.proofs.program.run.Goals as goal
 
 pub returns-in_err-lines-clause-means : goal.returns-in_err-lines-clause-means
@@ -68,6 +70,7 @@ lines-init g c =
           (subst (λ cs. Going limits w payloads room store cs (new_reading limits.input) x y) (sym c.requires.none)
           (going-start limits c.requires.limits w payloads room x begins store y c.in_ok-store.ensures.limits (t.disk.0 begins.read) (t.disk.1.0 begins.holds) t.disk.1.1.0 t.disk.1.1.1 t.left t.taken)))
           (seen-each d e i i o q Q (λ x y. y ≡ x) (λ x y. y ≡ x) (goes-told Q d e disk) (same-told i) c.in_ok-store.ensures.puts);
+      lawful = c.in_ok-store.ensures.lawful;
       disk_later = search rules;
       source_later = search rules;
       sink_later = search rules;
@@ -131,6 +134,7 @@ lines-preserved g c =
           (going-line limits c.requires.limits w payloads room x y z begins store c.lines.changes.items old new kind step.0 step.1 c.lines.invariant.limits (a begins) t.left.0 t.left.1 next here
           (λ l is. t.taken l (subst (λ text. IsLine kind text l) (sym c.text.ensures) is)) t.disk))
           (c.lines.invariant.told w payloads room) (goes-told (LineLeaves store step.0 step.1 (Ok next)) e f step.3) left step.4;
+      lawful = c.lines.invariant.lawful;
       disk_later = search rules;
       source_later = search rules;
       sink_later = search rules;
@@ -149,3 +153,43 @@ returns-clause-means g c = λ w payloads room.
     seen-step d e e i j k o q q _ _ (λ x y. (y ≡ x) × IsSound x) L (λ x y. y ≡ x)
     (λ x y z a t begins. going-end c.args.limits c.requires.limits w payloads room failed x begins c.lines.store c.lines.changes.items old new y z (a begins) t.disk.0 t.disk.1 t.taken t.left.0 (t.left.1 (a begins).reads.out ended))
     (c.lines.invariant.told w payloads room) (sound-told e (g.met.D.Disk.sound c.lines.log)) left (same-told q)
+
+pub returns-in_err-lines-clause-refuses : goal.returns-in_err-lines-clause-refuses
+returns-in_err-lines-clause-refuses g c =
+    let p = err_from_is_err_and c.from_residual.result c.from_residual.ensures.1 in
+    rw (p.1, p.2) (refuses-nothing c.args.limits.log (g.D.Disk.bytes c.args.log.now))
+
+pub returns-in_err-store-clause-refuses : goal.returns-in_err-store-clause-refuses
+returns-in_err-store-clause-refuses g c =
+    let p = err_from_is_err_and c.from_residual-in_err-store.result c.from_residual-in_err-store.ensures.1 in
+    rw (p.1, p.2) (load-refuses c.args.limits.log (g.D.Disk.bytes c.args.log.now) c.in_err-store.field-0.0 c.in_err-store.ensures.stop c.in_err-store.ensures.lawful)
+
+pub returns-in_err-store-clause-unwritten : goal.returns-in_err-store-clause-unwritten
+returns-in_err-store-clause-unwritten g c = λ e.
+    let p = err_from_is_err_and c.from_residual-in_err-store.result c.from_residual-in_err-store.ensures.1 in
+    let is : Err c.in_err-store.field-0.0 ≡ Err stops.NoLog = ap Err (sym p.2) ∙ sym p.1 ∙ e in
+    let same : c.in_err-store.field-0.0 ≡ stops.NoLog = cc is in
+    (c.in_err-store.ensures.unwritten (ap Err same), c.in_err-store.ensures.quiet (λ no. log-not-loaded c.in_err-store.field-0.0 same (cc no)))
+
+pub returns-in_err-kind-clause-refuses : goal.returns-in_err-kind-clause-refuses
+returns-in_err-kind-clause-refuses g c =
+    let p = err_from_is_err_and c.from_residual-in_err-kind.result c.from_residual-in_err-kind.ensures.1 in
+    rw (p.1, p.2) (line-refuses c.args.limits.log (g.D.Disk.bytes c.args.log.now) (Err (stop_of c.in_err-kind.field-0.0)) (fault-no-log c.in_err-kind.field-0.0) c.lines.invariant.lawful)
+
+pub returns-in_err-kind-clause-unwritten : goal.returns-in_err-kind-clause-unwritten
+returns-in_err-kind-clause-unwritten g c = λ e.
+    let p = err_from_is_err_and c.from_residual-in_err-kind.result c.from_residual-in_err-kind.ensures.1 in
+    absurd (fault-no-log c.in_err-kind.field-0.0 (ap Err (sym p.2) ∙ sym p.1 ∙ e))
+
+pub returns-in_err-store-2-clause-refuses : goal.returns-in_err-store-2-clause-refuses
+returns-in_err-store-2-clause-refuses g c =
+    let p = err_from_is_err_and c.from_residual-in_err-store-2.result c.from_residual-in_err-store-2.ensures.1 in
+    rw (p.1, p.2) (line-refuses c.args.limits.log (g.D.Disk.bytes c.args.log.now) (Err c.in_err-store-2.field-0.0) (stop-no-log c.in_err-store-2.field-0.0 c.in_err-store-2.ensures.stop) c.lines.invariant.lawful)
+
+pub returns-in_err-store-2-clause-unwritten : goal.returns-in_err-store-2-clause-unwritten
+returns-in_err-store-2-clause-unwritten g c = λ e.
+    let p = err_from_is_err_and c.from_residual-in_err-store-2.result c.from_residual-in_err-store-2.ensures.1 in
+    absurd (stop-no-log c.in_err-store-2.field-0.0 c.in_err-store-2.ensures.stop (ap Err (sym p.2) ∙ sym p.1 ∙ e))
+
+pub returns-clause-refuses : goal.returns-clause-refuses
+returns-clause-refuses g c = line-refuses c.args.limits.log (g.D.Disk.bytes c.args.log.now) (Ok tt) (λ e. cc e) c.lines.invariant.lawful
