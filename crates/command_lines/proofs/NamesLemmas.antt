@@ -71,9 +71,6 @@ split-words word (next ∷ words) [] h = absurd h
 split-words word (next ∷ words) (n ∷ names) h =
     split-part 32 word (next ++ more_words words) (name-no-blank word n h.0) ∙ ap (λ r. word ∷ r) (split-words next words names h.1)
 
-more-words-cons : (word : List ℕ) (words : List (List ℕ)) → more_words (word ∷ words) ≡ 32 ∷ (word ++ more_words words)
-more-words-cons word words = refl
-
 -- one more byte in front of the first word
 put-words : (c : ℕ) (parts : List (List ℕ)) (rest text : List ℕ) → more_words (parts ++ rest ∷ []) ≡ 32 ∷ text
     → more_words ((put_before c parts rest).parts ++ (put_before c parts rest).rest ∷ []) ≡ 32 ∷ (c ∷ text)

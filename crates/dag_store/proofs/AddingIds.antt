@@ -1,5 +1,5 @@
 -- Names and ids of a world, and whether a row has the parents that an add gives.
-use Rattle.std.proofs.Common.{◌≡◌, ◌<◌, ◌≤◌, ◌+◌, ◌^◌, ℕ, zero, suc, ◌⊎◌, inl, inr, Bool, true, false, ◌&&◌, List, [], ◌∷◌, ◌++◌, length, map, nat_eq, Option, Some, None, slice_get, is_some, refl, sym, ap, ap₂, subst, ◌∙◌, ⊎_elim, arith, true≢false, if◌then◌else◌, lit≤}
+use Rattle.std.proofs.Common.{◌≡◌, ◌<◌, ◌≤◌, ◌^◌, ℕ, ◌⊎◌, inl, inr, Bool, true, false, ◌&&◌, List, [], ◌∷◌, length, map, nat_eq, Option, Some, None, slice_get, is_some, refl, sym, ap, ap₂, subst, ◌∙◌, ⊎_elim, arith, true≢false, if◌then◌else◌, lit≤}
 use Rattle.std.specs.List.{AllByRecursion}
 use Rattle.std.specs.Cmp.Lexicographic.{pointwise}
 use Rattle.std.proofs.lemmas.List.{map-append}
@@ -9,7 +9,7 @@ use Rattle.id_groups.specs.Name.{Name, same_name}
 use Rattle.id_groups.specs.Id.{other_id}
 use Rattle.id_groups.proofs.Names.{same_name-exact, same_name-self}
 use Rattle.commit_graph.specs.World.{Row, World, IsWorld, names_of, rows_of, row_named}
-use Rattle.commit_graph.specs.Ids.{id_in, row_at}
+use Rattle.commit_graph.specs.Ids.{id_in}
 use Rattle.commit_graph.proofs.Histories.{in-append, in-all}
 use Rattle.commit_graph.proofs.Places.{IsFound, at-name, id-in-master, id-in-others, master-found, others-found}
 use Rattle.segment_codec.specs.Record.{Segment}

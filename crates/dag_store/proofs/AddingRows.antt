@@ -1,30 +1,29 @@
 -- A row more behind the pending ones.
-use Rattle.std.proofs.Common.{◌≡◌, ◌<◌, ◌≤◌, ◌+◌, ◌^◌, ℕ, zero, suc, ◌⊎◌, inl, inr, Bool, true, false, List, [], ◌∷◌, ◌++◌, length, map, take, drop, flat_map, Option, Some, None, slice_get, refl, sym, ap, ap₂, subst, ◌∙◌, ⊎_elim, arith, append_assoc, length-append, add-zero}
+use Rattle.std.proofs.Common.{◌≡◌, ◌<◌, ◌≤◌, ◌+◌, ◌^◌, ℕ, ◌⊎◌, inl, inr, false, List, [], ◌∷◌, ◌++◌, length, map, Some, None, slice_get, refl, sym, ap, ap₂, subst, ◌∙◌, ⊎_elim, append_assoc}
 use Rattle.std.specs.List.{AllByRecursion}
-use Rattle.std.proofs.lemmas.List.{map-append, length-map, take-append-drop}
-use Rattle.id_groups.specs.Lists.{IsIn, is_in, AreAllIn, AreDistinct}
+use Rattle.std.proofs.lemmas.List.{map-append}
+use Rattle.id_groups.specs.Lists.{IsIn, AreAllIn}
 use Rattle.id_groups.specs.Name.{Name, IsName, same_name}
 use Rattle.id_groups.specs.Id.{other_id}
 use Rattle.id_groups.proofs.Names.{same_name-exact, same_name-self}
 use Rattle.id_groups.proofs.Listing.{missing}
-use Rattle.commit_graph.specs.World.{Row, World, IsWorld, IsNamedWorld, IsNext, IsHistory, names_of, rows_of, with_pending}
+use Rattle.commit_graph.specs.World.{Row, World, IsNamedWorld, IsNext, names_of, rows_of, with_pending}
 use Rattle.commit_graph.specs.Ids.{id_in}
-use Rattle.commit_graph.proofs.Histories.{history-rest, in-append, world-next}
-use Rattle.commit_graph.proofs.Down.{in-left, in-right}
-use Rattle.commit_graph.proofs.Naming.{named-by, name-of, pending-names, pending-there}
-use Rattle.commit_graph.proofs.Places.{id-in-others, place-right, name-at, at-name}
+use Rattle.commit_graph.proofs.Histories.{world-next}
+use Rattle.commit_graph.proofs.Down.{in-right}
+use Rattle.commit_graph.proofs.Naming.{named-by, name-of, pending-names}
+use Rattle.commit_graph.proofs.Places.{id-in-others, place-right}
 use Rattle.segment_codec.proofs.Tables.{le_or_lt}
 use Rattle.batch_codec.specs.Payload.{Payload}
-use Rattle.payload_tables.specs.Pending.{IdRow, PlainPending, HoldsRows, row_names}
+use Rattle.payload_tables.specs.Pending.{IdRow, PlainPending, HoldsRows}
 use Rattle.payload_tables.specs.Bases.{ArePending, id_row}
 use Rattle.payload_tables.proofs.Lists.{parents-known}
 use Rattle.payload_tables.proofs.Joined.{seen-id}
-use Rattle.change_rules.specs.declared.Limit.TheVariants as limit
 use Rattle.step_rules.specs.Worlds.{has}
 use Rattle.dag_store.proofs.ParentTests.{distinct-parents}
 use Rattle.dag_store.proofs.AddingTests.{parents-there, parents-once}
 use Rattle.step_rules.specs.Tests.{first_some}
-use Rattle.dag_store.specs.Adding.{parent_refusals, Appends}
+use Rattle.dag_store.specs.Adding.{parent_refusals}
 
 pub either-group : (ids : List ℕ) → AllByRecursion (λ p. (p < 2 ^ 56) ⊎ (2 ^ 56 ≤ p)) ids
 either-group [] = tt

@@ -1,8 +1,7 @@
 -- What an add comes to before it changes anything.
-use Rattle.std.proofs.Common.{◌≡◌, ◌≤◌, ℕ, List, map, length, nat_eq, Option, Some, None, Result, Ok, Err, refl, sym, ap, ap₂, subst, ◌∙◌, arith}
+use Rattle.std.proofs.Common.{◌≡◌, ◌≤◌, ℕ, List, map, length, nat_eq, Some, None, Result, Ok, Err, sym, ap₂, subst, ◌∙◌, arith}
 use Rattle.std.specs.Prelude.{IsErrAnd}
 use Rattle.std.specs.Cmp.Lexicographic.{pointwise}
-use Rattle.id_groups.specs.Lists.{AreAllIn}
 use Rattle.id_groups.specs.Name.{Name, same_name}
 use Rattle.id_groups.proofs.Names.{same_name-exact, same_name-self}
 use Rattle.id_groups.proofs.Listing.{found}

@@ -1,9 +1,7 @@
 -- How an add ends for a session.
-use Rattle.std.proofs.Common.{◌≡◌, ◌<◌, ◌≤◌, ◌+◌, ℕ, inl, inr, List, [], ◌∷◌, ◌++◌, length, map, Result, Ok, Err, None, refl, sym, ap, subst, ◌∙◌, arith, false}
+use Rattle.std.proofs.Common.{◌≡◌, ◌≤◌, ◌+◌, ℕ, inl, inr, List, [], ◌∷◌, ◌++◌, length, map, Result, Ok, Err, None, refl, sym, ap, subst, ◌∙◌, arith, false}
 use Rattle.std.specs.Prelude.{OnErr}
-use Rattle.std.specs.List.{AllByRecursion}
 use Rattle.std.proofs.lemmas.List.{length-map}
-use Rattle.id_groups.specs.Lists.{IsIn}
 use Rattle.id_groups.specs.Name.{Name, IsName, same_name}
 use Rattle.id_groups.specs.Id.{other_id}
 use Rattle.commit_graph.specs.World.{Row, World, with_pending}
@@ -14,8 +12,8 @@ use Rattle.batch_codec.specs.Payload.{Payload}
 use Rattle.batch_codec.specs.Grammar.{AreLawful}
 use Rattle.name_map.specs.Added.{Placed, payloads_of}
 use Rattle.change_rules.specs.declared.Limit.TheVariants as limit
-use Rattle.payload_tables.specs.Pending.{IdRow, PlainPending, HoldsRows}
-use Rattle.payload_tables.specs.Bases.{ArePending, id_row}
+use Rattle.payload_tables.specs.Pending.{IdRow, PlainPending}
+use Rattle.payload_tables.specs.Bases.{id_row}
 use Rattle.step_rules.specs.declared.Refusal.{Refusal}
 use Rattle.step_rules.specs.declared.Refusal.TheVariants as why
 use Rattle.step_rules.specs.Worlds.{has}

@@ -1,45 +1,40 @@
 -- The step of an add, and of the id of a name.
-use Rattle.std.proofs.Common.{◌≡◌, ◌<◌, ◌≤◌, ◌+◌, ℕ, zero, suc, ◌⊎◌, inl, inr, Bool, true, false, not, List, [], ◌∷◌, ◌++◌, length, map, Option, Some, None, Result, Ok, Err, MatchOption, get_or, set, refl, sym, ap, ap₂, subst, ◌∙◌, ⊎_elim, arith, append_assoc, if◌then◌else◌, lt-ltb, le-ltb}
+use Rattle.std.proofs.Common.{◌≡◌, ◌<◌, ◌≤◌, ◌+◌, ℕ, zero, suc, inl, inr, Bool, true, false, List, [], ◌∷◌, ◌++◌, length, map, Option, Some, None, Result, Ok, Err, MatchOption, set, refl, sym, ap, ap₂, subst, ◌∙◌, ⊎_elim, arith, append_assoc, if◌then◌else◌, lt-ltb, le-ltb}
 use Rattle.std.specs.Prelude.{IsErrAnd}
 use Rattle.std.specs.Result.{OnOk}
 use Rattle.std.specs.Bool.{MatchBool}
-use Rattle.std.specs.List.{AllByRecursion}
 use Rattle.std.proofs.lemmas.List.{map-append}
-use Rattle.id_groups.specs.Lists.{IsIn}
-use Rattle.id_groups.specs.Name.{Name, IsName, same_name}
-use Rattle.commit_graph.specs.World.{Row, World, IsNamedWorld, names_of, with_pending}
+use Rattle.id_groups.specs.Name.{Name, same_name}
+use Rattle.commit_graph.specs.World.{Row, World, with_pending}
 use Rattle.commit_graph.specs.Ids.{id_in}
-use Rattle.commit_graph.proofs.Naming.{each, named-by, name-of, pending-names}
 use Rattle.batch_codec.specs.Payload.{Payload}
 use Rattle.gated_log.specs.Held.{Held}
-use Rattle.name_map.specs.Added.{Placed, payloads_of}
+use Rattle.name_map.specs.Added.{payloads_of}
 use Rattle.change_rules.specs.declared.Limits.{Limits}
 use Rattle.change_rules.specs.declared.Limit.TheVariants as limit
 use Rattle.payload_tables.specs.Kept.{PlainTables}
-use Rattle.payload_tables.specs.Pending.{IdRow, PlainPending, row_names}
-use Rattle.payload_tables.specs.Bases.{ArePending, id_row}
-use Rattle.payload_tables.proofs.Naming.{whole-names}
 use Rattle.remote_rules.specs.CloneData.{KnownName}
 use Rattle.step_rules.specs.declared.Refusal.{Refusal}
 use Rattle.step_rules.specs.declared.Refusal.TheVariants as why
-use Rattle.step_rules.specs.State.{Stored, session, pending_of, base_of, view_of, world_at}
+use Rattle.step_rules.specs.State.{Stored, session, pending_of, base_of, view_of}
 use Rattle.step_rules.specs.Verb.{Verb, Add, IdOf}
-use Rattle.step_rules.specs.Reply.{Reply, Added as IsAdded, Old as IsOld, Identified, Refused}
+use Rattle.step_rules.specs.Reply.{Added as IsAdded, Old as IsOld, Identified, Refused}
 use Rattle.step_rules.specs.Asked.{is_asked, found_as}
 use Rattle.step_rules.specs.Worlds.{has, with_added}
-use Rattle.step_rules.specs.Tests.{Test, plain, named, looked_up, unknown, twice, differs, full, first_some, tests}
+use Rattle.step_rules.specs.Tests.{plain, named, looked_up, unknown, twice, differs, full, first_some, tests}
 use Rattle.step_rules.specs.Step.{IsRefused}
 use Rattle.step_rules.specs.Lone.{LoneStep, LoneAnswers, lone}
 use Rattle.step_rules.proofs.Sessions.{base-changed, pending-changed}
 use Rattle.dag_store.specs.declared.replies.Added.{Added}
 use Rattle.dag_store.specs.declared.replies.Added.TheVariants.{New, Old}
-use Rattle.dag_store.specs.Kept.{PlainSession, PlainStore, IsKept, no_session, session_at, base_added, sixteen}
+use Rattle.dag_store.specs.Kept.{PlainSession, PlainStore, IsKept, session_at, base_added, sixteen}
 use Rattle.dag_store.specs.Stands.{Stands}
-use Rattle.dag_store.specs.Looking.{is_asked_in, FindsName}
-use Rattle.dag_store.specs.Adding.{looked, add_refusals, parent_refusals, IsWhy, IsSeen, AddsRow}
+use Rattle.dag_store.specs.Looking.{FindsName}
+use Rattle.dag_store.specs.Adding.{looked, add_refusals, IsWhy, IsSeen, AddsRow}
 use Rattle.dag_store.specs.Steps.{AddStep, IdStep}
 use Rattle.dag_store.proofs.Sees.{base-holds, asked-same}
 use Rattle.dag_store.proofs.Standing.{stands-with}
+use Rattle.dag_store.proofs.AddingWorlds.{pending-named}
 use Rattle.dag_store.proofs.AddingTests.{first-front, first-behind, first-skip, first-here, search-refused, parent-found, parent-unknown}
 
 -- a name that has to be asked is refused where there is no mirror
@@ -52,16 +47,6 @@ set-back : (xs : List PlainSession) (s : ℕ) → set xs s (session_at xs s) ≡
 set-back [] s = refl
 set-back (x ∷ xs) zero = refl
 set-back (x ∷ xs) (suc s) = ap (λ l. x ∷ l) (set-back xs s)
-
-mapped-names : (v : World Name) (some : List (Row Name)) → row_names (map (id_row v) some) ≡ names_of some
-mapped-names v [] = refl
-mapped-names v (r ∷ some) = ap (λ l. r.name ∷ l) (mapped-names v some)
-
--- rows that are kept have names
-pub pending-named : (w : World Name) (pending : PlainPending) (rows : List (Row Name)) → IsNamedWorld w → ArePending w pending rows → IsNamedWorld (with_pending w rows)
-pending-named w pending rows h p =
-    let names = subst (AllByRecursion IsName) (mapped-names (with_pending w rows) rows) (whole-names (map (id_row (with_pending w rows)) rows) p.held.whole) in
-    named-by (with_pending w rows) p.view (λ n i. ⊎_elim (λ j. name-of w h n j) (λ j. each IsName (names_of rows) names n j) (pending-names w rows n i))
 
 by-has : (b c : Bool) (P Q : Type 0) → b ≡ c → MatchBool c P Q → MatchBool b P Q
 by-has b c P Q e h = subst (λ z. MatchBool z P Q) (sym e) h

@@ -1,42 +1,37 @@
 -- A session that is kept sees some world, and with one more row behind it it may still be kept.
-use Rattle.std.proofs.Common.{◌≡◌, ◌<◌, ◌≤◌, ◌+◌, ◌^◌, ℕ, ◌⊎◌, inl, inr, List, [], ◌∷◌, ◌++◌, length, map, take, drop, flat_map, Option, Some, None, Result, Ok, Err, refl, sym, ap, ap₂, subst, ◌∙◌, ⊎_elim, arith, append_assoc, append-nil, lit≤}
+use Rattle.std.proofs.Common.{◌≡◌, ◌<◌, ◌≤◌, ◌+◌, ◌^◌, ℕ, ◌⊎◌, inl, inr, List, [], ◌∷◌, ◌++◌, length, map, take, drop, flat_map, None, refl, sym, ap, subst, ◌∙◌, ⊎_elim, arith, append_assoc}
 use Rattle.std.specs.List.{AllByRecursion}
 use Rattle.std.proofs.lemmas.List.{map-append, length-map, take-append-drop, length-append}
 use Rattle.id_groups.specs.Lists.{IsIn, AreAllIn, AreDistinct}
 use Rattle.id_groups.specs.Name.{Name, IsName, same_name}
 use Rattle.id_groups.specs.Id.{other_id}
-use Rattle.commit_graph.specs.World.{Row, World, IsWorld, IsNamedWorld, IsHistory, names_of, rows_of, with_pending}
+use Rattle.commit_graph.specs.World.{Row, World, IsNamedWorld, IsHistory, names_of, rows_of, with_pending}
 use Rattle.commit_graph.specs.Ids.{id_in}
-use Rattle.commit_graph.proofs.Histories.{history-rest, in-append, in-all}
+use Rattle.commit_graph.proofs.Histories.{history-rest}
 use Rattle.commit_graph.proofs.Down.{in-left, in-right}
 use Rattle.commit_graph.proofs.Naming.{each, named-by, name-of, pending-names}
 use Rattle.segment_codec.specs.Record.{segment_bytes}
 use Rattle.segment_codec.specs.Flat.{IsFlat}
 use Rattle.batch_codec.specs.Payload.{Payload, known_names}
 use Rattle.batch_codec.specs.Grammar.{AreLawful, count_after}
-use Rattle.name_map.specs.Added.{Placed, payloads_of, AllStand}
+use Rattle.name_map.specs.Added.{Placed, payloads_of}
 use Rattle.flat_segments.specs.Placed.{Placed as PlacedSegment, placed}
 use Rattle.change_rules.specs.Tables.{StandFor, newest, other_names_in}
 use Rattle.payload_tables.specs.declared.base.BaseRef.{BaseRef}
-use Rattle.payload_tables.specs.Kept.{PlainTables, AreTablesOf}
-use Rattle.payload_tables.specs.Pending.{IdRow, PlainPending, HoldsRows, row_names, segments_from}
+use Rattle.payload_tables.specs.Pending.{IdRow, PlainPending, HoldsRows, segments_from}
 use Rattle.payload_tables.specs.Bases.{IsBaseOf, MayView, ArePending, id_row}
 use Rattle.payload_tables.proofs.Lists.{names-length, parents-known}
 use Rattle.payload_tables.proofs.Naming.{whole-names}
 use Rattle.payload_tables.proofs.Rows.{count-rows}
-use Rattle.flush_rebuild.specs.Asked.{others_count, IsStored, HaveParents, MayStore}
+use Rattle.flush_rebuild.specs.Asked.{others_count, HaveParents, MayStore}
 use Rattle.flush_rebuild.proofs.Numbered.{AllRows, Behind}
 use Rattle.flush_rebuild.proofs.Invented.{FitBehind, some-world}
 use Rattle.flush_rebuild.proofs.Asking.{stored-names, lawful-small}
-use Rattle.step_rules.specs.Worlds.{has}
 use Rattle.step_rules.specs.Tests.{first_some}
-use Rattle.step_rules.specs.declared.Refusal.{Refusal}
-use Rattle.dag_store.specs.declared.replies.Added.{Added}
-use Rattle.dag_store.specs.declared.replies.Added.TheVariants.{New, Old}
 use Rattle.dag_store.specs.Kept.{PlainSession, IsSessionOf, base_added}
 use Rattle.dag_store.specs.Looking.{Sees}
-use Rattle.dag_store.specs.Adding.{IsSeen, MayBeParents, AddsRow, parent_refusals, add_refusals}
-use Rattle.dag_store.proofs.StoredNames.{stored-there}
+use Rattle.dag_store.specs.Adding.{IsSeen, MayBeParents, parent_refusals}
+use Rattle.dag_store.proofs.StoredNames.{names-of-rows, stored-there}
 use Rattle.dag_store.proofs.ParentTests.{distinct-parents}
 use Rattle.dag_store.proofs.AddingIds.{ids-below, ids-parts, ids-distinct}
 use Rattle.dag_store.proofs.AddingTests.{parents-there, parents-once}
@@ -75,9 +70,11 @@ fit-of added pending s = record {
       (λ j. in-right x (flat_map known_names (payloads_of added)) (other_names_in (newest (payloads_of added))) j) d));
 }
 
-mapped-names : (v : World Name) (some : List (Row Name)) → row_names (map (id_row v) some) ≡ names_of some
-mapped-names v [] = refl
-mapped-names v (r ∷ some) = ap (λ l. r.name ∷ l) (mapped-names v some)
+-- rows that are kept have names
+pub pending-named : (w : World Name) (pending : PlainPending) (rows : List (Row Name)) → IsNamedWorld w → ArePending w pending rows → IsNamedWorld (with_pending w rows)
+pending-named w pending rows h p =
+    let names = subst (AllByRecursion IsName) (names-of-rows (with_pending w rows) rows) (whole-names (map (id_row (with_pending w rows)) rows) p.held.whole) in
+    named-by (with_pending w rows) p.view (λ n i. ⊎_elim (λ j. name-of w h n j) (λ j. each IsName (names_of rows) names n j) (pending-names w rows n i))
 
 -- a session that is kept sees some world
 pub seen : (added : List Placed) (x : PlainSession) → AreLawful [] (payloads_of added) → IsSessionOf added x → (w : World Name) × (rows : List (Row Name)) × IsSeen added x w rows
@@ -87,33 +84,20 @@ seen added x lawful of =
     let st = some-world (payloads_of front) (base-lawful added x.payloads lawful) s.rows (fit-of front x.pending s) in
     let w = st.of_world in
     let rows = st.pending in
-    let whole = whole-names s.rows s.held.whole in
-    let names = subst (AllByRecursion IsName) (ap row_names st.rows_are ∙ mapped-names (with_pending w rows) rows) whole in (
-      w,
-      rows,
-      record {
-        stand = st.stand;
-        world = st.named;
-        pending_rows = record { first = s.first ∙ ap (length {A = Name}) st.stand.names ∙ names-length w.others; held = subst (HoldsRows x.pending) st.rows_are s.held; view = st.view };
-        view = named-by (with_pending w rows) st.view (λ n i. ⊎_elim (λ j. name-of w st.named n j) (λ j. each IsName (names_of rows) names n j) (pending-names w rows n i));
-      },
-    )
+    let pending : ArePending w x.pending rows =
+    record { first = s.first ∙ ap (length {A = Name}) st.stand.names ∙ names-length w.others; held = subst (HoldsRows x.pending) st.rows_are s.held; view = st.view } in
+    (w, rows, record { stand = st.stand; world = st.named; pending_rows = pending; view = pending-named w x.pending rows st.named pending })
 
 -- ---- rows that may be stored
-
-history-distinct : (before : List Name) (rows : List (Row Name)) → IsHistory before rows → AreDistinct (names_of rows)
-history-distinct before [] h = tt
-history-distinct before (r ∷ rows) h = ((λ i. apart (before ++ r.name ∷ []) rows r.name h.1 (in-right r.name before (r.name ∷ []) (inl refl)) i), history-distinct (before ++ r.name ∷ []) rows h.1)
-  where
-    apart : (before : List Name) (rows : List (Row Name)) (x : Name) → IsHistory before rows → IsIn x before → IsIn x (names_of rows) → ⊥
-    apart before [] x h b i = absurd i
-    apart before (q ∷ rows) x h b (inl e) = h.0.fresh (subst (λ z. IsIn z before) e b)
-    apart before (q ∷ rows) x h b (inr i) = apart (before ++ q.name ∷ []) rows x h.1 (in-left x before (q.name ∷ []) b) i
 
 history-apart : (before : List Name) (rows : List (Row Name)) (x : Name) → IsHistory before rows → IsIn x before → IsIn x (names_of rows) → ⊥
 history-apart before [] x h b i = absurd i
 history-apart before (q ∷ rows) x h b (inl e) = h.0.fresh (subst (λ z. IsIn z before) e b)
 history-apart before (q ∷ rows) x h b (inr i) = history-apart (before ++ q.name ∷ []) rows x h.1 (in-left x before (q.name ∷ []) b) i
+
+history-distinct : (before : List Name) (rows : List (Row Name)) → IsHistory before rows → AreDistinct (names_of rows)
+history-distinct before [] h = tt
+history-distinct before (r ∷ rows) h = (history-apart (before ++ r.name ∷ []) rows r.name h.1 (in-right r.name before (r.name ∷ []) (inl refl)), history-distinct (before ++ r.name ∷ []) rows h.1)
 
 -- rows that a session sees behind its base
 module _ (added : List Placed) (w : World Name) (stand : StandFor (payloads_of added) w) (small : length w.master ≤ 16777216) (pending : PlainPending) (rows : List (Row Name)) (p : ArePending w pending rows) where
@@ -136,8 +120,8 @@ module _ (added : List Placed) (w : World Name) (stand : StandFor (payloads_of a
     held = p.held;
     first = p.first ∙ sym (ap (length {A = Name}) stand.names ∙ names-length w.others);
     parents = parents-have rows (λ r i. parents-known [] (rows_of (with_pending w rows)) p.view r (in-right r w.master (w.others ++ rows) (in-right r w.others rows i)));
-    distinct = subst AreDistinct (sym (mapped-names (with_pending w rows) rows)) (history-distinct (names_of (rows_of w)) rows parts);
-    fresh = λ x i j. history-apart (names_of (rows_of w)) rows x parts (stored-there added w stand rows p.view x j) (subst (IsIn x) (mapped-names (with_pending w rows) rows) i);
+    distinct = subst AreDistinct (sym (names-of-rows (with_pending w rows) rows)) (history-distinct (names_of (rows_of w)) rows parts);
+    fresh = λ x i j. history-apart (names_of (rows_of w)) rows x parts (stored-there added w stand rows p.view x j) (subst (IsIn x) (names-of-rows (with_pending w rows) rows) i);
   }
 
 -- pending rows that may be stored may be seen behind the base

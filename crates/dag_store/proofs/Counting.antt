@@ -1,8 +1,7 @@
 -- Whether each master id of a base has a stored name, by the number of these.
-use Rattle.std.proofs.Common.{◌≡◌, ℕ, zero, suc, ◌+◌, ◌-◌, ◌<◌, ◌≤◌, Bool, true, false, not, inl, inr, List, [], ◌∷◌, ◌++◌, length, map, take, drop, nat_eq, refl, sym, ap, subst, ◌∙◌, arith, ⊎_elim, if◌then◌else◌, true≢false, zero-le, lt-ltb, le-ltb, ltb-true}
-use Rattle.std.specs.Prelude.{⊤, filter, nat_lt, nat_le, ◌&&◌, flat_map}
-use Rattle.std.specs.List.{list_any, range_with_len}
-use Rattle.std.proofs.lemmas.List.{take-append-drop}
+use Rattle.std.proofs.Common.{◌≡◌, ℕ, zero, suc, ◌+◌, ◌-◌, ◌<◌, ◌≤◌, Bool, true, false, not, inl, inr, List, [], ◌∷◌, ◌++◌, length, map, nat_eq, refl, sym, ap, subst, ◌∙◌, arith, ⊎_elim, if◌then◌else◌, true≢false, zero-le, lt-ltb, le-ltb, ltb-true}
+use Rattle.std.specs.Prelude.{⊤, filter, nat_lt, nat_le, ◌&&◌}
+use Rattle.std.specs.List.{range_with_len}
 use Rattle.std.proofs.lemmas.Bool.Decides.{nat_tests}
 use Rattle.std.proofs.lemmas.Grind.{flat_map-append}
 use Rattle.id_groups.specs.Lists.{IsIn, is_in}
@@ -11,7 +10,7 @@ use Rattle.id_groups.proofs.Listing.{and_true, any-in, in-any, not_true, there, 
 use Rattle.commit_graph.specs.World.{World}
 use Rattle.commit_graph.proofs.Histories.{in-append}
 use Rattle.segment_codec.proofs.Tables.{le_or_lt}
-use Rattle.batch_codec.specs.Payload.{Known, known_ids}
+use Rattle.batch_codec.specs.Payload.{Known}
 use Rattle.batch_codec.specs.Reading.{ids_ascend}
 use Rattle.batch_codec.specs.Grammar.{count_after}
 use Rattle.name_map.specs.Added.{Placed, payloads_of, known_of, Follow}
@@ -22,7 +21,7 @@ use Rattle.change_rules.specs.Lazy.{is_lazy, has_lazy}
 use Rattle.change_rules.specs.Tables.{StandFor, known_in}
 use Rattle.payload_tables.proofs.Lists.{same-self, same-exact}
 use Rattle.flush_rebuild.proofs.Renumber.{in-map, map-in-back}
-use Rattle.dag_store.proofs.StoredNames.{known-all, in-range, range-in}
+use Rattle.dag_store.proofs.StoredNames.{known-all, in-range}
 
 -- ---- known ids ascend, so as many as there is room for are all
 

@@ -1,3 +1,10 @@
+pub mod FlushNames
+pub mod FlushLooks
+pub mod FlushGathers
+pub mod FlushStates
+pub mod FlushRefusals
+pub mod FlushParts
+pub mod FlushSessions
 pub mod Sees
 pub mod Standing
 pub mod Sizes
@@ -21,4 +28,7 @@ pub mod AddingWorlds
 pub mod Opening
 pub mod Showing
 pub mod AddingSession
+pub mod FlushStored
+pub mod FlushSteps
+pub mod FlushDisk
 pub mod AddingSteps

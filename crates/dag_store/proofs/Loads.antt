@@ -1,6 +1,7 @@
 -- Reading a log's payloads in turn.
 use Rattle.std.proofs.Common.{◌≡◌, ◌≤◌, ◌<◌, ◌+◌, ℕ, zero, suc, List, [], ◌∷◌, ◌++◌, length, map, take, drop, refl, sym, ap, subst, ◌∙◌, arith, get_or, append-nil, append_assoc}
-use Rattle.std.proofs.lemmas.List.{take_more, take_all, map-append}
+use Rattle.std.specs.List.{AllByRecursion}
+use Rattle.std.proofs.lemmas.List.{take_more, take_all, drop_all, map-append}
 use Rattle.std.proofs.Math.Seq.{drop-cons}
 use Rattle.batch_codec.specs.Payload.{Payload}
 use Rattle.batch_codec.specs.Grammar.{AreLawful}
@@ -10,10 +11,19 @@ use Rattle.change_rules.specs.Change.{text_of}
 use Rattle.change_rules.specs.Holding.{IsSpelled}
 use Rattle.change_rules.specs.Unlawful.{MayStand, IsFirstUnlawful}
 use Rattle.payload_tables.specs.Kept.{PlainTables, AreTablesOf}
+use Rattle.payload_tables.proofs.Lists.{all-append}
 
 stand-more : (bytes : List ℕ) (added : List Placed) (a : Placed) → AllStand bytes added → AllStand bytes (a ∷ []) → AllStand bytes (added ++ a ∷ [])
 stand-more bytes [] a h s = s
 stand-more bytes (b ∷ added) a h s = (h.0, stand-more bytes added a h.1 s)
+
+later : (end next : ℕ) (added : List Placed) → end ≤ next → AllByRecursion (λ (a : Placed). a.at + length (text_of a.payload) ≤ end) added → AllByRecursion (λ (a : Placed). a.at + length (text_of a.payload) ≤ next) added
+later end next [] le h = tt
+later end next (a ∷ added) le h = (let x = h.0 in omega (arith, le, x), later end next added le h.1)
+
+before : (end size : ℕ) (added : List Placed) → end < size → AllByRecursion (λ (a : Placed). a.at + length (text_of a.payload) ≤ end) added → AllByRecursion (λ (a : Placed). a.at + length (text_of a.payload) < size) added
+before end size [] lt h = tt
+before end size (a ∷ added) lt h = (let x = h.0 in omega (arith, lt, x), before end size added lt h.1)
 
 -- The first of the payloads were added, and the next one stands behind the place.
 pub record ReadSoFar (tables : PlainTables) (payloads : List (List ℕ)) (bytes : List ℕ) (k end : ℕ) : Type 0 where
@@ -23,9 +33,10 @@ pub record ReadSoFar (tables : PlainTables) (payloads : List (List ℕ)) (bytes 
   pub texts : map text_of (payloads_of added) ≡ take k payloads
   pub behind : StandBehind end (drop k payloads) bytes
   pub room : end + log_length (drop k payloads) ≤ length bytes
+  pub within : AllByRecursion (λ (a : Placed). a.at + length (text_of a.payload) ≤ end) added
 
 pub read-start : (tables : PlainTables) (payloads : List (List ℕ)) (bytes : List ℕ) → AreTablesOf tables [] → StandBehind 0 payloads bytes → length bytes ≡ log_length payloads → ReadSoFar tables payloads bytes 0 0
-read-start tables payloads bytes t places size = record { added = []; tables_of = t; stand = tt; texts = take-none payloads; behind = places; room = omega (arith, size) }
+read-start tables payloads bytes t places size = record { added = []; tables_of = t; stand = tt; texts = take-none payloads; behind = places; room = omega (arith, size); within = tt }
   where
     take-none : (payloads : List (List ℕ)) → [] ≡ take 0 payloads
     take-none [] = refl
@@ -59,6 +70,8 @@ read-next tables new payloads bytes k end at next r text p lt is here there spel
           ∙ ap (λ t. take k payloads ++ t ∷ []) (sym spelled ∙ is) ∙ sym (take_more payloads k [] lt);
       behind = subst (λ n. StandBehind n (drop (k + 1) payloads) bytes) (let e : end + 9 + length text ≡ next = omega (arith, there) in e) behind.1;
       room = omega (arith, room, there);
+      within = all-append (λ (b : Placed). b.at + length (text_of b.payload) ≤ next) r.added (a ∷ []) (later end next r.added (omega (arith, there)) r.within)
+          ((let e = ap (length {A = ℕ}) spelled in omega (arith, here, there, e)), tt);
     }
 
 -- the next text is none that may stand there
@@ -84,4 +97,8 @@ read-unlawful tables payloads bytes k end r text lt is none =
 -- all were read
 pub read-all : (tables : PlainTables) (payloads : List (List ℕ)) (bytes : List ℕ) (k end : ℕ) → ReadSoFar tables payloads bytes k end → length payloads ≤ k
     → (added : List Placed) × AreTablesOf tables added × AllStand bytes added × (payloads ≡ map text_of (payloads_of added))
-read-all tables payloads bytes k end r le = (r.added, r.tables_of, r.stand, sym (r.texts ∙ take_all k payloads le))
+    × AllByRecursion (λ (a : Placed). a.at + length (text_of a.payload) < length bytes) added
+read-all tables payloads bytes k end r le =
+    let one : log_length (drop k payloads) ≡ 1 = ap log_length (drop_all k payloads le) in
+    let room = r.room in
+    (r.added, r.tables_of, r.stand, sym (r.texts ∙ take_all k payloads le), before end (length bytes) r.added (omega (arith, room, one)) r.within)

@@ -1,5 +1,6 @@
 -- What a loaded store is, and what a crash leaves while it is loaded.
 use Rattle.std.proofs.Common.{◌≡◌, ◌≤◌, ◌<◌, ◌+◌, ◌⊎◌, inl, inr, ⊎_elim, ℕ, zero, suc, List, [], ◌∷◌, length, map, take, refl, sym, ap, subst, ◌∙◌, Option, Some, None, IfSome, Ok, Err, arith}
+use Rattle.std.specs.List.{AllByRecursion}
 use Rattle.std.proofs.lemmas.List.{take_all}
 use Rattle.id_groups.specs.Name.{Name}
 use Rattle.commit_graph.specs.World.{World, KeepsRows}
@@ -30,7 +31,7 @@ use Rattle.step_rules.proofs.Sessions.{copies}
 use Rattle.step_rules.proofs.States.{start-state, alone}
 use Rattle.dag_store.specs.declared.replies.LoadFault.{LoadFault}
 use Rattle.dag_store.specs.declared.replies.LoadFault.TheVariants.{Frame, TooLarge, Batch, Disk, Memory}
-use Rattle.dag_store.specs.Kept.{PlainSession, PlainStore, IsKept, session_at, base_added, sixteen}
+use Rattle.dag_store.specs.Kept.{PlainSession, PlainStore, IsKept, EndsWithin, session_at, base_added, sixteen}
 use Rattle.dag_store.specs.Stands.{Stands, IsSessionFor}
 use Rattle.dag_store.specs.Loading.{IsOnNewest, fault_of, LoadAnswers, Opens, KeepsHolding, IsLoadedStore}
 use Rattle.dag_store.proofs.Sees.{once}
@@ -40,11 +41,12 @@ abbrev pub EachOnNewest : List Placed → List PlainSession → Type 0
 EachOnNewest added sessions = (s : ℕ) → s < sixteen → IsOnNewest added (session_at sessions s)
 
 pub loaded-kept : (log : Held) (tables : PlainTables) (sessions : List PlainSession) (limits : Limits) (added : List Placed) → AreTablesOf tables added → AllStand (log_bytes log) added → log.payloads ≡ map text_of (payloads_of added)
-    → length sessions ≡ sixteen → EachOnNewest added sessions → AreLimits limits → log.limit ≡ limits.log → IsKept log tables sessions limits
-loaded-kept log tables sessions limits added t stand texts count each fair most = record {
+    → AllByRecursion (EndsWithin log) added → length sessions ≡ sixteen → EachOnNewest added sessions → AreLimits limits → log.limit ≡ limits.log → IsKept log tables sessions limits
+loaded-kept log tables sessions limits added t stand texts within count each fair most = record {
   added = added;
   tables_of = t;
   stand = stand;
+  within = within;
   texts = texts;
   count = count;
   each = λ s small. (each s small).0;

@@ -1,5 +1,5 @@
 -- Parents that are looked up one by one, and one that comes twice.
-use Rattle.std.proofs.Common.{◌≡◌, ◌<◌, ◌+◌, inl, inr, ℕ, suc, Bool, true, false, ◌||◌, List, [], ◌∷◌, ◌++◌, map, length, get_or, take, drop, refl, sym, ◌∙◌, ap, subst, Option, Some, None, true≢false, add-one}
+use Rattle.std.proofs.Common.{◌≡◌, ◌<◌, ◌+◌, inl, inr, ℕ, suc, Bool, true, false, ◌||◌, List, [], ◌∷◌, ◌++◌, length, get_or, take, drop, refl, sym, ◌∙◌, ap, subst, Some, None, add-one}
 use Rattle.std.proofs.Math.Seq.{drop-cons, take-suc}
 use Rattle.id_groups.specs.Lists.{IsIn, is_in, AreDistinct}
 use Rattle.id_groups.specs.Name.{Name, same_name}

@@ -1,5 +1,5 @@
 -- The members of an expression in a session's view.
-use Rattle.std.proofs.Common.{◌≡◌, ◌<◌, ◌≤◌, ◌^◌, ℕ, List, [], ◌∷◌, Option, None, Some, length, map, take, refl, sym, ap, subst, ◌∙◌, inl, inr, arith, get_or, Result, Ok, Err}
+use Rattle.std.proofs.Common.{◌≡◌, ◌≤◌, ◌^◌, ℕ, List, [], ◌∷◌, None, length, map, sym, ap, subst, ◌∙◌, inl, inr, arith, Result, Ok, Err}
 use Rattle.std.specs.Prelude.{◌↔◌, IsErrAnd}
 use Rattle.std.proofs.lemmas.List.{length-map}
 use Rattle.id_groups.specs.Lists.{IsIn, AreAllIn}
@@ -21,7 +21,7 @@ use Rattle.batch_codec.specs.Payload.{Payload}
 use Rattle.step_rules.specs.declared.Refusal.{Refusal}
 use Rattle.name_map.specs.Added.{Placed, payloads_of}
 use Rattle.payload_tables.specs.declared.base.BaseRef.{BaseRef}
-use Rattle.payload_tables.specs.Bases.{IsBaseOf, AreSegmentsOf}
+use Rattle.payload_tables.specs.Bases.{AreSegmentsOf}
 use Rattle.payload_tables.specs.Pending.{PlainPending}
 use Rattle.payload_tables.proofs.Basing.{base-others}
 use Rattle.step_rules.specs.Tests.{first_some}

@@ -1,5 +1,5 @@
 -- The answer over the segments of a world is that of the world, by ids.
-use Rattle.std.proofs.Common.{◌≡◌, ◌<◌, ◌≤◌, ◌+◌, ◌-◌, ◌^◌, ℕ, zero, suc, true, false, Some, List, [], ◌∷◌, ◌++◌, length, map, slice_get, refl, sym, ap, ap₂, ◌∙◌, subst, inl, inr, ⊎_elim, arith, zero-le, append_assoc}
+use Rattle.std.proofs.Common.{◌≡◌, ◌<◌, ◌≤◌, ◌+◌, ◌-◌, ◌^◌, ℕ, zero, suc, Some, List, [], ◌∷◌, ◌++◌, length, map, slice_get, refl, sym, ap, ap₂, ◌∙◌, subst, inl, inr, ⊎_elim, arith, append_assoc}
 use Rattle.std.specs.Prelude.{◌↔◌, reverse}
 use Rattle.std.proofs.lemmas.List.{map-append, reverse-append, reverse-reverse}
 use Rattle.std.proofs.lemmas.Bool.{false_from_ne_true}
@@ -9,15 +9,15 @@ use Rattle.id_groups.specs.Id.{is_master_id, other_id}
 use Rattle.id_groups.specs.declared.span.IdSpan.{IdSpan}
 use Rattle.id_groups.proofs.Listing.{filtered_once, found, there}
 use Rattle.id_groups.proofs.Names.{same_name-exact, same_name-self}
-use Rattle.commit_graph.specs.World.{Row, World, IsWorld, names_of, rows_of, row_named}
+use Rattle.commit_graph.specs.World.{Row, World, IsWorld, names_of, rows_of}
 use Rattle.commit_graph.specs.Ids.{id_in, row_at}
 use Rattle.commit_graph.specs.Graph.{graph_of, parents_of}
 use Rattle.commit_graph.specs.Renaming.{IsRenaming}
 use Rattle.commit_graph.proofs.Histories.{in-append, history-rest}
 use Rattle.commit_graph.proofs.Down.{in-left, in-right, in-reverse, in-down}
-use Rattle.commit_graph.proofs.Places.{IsFound, at-name, name-at, apart, master-found, others-found, below-master, over-master, same-row}
+use Rattle.commit_graph.proofs.Places.{IsFound, at-name, apart, master-found, others-found, below-master, over-master}
 use Rattle.segment_codec.specs.Record.{Segment}
-use Rattle.segment_codec.specs.Table.{Follow, IsHeld, IsLawful, parents_at}
+use Rattle.segment_codec.specs.Table.{Follow, IsHeld, IsLawful}
 use Rattle.span_set.specs.Members.{IsMember, IsCanonical, IsDescending, AreUnder, descending_from, ids_of}
 use Rattle.span_set.proofs.Counts.{ids-member, member-ids, ids-descending}
 use Rattle.ancestor_query.specs.Graph.{table_graph, down_of}
@@ -27,7 +27,7 @@ use Rattle.set_expr.specs.Meaning as means
 use Rattle.set_expr.specs.Meaning.{IsAnswer}
 use Rattle.set_expr.specs.Computed.{answer_of}
 use Rattle.set_expr.proofs.PutIds.{with-renamed}
-use Rattle.set_expr.proofs.Renamings.{Agrees, answer-agree, members-agree}
+use Rattle.set_expr.proofs.Renamings.{answer-agree, members-agree}
 use Rattle.set_expr.proofs.Worlds.{world-answer, world-closed}
 use Rattle.set_query.proofs.Ids.{held-down, down-held, table-closed}
 use Rattle.payload_tables.specs.Bases.{AreSegmentsOf}
@@ -176,7 +176,7 @@ module _ (w : World Name) (h : IsWorld w) (few : length w.master ≤ 2 ^ 32) whe
       let f = subst (λ z. IsFound same_name w z (other_id t.0)) t.3 (others-found same_name same_name-exact same_name-self w h t.0 t.1 t.2) in
       let rest = history-rest [] w.master w.others h in
       let out = false_from_ne_true (is_in same_name x (names_of w.master)) (λ e. apart (names_of w.master) w.others t.0 t.1 rest t.2
-          (subst (λ z. IsIn z (names_of w.master)) (sym t.3) (found same_name same_name-exact same_name-self x (names_of w.master) e))) in
+      (subst (λ z. IsIn z (names_of w.master)) (sym t.3) (found same_name same_name-exact same_name-self x (names_of w.master) e))) in
       ap is_master_id (sym f.same_id) ∙ over-master t.0 ∙ sym out)
       (in-append x (names_of w.master) (names_of w.others) (subst (IsIn x) (map-append (λ (r : Row Name). r.name) w.master w.others) i))
     where
@@ -240,13 +240,13 @@ module _ (w : World Name) (h : IsWorld w) (few : length w.master ≤ 2 ^ 32) whe
         let agrees = members-agree f g (table_graph flats) renaming closed also e down in
         let same : with_ids e ids ≡ renamed f e = ap (with_ids e) is ∙ with-renamed f e in
         let all : IsFiltered (means.IsMember (table_graph flats) (renamed f e)) (down_of flats) (ids_of set) =
-          filtered (means.IsMember (table_graph flats) (renamed f e)) (down_of flats) (ids_of set) descends (ids-descending set canonical)
-          (λ x i. let m = agrees.from x (subst (λ t. means.IsMember (table_graph flats) t x) same ((members x).0 (ids-member set x i))) in
-          subst (λ z. IsIn z (down_of flats)) m.2 (held-down flats (f m.0) (held m.0 (down-in m.0 (agrees.within m.0 m.1)))))
-          (λ x i. (
-            λ m. member-ids set x ((members x).1 (subst (λ t. means.IsMember (table_graph flats) t x) (sym same) m)),
-            λ j. subst (λ t. means.IsMember (table_graph flats) t x) same ((members x).0 (ids-member set x j)),
-          )) in (
+        filtered (means.IsMember (table_graph flats) (renamed f e)) (down_of flats) (ids_of set) descends (ids-descending set canonical)
+        (λ x i. let m = agrees.from x (subst (λ t. means.IsMember (table_graph flats) t x) same ((members x).0 (ids-member set x i))) in
+        subst (λ z. IsIn z (down_of flats)) m.2 (held-down flats (f m.0) (held m.0 (down-in m.0 (agrees.within m.0 m.1)))))
+        (λ x i. (
+          λ m. member-ids set x ((members x).1 (subst (λ t. means.IsMember (table_graph flats) t x) (sym same) m)),
+          λ j. subst (λ t. means.IsMember (table_graph flats) t x) same ((members x).0 (ids-member set x j)),
+        )) in (
           names,
           answer,
           filtered_once (means.IsMember (table_graph flats) (renamed f e)) (down_of flats) (ids_of set) (map f names) all by-ids,

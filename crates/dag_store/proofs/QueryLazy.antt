@@ -1,5 +1,5 @@
 -- Which names of an answer are stored, and the names that are lent.
-use Rattle.std.proofs.Common.{◌≡◌, ◌<◌, ◌≤◌, ◌+◌, ◌-◌, ◌*◌, ◌^◌, ℕ, zero, suc, Bool, true, false, not, ◌&&◌, ◌||◌, Option, Some, None, is_some, List, [], ◌∷◌, ◌++◌, map, length, slice_get, nat_eq, nat_lt, nat_le, refl, sym, ap, ap₂, ◌∙◌, subst, inl, inr, ⊎_elim, zero-le, arith, true≢false, if◌then◌else◌}
+use Rattle.std.proofs.Common.{◌≡◌, ◌<◌, ◌≤◌, ◌+◌, ◌^◌, ℕ, zero, suc, Bool, true, false, not, ◌&&◌, ◌||◌, Option, Some, None, is_some, List, [], ◌∷◌, ◌++◌, map, length, slice_get, nat_eq, nat_lt, nat_le, refl, sym, ap, ap₂, ◌∙◌, subst, inl, inr, ⊎_elim, zero-le, arith, true≢false, if◌then◌else◌}
 use Rattle.std.specs.List.{list_any, list_all, range_with_len}
 use Rattle.std.proofs.lemmas.Bool.{cases_eq, eq-eqb, ne_eqb, ltb-true}
 use Rattle.std.proofs.lemmas.Bool.Decides.{nat_tests}
@@ -7,7 +7,7 @@ use Rattle.std.proofs.lemmas.List.{map-append, length-map}
 use Rattle.id_groups.specs.Lists.{IsIn, AreAllIn, is_in}
 use Rattle.id_groups.specs.Name.{Name, same_name}
 use Rattle.id_groups.specs.Id.{other_id}
-use Rattle.id_groups.proofs.Listing.{and_true, in-any, found, there}
+use Rattle.id_groups.proofs.Listing.{and_true, in-any, found}
 use Rattle.id_groups.proofs.Names.{same_name-exact, same_name-self}
 use Rattle.commit_graph.specs.World.{Row, World, names_of, rows_of, with_pending}
 use Rattle.commit_graph.specs.Ids.{id_in, place_of}
@@ -20,7 +20,7 @@ use Rattle.change_rules.specs.Change.{known_from}
 use Rattle.change_rules.specs.Lazy.{is_lazy, has_lazy}
 use Rattle.change_rules.specs.Tables.{known_in, newest, other_names_in}
 use Rattle.payload_tables.specs.declared.base.BaseRef.{BaseRef}
-use Rattle.payload_tables.specs.Bases.{IsBaseOf, stored_in, id_row}
+use Rattle.payload_tables.specs.Bases.{stored_in, id_row}
 use Rattle.payload_tables.specs.Pending.{IdRow, PlainPending}
 use Rattle.payload_tables.proofs.Naming.{places-many}
 use Rattle.dag_store.specs.Looking.{Sees}
@@ -92,9 +92,9 @@ module _ (base : BaseRef) (pending : PlainPending) (added : List Placed) (w : Wo
           let under : nat_le (2 ^ 56) place ≡ false = grind (arith, nat_tests, lt, f) in
           let within : nat_lt place (length w.master) ≡ true = grind (arith, nat_tests, lt) in
           let known : is_some (name_among (stored_at base) place) ≡ is_in nat_eq place (map (λ (k : Known). k.id) (known_in (payloads_of added))) =
-            ap (λ l. is_some (name_among l place)) (stored-are base added s.base_of)
-            ∙ ap is_some (among-front place (2 ^ 56) (other_names_in (newest (payloads_of added))) (known_of added) (omega (arith, lt, f)))
-            ∙ among-known (known_of added) place ∙ ap (λ l. is_in nat_eq place (map (λ (k : Known). k.id) l)) (known-all added) in
+          ap (λ l. is_some (name_among l place)) (stored-are base added s.base_of)
+          ∙ ap is_some (among-front place (2 ^ 56) (other_names_in (newest (payloads_of added))) (known_of added) (omega (arith, lt, f)))
+          ∙ among-known (known_of added) place ∙ ap (λ l. is_in nat_eq place (map (λ (k : Known). k.id) l)) (known-all added) in
           ap (λ n. nat_le (2 ^ 56) n || is_some (name_among (stored_at base) n)) id
           ∙ ap (λ b. b || is_some (name_among (stored_at base) place)) under ∙ known ∙ sym (not-not (is_in nat_eq place (map (λ (k : Known). k.id) (known_in (payloads_of added)))))
           ∙ sym (ap (λ b. not (b && is_lazy (payloads_of added) w (id_in same_name w name))) e
@@ -124,7 +124,7 @@ module _ (base : BaseRef) (pending : PlainPending) (added : List Placed) (w : Wo
           ap (λ o. name_or o (pending_name pending id)) e ∙ sym (⊎_elim
           (λ j. absurd (true≢false (sym master-named ∙ master-false j)))
           (λ j. ⊎_elim (λ k. absurd (other-there k)) (λ k. pending-there k)
-              (in-append name (names_of w.others) (names_of rows) (subst (IsIn name) (map-append (λ (r : Row Name). r.name) w.others rows) j)))
+          (in-append name (names_of w.others) (names_of rows) (subst (IsIn name) (map-append (λ (r : Row Name). r.name) w.others rows) j)))
           (in-append name (names_of w.master) (names_of (w.others ++ rows)) (subst (IsIn name) (map-append (λ (r : Row Name). r.name) w.master (w.others ++ rows)) i)))
         where
           master-named : is_named_id (stored_at base) (id_in same_name (with_pending w rows) name) ≡ true
@@ -153,11 +153,11 @@ module _ (base : BaseRef) (pending : PlainPending) (added : List Placed) (w : Wo
           other-there k =
               let t = at-name w.others name k in
               let at : id_in same_name (with_pending w rows) name ≡ other_id t.0 = ap (id_in same_name (with_pending w rows)) (sym t.3)
-                  ∙ id-in-others same_name same_name-exact same_name-self (with_pending w rows) s.view.world t.0 t.1 (left w.others rows t.0 t.1 t.2) in
+              ∙ id-in-others same_name same_name-exact same_name-self (with_pending w rows) s.view.world t.0 t.1 (left w.others rows t.0 t.1 t.2) in
               let there = stored-name base added s.base_of (other_id t.0) name
-                  (in-right (record { id = other_id t.0; name = name }) (known_of added) (known_from (2 ^ 56) (other_names_in (newest (payloads_of added))))
-                  (others-in (2 ^ 56) (other_names_in (newest (payloads_of added))) t.0 name
-                  (ap (λ l. slice_get l t.0) s.stand.names ∙ names-get w.others t.0 t.1 t.2 ∙ ap Some t.3))) in
+              (in-right (record { id = other_id t.0; name = name }) (known_of added) (known_from (2 ^ 56) (other_names_in (newest (payloads_of added))))
+              (others-in (2 ^ 56) (other_names_in (newest (payloads_of added))) t.0 name
+              (ap (λ l. slice_get l t.0) s.stand.names ∙ names-get w.others t.0 t.1 t.2 ∙ ap Some t.3))) in
               let clash : None ≡ Some name = sym e ∙ ap (name_among (stored_at base)) at ∙ there in
               cc clash
             where
@@ -175,7 +175,7 @@ module _ (base : BaseRef) (pending : PlainPending) (added : List Placed) (w : Wo
           pending-there k =
               let t = at-name rows name k in
               let at : id_in same_name (with_pending w rows) name ≡ other_id (length w.others + t.0) = ap (id_in same_name (with_pending w rows)) (sym t.3)
-                  ∙ id-in-others same_name same_name-exact same_name-self (with_pending w rows) s.view.world (length w.others + t.0) t.1 (place-right w.others rows t.0 t.1 t.2) in
+              ∙ id-in-others same_name same_name-exact same_name-self (with_pending w rows) s.view.world (length w.others + t.0) t.1 (place-right w.others rows t.0 t.1 t.2) in
               let first = s.pending_rows.first in
               let many = places-many pending (map (id_row (with_pending w rows)) rows) s.pending_rows.held in
               let long = length-map rows (id_row (with_pending w rows)) in

@@ -1,12 +1,12 @@
 -- A query and a count are steps of the session.
-use Rattle.std.proofs.Common.{◌≡◌, ◌<◌, ◌+◌, ℕ, Bool, true, false, not, ◌&&◌, ◌||◌, List, [], ◌∷◌, ◌++◌, Option, None, Some, Result, Ok, Err, length, map, drop, flat_map, nat_lt, refl, sym, ap, ap₂, subst, ◌∙◌, inl, inr, ⊎_elim, arith, true≢false, if◌then◌else◌}
-use Rattle.std.specs.Prelude.{MatchOption, IsErrAnd}
+use Rattle.std.proofs.Common.{◌≡◌, ◌<◌, ◌+◌, ℕ, Bool, true, false, ◌&&◌, ◌||◌, List, [], ◌∷◌, ◌++◌, Option, None, Some, Result, Ok, Err, length, map, drop, nat_lt, refl, sym, ap, ap₂, subst, ◌∙◌, inl, inr, arith, true≢false, if◌then◌else◌}
+use Rattle.std.specs.Prelude.{IsErrAnd}
 use Rattle.std.specs.List.{list_any}
 use Rattle.std.proofs.lemmas.List.{length-map}
 use Rattle.std.proofs.lemmas.Bool.Decides.{nat_tests}
 use Rattle.id_groups.specs.Lists.{AreAllIn, is_in}
 use Rattle.id_groups.specs.Name.{Name, same_name}
-use Rattle.commit_graph.specs.World.{Row, World, names_of, rows_of, with_pending}
+use Rattle.commit_graph.specs.World.{names_of, rows_of, with_pending}
 use Rattle.commit_graph.specs.Ids.{id_in}
 use Rattle.commit_graph.specs.Graph.{graph_of}
 use Rattle.batch_codec.specs.Grammar.{AreLawful}
@@ -22,16 +22,16 @@ use Rattle.remote_rules.specs.CloneData.{KnownName}
 use Rattle.payload_tables.specs.Kept.{PlainTables}
 use Rattle.step_rules.specs.declared.Refusal.{Refusal}
 use Rattle.step_rules.specs.declared.Refusal.TheVariants as why
-use Rattle.step_rules.specs.State.{Stored, session, pending_of, base_of, view_of, seen_by}
+use Rattle.step_rules.specs.State.{Stored, session, pending_of, base_of, view_of}
 use Rattle.step_rules.specs.Verb.{Query, Count}
 use Rattle.step_rules.specs.Reply.{Listed, Counted, Refused}
 use Rattle.step_rules.specs.Asked.{is_asked, found_as, lazy_among}
-use Rattle.step_rules.specs.Tests.{Test, named, looked_up, unknown, refuse_if, first_some, tests}
+use Rattle.step_rules.specs.Tests.{named, looked_up, unknown, refuse_if, first_some}
 use Rattle.step_rules.specs.Lone.{lone, lone_answer_refusals, LoneStep}
 use Rattle.dag_store.specs.declared.query.Found.{Found}
 use Rattle.dag_store.specs.Kept.{PlainSession, PlainStore, IsKept, session_at, base_added, sixteen}
 use Rattle.dag_store.specs.Stands.{Stands}
-use Rattle.dag_store.specs.Adding.{IsSeen, IsWhy, looked}
+use Rattle.dag_store.specs.Adding.{IsSeen, IsWhy}
 use Rattle.dag_store.specs.Querying.{Evaluates, name_refusals, answer_refusals, is_lazy_name}
 use Rattle.dag_store.specs.Steps.{AreIdsOf, CountStep, QueryStep}
 use Rattle.dag_store.proofs.Sees.{base-holds, behind-base, asked-same, stored-holds, lazy-front}

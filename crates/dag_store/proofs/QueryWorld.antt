@@ -1,11 +1,11 @@
 -- What is kept of a session is what it sees of some world.
 use Rattle.std.proofs.Common.{◌≡◌, ◌<◌, ◌≤◌, ◌+◌, ◌^◌, ℕ, ◌⊎◌, inl, inr, List, [], ◌∷◌, ◌++◌, length, map, take, drop, flat_map, refl, sym, ap, subst, ◌∙◌, ⊎_elim, arith}
 use Rattle.std.specs.List.{AllByRecursion}
-use Rattle.std.proofs.lemmas.List.{take-append-drop, map-append, length-map}
+use Rattle.std.proofs.lemmas.List.{take-append-drop, map-append}
 use Rattle.id_groups.specs.Lists.{IsIn}
 use Rattle.id_groups.specs.Name.{Name, IsName}
 use Rattle.id_groups.specs.Id.{other_id}
-use Rattle.commit_graph.specs.World.{Row, World, names_of, rows_of, with_pending}
+use Rattle.commit_graph.specs.World.{Row, World, names_of, with_pending}
 use Rattle.commit_graph.proofs.Down.{in-left, in-right}
 use Rattle.commit_graph.proofs.Naming.{each, named-by, name-of, pending-names}
 use Rattle.segment_codec.specs.Record.{segment_bytes}
@@ -72,16 +72,19 @@ module _ (tables : PlainTables) (added : List Placed) (x : PlainSession) (t : Ar
       let st = some-world (payloads_of (base_added added x)) lawful s.rows (fit-of (base_added added x) x.pending s) in
       let w = st.of_world in
       let rows = st.pending in
-      let same : row_names s.rows ≡ names_of rows = ap row_names st.rows_are ∙ names-again (with_pending w rows) rows in
-      (w, rows, record {
-        stand = st.stand;
-        world = st.named;
-        pending_rows = record { first = s.first ∙ ap (length {A = Name}) st.stand.names ∙ names-length w.others; held = subst (HoldsRows x.pending) st.rows_are s.held; view = st.view };
-        view = named-by (with_pending w rows) st.view (λ n i. ⊎_elim
-            (λ j. name-of w st.named n j)
-            (λ j. each IsName (row_names s.rows) (whole-names s.rows s.held.whole) n (subst (IsIn n) (sym same) j))
-            (pending-names w rows n i));
-      })
+      let same : row_names s.rows ≡ names_of rows = ap row_names st.rows_are ∙ names-again (with_pending w rows) rows in (
+        w,
+        rows,
+        record {
+          stand = st.stand;
+          world = st.named;
+          pending_rows = record { first = s.first ∙ ap (length {A = Name}) st.stand.names ∙ names-length w.others; held = subst (HoldsRows x.pending) st.rows_are s.held; view = st.view };
+          view = named-by (with_pending w rows) st.view (λ n i. ⊎_elim
+              (λ j. name-of w st.named n j)
+              (λ j. each IsName (row_names s.rows) (whole-names s.rows s.held.whole) n (subst (IsIn n) (sym same) j))
+              (pending-names w rows n i));
+        },
+      )
 
   module _ (base : BaseRef) (b : IsBaseOf base (base_added added x)) where
     -- its rows may stand behind its base

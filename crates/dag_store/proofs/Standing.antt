@@ -36,6 +36,7 @@ kept-with log tables sessions limits k s x small of = record {
   added = k.added;
   tables_of = k.tables_of;
   stand = k.stand;
+  within = k.within;
   texts = k.texts;
   count = length-set sessions s x ∙ k.count;
   each = λ i lt. ⊎_elim

@@ -1,14 +1,14 @@
 -- The stored names of a base, as ids and names of the world for which its payloads stand.
 use Rattle.std.proofs.Common.{◌≡◌, ◌<◌, ◌≤◌, ◌+◌, ◌^◌, ℕ, zero, suc, ◌⊎◌, inl, inr, Bool, true, false, not, ◌&&◌, List, [], ◌∷◌, ◌++◌, length, map, filter, flat_map, nat_eq, nat_lt, Option, Some, None, slice_get, is_some, Ok, refl, sym, ap, ap₂, subst, ◌∙◌, ⊎_elim, arith, true≢false, if◌then◌else◌, zero-le, lit≤}
-use Rattle.std.specs.List.{AllByRecursion, list_any, range_with_len}
+use Rattle.std.specs.List.{range_with_len}
 use Rattle.std.proofs.lemmas.List.{map-append}
-use Rattle.std.proofs.lemmas.Bool.{ltb-true, lt-ltb}
+use Rattle.std.proofs.lemmas.Bool.{lt-ltb}
 use Rattle.std.proofs.Math.Nat.{eq-or-lt_of_le}
 use Rattle.id_groups.specs.Lists.{IsIn, is_in}
 use Rattle.id_groups.specs.Name.{Name, same_name}
 use Rattle.id_groups.specs.Id.{other_id}
 use Rattle.id_groups.proofs.Names.{same_name-exact, same_name-self}
-use Rattle.id_groups.proofs.Listing.{found, there, missing, any-in, in-any, and_true}
+use Rattle.id_groups.proofs.Listing.{found, there, in-any}
 use Rattle.commit_graph.specs.World.{Row, World, IsWorld, names_of, rows_of, with_pending}
 use Rattle.commit_graph.specs.Ids.{id_in}
 use Rattle.commit_graph.proofs.Histories.{in-append}
@@ -20,7 +20,7 @@ use Rattle.name_map.specs.Added.{Placed, payloads_of, known_of}
 use Rattle.change_rules.specs.Change.{known_from}
 use Rattle.change_rules.specs.Lazy.{is_lazy, has_lazy, stored_names}
 use Rattle.change_rules.specs.Tables.{StandFor, newest, other_names_in, known_in}
-use Rattle.payload_tables.specs.Pending.{IdRow, row_names, FindsRow}
+use Rattle.payload_tables.specs.Pending.{row_names, FindsRow}
 use Rattle.payload_tables.specs.Bases.{id_row, stored_in}
 use Rattle.payload_tables.proofs.Lists.{get-below, names-length, same-self, same-exact}
 use Rattle.payload_tables.proofs.Naming.{get-in, name-of-row}
@@ -34,7 +34,6 @@ use Rattle.flush_rebuild.proofs.Asking.{stored-names}
 use Rattle.flush_rebuild.proofs.Finding.{head-pending}
 use Rattle.flush_rebuild.proofs.Rebased.{known-from-at}
 use Rattle.flush_rebuild.proofs.Renumber.{in-map, map-in-back}
-use Rattle.step_rules.specs.Worlds.{has}
 use Rattle.dag_store.specs.Looking.{is_asked_in, FindsName}
 
 pub known-all : (added : List Placed) → known_of added ≡ known_in (payloads_of added)
@@ -66,7 +65,8 @@ name-of (q ∷ rows) (suc i) r e = name-of rows i r e
 one-some : (x y : Name) → Some x ≡ Some y → x ≡ y
 one-some x y e = cc e
 
-names-of-rows : (v : World Name) (some : List (Row Name)) → row_names (map (id_row v) some) ≡ names_of some
+-- the names of rows by ids are those of the rows
+pub names-of-rows : (v : World Name) (some : List (Row Name)) → row_names (map (id_row v) some) ≡ names_of some
 names-of-rows v [] = refl
 names-of-rows v (r ∷ some) = ap (λ l. r.name ∷ l) (names-of-rows v some)
 
@@ -77,11 +77,6 @@ all-kept p (k ∷ ks) h = ap (λ b. if b then k ∷ filter p ks else filter p ks
 pub in-range : (a n id : ℕ) → a ≤ id → id < a + n → IsIn id (range_with_len a n)
 in-range a zero id low high = absurd (omega (arith, low, high))
 in-range a (suc n) id low high = ⊎_elim (λ e. inl (sym e)) (λ lt. inr (in-range (a + 1) n id (omega (arith, lt)) (omega (arith, high)))) (eq-or-lt_of_le low)
-
-pub range-in : (a n id : ℕ) → IsIn id (range_with_len a n) → (a ≤ id) × (id < a + n)
-range-in a zero id i = absurd i
-range-in a (suc n) id (inl e) = (omega (arith, e), omega (arith, e))
-range-in a (suc n) id (inr i) = let r = range-in (a + 1) n id i in let lo = r.0 in let hi = r.1 in (omega (arith, lo), omega (arith, hi))
 
 asked-not : (a b c : Bool) → (b ≡ true) ⊎ (c ≡ true) → ((a && not b) && not c) ≡ false
 asked-not true true c h = refl

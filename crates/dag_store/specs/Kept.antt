@@ -1,5 +1,6 @@
 -- What contracts see of a store, and of which payloads its parts are.
-use Rattle.std.specs.Prelude.{◌≡◌, ◌<◌, ◌≤◌, ℕ, List, [], length, map, take, slice_index_or}
+use Rattle.std.specs.Prelude.{◌≡◌, ◌<◌, ◌≤◌, ◌+◌, ℕ, List, [], length, map, take, slice_index_or}
+use Rattle.std.specs.List.{AllByRecursion}
 use Rattle.id_groups.specs.Lists.{IsIn}
 use Rattle.id_groups.specs.Name.{Name}
 use Rattle.batch_codec.specs.Grammar.{count_after}
@@ -58,12 +59,17 @@ pub record IsSessionOf (added : List Placed) (x : PlainSession) : Type 0 where
 abbrev pub sixteen : ℕ
 sixteen = 16
 
+-- the payload ends before the closed gate of the log
+abbrev pub EndsWithin : Held → Placed → Type 0
+EndsWithin log a = a.at + length (text_of a.payload) < length (log_bytes log)
+
 -- The log has the payloads that were added, which stand in its bytes; the tables are those of all of them, and each session is on
 -- some of them.
 pub record IsKept (log : Held) (tables : PlainTables) (sessions : List PlainSession) (limits : Limits) : Type 0 where
   pub added : List Placed
   pub tables_of : AreTablesOf tables added
   pub stand : AllStand (log_bytes log) added
+  pub within : AllByRecursion (EndsWithin log) added
   pub texts : log.payloads ≡ map text_of (payloads_of added)
   pub count : length sessions ≡ sixteen
   pub each : (s : ℕ) → s < sixteen → IsSessionOf added (session_at sessions s)

@@ -7,4 +7,6 @@ pub mod Querying
 pub mod Steps
 pub mod Loading
 pub mod Flushes
+pub mod Changes
+pub mod Finishes
 pub mod Shown

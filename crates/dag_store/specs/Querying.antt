@@ -1,5 +1,5 @@
 -- How an expression is answered in a session's view.
-use Rattle.std.specs.Prelude.{◌≡◌, ◌&&◌, ◌||◌, ◌^◌, ℕ, Bool, List, [], ◌∷◌, Option, None, Some, Result, Ok, Err, is_some, length, map, nat_le, nat_lt}
+use Rattle.std.specs.Prelude.{◌≡◌, ◌&&◌, ◌||◌, ◌^◌, ℕ, Bool, List, [], ◌∷◌, Option, None, Result, Ok, Err, is_some, length, map, nat_le, nat_lt}
 use Rattle.std.specs.List.{list_any}
 use Rattle.id_groups.specs.Lists.{AreAllIn, is_in}
 use Rattle.id_groups.specs.Name.{Name, same_name}

@@ -1,6 +1,6 @@
 //! Adding a row, and the id of a name.
 
-ghost use Rattle.std.specs.Prelude.{◌≡◌, ◌<◌, ◌≤◌, ℕ, List, [], None, Some, map, length, OnErr, OnOk, IfOk, IfErr, MatchResult};
+ghost use Rattle.std.specs.Prelude.{◌≡◌, ◌<◌, ◌≤◌, ℕ, List, [], None, Some, map, length, OnErr, OnOk, MatchResult};
 ghost use Rattle.id_groups.specs.Lists.{is_in};
 ghost use Rattle.id_groups.specs.Name.{Name as NameBytes, same_name};
 ghost use Rattle.commit_graph.specs.World.{Row, World, with_pending};

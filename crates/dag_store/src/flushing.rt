@@ -9,6 +9,7 @@ ghost use Rattle.dag_store.specs.Stands.{Stands};
 ghost use Rattle.dag_store.specs.Steps.{ChangesOnly, ReloadStep};
 ghost use Rattle.dag_store.specs.Flushes.{FlushStep, FlushLeaves, IsQuiet, LeavesStore};
 
+use crate::changing::{Next, commit, prepare, reloaded};
 use crate::replies::Flushed;
 use crate::store::Store;
 use disk_trait::Disk;
@@ -26,7 +27,12 @@ impl Store {
         ensures alone { OnOk result (ChangesOnly s self.old self.new) }
         ensures refused { OnErr result (self.new ≡ self.old) }
     {
-        Err(Refusal::Memory)
+        let alloc = self.alloc;
+        let at = usize::from(s);
+        let next = reloaded(alloc, &self.log, &self.tables, &self.sessions[at])?;
+        let left = next.pending.len();
+        self.sessions[at] = next;
+        Ok(left)
     }
 
     /// Puts the rows of a session behind the stored world, moves the heads and all that they reach into master, and stores the new
@@ -44,6 +50,30 @@ impl Store {
         ensures later { D.faults disk.old ≤ D.faults disk.new }
         ensures cause { (fault : _) → result ≡ Flushed.Disk fault → Rose (D.faults disk.old) (D.faults disk.new) }
     {
-        Flushed::Refused(self, Refusal::Memory)
+        let Store {
+            alloc,
+            mut log,
+            mut tables,
+            mut sessions,
+            limits,
+        } = self;
+        let at = usize::from(s);
+        match prepare(alloc, &mut log, &mut tables, &sessions[at], heads, limits) {
+            Ok(next) => {
+                let Next { change, session } = next;
+                sessions[at] = session;
+                commit(disk, alloc, log, tables, sessions, limits, change)
+            }
+            Err(refusal) => {
+                let store = Store {
+                    alloc,
+                    log,
+                    tables,
+                    sessions,
+                    limits,
+                };
+                Flushed::Refused(store, refusal)
+            }
+        }
     }
 }

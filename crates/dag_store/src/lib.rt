@@ -3,11 +3,14 @@
 //! Sixteen sessions over one log.
 
 mod adding;
+mod changing;
+mod finding;
 mod flushing;
 mod laws;
 mod loading;
 mod lookup;
 mod names;
+mod planning;
 mod query;
 mod replies;
 mod session;

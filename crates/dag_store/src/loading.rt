@@ -8,7 +8,8 @@ ghost use Rattle.change_rules.specs.Change.{text_of};
 ghost use Rattle.change_rules.specs.Holding.{IsSpelled};
 ghost use Rattle.change_rules.specs.Unlawful.{IsFirstUnlawful, MayStand};
 ghost use Rattle.payload_tables.specs.Kept.{AreTablesOf};
-ghost use Rattle.dag_store.specs.Kept.{session_at};
+ghost use Rattle.std.specs.List.{AllByRecursion};
+ghost use Rattle.dag_store.specs.Kept.{EndsWithin, session_at};
 ghost use Rattle.dag_store.specs.Loading.{IsOnNewest};
 
 use crate::replies::LoadFault;
@@ -84,7 +85,8 @@ fn read_batch(
 /// The tables of a log's payloads.
 pub(crate) fn read_tables(alloc: Global, log: &Log) -> Result<Tables, LoadFault>
     requires { log.now.limit ≤ 2 ^ 32 }
-    ensures ok { IfOk result (λ tables. (added : List Placed) × AreTablesOf tables added × AllStand (log_bytes log.now) added × (log.now.payloads ≡ map text_of (payloads_of added))) }
+    ensures ok { IfOk result (λ tables. (added : List Placed) × AreTablesOf tables added × AllStand (log_bytes log.now) added × (log.now.payloads ≡ map text_of (payloads_of added))
+        × AllByRecursion (EndsWithin log.now) added) }
     ensures err { IfErr result (λ fault. (fault ≡ LoadFault.Memory) ⊎ ((k : ℕ) × (fault ≡ LoadFault.Batch k) × IsFirstUnlawful [] log.now.payloads k)) }
 {
     let bytes = log.bytes();

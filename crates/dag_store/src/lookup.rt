@@ -1,10 +1,9 @@
 //! Looking up names, where there are no mirrors.
 
-ghost use Rattle.std.specs.Prelude.{◌≡◌, ◌<◌, List, ℕ, map, IfOk, IfErr, MatchResult, None, nat_eq};
+ghost use Rattle.std.specs.Prelude.{◌≡◌, List, nat_eq};
 ghost use Rattle.std.specs.Cmp.Lexicographic.{pointwise};
-ghost use Rattle.id_groups.specs.Name.{Name as NameBytes, same_name};
-ghost use Rattle.commit_graph.specs.World.{Row, World, with_pending};
-ghost use Rattle.commit_graph.specs.Ids.{id_in};
+ghost use Rattle.id_groups.specs.Name.{Name as NameBytes};
+ghost use Rattle.commit_graph.specs.World.{Row, World};
 ghost use Rattle.segment_codec.specs.Lent.{parents_left};
 ghost use Rattle.segment_codec.specs.Table.{parents_at};
 ghost use Rattle.high_segments.specs.Views.{flats_in};

@@ -60,11 +60,7 @@ fn name_of_id<'a>(base: &BaseRef<'a>, pending: &'a PendingRows, id: Id) -> Optio
 
 impl<'a> Names<'a> {
     /// The names of these ids.
-    pub(crate) fn over(
-        ids: IdsDown<'a>,
-        base: BaseRef<'a>,
-        pending: &'a PendingRows,
-    ) -> Names<'a>
+    pub(crate) fn over(ids: IdsDown<'a>, base: BaseRef<'a>, pending: &'a PendingRows) -> Names<'a>
         requires base { (added : List Placed) × IsBaseOf base added }
         requires pending { (rows : List IdRow) × HoldsRows pending.now rows }
         ensures { names_left result ≡ named_front base.entry pending.now (ids_left ids.entry) }

@@ -183,13 +183,7 @@ impl Store {
         ensures { (began : ℕ) (st : Stored) → Stands began self.now st → CountStep self.now st s (tree_of expr.now) result }
     {
         let session = &self.sessions[usize::from(s)];
-        members(
-            self.alloc,
-            self.log.bytes(),
-            &self.tables,
-            session,
-            expr,
-        )
+        members(self.alloc, self.log.bytes(), &self.tables, session, expr)
     }
 
     /// The names of an answer in the view of the session that was asked, lent.

@@ -1,10 +1,10 @@
-use Rattle.std.proofs.Common.{◌≡◌, ◌∙◌, Ok, length, refl, sym, ap, subst}
+use Rattle.std.proofs.Common.{◌∙◌, Ok, refl, sym, subst}
 use Rattle.name_map.specs.Added.{payloads_of}
 use Rattle.commit_graph.specs.World.{with_pending}
-use Rattle.payload_tables.specs.Bases.{IsBaseOf, MayView, id_row}
+use Rattle.payload_tables.specs.Bases.{IsBaseOf, id_row}
 use Rattle.std.proofs.Common.{map}
 use Rattle.dag_store.specs.Kept.{PlainSession, IsSessionOf, base_added}
-use Rattle.dag_store.specs.Adding.{IsSeen, Seeks, AddsRow, MayBeParents}
+use Rattle.dag_store.specs.Adding.{IsSeen, Seeks, AddsRow}
 use Rattle.dag_store.specs.contracts.session.Session.{the_view}
 use Rattle.dag_store.proofs.AddingTests.{passed-parents}
 use Rattle.dag_store.proofs.AddingWorlds.{seen, seen-small, sees-of, may-view, may-be-parents}

@@ -1,4 +1,4 @@
-use Rattle.std.proofs.Common.{◌≡◌, ◌<◌, ◌≤◌, ◌+◌, ◌^◌, ◌⊎◌, inl, inr, ⊎_elim, ℕ, List, [], ◌∷◌, length, refl, sym, arith}
+use Rattle.std.proofs.Common.{refl, arith}
 use Rattle.dag_store.proofs.AddingRows.{either-group}
 use Rattle.dag_store.proofs.adding.append.Goals as goal
 

@@ -1,4 +1,4 @@
-use Rattle.std.proofs.Common.{◌≡◌, ◌∙◌, sym, ap, subst, Ok, Some, None}
+use Rattle.std.proofs.Common.{subst, Ok}
 use Rattle.name_map.specs.Added.{payloads_of}
 use Rattle.commit_graph.specs.World.{with_pending}
 use Rattle.step_rules.specs.Tests.{unknown}

@@ -1,4 +1,4 @@
-use Rattle.std.proofs.Common.{◌≡◌, ◌≤◌, ◌∙◌, None, map, take, refl, inl, sym, ap, subst, arith}
+use Rattle.std.proofs.Common.{◌≡◌, ◌∙◌, None, map, refl, ap, subst, arith}
 use Rattle.id_groups.specs.Name.{same_name}
 use Rattle.name_map.specs.Added.{payloads_of}
 use Rattle.commit_graph.specs.World.{with_pending}

@@ -1,6 +1,4 @@
-use Rattle.std.proofs.Common.{◌≡◌, ◌∙◌, Ok, Some, None, true, false, not, nat_eq, refl, sym, ap, subst}
-use Rattle.std.specs.Cmp.Lexicographic.{pointwise}
-use Rattle.segment_codec.specs.Table.{parents_at}
+use Rattle.std.proofs.Common.{◌∙◌, Ok, sym, subst}
 use Rattle.high_segments.specs.Views.{flats_in}
 use Rattle.name_map.specs.Added.{payloads_of}
 use Rattle.dag_store.specs.Looking.{FindsName}

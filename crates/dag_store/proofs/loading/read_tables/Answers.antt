@@ -1,7 +1,8 @@
-use Rattle.std.proofs.Common.{◌+◌, ℕ, List, refl, sym, subst, ◌<◌, length, inl, inr, ⊎_elim, arith}
+use Rattle.std.proofs.Common.{◌+◌, ℕ, List, refl, sym, subst, ◌<◌, ◌≤◌, length, inl, inr, ⊎_elim, arith}
 use Rattle.std.proofs.lemmas.Result.{err_from_is_err_and}
 use Rattle.name_map.specs.Added.{AllStand}
-use Rattle.dag_store.proofs.Loads.{read-next, read-unlawful}
+use Rattle.gated_log.specs.Held.{log_bytes}
+use Rattle.dag_store.proofs.Loads.{read-next, read-unlawful, read-all}
 use Rattle.dag_store.proofs.loading.read_tables.Goals as goal
 
 pub returns-in_err-read_batch-clause-err : goal.returns-in_err-read_batch-clause-err
@@ -25,3 +26,10 @@ batches-preserved c =
     let stand = subst (λ (l : List ℕ). AllStand l r.added) (sym c.bytes-bytes.ensures.bytes) r.stand in
     let more = c.in_ok-read_batch.ensures.added r.added r.tables_of stand in
     read-next c.batches.tables c.read_batch.new.tables c.args.log.now.payloads _ c.batches.k c.batches.end (c.batches.end + 9) _ r c.batch-payload.result.now more.0 lt c.batch-payload.ensures refl refl more.1 more.2
+
+pub returns-clause-ok : goal.returns-clause-ok
+returns-clause-ok c =
+    let n = c.batch_count-k-end.ensures in
+    let t = c.batches-test.false in
+    let le : length c.args.log.now.payloads ≤ c.batches.k = omega (arith, n, t) in
+    read-all c.batches.tables c.args.log.now.payloads (log_bytes c.args.log.now) c.batches.k c.batches.end c.batches.invariant le

@@ -1,4 +1,4 @@
-use Rattle.std.proofs.Common.{◌≡◌, ◌∙◌, ◌^◌, None, Some, map, sym, subst, arith}
+use Rattle.std.proofs.Common.{◌∙◌, ◌^◌, None, Some, map, sym, subst, arith}
 use Rattle.id_groups.specs.Lists.{IsIn}
 use Rattle.commit_graph.specs.World.{with_pending}
 use Rattle.batch_codec.specs.Payload.{Known}

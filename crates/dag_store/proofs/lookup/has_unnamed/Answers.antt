@@ -1,4 +1,4 @@
-use Rattle.std.proofs.Common.{◌≡◌, ◌∙◌, ◌++◌, sym, subst, take, drop}
+use Rattle.std.proofs.Common.{◌≡◌, ◌∙◌, sym, subst, take, drop}
 use Rattle.std.proofs.lemmas.List.{take-append-drop}
 use Rattle.name_map.specs.Added.{Follow, known_of}
 use Rattle.name_map.specs.Map.{IsMapOf, count_known}

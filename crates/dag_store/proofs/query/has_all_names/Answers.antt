@@ -1,4 +1,4 @@
-use Rattle.std.proofs.Common.{◌≡◌, ◌∙◌, sym, ap, not, subst}
+use Rattle.std.proofs.Common.{◌∙◌, sym, ap, not}
 use Rattle.std.specs.List.{list_all}
 use Rattle.name_map.specs.Added.{payloads_of}
 use Rattle.dag_store.specs.Kept.{PlainSession, base_added}

@@ -1,4 +1,4 @@
-use Rattle.std.proofs.Common.{◌≡◌, ◌≤◌, ◌^◌, ◌∙◌, ◌||◌, false, nat_le, is_some, ap, ap₂, sym, arith}
+use Rattle.std.proofs.Common.{◌≡◌, ◌^◌, ◌∙◌, ◌||◌, false, nat_le, is_some, ap, sym, arith}
 use Rattle.std.proofs.lemmas.Bool.Decides.{nat_tests}
 use Rattle.dag_store.specs.Names.{name_among, stored_at}
 use Rattle.dag_store.proofs.QueryNames.{named-some}

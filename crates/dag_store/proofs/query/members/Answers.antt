@@ -1,4 +1,4 @@
-use Rattle.std.proofs.Common.{◌≡◌, sym, ap, subst, ◌∙◌, List, length, map}
+use Rattle.std.proofs.Common.{sym, ap, subst, ◌∙◌}
 use Rattle.id_groups.specs.Name.{same_name}
 use Rattle.commit_graph.specs.Ids.{id_in}
 use Rattle.commit_graph.specs.World.{with_pending}
@@ -74,5 +74,5 @@ returns c = λ added w rows t stand of h.
     let segments = c.view.ensures (base_added added x) w rows b h.stand (subst (λ p. ArePending w p rows) (sym pending) h.pending_rows) in
     let same = c.set.ensures in
     let r = evaluated base x.pending (base_added added x) w rows seen (flats_in c.view.result) segments (lawful_flats c.view.result) (tree_of c.args.expr.now) ids.0
-        c.deref.result.now (c.deref.ensures.value ∙ ids.1) c.in-Ok.answer.set (subst IsCanonical same c.spans-spans.ensures.canonical) c.in-Ok.ensures.members in
+    c.deref.result.now (c.deref.ensures.value ∙ ids.1) c.in-Ok.answer.set (subst IsCanonical same c.spans-spans.ensures.canonical) c.in-Ok.ensures.members in
     (ids.0, r.0, r.1, r.2, r.3)

@@ -1,7 +1,7 @@
-use Rattle.std.proofs.Common.{◌≡◌, refl, sym, ap, subst, ◌∙◌, ℕ, List, set}
+use Rattle.std.proofs.Common.{sym, ap, subst, ℕ, set}
 use Rattle.name_map.specs.Added.{AllStand, payloads_of}
 use Rattle.step_rules.specs.State.{Stored, base_of, pending_of}
-use Rattle.dag_store.specs.Kept.{PlainSession, PlainStore, IsKept, IsSessionOf, session_at, base_added}
+use Rattle.dag_store.specs.Kept.{PlainSession, PlainStore, IsKept, IsSessionOf, base_added}
 use Rattle.dag_store.specs.Stands.{Stands}
 use Rattle.dag_store.specs.Adding.{IsSeen, AddsRow}
 use Rattle.dag_store.specs.Steps.{AddStep, ChangesOnly}

@@ -1,4 +1,4 @@
-use Rattle.std.proofs.Common.{◌≡◌, ℕ, sym, subst}
+use Rattle.std.proofs.Common.{ℕ, sym, subst}
 use Rattle.set_expr.specs.Whole.{tree_of}
 use Rattle.name_map.specs.Added.{payloads_of, AllStand}
 use Rattle.step_rules.specs.State.{Stored, base_of, pending_of}

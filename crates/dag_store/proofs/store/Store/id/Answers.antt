@@ -1,4 +1,4 @@
-use Rattle.std.proofs.Common.{◌≡◌, refl, sym, ap, subst, ◌∙◌, ℕ, List, Ok, Err, Some, None}
+use Rattle.std.proofs.Common.{sym, ap, subst, ◌∙◌, ℕ, Ok, Err}
 use Rattle.name_map.specs.Added.{AllStand, payloads_of}
 use Rattle.payload_tables.specs.Bases.{IsBaseOf}
 use Rattle.step_rules.specs.declared.Refusal.TheVariants as why

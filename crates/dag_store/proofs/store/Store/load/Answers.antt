@@ -40,7 +40,7 @@ returns-in_err-tables-clause-opens g c = λ payloads w.
 pub invariant_of-result : goal.invariant_of-result
 invariant_of-result g c =
     let read = c.in_ok-tables.ensures.ok in
-    loaded-kept c.in_ok-log.log c.in_ok-tables.tables c.in_ok-sessions.sessions.items c.args.limits read.0 read.1 read.2 read.3 c.in_ok-sessions.ensures.count
+    loaded-kept c.in_ok-log.log c.in_ok-tables.tables c.in_ok-sessions.sessions.items c.args.limits read.0 read.1 read.2 read.3 read.4 c.in_ok-sessions.ensures.count
     (λ s small. c.in_ok-sessions.ensures.each read.0 s read.1 read.3 small) c.requires c.in_ok-log.ensures.limit
 
 pub returns-clause-opens : goal.returns-clause-opens

@@ -1,0 +1,66 @@
+-- What a flush leaves of the disk and of the store.
+use Rattle.std.proofs.Common.{◌≡◌, ℕ, true, List, [], ◌∷◌, ◌++◌, set, Option, Some, None, sym, ap, subst, ◌∙◌}
+use Rattle.disk_trait.specs.Images.{Told}
+use Rattle.disk_trait.specs.Calls.{Goes}
+use Rattle.disk_trait.proofs.Telling.{goes-both, goes-map}
+use Rattle.gated_log.specs.Held.{Held}
+use Rattle.gated_log.specs.Holding.{HasPayloads, KeepsOldOrNew, HasNew}
+use Rattle.change_rules.specs.declared.Limits.{Limits}
+use Rattle.flush_rebuild.specs.declared.plan.Change.{Change}
+use Rattle.dag_store.specs.declared.replies.Flushed.{Flushed}
+use Rattle.dag_store.specs.declared.replies.Flushed.TheVariants.{Done, Refused, Disk}
+use Rattle.dag_store.specs.Kept.{PlainSession, PlainStore}
+use Rattle.dag_store.specs.Flushes.{HasRoom, HasStored, FlushLeaves, IsQuiet, LeavesStore}
+use Rattle.dag_store.specs.Finishes.{Finishes}
+
+-- the payload is stored
+pub leaves-stored : (kept after : PlainStore) (payload : List ℕ) (clock : ℕ) (a b : Option Told) → kept.log.limit ≡ kept.limits.log → after.log.payloads ≡ kept.log.payloads ++ payload ∷ [] → after.log.limit ≡ kept.log.limit
+    → Goes (KeepsOldOrNew kept.log payload) a b → Goes (HasNew after.log clock) a b → Goes (HasStored kept payload after clock) a b
+leaves-stored kept after payload clock a b most payloads limit h n =
+    goes-both (KeepsOldOrNew kept.log payload) (HasNew after.log clock) (HasStored kept payload after clock) a b
+    (λ x y r s. record {
+      now = s.now;
+      calls = s.calls;
+      since = r;
+      payloads = subst (λ m. HasPayloads m y (kept.log.payloads ++ payload ∷ [])) (limit ∙ most) (subst (λ l. HasPayloads after.log.limit y l) payloads s.payloads);
+      on_disk = s.on_disk;
+    }) h n
+
+-- the same of a store whose log has other room
+module _ (kept : PlainStore) (reserved : Held) (room : HasRoom kept.log reserved) (sessions : List PlainSession) where
+  abbrev other : PlainStore
+  other = record { log = reserved; sessions = sessions; limits = kept.limits }
+
+  since : (payload : List ℕ) (a b : Told) → KeepsOldOrNew reserved payload a b → KeepsOldOrNew kept.log payload a b
+  since payload a b h = subst (λ l. KeepsOldOrNew l payload a b) room h
+
+  leaves : (payload : List ℕ) (end : Flushed) (a b : Told) → FlushLeaves other payload end a b → FlushLeaves kept payload end a b
+  leaves payload (Done new counts (Some clock)) a b h = record {
+    now = h.now;
+    calls = h.calls;
+    since = since payload a b h.since;
+    payloads = subst (λ l. HasPayloads kept.limits.log b (l ++ payload ∷ [])) (ap (λ (l : Held). l.payloads) room) h.payloads;
+    on_disk = h.on_disk;
+  }
+  leaves payload (Done new counts None) a b h = h
+  leaves payload (Refused same refusal) a b h = h
+  leaves payload (Disk fault) a b h = record { calls = h.calls; since = since payload a b h.since }
+
+  pub leaves-room : (payload : List ℕ) (end : Flushed) (a b : Option Told) → Goes (FlushLeaves other payload end) a b → Goes (FlushLeaves kept payload end) a b
+  leaves-room payload end a b h = goes-map (FlushLeaves other payload end) (FlushLeaves kept payload end) a b (leaves payload end) h
+
+  pub leaves-store : (s : ℕ) (x : PlainSession) (change : Change) (end : Flushed) → sessions ≡ set kept.sessions s x → Finishes reserved sessions kept.limits change end → LeavesStore kept s end
+  leaves-store s x change (Done new counts (Some clock)) e f = (x, f.1 ∙ ap (λ (l : List PlainSession). record { log = new.log; sessions = l; limits = kept.limits }) e)
+  leaves-store s x change (Done new counts None) e f =
+      let log : new.log ≡ reserved = ap (λ (v : PlainStore). v.log) f.1 in (
+        (x, f.1 ∙ ap (λ (l : List PlainSession). record { log = reserved; sessions = l; limits = kept.limits }) e ∙ ap (λ (g : Held). record { log = g; sessions = set kept.sessions s x; limits = kept.limits }) (sym log)),
+        log ∙ room ∙ ap (λ (g : Held). record kept.log { room = g.room }) (sym log),
+      )
+  leaves-store s x change (Refused same refusal) e f = absurd f
+  leaves-store s x change (Disk fault) e f = tt
+
+pub quiet-same : (log : Held) (sessions : List PlainSession) (limits : Limits) (change : Change) (end : Flushed) → Finishes log sessions limits change end → IsQuiet end → change.same ≡ true
+quiet-same log sessions limits change (Done new counts None) f q = f.0
+quiet-same log sessions limits change (Done new counts (Some clock)) f q = absurd q
+quiet-same log sessions limits change (Refused same refusal) f q = absurd f
+quiet-same log sessions limits change (Disk fault) f q = absurd q

@@ -1,0 +1,148 @@
+-- What is asked of a rebase and of a plan.
+use Rattle.std.proofs.Common.{◌≡◌, ◌≤◌, ◌<◌, ◌+◌, ◌*◌, ◌^◌, ⊎_elim, ℕ, Bool, not, ◌&&◌, List, [], ◌∷◌, ◌++◌, map, length, drop, Option, None, sym, ap, ap₂, subst, ◌∙◌, arith, le_refl}
+use Rattle.std.specs.Prelude.{◌==◌}
+use Rattle.std.specs.List.{AllZip}
+use Rattle.std.proofs.lemmas.List.{take-append-drop, length-map}
+use Rattle.std.proofs.lemmas.Bool.{cases_eq, eq-eqb, ne_eqb}
+use Rattle.id_groups.specs.Lists.{IsIn}
+use Rattle.id_groups.specs.Name.{Name, same_name}
+use Rattle.commit_graph.specs.World.{World, GrowsMaster, names_of}
+use Rattle.batch_codec.specs.Grammar.{count_after}
+use Rattle.gated_log.specs.Held.{Held, log_bytes, longer}
+use Rattle.gated_log.proofs.Places.{length-log}
+use Rattle.batch_codec.specs.Payload.{Payload}
+use Rattle.name_map.specs.Added.{Placed, payloads_of, AllStand, Follow as Following}
+use Rattle.change_rules.specs.Change.{text_of}
+use Rattle.change_rules.specs.Lazy.{has_lazy}
+use Rattle.payload_tables.specs.declared.base.BaseRef.{BaseRef}
+use Rattle.payload_tables.specs.Kept.{PlainTables, PlainOthers, AreTablesOf, AreOthersIn, last_added}
+use Rattle.payload_tables.specs.Pending.{IdRow, PlainPending, HoldsRows, row_names}
+use Rattle.payload_tables.specs.Bases.{MayBase, IsBaseOf, ArePending}
+use Rattle.change_rules.specs.Tables.{StandFor}
+use Rattle.payload_tables.proofs.Basing.{count-front}
+use Rattle.flush_rebuild.specs.Asked.{IsFoundIn, HaveParents, MayRebaseOn}
+use Rattle.flush_rebuild.specs.Plans.{MayRebase, MayFlush}
+use Rattle.change_rules.specs.Rebase.{left_of}
+use Rattle.gated_log.specs.Log.{log_length}
+use Rattle.step_rules.specs.State.{Stored, session, base_of, pending_of}
+use Rattle.step_rules.specs.Tests.{is_on_newest, first_some}
+use Rattle.step_rules.proofs.Sessions.{newest-now}
+use Rattle.dag_store.specs.Kept.{PlainSession, IsSessionOf, base_added}
+use Rattle.dag_store.specs.Changes.{IsOn, AreOver, AreFound, head_refusal, row_refusal, added_behind, next_place}
+use Rattle.dag_store.proofs.FlushStates.{rows-found, heads-found}
+
+module _ (log : Held) (tables : PlainTables) (added : List Placed) (over : AreOver log tables added) (x : PlainSession) (h : IsSessionOf added x) (bytes : List ℕ) (all : bytes ≡ log_bytes log) where
+  abbrev before : List Placed
+  before = base_added added x
+
+  pub all-stand : AllStand bytes added
+  all-stand = subst (λ l. AllStand l added) (sym all) over.stand
+
+  grown : count_after 0 (payloads_of before) ≤ count_after 0 (payloads_of added)
+  grown =
+      let whole : before ++ drop x.payloads added ≡ added = take-append-drop x.payloads added in
+      subst (λ l. count_after 0 (payloads_of before) ≤ count_after 0 (payloads_of l)) whole
+      (count-front 0 before (drop x.payloads added) (subst (λ l. Following 0 l) (sym whole) over.tables_of.names.follow))
+
+  pub may-rebase-on : (base : BaseRef) → IsBaseOf base before → (pending : PlainPending) → pending ≡ x.pending → (found : List (Option ℕ)) → ((rows : List IdRow) → HoldsRows x.pending rows → AllZip (IsFoundIn added) (row_names rows) found)
+      → MayRebaseOn tables bytes base pending found added before
+  may-rebase-on base b pending is found f = record {
+    tables_of = over.tables_of;
+    stand = all-stand;
+    base_of = b;
+    grows = (let c = b.count in let g = grown in omega (arith, c, g));
+    rows = h.pending.rows;
+    held = subst (λ p. HoldsRows p h.pending.rows) (sym is) h.pending.held;
+    first = ap (λ (p : PlainPending). p.first) is ∙ h.pending.first;
+    parents = subst (λ n. HaveParents n h.pending.rows) (sym b.count) h.pending.parents;
+    distinct = h.pending.distinct;
+    found_are = f h.pending.rows h.pending.held;
+  }
+
+  -- the same for a state
+  module _ (began s : ℕ) (st : Stored) (o : IsOn began added x st s) where
+    pub asks-is : (asks unnamed : Bool) → asks ≡ (not (x.payloads == length log.payloads) && unnamed) → unnamed ≡ has_lazy st.payloads st.stored → asks ≡ (not (is_on_newest st s) && has_lazy st.payloads st.stored)
+    asks-is asks unnamed e u = e ∙ ap₂ (λ a b. not a && b) same u
+      where
+        n : length log.payloads ≡ length st.payloads
+        n = ap length over.texts ∙ length-map (payloads_of added) text_of ∙ ap length o.payloads
+
+        same : (x.payloads == length log.payloads) ≡ is_on_newest st s
+        same =
+            let a = o.session.payloads in let c = o.count in let m = n in
+            ⊎_elim
+            (λ (e : x.payloads ≡ length log.payloads). eq-eqb x.payloads (length log.payloads) e ∙ sym (eq-eqb (session st s).base (length st.past) (omega (arith, a, c, m, e))))
+            (λ (d : x.payloads ≡ length log.payloads → ⊥). ne_eqb x.payloads (length log.payloads) d ∙ sym (ne_eqb (session st s).base (length st.past) (λ z. d (omega (arith, a, c, m, z)))))
+            (cases_eq x.payloads (length log.payloads))
+
+    pub may-rebase : (base : BaseRef) → IsBaseOf base before → (pending : PlainPending) → pending ≡ x.pending → (found : List (Option ℕ)) → AreFound st (row_refusal st s) (names_of (pending_of st s)) found
+        → MayRebase tables bytes base pending found st.stored (base_of st s) (pending_of st s)
+    may-rebase base b pending is found f = record {
+      added = added;
+      tables_of = over.tables_of;
+      stand = all-stand;
+      stand_for = subst (λ l. StandFor l st.stored) (sym o.payloads) o.hold.stand;
+      world = o.hold.world.world;
+      before = before;
+      base_of = b;
+      base_stands = o.base.stand;
+      pending_rows = subst (λ p. ArePending (base_of st s) p (pending_of st s)) (sym is) o.session.pending;
+      grows = subst (λ v. GrowsMaster (base_of st s) v) (newest-now st) (o.state.grows (session st s).base (length st.past) (o.state.sessions s).base (le_refl _));
+      keeps = o.keeps;
+      others_stored = λ name i. h.keeps name (subst (IsIn name) (sym o.base.stand.names) i);
+      found_are = rows-found began s added x st o found f;
+    }
+
+-- a session's base
+pub may-base : (bytes : List ℕ) (tables : PlainTables) (added : List Placed) (x : PlainSession) → IsSessionOf added x → AreTablesOf tables added → AllStand bytes added
+    → (others : PlainOthers) (below : ℕ) → others ≡ x.others → below ≡ x.below → MayBase bytes tables others below (base_added added x)
+may-base bytes tables added x h t s others below oe be =
+    let whole : base_added added x ++ drop x.payloads added ≡ added = take-append-drop x.payloads added in
+    record {
+      behind = drop x.payloads added;
+      tables_of = subst (AreTablesOf tables) (sym whole) t;
+      stand = subst (AllStand bytes) (sym whole) s;
+      others_of = subst (λ (o : PlainOthers). AreOthersIn o (last_added (base_added added x))) (sym oe) h.others;
+      count = be ∙ h.below;
+    }
+
+module _ (log : Held) (tables : PlainTables) (added : List Placed) (over : AreOver log tables added) (x : PlainSession) (h : IsSessionOf added x) (bytes : List ℕ) (all : bytes ≡ log_bytes log)
+    (began s : ℕ) (st : Stored) (o : IsOn began added x st s) where
+  pub may-flush : (left : PlainPending) → ArePending st.stored left (left_of same_name st.stored (pending_of st s)) → (heads : List Name) (found : List (Option ℕ))
+      → first_some (map (row_refusal st s) (names_of (pending_of st s))) ≡ None → AreFound st (head_refusal st s) heads found
+      → MayFlush tables bytes left heads found st.stored (left_of same_name st.stored (pending_of st s))
+  may-flush left p heads found r f = record {
+    added = added;
+    tables_of = over.tables_of;
+    stand = all-stand log tables added over x h bytes all;
+    stand_for = subst (λ l. StandFor l st.stored) (sym o.payloads) o.hold.stand;
+    world = o.hold.world;
+    pending_rows = p;
+    found_are = heads-found began s added x st o heads found r f;
+  }
+
+  pub log-size : length bytes ≡ log_length log.payloads → length bytes ≡ log_length (map text_of st.payloads)
+  log-size e = e ∙ ap log_length (over.texts ∙ ap (map text_of) o.payloads)
+
+-- whether the stored world has lazy names, as the tables tell it
+pub lacking : (began s : ℕ) (added : List Placed) (x : PlainSession) (st : Stored) → IsOn began added x st s → (unnamed : Bool) → ((w : World Name) → StandFor (payloads_of added) w → unnamed ≡ has_lazy (payloads_of added) w)
+    → unnamed ≡ has_lazy st.payloads st.stored
+lacking began s added x st o unnamed f =
+    f st.stored (subst (λ l. StandFor l st.stored) (sym o.payloads) o.hold.stand) ∙ ap (λ l. has_lazy l st.stored) o.payloads
+
+pub count-added : (log : Held) (tables : PlainTables) (added : List Placed) → AreOver log tables added → length log.payloads ≡ length added
+count-added log tables added v = ap length v.texts ∙ length-map (payloads_of added) text_of ∙ length-map added (λ (a : Placed). a.payload)
+
+pub behind-is : (log : Held) (added : List Placed) (last p : Payload) (at : ℕ) → at ≡ next_place log → p ≡ last → added ++ record { at = at; payload = p } ∷ [] ≡ added_behind log added last
+behind-is log added last p at e f = ap₂ {C = List Placed} (λ n q. added ++ record { at = n; payload = q } ∷ []) e f
+
+many : (texts : List (List ℕ)) → 9 * length texts + 1 ≤ log_length texts
+many [] = omega arith
+many (t ∷ texts) = let m = many texts in omega (arith, m)
+
+-- a log within the bounds of the format has few payloads
+pub few-payloads : (log : Held) (payload : List ℕ) → longer log payload ≤ 2 ^ 32 → length log.payloads + 1 < 2 ^ 32
+few-payloads log payload le =
+    let m = many log.payloads in
+    let l = length-log log.payloads log.gate in
+    omega (arith, m, l, le)

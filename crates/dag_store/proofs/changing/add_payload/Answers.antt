@@ -1,0 +1,21 @@
+use Rattle.std.proofs.Common.{◌+◌, ap, subst, arith, length, sym}
+use Rattle.batch_codec.specs.Grammar.{MayFollow}
+use Rattle.batch_codec.specs.Lent.{payload_of}
+use Rattle.name_map.specs.Added.{AllStand, payloads_of}
+use Rattle.payload_tables.specs.Kept.{AreTablesOf}
+use Rattle.dag_store.specs.Loading.{IsOnNewest}
+use Rattle.dag_store.proofs.FlushParts.{count-added, behind-is, few-payloads}
+use Rattle.dag_store.proofs.changing.add_payload.Goals as goal
+
+pub overflow_add-batch_count : goal.overflow_add-batch_count
+overflow_add-batch_count c = let f = few-payloads c.args.log.now c.args.payload.now c.requires.fits in let e = c.batch_count.ensures in omega (arith, f, e)
+
+pub returns-in-Ok-clause-added : goal.returns-in-Ok-clause-added
+returns-in-Ok-clause-added c = λ added last v m e.
+    let same = c.in-Some.ensures.only last m.whole e in
+    let n = c.batch_count.ensures in let l = count-added c.args.log.now c.args.tables.now added v in
+    let is = behind-is c.args.log.now added last (payload_of c.in-Some.batch) (length c.bytes-bytes.result.now + 8) (ap (λ b. length b + 8) c.bytes-bytes.ensures.bytes) same in (
+      subst (AreTablesOf c.add_batch.new.self) is (c.in-Ok.ensures.added added v.tables_of (subst (λ b. AllStand b added) (sym c.bytes-bytes.ensures.bytes) v.stand)),
+      subst (λ l. IsOnNewest l c.in_ok-session.session) is
+          (c.in_ok-session.ensures added (subst (MayFollow (payloads_of added)) (sym same) m) (omega (arith, n, l))),
+    )

@@ -1,0 +1,92 @@
+//! The lines, one behind the other.
+
+ghost use Rattle.std.specs.Prelude.{◌≡◌, ◌<◌, ◌≤◌, [], ◌∷◌, map, IfOk, OnErr, MatchOption};
+ghost use Rattle.demo_input.specs.Lines.{is_flushed, commit_lines, last_lines};
+
+use crate::drawing::number_for;
+use crate::text::{add_line, ancestors_line, flush_line, line_of};
+use std::alloc::{AllocError, Global};
+use std::marker::Model;
+
+/// The lines of a demonstration's commits. Contracts see the list of those that are left.
+#[derive(Drop)]
+pub struct CommitLines {
+    size: u32,
+    start: u64,
+    /// The commit that is added next.
+    commit: u32,
+    /// The number that was reached for the commit before.
+    number: u64,
+    /// Whether the commit before is flushed next.
+    is_flush_due: bool,
+}
+
+impl Model for CommitLines {
+    ghost use Rattle.std.specs.Prelude.{◌≡◌, ◌≤◌, ◌-◌, ◌++◌, List, ℕ, true};
+    ghost use Rattle.demo_input.specs.Drawing.{after_draws};
+    ghost use Rattle.demo_input.specs.Lines.{flush_lines, lines_from};
+
+    ghost Value = { List (List ℕ) };
+
+    ghost view = { λ c. flush_lines c.is_flush_due (c.commit - 1) ++ lines_from c.size c.start c.commit };
+
+    ghost invariant = { λ c. (c.commit ≤ c.size) × (c.number ≡ after_draws c.start (c.commit - 2))
+        × (c.is_flush_due ≡ true → 1 ≤ c.commit) };
+}
+
+/// Whether a flush follows this commit.
+fn is_flushed(size: u32, commit: u32) -> bool
+    requires { commit < size }
+    ensures { result ≡ is_flushed size commit }
+{
+    (commit + 1) % 1000 == 0 || commit + 1 == size
+}
+
+impl CommitLines {
+    /// The lines of so many commits, whose parents are drawn from this number on.
+    pub fn new(size: u32, start: u64) -> CommitLines
+        ensures { result ≡ commit_lines size start }
+    {
+        CommitLines {
+            size,
+            start,
+            commit: 0,
+            number: start,
+            is_flush_due: false,
+        }
+    }
+
+    /// Makes the next line, if there is one; where memory is wanting it is still the next one.
+    pub fn next_line(&mut self, alloc: Global) -> Result<Option<Vec<u8>>, AllocError>
+        ensures ok { IfOk result (λ next. MatchOption next ((self.old ≡ []) × (self.new ≡ [])) (λ line. self.old ≡ line.items ∷ self.new)) }
+        ensures err { OnErr result (self.new ≡ self.old) }
+    {
+        if self.is_flush_due {
+            let line = flush_line(alloc, self.commit - 1)?;
+            self.is_flush_due = false;
+            return Ok(Some(line));
+        }
+        if self.commit == self.size {
+            return Ok(None);
+        }
+        let number = number_for(self.commit, self.number);
+        let line = add_line(alloc, self.commit, number)?;
+        self.number = number;
+        self.is_flush_due = is_flushed(self.size, self.commit);
+        self.commit += 1;
+        Ok(Some(line))
+    }
+}
+
+/// The last four lines, whose replies are printed.
+pub fn last_lines(alloc: Global, size: u32) -> Result<Vec<Vec<u8>>, AllocError>
+    requires { 1 ≤ size }
+    ensures { IfOk result (λ lines. map (λ line. line.items) lines.items ≡ last_lines size) }
+{
+    let mut lines = Vec::new(alloc);
+    lines.push(line_of(alloc, b"0 status")?)?;
+    lines.push(ancestors_line(alloc, size - 1)?)?;
+    lines.push(line_of(alloc, b"0 count merges(all)")?)?;
+    lines.push(line_of(alloc, b"0 count heads(all)")?)?;
+    Ok(lines)
+}

@@ -1,0 +1,155 @@
+//! The disk over a file.
+
+ghost use Rattle.std.specs.Prelude.{◌≡◌, ◌≤◌, ◌^◌, ◌%◌, length, None, IfOk};
+ghost use Rattle.outside.specs.Counts.{HasCause};
+ghost use Rattle.disk_trait.specs.Images.{last_moment};
+
+use crate::file;
+use disk_trait::{Disk, DiskFault};
+use std::fs::{Files, OpenFile};
+use std::io;
+use std::io::ErrorKind;
+
+/// How many calls may be made: as many as fit the clock, on which each counts twice.
+const CALL_LIMIT: u64 = 1 << 61;
+
+/// A file as a disk. It is opened at the first call; each error is a counted fault.
+#[derive(Drop)]
+pub struct FileDisk<R: Files + Drop> {
+    rt: R,
+    path: String,
+    make: bool,
+    file: Option<R::File>,
+    calls: u64,
+    faults: u64,
+    ghost few: { calls ≤ 2 ^ 61 },
+}
+
+impl<R: Files + Drop> FileDisk<R> {
+    /// The file at this path, not opened yet. With `make` it is made where there is none, and its folder's entry made
+    /// sure of; without, it is opened for reading alone, and each call fails where there is none.
+    pub fn new(rt: R, path: String, make: bool) -> FileDisk<R>
+        ensures { result.faults ≡ 0 }
+    {
+        FileDisk {
+            rt,
+            path,
+            make,
+            file: None,
+            calls: 0,
+            faults: 0,
+        }
+    }
+
+    /// Whether the file was opened.
+    pub fn opened(&self) -> bool {
+        self.file.is_some()
+    }
+
+    /// Begins a call: counts it, and opens the file where that wasn't done yet.
+    fn begin(&mut self) -> io::Result<()>
+        ensures { self.new.faults ≡ self.old.faults }
+    {
+        if self.calls >= CALL_LIMIT {
+            return Err(ErrorKind::Other.into());
+        }
+        self.calls += 1;
+        if self.file.is_none() {
+            self.file = Some(file::open(&self.rt, self.path.as_str(), self.make)?);
+        }
+        Ok(())
+    }
+
+    fn try_size(&mut self) -> io::Result<u64>
+        ensures { self.new.faults ≡ self.old.faults }
+    {
+        self.begin()?;
+        match &self.file {
+            Some(file) => file::size_of(file),
+            None => Err(ErrorKind::NotFound.into()),
+        }
+    }
+
+    fn try_read(&mut self, at: u64, out: &mut [u8]) -> io::Result<usize>
+        ensures bound { IfOk result (λ count. count ≤ length out.old) }
+        ensures faults { self.new.faults ≡ self.old.faults }
+    {
+        self.begin()?;
+        match &mut self.file {
+            Some(file) => file::read_at(file, at, out),
+            None => Err(ErrorKind::NotFound.into()),
+        }
+    }
+
+    fn try_write(&mut self, at: u64, piece: &[u8]) -> io::Result<()>
+        ensures { self.new.faults ≡ self.old.faults }
+    {
+        self.begin()?;
+        match &mut self.file {
+            Some(file) => file::write_at(file, at, piece),
+            None => Err(ErrorKind::NotFound.into()),
+        }
+    }
+
+    fn try_sync(&mut self) -> io::Result<()>
+        ensures { self.new.faults ≡ self.old.faults }
+    {
+        self.begin()?;
+        match &self.file {
+            Some(file) => file.sync_all(),
+            None => Err(ErrorKind::NotFound.into()),
+        }
+    }
+
+    /// Ends a call, and counts a fault where it failed.
+    fn end<T: Drop>(&mut self, answer: io::Result<T>) -> Result<T, DiskFault>
+        ensures cause { HasCause self.old.faults self.new.faults result }
+        ensures value { IfOk result (λ value. answer ≡ Ok value) }
+    {
+        match answer {
+            Ok(value) => Ok(value),
+            Err(_) => {
+                self.faults = self.faults.saturating_add(1);
+                Err(DiskFault)
+            }
+        }
+    }
+}
+
+impl<R: Files + Drop> Disk for FileDisk<R> {
+    ghost use Rattle.std.specs.Prelude.{None, ⊤};
+
+    ghost bytes = { λ d. None };
+
+    ghost told = { λ d. None };
+
+    ghost faults = { λ d. d.faults };
+
+    ghost tells = { λ d. tt };
+
+    ghost sound = { λ d. tt };
+
+    fn size(&mut self) -> Result<u64, DiskFault> {
+        let answer = self.try_size();
+        self.end(answer)
+    }
+
+    fn read(&mut self, at: u64, out: &mut [u8]) -> Result<usize, DiskFault> {
+        let answer = self.try_read(at, out);
+        self.end(answer)
+    }
+
+    fn write(&mut self, at: u64, piece: &[u8]) -> Result<(), DiskFault> {
+        let answer = self.try_write(at, piece);
+        self.end(answer)
+    }
+
+    fn sync(&mut self) -> Result<(), DiskFault> {
+        let answer = self.try_sync();
+        self.end(answer)
+    }
+
+    fn clock(&self) -> u64 {
+        2 * self.calls
+    }
+}
