@@ -1,0 +1,147 @@
+-- From the end of a run to its status, and which logs are refused.
+use Rattle.std.proofs.Common.{ℕ, ◌≡◌, ◌≤◌, ◌<◌, ◌⊎◌, inl, inr, ⊎_elim, List, [], length, Option, Some, None, Ok, Err, IfSome, refl, sym, subst, ◌∙◌, arith}
+use Rattle.std.specs.declared.result.Result.{Result}
+use Rattle.id_groups.specs.Name.{Name}
+use Rattle.commit_graph.specs.World.{World}
+use Rattle.disk_trait.specs.Images.{Told}
+use Rattle.line_io.specs.declared.lines.LineFault.{LineFault}
+use Rattle.line_io.specs.declared.lines.LineFault.TheVariants.{Read, Limit}
+use Rattle.batch_codec.specs.Payload.{Payload}
+use Rattle.change_rules.specs.declared.Limits.{Limits}
+use Rattle.change_rules.specs.Unlawful.{IsNoLog}
+use Rattle.step_rules.specs.State.{at_start}
+use Rattle.step_rules.specs.Reply.{Reply}
+use Rattle.run_rules.specs.Ends.{Streams, End, Done, NoMemory, EndsAs, status_of as end_status}
+use Rattle.run_rules.specs.Means.{Means, IsComplete}
+use Rattle.run_rules.proofs.Matched.{run-answered}
+use Rattle.dag_run.specs.Ends.{RunRefuses, StatusRefuses, LoadRefuses}
+use Rattle.dag_run.specs.Stops.{end_of, stop_of, IsRunStatus, IsLineStop, IsLoadStop}
+use Rattle.dag_run.specs.declared.stops.Stop.{Stop}
+use Rattle.dag_run.specs.declared.stops.Stop.TheVariants as stops
+
+pub status-known : (end : Result Unit Stop) → IsRunStatus (end_status (end_of end))
+status-known (Ok x) = refl
+status-known (Err stops.Memory) = refl
+status-known (Err stops.NoLog) = refl
+status-known (Err stops.NotLoaded) = refl
+status-known (Err stops.NotStored) = refl
+status-known (Err stops.Source) = refl
+status-known (Err stops.Sink) = refl
+status-known (Err stops.Limit) = refl
+
+pub of-disk : (end : Result Unit Stop) → end_status (end_of end) ≡ 3 → (end ≡ Err stops.NotLoaded) ⊎ (end ≡ Err stops.NotStored)
+of-disk (Ok x) e = absurd (cc e)
+of-disk (Err stops.Memory) e = absurd (cc e)
+of-disk (Err stops.NoLog) e = absurd (cc e)
+of-disk (Err stops.NotLoaded) e = inl refl
+of-disk (Err stops.NotStored) e = inr refl
+of-disk (Err stops.Source) e = absurd (cc e)
+of-disk (Err stops.Sink) e = absurd (cc e)
+of-disk (Err stops.Limit) e = absurd (cc e)
+
+pub of-log : (end : Result Unit Stop) → end_status (end_of end) ≡ 4 → end ≡ Err stops.NoLog
+of-log (Ok x) e = absurd (cc e)
+of-log (Err stops.Memory) e = absurd (cc e)
+of-log (Err stops.NoLog) e = refl
+of-log (Err stops.NotLoaded) e = absurd (cc e)
+of-log (Err stops.NotStored) e = absurd (cc e)
+of-log (Err stops.Source) e = absurd (cc e)
+of-log (Err stops.Sink) e = absurd (cc e)
+of-log (Err stops.Limit) e = absurd (cc e)
+
+pub of-source : (end : Result Unit Stop) → end_status (end_of end) ≡ 5 → end ≡ Err stops.Source
+of-source (Ok x) e = absurd (cc e)
+of-source (Err stops.Memory) e = absurd (cc e)
+of-source (Err stops.NoLog) e = absurd (cc e)
+of-source (Err stops.NotLoaded) e = absurd (cc e)
+of-source (Err stops.NotStored) e = absurd (cc e)
+of-source (Err stops.Source) e = refl
+of-source (Err stops.Sink) e = absurd (cc e)
+of-source (Err stops.Limit) e = absurd (cc e)
+
+pub of-sink : (end : Result Unit Stop) → end_status (end_of end) ≡ 6 → end ≡ Err stops.Sink
+of-sink (Ok x) e = absurd (cc e)
+of-sink (Err stops.Memory) e = absurd (cc e)
+of-sink (Err stops.NoLog) e = absurd (cc e)
+of-sink (Err stops.NotLoaded) e = absurd (cc e)
+of-sink (Err stops.NotStored) e = absurd (cc e)
+of-sink (Err stops.Source) e = absurd (cc e)
+of-sink (Err stops.Sink) e = refl
+of-sink (Err stops.Limit) e = absurd (cc e)
+
+pub of-memory : (end : Result Unit Stop) → end_status (end_of end) ≡ 7 → end ≡ Err stops.Memory
+of-memory (Ok x) e = absurd (cc e)
+of-memory (Err stops.Memory) e = refl
+of-memory (Err stops.NoLog) e = absurd (cc e)
+of-memory (Err stops.NotLoaded) e = absurd (cc e)
+of-memory (Err stops.NotStored) e = absurd (cc e)
+of-memory (Err stops.Source) e = absurd (cc e)
+of-memory (Err stops.Sink) e = absurd (cc e)
+of-memory (Err stops.Limit) e = absurd (cc e)
+
+-- a run that no fault ended, of an input within the limit, over a disk that holds a world
+ends-well : (end : Result Unit Stop) (limit : ℕ) (io : Streams) (DiskFailed SourceFailed SinkFailed : Type 0) (lines more : List (List ℕ)) (replies : List Reply) → EndsAs (end_of end) limit io SinkFailed lines more replies
+    → ((end ≡ Err stops.NotLoaded) ⊎ (end ≡ Err stops.NotStored) → DiskFailed) → (end ≡ Err stops.Source → SourceFailed) → (end ≡ Err stops.Sink → SinkFailed)
+    → (DiskFailed → ⊥) → (SourceFailed → ⊥) → (SinkFailed → ⊥) → length io.input ≤ limit → (end_of end ≡ Done) ⊎ (end_of end ≡ NoMemory)
+ends-well (Ok x) limit io DF SoF SiF lines more replies h d s o nd ns never le = inl refl
+ends-well (Err stops.Memory) limit io DF SoF SiF lines more replies h d s o nd ns never le = inr refl
+ends-well (Err stops.NoLog) limit io DF SoF SiF lines more replies h d s o nd ns never le = absurd h
+ends-well (Err stops.NotLoaded) limit io DF SoF SiF lines more replies h d s o nd ns never le = absurd (nd (d (inl refl)))
+ends-well (Err stops.NotStored) limit io DF SoF SiF lines more replies h d s o nd ns never le = absurd (nd (d (inr refl)))
+ends-well (Err stops.Source) limit io DF SoF SiF lines more replies h d s o nd ns never le = absurd (ns (s refl))
+ends-well (Err stops.Sink) limit io DF SoF SiF lines more replies h d s o nd ns never le = absurd (never (o refl))
+ends-well (Err stops.Limit) limit io DF SoF SiF lines more replies h d s o nd ns never le = absurd (let lt = h.0 in omega (arith, lt, le))
+
+pub complete : (end : Result Unit Stop) (limits : Limits) (w : World Name) (payloads : List Payload) (room : ℕ) (io : Streams) (DiskFailed SourceFailed SinkFailed : Type 0) (old new : Told) (changes : List ℕ)
+    (m : Means limits w payloads room [] [] io SinkFailed old new (end_of end) changes)
+    → ((end ≡ Err stops.NotLoaded) ⊎ (end ≡ Err stops.NotStored) → DiskFailed) → (end ≡ Err stops.Source → SourceFailed) → (end ≡ Err stops.Sink → SinkFailed)
+    → IsComplete limits [] [] io DiskFailed SourceFailed SinkFailed (end_of end) m.replies
+complete end limits w payloads room io DF SoF SiF old new changes m d s o = record {
+  ends = ends-well end limits.input io DF SoF SiF m.lines m.more m.replies m.ends d s o;
+  answered = λ h n i. run-answered limits m.lines (at_start w payloads room []) m.last m.replies n m.run (inl tt) i;
+}
+
+-- ---- what is refused
+pub refuses-nothing : (limit : ℕ) (b : Option (List ℕ)) → IfSome b (λ bytes. RunRefuses limit bytes (Err stops.Memory))
+refuses-nothing limit None = tt
+refuses-nothing limit (Some bytes) = (λ e. absurd (cc e), λ h. inr (inr refl))
+
+pub load-refuses : (limit : ℕ) (b : Option (List ℕ)) (stop : Stop) → IsLoadStop stop → IfSome b (λ bytes. LoadRefuses limit bytes (Err stop)) → IfSome b (λ bytes. RunRefuses limit bytes (Err stop))
+load-refuses limit None stop is h = tt
+load-refuses limit (Some bytes) stops.Memory is h = (λ e. absurd (cc e), λ n. inr (inr refl))
+load-refuses limit (Some bytes) stops.NoLog is h = (λ e. h, λ n. inl refl)
+load-refuses limit (Some bytes) stops.NotLoaded is h = (λ e. absurd (cc e), λ n. inr (inl refl))
+load-refuses limit (Some bytes) stops.NotStored is h = absurd is
+load-refuses limit (Some bytes) stops.Source is h = absurd is
+load-refuses limit (Some bytes) stops.Sink is h = absurd is
+load-refuses limit (Some bytes) stops.Limit is h = absurd is
+
+pub line-refuses : (limit : ℕ) (b : Option (List ℕ)) (result : Result Unit Stop) → (result ≡ Err stops.NoLog → ⊥) → IfSome b (λ bytes. IsNoLog limit bytes → ⊥) → IfSome b (λ bytes. RunRefuses limit bytes result)
+line-refuses limit None result never h = tt
+line-refuses limit (Some bytes) result never h = (λ e. absurd (never e), λ n. absurd (h n))
+
+pub fault-no-log : (fault : LineFault) → ◌≡◌ {A = Result Unit Stop} (Err (stop_of fault)) (Err stops.NoLog) → ⊥
+fault-no-log Read e = cc e
+fault-no-log Limit e = cc e
+
+pub stop-no-log : (stop : Stop) → IsLineStop stop → ◌≡◌ {A = Result Unit Stop} (Err stop) (Err stops.NoLog) → ⊥
+stop-no-log stop is e = let same : stop ≡ stops.NoLog = cc e in subst IsLineStop same is
+
+pub log-not-loaded : (stop : Stop) → stop ≡ stops.NoLog → stop ≡ stops.NotLoaded → ⊥
+log-not-loaded stop e f = let same : stops.NoLog ≡ stops.NotLoaded = sym e ∙ f in cc same
+
+pub status-refuses : (limit : ℕ) (b : Option (List ℕ)) (end : Result Unit Stop) (status : ℕ) → status ≡ end_status (end_of end) → IfSome b (λ bytes. RunRefuses limit bytes end) → IfSome b (λ bytes. StatusRefuses limit bytes status)
+status-refuses limit None end status e h = tt
+status-refuses limit (Some bytes) end status e h = (
+  λ four. h.0 (of-log end (sym e ∙ four)),
+  λ n. ⊎_elim (λ a. inl (e ∙ by_end end a)) (λ r. inr (⊎_elim (λ a. inl (e ∙ not_loaded end a)) (λ a. inr (e ∙ no_memory end a)) r)) (h.1 n),
+)
+  where
+    by_end : (r : Result Unit Stop) → r ≡ Err stops.NoLog → end_status (end_of r) ≡ 4
+    by_end r a = subst (λ x. end_status (end_of x) ≡ 4) (sym a) refl
+
+    not_loaded : (r : Result Unit Stop) → r ≡ Err stops.NotLoaded → end_status (end_of r) ≡ 3
+    not_loaded r a = subst (λ x. end_status (end_of x) ≡ 3) (sym a) refl
+
+    no_memory : (r : Result Unit Stop) → r ≡ Err stops.Memory → end_status (end_of r) ≡ 7
+    no_memory r a = subst (λ x. end_status (end_of x) ≡ 7) (sym a) refl

@@ -1,0 +1,130 @@
+//! The replies that the store's answers are, and how they are put.
+
+ghost use Rattle.std.specs.Prelude.{◌≡◌, ◌<◌, ◌≤◌, ℕ, List, [], None, IfErr, IfOk};
+ghost use Rattle.outside.specs.Counts.{HasCause, Rose};
+ghost use Rattle.outside.specs.Told.{WhereTold};
+ghost use Rattle.id_groups.specs.Name.{Name};
+ghost use Rattle.span_set.specs.Members.{ids_of};
+ghost use Rattle.set_expr.specs.Whole.{tree_of};
+ghost use Rattle.step_rules.specs.State.{Stored};
+ghost use Rattle.step_rules.specs.Verb.{Query};
+ghost use Rattle.step_rules.specs.Reply.{Listed};
+ghost use Rattle.dag_store.specs.Stands.{Stands};
+ghost use Rattle.dag_store.specs.Steps.{AreIdsOf};
+ghost use Rattle.command_lines.specs.Told.{told};
+ghost use Rattle.dag_run.specs.Lines.{CommandReplies, PutsReply, PutsFault};
+ghost use Rattle.dag_run.specs.Replies.{reply_of_add, reply_of_added, reply_of_reload, reply_of_id, reply_of_count};
+
+use crate::stops::Stop;
+use command_lines::{Reply, put_disk_fault, put_names, put_reply};
+use dag_store::{Added, Answer, Expr, Found, Refusal, Store};
+use id_groups::Id;
+use line_io::Sink;
+
+/// What an add that was done is told.
+fn reply_of_added(added: Added) -> Reply
+    ensures { told result ≡ reply_of_added added }
+{
+    match added {
+        Added::New(id) => Reply::Added(id),
+        Added::Old(id) => Reply::Old(id),
+    }
+}
+
+/// What an add is told.
+pub(crate) fn reply_of_add(answer: Result<Added, Refusal>) -> Reply
+    ensures { told result ≡ reply_of_add answer }
+{
+    match answer {
+        Ok(added) => reply_of_added(added),
+        Err(refusal) => Reply::Refused(refusal),
+    }
+}
+
+/// What a reload is told.
+pub(crate) fn reply_of_reload(answer: Result<u32, Refusal>) -> Reply
+    ensures { told result ≡ reply_of_reload answer }
+{
+    match answer {
+        Ok(left) => Reply::Reloaded(left),
+        Err(refusal) => Reply::Refused(refusal),
+    }
+}
+
+/// What a command for an id is told.
+pub(crate) fn reply_of_id(answer: Result<Id, Refusal>) -> Reply
+    ensures { told result ≡ reply_of_id answer }
+{
+    match answer {
+        Ok(id) => Reply::Identified(id),
+        Err(refusal) => Reply::Refused(refusal),
+    }
+}
+
+/// What a count is told.
+pub(crate) fn reply_of_count(answer: Result<Answer, Refusal>) -> Reply
+    ensures { told result ≡ reply_of_count answer }
+{
+    match answer {
+        Ok(answer) => Reply::Counted(answer.count()),
+        Err(refusal) => Reply::Refused(refusal),
+    }
+}
+
+/// Puts the reply of a line, and hands the store back.
+pub(crate) fn tell<O: Sink>(store: Store, reply: &Reply, output: &mut O) -> Result<Store, Stop>
+    ensures bytes { WhereTold (O.taken output.old) (O.taken output.new) (PutsReply store (told reply.now) result) }
+    ensures same { IfOk result (λ next. next ≡ store) }
+    ensures stop { IfErr result (λ stop. stop ≡ Stop.Sink) }
+    ensures cause { HasCause (O.faults output.old) (O.faults output.new) result }
+{
+    put_reply(reply, output)?;
+    Ok(store)
+}
+
+/// Puts the names of an answer, and hands the store back.
+fn list_names<O: Sink>(
+    store: Store,
+    s: u8,
+    found: &Found,
+    output: &mut O,
+) -> Result<Store, Stop>
+    requires { s < 16 }
+    ensures bytes { WhereTold (O.taken output.old) (O.taken output.new) (λ before now. (began : ℕ) (st : Stored) (names : List Name) → Stands began store st
+        → AreIdsOf st s (ids_of found.now.answer.set) names → PutsReply store (Listed names) result before now) }
+    ensures same { IfOk result (λ next. next ≡ store) }
+    ensures stop { IfErr result (λ stop. stop ≡ Stop.Sink) }
+    ensures cause { HasCause (O.faults output.old) (O.faults output.new) result }
+{
+    let names = store.names(s, found);
+    let count = found.answer().count();
+    put_names(output, names, count)?;
+    Ok(store)
+}
+
+/// Puts the answer of an expression, and hands the store back.
+pub(crate) fn list<O: Sink>(
+    store: Store,
+    s: u8,
+    expr: &Expr,
+    output: &mut O,
+) -> Result<Store, Stop>
+    requires { s < 16 }
+    ensures told { WhereTold (O.taken output.old) (O.taken output.new) (CommandReplies (Rose (O.faults output.old) (O.faults output.new)) store s (Query (tree_of expr.now)) [] None result) }
+    ensures same { IfOk result (λ next. next ≡ store) }
+    ensures stop { IfErr result (λ stop. stop ≡ Stop.Sink) }
+    ensures cause { HasCause (O.faults output.old) (O.faults output.new) result }
+{
+    match store.query(s, expr) {
+        Ok(found) => list_names(store, s, &found, output),
+        Err(refusal) => tell(store, &Reply::Refused(refusal), output),
+    }
+}
+
+/// Puts the last line of a run that the disk ended.
+pub(crate) fn tell_fault<O: Sink>(output: &mut O)
+    ensures bytes { WhereTold (O.taken output.old) (O.taken output.new) (PutsFault (Rose (O.faults output.old) (O.faults output.new))) }
+    ensures later { O.faults output.old ≤ O.faults output.new }
+{
+    let _put = put_disk_fault(output);
+}
