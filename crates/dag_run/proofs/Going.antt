@@ -1,149 +1,126 @@
 -- What holds from line to line of a run.
-use Rattle.std.proofs.Common.{ℕ, ◌≡◌, false, List, [], ◌∷◌, ◌++◌, length, take, nat_lt, refl, sym, ◌∙◌, ap, subst, append_assoc, append-nil, Option, Some, None, Ok, Err}
-use Rattle.std.specs.Prelude.{IsSome}
-use Rattle.std.proofs.lemmas.Bool.{ltb-true, ltb-false}
-use Rattle.outside.specs.Told.{TookFront}
-use Rattle.line_io.specs.Lines.{lines_of, whole_lines}
-use Rattle.line_io.specs.Reading.{Reading, new_reading, is_over, lines_left, whole_left}
-use Rattle.line_io.specs.Next.{NextLine, IsLine, Gives, IsReadOut}
+use Rattle.std.proofs.Common.{ℕ, ◌≡◌, ◌≤◌, ◌+◌, ◌⊎◌, inl, inr, ⊎_elim, true, false, List, [], ◌∷◌, ◌++◌, length, map, refl, sym, ◌∙◌, ap, subst, append_assoc, append-nil, Option, Some, None, Ok, Err}
+use Rattle.std.specs.declared.result.Result.{Result}
+use Rattle.id_groups.specs.Name.{Name}
+use Rattle.commit_graph.specs.World.{World}
+use Rattle.disk_trait.specs.Images.{Told, moment_of}
+use Rattle.disk_trait.specs.Since.{SureSince}
+use Rattle.gated_log.specs.Load.{IsSureOf}
+use Rattle.line_io.specs.Lines.{lines_of, is_silent}
+use Rattle.line_io.specs.Reading.{Reading, new_reading, lines_left}
+use Rattle.line_io.specs.Next.{NextLine, IsLine, IsReadOut}
 use Rattle.line_io.specs.declared.lines.Line.{Line}
-use Rattle.line_io.specs.declared.lines.LineFault.{LineFault}
-use Rattle.line_io.specs.declared.lines.LineFault.TheVariants.{Read, Limit}
-use Rattle.line_io.proofs.LinesLemmas.{lines_left-new, whole_left-new, is_over-new}
-use Rattle.dag_run.specs.declared.limits.Limits.{Limits}
-use Rattle.dag_run.specs.declared.reply.Reply.{Reply}
-use Rattle.dag_run.specs.State.{State, start}
-use Rattle.dag_run.specs.Replies.{reply_text}
-use Rattle.dag_run.specs.Lines.{LineTold, told_text}
-use Rattle.dag_run.specs.Run.{Run, output_of}
-use Rattle.dag_run.specs.Stops.{stop_of}
-use Rattle.dag_run.specs.Ends.{Answered, AnsweredInPart, EndsAs, LimitHolds}
-use Rattle.dag_run.proofs.RunLemmas.{replies_of, run-line, output-append, output-told}
+use Rattle.batch_codec.specs.Payload.{Payload}
+use Rattle.change_rules.specs.declared.Limits.{Limits}
+use Rattle.change_rules.specs.Standard.{AreLimits}
+use Rattle.change_rules.specs.Change.{text_of}
+use Rattle.change_rules.specs.Holding.{HoldBytes}
+use Rattle.step_rules.specs.State.{Stored, at_start, start}
+use Rattle.step_rules.specs.Reply.{Reply, reply_text}
+use Rattle.run_rules.specs.Run.{Run, output_of}
+use Rattle.run_rules.specs.Stopped.{ArePrefixes}
+use Rattle.run_rules.proofs.Prefixes.{prefixes-hold}
+use Rattle.dag_store.specs.Kept.{PlainStore}
+use Rattle.dag_store.specs.Stands.{Stands}
+use Rattle.dag_store.specs.Loading.{IsLoadedStore}
+use Rattle.dag_run.specs.Seen.{Seen}
+use Rattle.dag_run.specs.Alone.{alone, StepAlone}
+use Rattle.dag_run.specs.Ends.{Begins}
+use Rattle.dag_run.specs.Lines.{changes_with, Changes, Replies, IsPassed, LineReplies, LineLeaves, StoresOn}
+use Rattle.dag_run.proofs.Reading.{Reads, reads-start, reads-line}
+use Rattle.dag_run.proofs.Runs.{run-silent, run-step, output-append}
+use Rattle.dag_run.proofs.Staying.{Stays, stays-start, stays-stored, stays-same, log-of}
 
--- The lines that were answered, of an input of these bytes: what is left of it gives the lines to come, and, until the
--- end was seen, the bytes given have these lines and those that are held.
-pub record Reads (limits : Limits) (done : List (List ℕ)) (before : List ℕ) (reading : Reading) (after : List ℕ) : Type 0 where
-  pub all : lines_of limits.input before ≡ done ++ lines_left reading after
-  pub given : List ℕ
-  pub split : before ≡ given ++ after
-  pub whole : reading.ended ≡ false → (more : List ℕ) → whole_lines limits.input (given ++ more) ≡ done ++ whole_left reading more
-
--- these lines were answered, and all replies were put
-pub record Goes (limits : Limits) (st : State) (before : List ℕ) (reading : Reading) (after taken now : List ℕ) : Type 0 where
-  pub done : List (List ℕ)
+-- These lines were answered, all replies were put, and the store stands for the run's last state.
+pub record Going (limits : Limits) (w : World Name) (payloads : List Payload) (room : ℕ) (store : PlainStore) (changes : List ℕ) (reading : Reading) (before after : Seen) : Type 0 where
+  pub lines : List (List ℕ)
+  pub reads : Reads limits.input lines before.left reading after.left
   pub replies : List Reply
-  pub reads : Reads limits done before reading after
-  pub run : Run limits start done replies st
-  pub out : now ≡ taken ++ output_of replies
+  pub last : Stored
+  pub run : Run limits (at_start w payloads room []) lines replies (alone last room)
+  pub out : after.taken ≡ before.taken ++ output_of replies
+  pub stands : Stands (length payloads) store last
+  pub stays : Stays limits w payloads changes last before.disk after.disk
 
--- whether the input is too long, as it was seen from the start
-abbrev pub SeesLimit : Limits → Reading → List ℕ → List ℕ → Type 0
-SeesLimit limits reading before after = is_over reading after ≡ nat_lt limits.input (length before)
+-- what is put for one reply more
+pub put-more : (a b c : List ℕ) (replies : List Reply) (reply : Reply) → b ≡ a ++ output_of replies → c ≡ b ++ reply_text reply → c ≡ a ++ output_of (replies ++ reply ∷ [])
+put-more a b c replies reply e f =
+    f ∙ ap (λ t. t ++ reply_text reply) e ∙ append_assoc a (output_of replies) (reply_text reply)
+    ∙ ap (λ t. a ++ t) (sym (output-append replies (reply ∷ []) ∙ ap (λ t. output_of replies ++ t) (append-nil (reply_text reply))))
 
-pub sees-start : (limits : Limits) (before : List ℕ) → SeesLimit limits (new_reading limits.input) before before
-sees-start limits before = is_over-new limits.input before
+module _ (limits : Limits) (fair : AreLimits limits) (w : World Name) (payloads : List Payload) (room : ℕ) (before : Seen) (begins : Begins limits w payloads before) where
+  pub prefixes : (lines : List (List ℕ)) (replies : List Reply) (last : Stored) → Run limits (at_start w payloads room []) lines replies (alone last room) → ArePrefixes payloads last
+  prefixes lines replies last run = prefixes-hold limits before.disk.bytes w payloads room [] lines replies (alone last room) fair begins.read begins.serve run
 
-pub goes-start : (limits : Limits) (before taken : List ℕ) → Goes limits start before (new_reading limits.input) before taken taken
-goes-start limits before taken = record {
-  done = [];
-  replies = [];
-  reads = record {
-    all = sym (lines_left-new limits.input before);
-    given = [];
-    split = refl;
-    whole = λ open_still more. sym (whole_left-new limits.input more);
-  };
-  run = (refl, refl);
-  out = sym (append-nil taken);
-}
+  pub fresh-prefixes : ArePrefixes payloads (start w payloads)
+  fresh-prefixes = prefixes [] [] (start w payloads) (refl, refl)
 
--- the line that `next` goes to is read
-reads-line : (limits : Limits) (done : List (List ℕ)) (before : List ℕ) (old new : Reading) (mid after : List ℕ) (line : List ℕ)
-    → Reads limits done before old mid → lines_left old mid ≡ line ∷ lines_left new after → Gives line old mid new after
-    → Reads limits (done ++ line ∷ []) before new after
-reads-line limits done before old new mid after line h left gives = record {
-  all = h.all ∙ ap (λ ls. done ++ ls) left ∙ sym (append_assoc done (line ∷ []) (lines_left new after));
-  given = h.given ++ gives.came;
-  split = h.split ∙ ap (λ bs. h.given ++ bs) gives.split ∙ sym (append_assoc h.given gives.came after);
-  whole = λ ends more.
-      let w = gives.whole ends in
-      ap (whole_lines limits.input) (append_assoc h.given gives.came more) ∙ h.whole w.0 (gives.came ++ more) ∙ ap (λ ls. done ++ ls) (w.1 more)
-      ∙ sym (append_assoc done (line ∷ []) (whole_left new more));
-}
+  -- before the first line
+  pub going-start : (store : PlainStore) (after : Seen) → store.limits ≡ limits → Stands (length payloads) store (start w payloads) → SureSince (λ moment image. HoldBytes limits.log image w) before.disk after.disk
+      → IsSureOf limits.log (map text_of payloads) before.disk after.disk → IsLoadedStore store before.disk after.disk → after.left ≡ before.left → after.taken ≡ before.taken
+      → Going limits w payloads room store [] (new_reading limits.input) before after
+  going-start store after same stands holds is_sure loaded left taken = record {
+    lines = [];
+    reads = subst (Reads limits.input [] before.left (new_reading limits.input)) (sym left) (reads-start limits.input before.left);
+    replies = [];
+    last = start w payloads;
+    run = (refl, refl);
+    out = taken ∙ sym (append-nil before.taken);
+    stands = stands;
+    stays = stays-start limits w payloads store before.disk after.disk fresh-prefixes holds (log-of limits.log before.disk.bytes w payloads begins.read) is_sure loaded same stands.texts;
+  }
 
--- it is answered, and its reply is put
-pub goes-line : (limits : Limits) (st next : State) (before : List ℕ) (old new : Reading) (mid after taken was now : List ℕ) (kind : Line) (reply : Option Reply)
-    → ((line : List ℕ) → IsLine kind new.text line → LineTold limits st line reply next)
-    → Goes limits st before old mid taken was → NextLine (Ok (Some kind)) old mid new after → now ≡ was ++ told_text reply
-    → Goes limits next before new after taken now
-goes-line limits st next before old new mid after taken was now kind reply told h line put = record {
-  done = h.done ++ line.0 ∷ [];
-  replies = h.replies ++ replies_of reply;
-  reads = reads-line limits h.done before old new mid after line.0 h.reads line.2 line.4;
-  run = run-line limits start st next h.done h.replies line.0 reply h.run (told line.0 line.1);
-  out = put ∙ ap (λ t. t ++ told_text reply) h.out ∙ append_assoc taken (output_of h.replies) (told_text reply)
-      ∙ ap (λ t. taken ++ (output_of h.replies ++ t)) (sym (output-told reply)) ∙ ap (λ t. taken ++ t) (sym (output-append h.replies (replies_of reply)));
-}
+  -- the disk after a line that took a step
+  pub stays-line : (store : PlainStore) (changes : List ℕ) (payload : List ℕ) (clock : Option ℕ) (lines more : List (List ℕ)) (replies told : List Reply) (last next : Stored) (a b : Told) → store.limits ≡ limits
+      → Run limits (at_start w payloads room []) lines replies (alone last room) → Run limits (at_start w payloads room []) more told (alone next room) → Stands (length payloads) store last
+      → Stays limits w payloads changes last before.disk a → Changes clock last next payload → StoresOn store payload clock a b → Stays limits w payloads (changes_with changes clock) next before.disk b
+  stays-line store changes payload None lines more replies told last next a b same run then stands stays (past, spelled) e =
+      subst (λ t. Stays limits w payloads changes next before.disk t) (sym e) (stays-same limits w payloads changes last next before.disk a past spelled (prefixes more told next then) stays)
+  stays-line store changes payload (Some clock) lines more replies told last next a b same run then stands stays changed (limited, new, has) =
+      stays-stored limits w payloads changes last next store payload before.disk a b same limited stands.texts stays (prefixes lines replies last run) (prefixes more told next then) changed new clock has
 
-pub sees-line : (limits : Limits) (before : List ℕ) (old new : Reading) (mid after : List ℕ) (kind : Line)
-    → SeesLimit limits old before mid → NextLine (Ok (Some kind)) old mid new after → SeesLimit limits new before after
-sees-line limits before old new mid after kind h line = line.3 ∙ h
+-- how a line that was done leaves the disk
+pub on-disk : (kept store : PlainStore) (payload : List ℕ) (clock : Option ℕ) (a b : Told) → LineLeaves kept payload clock (Ok store) a b → StoresOn kept payload clock a b
+on-disk kept store payload None a b h = h.0
+on-disk kept store payload (Some clock) a b h = (h.0, store, h.1)
 
--- the input ended
-pub sees-end : (limits : Limits) (before : List ℕ) (old new : Reading) (mid after : List ℕ)
-    → SeesLimit limits old before mid → NextLine (Ok None) old mid new after → LimitHolds (Ok tt) limits before
-sees-end limits before old new mid after h end = ltb-false _ _ (sym h ∙ end.1)
+-- ---- one line
+module _ (limits : Limits) (fair : AreLimits limits) (w : World Name) (payloads : List Payload) (room : ℕ) (before mid after : Seen) (begins : Begins limits w payloads before) (store : PlainStore) (changes : List ℕ) (old new : Reading) (kind : Line)
+    (payload : List ℕ) (clock : Option ℕ) (same : store.limits ≡ limits) (h : Going limits w payloads room store changes old before mid)
+    (line : NextLine (Ok (Some kind)) old mid.left new after.left) (read : IsReadOut old mid.left → IsReadOut new after.left) where
+  pub read-on : Reads limits.input (h.lines ++ line.0 ∷ []) before.left new after.left
+  read-on = reads-line limits.input h.lines before.left old new mid.left after.left kind h.reads line read
 
--- no line is to come, and all lines of the input are answered
-all-answered : (limits : Limits) (st : State) (before : List ℕ) (reading : Reading) (after taken now : List ℕ)
-    → Goes limits st before reading after taken now → lines_left reading after ≡ [] → Answered limits (lines_of limits.input before) taken now
-all-answered limits st before reading after taken now h none =
-    let all : lines_of limits.input before ≡ h.done = h.reads.all ∙ ap (λ ls. h.done ++ ls) none ∙ append-nil h.done in
-    (h.replies, st, subst (λ ls. Run limits start ls h.replies st) (sym all) h.run, h.out)
+  pub run-on : (reply : Reply) (next : Stored) → is_silent line.0 ≡ false → StepAlone store.limits h.last line.0 reply next → Run limits (at_start w payloads room []) (h.lines ++ line.0 ∷ []) (h.replies ++ reply ∷ []) (alone next room)
+  run-on reply next silent step =
+      run-step limits (at_start w payloads room []) (alone h.last room) (alone next room) h.lines h.replies line.0 reply h.run silent (subst (λ m. StepAlone m h.last line.0 reply next) same step room)
 
-pub goes-end : (limits : Limits) (st : State) (before : List ℕ) (old new : Reading) (mid after taken was now : List ℕ)
-    → SeesLimit limits old before mid → Goes limits st before old mid taken was → NextLine (Ok None) old mid new after → now ≡ was
-    → EndsAs (Ok tt) limits before after taken now
-goes-end limits st before old new mid after taken was now sees h end same = (
-  sees-end limits before old new mid after sees end,
-  subst (Answered limits (lines_of limits.input before) taken) (sym same) (all-answered limits st before old mid taken was h end.0),
-)
+  pub going-line : (next : PlainStore) (SinkFailed : Type 0) → ((l : List ℕ) → IsLine kind new.text l → LineReplies SinkFailed store l payload clock (Ok next) mid.taken after.taken)
+      → LineLeaves store payload clock (Ok next) mid.disk after.disk → Going limits w payloads room next (changes_with changes clock) new before after
+  going-line next SinkFailed told leaves = ⊎_elim passed replied (told line.0 line.1 (length payloads) h.last h.stands)
+    where
+      passed : IsPassed (length payloads) h.last line.0 clock (Ok next) mid.taken after.taken → Going limits w payloads room next (changes_with changes clock) new before after
+      passed p = record {
+        lines = h.lines ++ line.0 ∷ [];
+        reads = read-on;
+        replies = h.replies;
+        last = h.last;
+        run = run-silent limits (at_start w payloads room []) (alone h.last room) h.lines h.replies line.0 h.run p.0;
+        out = p.3 ∙ h.out;
+        stands = p.2;
+        stays = subst (λ c. Stays limits w payloads (changes_with changes c) h.last before.disk after.disk) (sym p.1)
+            (subst (λ t. Stays limits w payloads changes h.last before.disk t) (sym (subst (λ c. StoresOn store payload c mid.disk after.disk) p.1 (on-disk store next payload clock mid.disk after.disk leaves))) h.stays);
+      }
 
--- the source failed, or the input is too long
-pub sees-fault : (limits : Limits) (before : List ℕ) (old new : Reading) (mid after : List ℕ) (fault : LineFault)
-    → SeesLimit limits old before mid → NextLine (Err fault) old mid new after → LimitHolds (Err (stop_of fault)) limits before
-sees-fault limits before old new mid after Read h end = tt
-sees-fault limits before old new mid after Limit h end = ltb-true _ _ (sym h ∙ end.1)
-
-pub goes-fault : (limits : Limits) (st : State) (before : List ℕ) (old new : Reading) (mid after taken was now : List ℕ) (fault : LineFault)
-    → SeesLimit limits old before mid → Goes limits st before old mid taken was → NextLine (Err fault) old mid new after → now ≡ was
-    → EndsAs (Err (stop_of fault)) limits before after taken now
-goes-fault limits st before old new mid after taken was now Read sees h end same =
-    let given = h.reads.given ++ end.1 in
-    let split : before ≡ given ++ after = h.reads.split ∙ ap (λ bs. h.reads.given ++ bs) end.2 ∙ sym (append_assoc h.reads.given end.1 after) in
-    let all : whole_lines limits.input given ≡ h.done = h.reads.whole end.0 end.1 ∙ ap (λ ls. h.done ++ ls) end.3 ∙ append-nil h.done in
-    (given, split, (h.replies, st, subst (λ ls. Run limits start ls h.replies st) (sym all) h.run, same ∙ h.out))
-goes-fault limits st before old new mid after taken was now Limit sees h end same = (
-  sees-fault limits before old new mid after Limit sees end,
-  subst (Answered limits (lines_of limits.input before) taken) (sym same) (all-answered limits st before old mid taken was h end.0),
-)
-
--- the sink failed within a reply
-pub goes-cut : (limits : Limits) (st next : State) (before : List ℕ) (old new : Reading) (mid after taken was now : List ℕ) (kind : Line) (reply : Option Reply)
-    → ((line : List ℕ) → IsLine kind new.text line → LineTold limits st line reply next)
-    → Goes limits st before old mid taken was → NextLine (Ok (Some kind)) old mid new after → IsSome reply → TookFront (told_text reply) was now
-    → (done : List (List ℕ)) × (line : List ℕ) × (more : List (List ℕ))
-    × (lines_of limits.input before ≡ done ++ line ∷ more) × AnsweredInPart limits done line taken now
-goes-cut limits st next before old new mid after taken was now kind None told h line some put = cc some
-goes-cut limits st next before old new mid after taken was now kind (Some reply) told h line some put =
-    let step = told line.0 line.1 in (
-      h.done,
-      line.0,
-      lines_left new after,
-      h.reads.all ∙ ap (λ ls. h.done ++ ls) line.2,
-      (h.replies, st, reply, next, put.0, h.run, step.0, step.1, put.1 ∙ ap (λ t. t ++ take put.0 (reply_text reply)) h.out),
-    )
-
--- where the source came to its end, none of the input is left
-pub out-line : (old new : Reading) (mid after : List ℕ) → IsReadOut old mid → (IsReadOut old mid → IsReadOut new after) → IsReadOut new after
-out-line old new mid after was next = next was
+      replied : (is_silent line.0 ≡ false) × Replies SinkFailed (length payloads) h.last (StepAlone store.limits h.last line.0) payload clock (Ok next) mid.taken after.taken → Going limits w payloads room next (changes_with changes clock) new before after
+      replied (silent, reply, st, step, changed, stands, put) = record {
+        lines = h.lines ++ line.0 ∷ [];
+        reads = read-on;
+        replies = h.replies ++ reply ∷ [];
+        last = st;
+        run = run-on reply st silent step;
+        out = put-more before.taken mid.taken after.taken h.replies reply h.out put;
+        stands = stands;
+        stays = stays-line limits fair w payloads room before begins store changes payload clock h.lines (h.lines ++ line.0 ∷ []) h.replies (h.replies ++ reply ∷ []) h.last st mid.disk after.disk same h.run (run-on reply st silent step) h.stands h.stays changed
+            (on-disk store next payload clock mid.disk after.disk leaves);
+      }

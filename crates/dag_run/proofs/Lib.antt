@@ -1,8 +1,9 @@
-pub mod WordsLemmas
-pub mod CommandLemmas
-pub mod RowsLemmas
-pub mod StepLemmas
-pub mod PutLemmas
-pub mod RunLemmas
+pub mod Seeing
+pub mod Reading
+pub mod Runs
+pub mod Solo
+pub mod Staying
 pub mod Going
-pub mod EndLemmas
+pub mod Ending
+pub mod Doing
+pub mod Statuses

@@ -1,57 +1,48 @@
--- How a run may end: what was read, what was written, and the status.
-use Rattle.std.specs.Prelude.{ℕ, ◌<◌, ◌≤◌, ◌≡◌, ◌⊎◌, false, List, ◌∷◌, ◌++◌, length, take, ⊤, Ok, Err}
-use Rattle.std.specs.declared.result.Result.{Result}
-use Rattle.line_io.specs.Lines.{lines_of, whole_lines, is_silent}
-use Rattle.dag_run.specs.declared.limits.Limits.{Limits}
-use Rattle.dag_run.specs.declared.reply.Reply.{Reply}
-use Rattle.dag_run.specs.declared.program.Stop.{Stop}
-use Rattle.dag_run.specs.declared.program.Stop.TheVariants.{Memory, Source, Sink, Limit}
-use Rattle.dag_run.specs.State.{State, start}
-use Rattle.dag_run.specs.Replies.{reply_text}
-use Rattle.dag_run.specs.Run.{Run, Step, output_of}
+-- What a run over a disk, a source and a sink says of its status, where they tell.
+use Rattle.std.specs.Prelude.{ℕ, ◌≡◌, ◌≤◌, List, [], length, Result, Ok, Err, ⊤}
+use Rattle.id_groups.specs.Name.{Name}
+use Rattle.commit_graph.specs.World.{World}
+use Rattle.line_io.specs.Lines.{lines_of}
+use Rattle.batch_codec.specs.Payload.{Payload}
+use Rattle.change_rules.specs.declared.Limits.{Limits}
+use Rattle.run_rules.specs.Ends.{End, status_of}
+use Rattle.run_rules.specs.Means.{Means, IsComplete, RefusesLog, loaded_at}
+use Rattle.run_rules.specs.Premises.{Start}
+use Rattle.disk_trait.specs.Images.{Told, moment_of}
+use Rattle.step_rules.specs.State.{start}
+use Rattle.dag_store.specs.Kept.{PlainStore}
+use Rattle.dag_store.specs.Stands.{Stands}
+use Rattle.dag_run.specs.Seen.{Seen, streams}
+use Rattle.dag_run.specs.Lines.{PutsFault}
+use Rattle.dag_run.specs.declared.stops.Stop.{Stop}
+use Rattle.dag_run.specs.declared.stops.Stop.TheVariants.{NoLog, NotLoaded}
 
--- these lines were answered whole, one run from the start
-abbrev pub Answered : Limits → List (List ℕ) → List ℕ → List ℕ → Type 0
-Answered limits lines taken now =
-    (replies : List Reply) × (st : State) × Run limits start lines replies st × (now ≡ taken ++ output_of replies)
+-- the disk holds the world, by these payloads
+abbrev pub Begins : Limits → World Name → List Payload → Seen → Type 0
+Begins limits w payloads before = Start limits before.disk w payloads [] (lines_of limits.input before.left)
 
--- these lines were answered whole, and of the next one's reply only a front was written
-abbrev pub AnsweredInPart : Limits → List (List ℕ) → List ℕ → List ℕ → List ℕ → Type 0
-AnsweredInPart limits lines line taken now =
-    (replies : List Reply) × (st : State) × (reply : Reply) × (st' : State) × (count : ℕ)
-    × Run limits start lines replies st × (is_silent line ≡ false) × Step limits st line reply st'
-    × (now ≡ taken ++ output_of replies ++ take count (reply_text reply))
+-- The status is that of an end of which this run means what a run has to, and it is complete. Its mirrors are none.
+abbrev pub StatusMeans : Limits → World Name → List Payload → ℕ → Type 0 → Type 0 → Type 0 → ℕ → List ℕ → Seen → Seen → Type 0
+StatusMeans limits w payloads room DiskFailed SourceFailed SinkFailed status changes before after =
+    (end : End) × (status ≡ status_of end)
+    × (m : Means limits w payloads room [] [] (streams before after) SinkFailed before.disk after.disk end changes)
+    × IsComplete limits [] [] (streams before after) DiskFailed SourceFailed SinkFailed end m.replies
 
--- What an input of these bytes, of which some are left, and an output, that had taken some and has taken others now, say
--- of a status: 0, all was read and answered. 8, so was what is within the limit, and there is more. 5, the source failed:
--- each whole line among the bytes given was answered. 6, the sink failed: each line before one was answered, and a front
--- of that one's reply was written. 2 and 7, nothing was written.
-pub record StatusMeans (limits : Limits) (status : ℕ) (input left taken now : List ℕ) : Type 0 where
-  pub answered : status ≡ 0 → (length input ≤ limits.input) × Answered limits (lines_of limits.input input) taken now
-  pub over : status ≡ 8 → (limits.input < length input) × Answered limits (lines_of limits.input input) taken now
-  pub source : status ≡ 5 → (given : List ℕ) × (input ≡ given ++ left) × Answered limits (whole_lines limits.input given) taken now
-  pub sink : status ≡ 6 → (done : List (List ℕ)) × (line : List ℕ) × (more : List (List ℕ))
-      × (lines_of limits.input input ≡ done ++ line ∷ more) × AnsweredInPart limits done line taken now
-  pub nothing : (status ≡ 2) ⊎ (status ≡ 7) → now ≡ taken
+-- the status is that of an end which refuses exactly what is no log
+abbrev pub StatusRefuses : Limits → ℕ → Seen → Seen → Type 0
+StatusRefuses limits status before after = (end : End) × (status ≡ status_of end) × RefusesLog limits.log (streams before after) before.disk after.disk end
 
--- the limit of an input that tells its bytes: a run past it ends with status 8, and none within it does
-pub record LimitMeans (limits : Limits) (status : ℕ) (input : List ℕ) : Type 0 where
-  pub within : status ≡ 0 → length input ≤ limits.input
-  pub over : status ≡ 8 → limits.input < length input
+-- where the disk holds the world, a run begins, unless the disk or the memory fails
+abbrev pub OpensRun : List Payload → World Name → Result PlainStore Stop → Type 0
+OpensRun payloads w (Ok store) = Stands (length payloads) store (start w payloads)
+OpensRun payloads w (Err NoLog) = ⊥
+OpensRun payloads w (Err _) = ⊤
 
--- the same of the end that a run comes to
-abbrev pub EndsAs : Result Unit Stop → Limits → List ℕ → List ℕ → List ℕ → List ℕ → Type 0
-EndsAs (Ok x) limits input left taken now = (length input ≤ limits.input) × Answered limits (lines_of limits.input input) taken now
-EndsAs (Err Limit) limits input left taken now = (limits.input < length input) × Answered limits (lines_of limits.input input) taken now
-EndsAs (Err Source) limits input left taken now =
-    (given : List ℕ) × (input ≡ given ++ left) × Answered limits (whole_lines limits.input given) taken now
-EndsAs (Err Sink) limits input left taken now =
-    (done : List (List ℕ)) × (line : List ℕ) × (more : List (List ℕ))
-    × (lines_of limits.input input ≡ done ++ line ∷ more) × AnsweredInPart limits done line taken now
-EndsAs (Err Memory) limits input left taken now = now ≡ taken
+-- what is put while the store is loaded
+abbrev pub LoadPuts : Type 0 → Result PlainStore Stop → List ℕ → List ℕ → Type 0
+LoadPuts SinkFailed (Err NotLoaded) before now = PutsFault SinkFailed before now
+LoadPuts SinkFailed _ before now = now ≡ before
 
--- what an end says of the limit alone, of an input that tells its bytes
-abbrev pub LimitHolds : Result Unit Stop → Limits → List ℕ → Type 0
-LimitHolds (Ok x) limits input = length input ≤ limits.input
-LimitHolds (Err Limit) limits input = limits.input < length input
-LimitHolds (Err _) limits input = ⊤
+-- loading ends by the moment at which it would have ended without a fault
+abbrev pub LoadCalls : Told → Told → Type 0
+LoadCalls old new = moment_of new ≤ loaded_at old

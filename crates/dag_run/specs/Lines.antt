@@ -1,24 +1,90 @@
--- What one line does, in terms of its reply.
-use Rattle.std.specs.Prelude.{ℕ, ◌≡◌, ◌≤◌, true, false, List, [], Option, Some, None, length, ⊤}
+-- What one line does: to a store, to the state that it stands for, to the disk and to the sink.
+use Rattle.std.specs.Prelude.{◌≡◌, ◌⊎◌, ℕ, true, false, List, [], ◌∷◌, ◌++◌, Option, Some, None, Result, Ok, Err, take}
+use Rattle.outside.specs.Told.{TookFront}
+use Rattle.disk_trait.specs.Images.{Told}
 use Rattle.line_io.specs.Lines.{is_silent}
-use Rattle.dag_run.specs.declared.limits.Limits.{Limits}
-use Rattle.dag_run.specs.declared.reply.Reply.{Reply}
-use Rattle.dag_run.specs.State.{State}
-use Rattle.dag_run.specs.Verb.{Verb, Add}
-use Rattle.dag_run.specs.Replies.{reply_text}
-use Rattle.dag_run.specs.Run.{Step}
+use Rattle.batch_codec.specs.Payload.{Payload}
+use Rattle.change_rules.specs.declared.Limits.{Limits}
+use Rattle.change_rules.specs.Change.{text_of}
+use Rattle.step_rules.specs.State.{Stored, worlds}
+use Rattle.step_rules.specs.Verb.{Verb}
+use Rattle.step_rules.specs.Reply.{Reply, reply_text}
+use Rattle.run_rules.specs.Ends.{disk_text}
+use Rattle.dag_store.specs.Kept.{PlainStore}
+use Rattle.dag_store.specs.Stands.{Stands}
+use Rattle.dag_store.specs.Flushes.{HasRoom, HasStored, CutShort}
+use Rattle.dag_run.specs.Alone.{CommandAlone, StepAlone}
+use Rattle.dag_run.specs.declared.stops.Stop.{Stop}
+use Rattle.dag_run.specs.declared.stops.Stop.TheVariants.{Sink, NotStored}
 
--- a silent line gets no reply and changes nothing; each other line takes a step
-abbrev pub LineTold : Limits → State → List ℕ → Option Reply → State → Type 0
-LineTold limits st line None st' = (is_silent line ≡ true) × (st' ≡ st)
-LineTold limits st line (Some reply) st' = (is_silent line ≡ false) × Step limits st line reply st'
+-- the moments after one more change, or none
+abbrev pub changes_with : List ℕ → Option ℕ → List ℕ
+changes_with changes None = changes
+changes_with changes (Some clock) = changes ++ clock ∷ []
 
--- an add has at most 8 parents
-abbrev pub HasFewParents : Verb → Type 0
-HasFewParents (Add name parents) = length parents ≤ 8
-HasFewParents _ = ⊤
+-- another world is stored, by one more payload, of these bytes
+pub record HasChanged (st next : Stored) (payload : List ℕ) : Type 0 where
+  pub change : Payload
+  pub past : next.past ≡ worlds st
+  pub payloads : next.payloads ≡ st.payloads ++ change ∷ []
+  pub text : payload ≡ text_of change
 
--- what is put for a line: nothing where it gets no reply
-abbrev pub told_text : Option Reply → List ℕ
-told_text None = []
-told_text (Some reply) = reply_text reply
+-- where a moment is given a change was stored; else nothing was
+abbrev pub Changes : Option ℕ → Stored → Stored → List ℕ → Type 0
+Changes None st next payload = (next.past ≡ st.past) × (next.payloads ≡ st.payloads)
+Changes (Some clock) st next payload = HasChanged st next payload
+
+-- the line that tells of the disk was put, or a front of it where the sink failed too
+abbrev pub PutsFault : Type 0 → List ℕ → List ℕ → Type 0
+PutsFault SinkFailed before now = (now ≡ before ++ disk_text) ⊎ (SinkFailed × (count : ℕ) × (now ≡ before ++ take count disk_text))
+
+-- the reply is put whole, and the store is handed back; or the sink fails in it
+abbrev pub PutsReply : PlainStore → Reply → Result PlainStore Stop → List ℕ → List ℕ → Type 0
+PutsReply kept reply (Ok store) before now = (store ≡ kept) × (now ≡ before ++ reply_text reply)
+PutsReply kept reply (Err Sink) before now = TookFront (reply_text reply) before now
+PutsReply kept reply (Err _) before now = ⊥
+
+-- How a line that gets a reply ends, of a store that stands for a state, where these replies come with these states: the reply is
+-- put, and the store stands for the state; or the sink fails in it; or the disk fails, and nothing is told of the change.
+abbrev pub Replies : Type 0 → ℕ → Stored → (Reply → Stored → Type 0) → List ℕ → Option ℕ → Result PlainStore Stop → List ℕ → List ℕ → Type 0
+Replies SinkFailed began st Does payload clock (Ok store) before now =
+    (reply : Reply) × (next : Stored) × Does reply next × Changes clock st next payload × Stands began store next × (now ≡ before ++ reply_text reply)
+Replies SinkFailed began st Does payload clock (Err Sink) before now =
+    (reply : Reply) × (next : Stored) × Does reply next × Changes clock st next payload × TookFront (reply_text reply) before now
+Replies SinkFailed began st Does payload clock (Err NotStored) before now =
+    (reply : Reply) × (next : Stored) × Does reply next × HasChanged st next payload × (clock ≡ None) × PutsFault SinkFailed before now
+Replies SinkFailed began st Does payload clock (Err _) before now = ⊥
+
+-- of a session's command
+abbrev pub CommandReplies : Type 0 → PlainStore → ℕ → Verb → List ℕ → Option ℕ → Result PlainStore Stop → List ℕ → List ℕ → Type 0
+CommandReplies SinkFailed kept s verb payload clock result before now =
+    (began : ℕ) (st : Stored) → Stands began kept st → Replies SinkFailed began st (CommandAlone kept.limits st s verb) payload clock result before now
+
+-- a silent line gets no reply and changes nothing
+abbrev pub IsPassed : ℕ → Stored → List ℕ → Option ℕ → Result PlainStore Stop → List ℕ → List ℕ → Type 0
+IsPassed began st line clock (Ok store) before now = (is_silent line ≡ true) × (clock ≡ None) × Stands began store st × (now ≡ before)
+IsPassed began st line clock (Err _) before now = ⊥
+
+-- what a line is told
+abbrev pub LineReplies : Type 0 → PlainStore → List ℕ → List ℕ → Option ℕ → Result PlainStore Stop → List ℕ → List ℕ → Type 0
+LineReplies SinkFailed kept line payload clock result before now =
+    (began : ℕ) (st : Stored) → Stands began kept st
+    → IsPassed began st line clock result before now
+    ⊎ ((is_silent line ≡ false) × Replies SinkFailed began st (StepAlone kept.limits st line) payload clock result before now)
+
+-- the log's own limit is that of the store
+abbrev pub IsLimited : PlainStore → Type 0
+IsLimited kept = kept.log.limit ≡ kept.limits.log
+
+-- the disk stays as it was, or has one change more where its moment is given
+abbrev pub StoresOn : PlainStore → List ℕ → Option ℕ → Told → Told → Type 0
+StoresOn kept payload None a b = b ≡ a
+StoresOn kept payload (Some clock) a b = IsLimited kept × (store : PlainStore) × HasStored kept payload store clock a b
+
+-- what the line leaves on the disk
+abbrev pub LineLeaves : PlainStore → List ℕ → Option ℕ → Result PlainStore Stop → Told → Told → Type 0
+LineLeaves kept payload None (Ok store) a b = (b ≡ a) × HasRoom kept.log store.log
+LineLeaves kept payload (Some clock) (Ok store) a b = IsLimited kept × HasStored kept payload store clock a b
+LineLeaves kept payload clock (Err Sink) a b = StoresOn kept payload clock a b
+LineLeaves kept payload clock (Err NotStored) a b = IsLimited kept × CutShort kept payload a b
+LineLeaves kept payload clock (Err _) a b = ⊥

@@ -1,29 +1,56 @@
--- Why a run stops, and the status of each end.
-use Rattle.std.specs.Prelude.{ℕ, ◌==◌, [], ◌∷◌, IsTrue, Ok, Err}
+-- Why a run stops, and how it ends then.
+use Rattle.std.specs.Prelude.{◌≡◌, ℕ, ◌==◌, List, [], ◌∷◌, IsTrue, Ok, Err, ⊤}
 use Rattle.std.specs.List.{list_any}
 use Rattle.std.specs.declared.result.Result.{Result}
 use Rattle.line_io.specs.declared.lines.LineFault.{LineFault}
 use Rattle.line_io.specs.declared.lines.LineFault.TheVariants.{Read, Limit}
-use Rattle.dag_run.specs.declared.program.Stop.{Stop}
-use Rattle.dag_run.specs.declared.program.Stop.TheVariants.{Memory, Source, Sink, Limit as Over}
+use Rattle.dag_store.specs.declared.replies.LoadFault.{LoadFault}
+use Rattle.dag_store.specs.declared.replies.LoadFault.TheVariants as loads
+use Rattle.run_rules.specs.Ends.{End, Done, OverLimit, NoSource, NoSink, NotLoaded, NotStored, NoLog, NoMemory}
+use Rattle.dag_run.specs.declared.stops.Stop.{Stop}
+use Rattle.dag_run.specs.declared.stops.Stop.TheVariants as stops
 
--- why a run stops where no line could be read
+-- where no line could be read
 abbrev pub stop_of : LineFault → Stop
-stop_of Read = Source
-stop_of Limit = Over
+stop_of Read = stops.Source
+stop_of Limit = stops.Limit
 
--- the status that each end has
-abbrev pub status_of : Result Unit Stop → ℕ
-status_of (Ok x) = 0
-status_of (Err Source) = 5
-status_of (Err Sink) = 6
-status_of (Err Memory) = 7
-status_of (Err Over) = 8
+-- where no store was loaded
+abbrev pub load_stop : LoadFault → Stop
+load_stop (loads.Frame at) = stops.NoLog
+load_stop (loads.TooLarge size) = stops.NoLog
+load_stop (loads.Batch k) = stops.NoLog
+load_stop (loads.Disk fault) = stops.NotLoaded
+load_stop loads.Memory = stops.Memory
+
+-- how the run ends
+abbrev pub end_of : Result Unit Stop → End
+end_of (Ok x) = Done
+end_of (Err stops.Memory) = NoMemory
+end_of (Err stops.NoLog) = NoLog
+end_of (Err stops.NotLoaded) = NotLoaded
+end_of (Err stops.NotStored) = NotStored
+end_of (Err stops.Source) = NoSource
+end_of (Err stops.Sink) = NoSink
+end_of (Err stops.Limit) = OverLimit
+
+-- what may stop a run within a line
+abbrev pub IsLineStop : Stop → Type 0
+IsLineStop stops.Sink = ⊤
+IsLineStop stops.NotStored = ⊤
+IsLineStop _ = ⊥
+
+-- what may stop it while the store is loaded
+abbrev pub IsLoadStop : Stop → Type 0
+IsLoadStop stops.Memory = ⊤
+IsLoadStop stops.NoLog = ⊤
+IsLoadStop stops.NotLoaded = ⊤
+IsLoadStop _ = ⊥
 
 -- the statuses of a run over lines
 abbrev pub IsRunStatus : ℕ → Type 0
-IsRunStatus status = IsTrue (list_any (λ known. known == status) (0 ∷ 5 ∷ 6 ∷ 7 ∷ 8 ∷ []))
+IsRunStatus status = IsTrue (list_any (λ known. known == status) (0 ∷ 3 ∷ 4 ∷ 5 ∷ 6 ∷ 7 ∷ 8 ∷ []))
 
 -- the statuses of the program, with that of words that aren't a usage
 abbrev pub IsStatus : ℕ → Type 0
-IsStatus status = IsTrue (list_any (λ known. known == status) (0 ∷ 2 ∷ 5 ∷ 6 ∷ 7 ∷ 8 ∷ []))
+IsStatus status = IsTrue (list_any (λ known. known == status) (0 ∷ 2 ∷ 3 ∷ 4 ∷ 5 ∷ 6 ∷ 7 ∷ 8 ∷ []))

@@ -1,18 +1,24 @@
 //! What one line does.
 
-ghost use Rattle.std.specs.Prelude.{◌≡◌, ◌⊎◌, List, ℕ};
+ghost use Rattle.std.specs.Prelude.{◌≡◌, ◌<◌, ◌≤◌, [], ℕ, List, Option, Err, length, IfErr, IfOk, IfSome, vec_capacity};
+ghost use Rattle.outside.specs.Counts.{Rose};
+ghost use Rattle.outside.specs.Told.{WhereTold};
+ghost use Rattle.disk_trait.specs.Calls.{Goes};
+ghost use Rattle.gated_log.specs.Holding.{IsOnDisk};
 ghost use Rattle.line_io.specs.Next.{IsLine};
 ghost use Rattle.line_io.specs.Lines.{is_empty_or_comment};
-ghost use Rattle.dag_run.specs.Limits.{AreLimits};
-ghost use Rattle.dag_run.specs.Lines.{LineTold, HasFewParents};
-ghost use Rattle.dag_run.specs.Meant.{meant};
-ghost use Rattle.dag_run.specs.Run.{Commands, IsNoCommand, IsUnread};
-ghost use Rattle.dag_run.specs.Step.{CommandStep};
-ghost use Rattle.dag_run.specs.Verdict.{told};
+ghost use Rattle.step_rules.specs.Verb.{Flush as ToFlush};
+ghost use Rattle.command_lines.specs.Meant.{meant};
+ghost use Rattle.dag_run.specs.Stops.{IsLineStop};
+ghost use Rattle.dag_run.specs.Lines.{changes_with, CommandReplies, LineReplies, LineLeaves};
 
-use crate::rows::Rows;
-use crate::{Command, CommandFault, Limits, Refusal, Reply, Verb};
-use line_io::Line;
+use crate::replies::{reply_of_add, reply_of_count, reply_of_id, reply_of_reload, tell, tell_fault};
+use crate::stops::Stop;
+use command_lines::{Command, CommandFault, Reply, Verb};
+use dag_store::{Flushed, Refusal, Store};
+use disk_trait::Disk;
+use id_groups::Name;
+use line_io::{Line, Sink};
 use std::alloc::Global;
 
 /// Whether a line that isn't too long gets no reply.
@@ -25,62 +31,170 @@ fn is_comment(line: &[u8]) -> bool
     }
 }
 
-/// The reply that an answer or a refusal is.
-fn reply_of(answer: Result<Reply, Refusal>) -> Reply
-    ensures { result ≡ told answer }
+/// Notes the moment of a change, for which there is room.
+fn note(changes: &mut Vec<u64>, clock: Option<u64>)
+    requires { length changes.old.items < vec_capacity changes.old }
+    ensures { changes.new.items ≡ changes_with changes.old.items clock }
 {
-    match answer {
-        Ok(reply) => reply,
-        Err(refusal) => Reply::Refused(refusal),
+    if let Some(clock) = clock {
+        match changes.push(clock) {
+            Ok(()) => {}
+            Err(_) => unreachable!(),
+        }
     }
 }
 
-/// Executes what a command asks for.
-fn execute_verb(alloc: Global, limits: Limits, rows: &mut Rows, verb: &Verb) -> Reply
-    requires few { HasFewParents (meant verb.now) }
-    requires limits { AreLimits limits }
-    ensures { CommandStep limits rows.old (meant verb.now) result rows.new }
+/// Flushes a session. The memory for the change's moment is taken before.
+fn flush<D: Disk, O: Sink>(
+    store: Store,
+    log: &mut D,
+    changes: &mut Vec<u64>,
+    s: u8,
+    heads: &[Name],
+    output: &mut O,
+) -> Result<Store, Stop>
+    requires session { s < 16 }
+    requires begins { IfSome (D.told log.old) (IsOnDisk store.log) }
+    ensures step { (payload : List ℕ) × (clock : Option ℕ) × (changes.new.items ≡ changes_with changes.old.items clock)
+        × Goes (LineLeaves store payload clock result) (D.told log.old) (D.told log.new)
+        × WhereTold (O.taken output.old) (O.taken output.new) (CommandReplies (Rose (O.faults output.old) (O.faults output.new)) store s (ToFlush heads.now) payload clock result) }
+    ensures limits { IfOk result (λ next. next.limits ≡ store.limits) }
+    ensures stop { IfErr result IsLineStop }
+    ensures disk { result ≡ Err Stop.NotStored → Rose (D.faults log.old) (D.faults log.new) }
+    ensures disk_later { D.faults log.old ≤ D.faults log.new }
+    ensures sink { result ≡ Err Stop.Sink → Rose (O.faults output.old) (O.faults output.new) }
+    ensures sink_later { O.faults output.old ≤ O.faults output.new }
 {
-    match verb {
-        Verb::Add(name, parents) => reply_of(rows.add(limits, *name, parents.names())),
-        Verb::Query(expr) => reply_of(rows.query(alloc, limits, expr)),
-        Verb::Count(expr) => reply_of(rows.count(alloc, limits, expr)),
-        Verb::Status => rows.status(limits),
+    if changes.try_reserve(1).is_err() {
+        return tell(store, &Reply::Refused(Refusal::Memory), output);
+    }
+    let _limit = store.log_limit();
+    match store.flush(log, s, heads) {
+        Flushed::Done(store, counts, clock) => {
+            note(changes, clock);
+            tell(store, &Reply::Flushed(counts), output)
+        }
+        Flushed::Refused(store, refusal) => tell(store, &Reply::Refused(refusal), output),
+        Flushed::Disk(_) => {
+            tell_fault(output);
+            Err(Stop::NotStored)
+        }
     }
 }
 
-/// Executes a line that is no comment.
-fn execute_command(alloc: Global, limits: Limits, rows: &mut Rows, line: &[u8]) -> Reply
-    requires { AreLimits limits }
-    ensures { Commands limits rows.old line.now result rows.new
-        ⊎ (IsNoCommand rows.old line.now result rows.new ⊎ IsUnread rows.old line.now result rows.new) }
+/// Executes a command and puts its reply.
+fn execute_command<D: Disk, O: Sink>(
+    store: Store,
+    log: &mut D,
+    changes: &mut Vec<u64>,
+    command: &Command,
+    output: &mut O,
+) -> Result<Store, Stop>
+    requires session { command.now.session < 16 }
+    requires begins { IfSome (D.told log.old) (IsOnDisk store.log) }
+    ensures step { (payload : List ℕ) × (clock : Option ℕ) × (changes.new.items ≡ changes_with changes.old.items clock)
+        × Goes (LineLeaves store payload clock result) (D.told log.old) (D.told log.new)
+        × WhereTold (O.taken output.old) (O.taken output.new) (CommandReplies (Rose (O.faults output.old) (O.faults output.new)) store command.now.session (meant command.now.verb) payload clock result) }
+    ensures limits { IfOk result (λ next. next.limits ≡ store.limits) }
+    ensures stop { IfErr result IsLineStop }
+    ensures disk { result ≡ Err Stop.NotStored → Rose (D.faults log.old) (D.faults log.new) }
+    ensures disk_later { D.faults log.old ≤ D.faults log.new }
+    ensures sink { result ≡ Err Stop.Sink → Rose (O.faults output.old) (O.faults output.new) }
+    ensures sink_later { O.faults output.old ≤ O.faults output.new }
 {
-    match Command::parse(alloc, line) {
-        Ok(command) => execute_verb(alloc, limits, rows, &command.verb),
-        Err(CommandFault::Syntax) => Reply::Refused(Refusal::Syntax),
-        Err(CommandFault::Memory) => Reply::Refused(Refusal::Memory),
+    let s = command.session;
+    let mut store = store;
+    match &command.verb {
+        Verb::Add(name, parents) => {
+            let answer = store.add(s, name, parents.names());
+            tell(store, &reply_of_add(answer), output)
+        }
+        Verb::Flush(heads) => flush(store, log, changes, s, heads.names(), output),
+        Verb::Reload => {
+            let answer = store.reload(s);
+            tell(store, &reply_of_reload(answer), output)
+        }
+        Verb::Discard => {
+            let count = store.discard(s);
+            tell(store, &Reply::Discarded(count), output)
+        }
+        Verb::Query(_) => tell(store, &Reply::Refused(Refusal::Memory), output),
+        Verb::Count(expr) => {
+            let answer = store.count(s, expr);
+            tell(store, &reply_of_count(answer), output)
+        }
+        Verb::Id(name) => {
+            let answer = store.id(s, name);
+            tell(store, &reply_of_id(answer), output)
+        }
+        Verb::Status => {
+            let counts = store.status(s);
+            tell(store, &Reply::Sizes(counts), output)
+        }
+        Verb::Levels => {
+            let counts = store.levels();
+            tell(store, &Reply::LevelSizes(counts), output)
+        }
+        Verb::Mirrors => tell(store, &Reply::Counted(0), output),
+        Verb::DropAt(_) => tell(store, &Reply::Refused(Refusal::NoRemote), output),
     }
 }
 
-/// Executes the line, and gives the reply to it, if it gets one.
-pub fn execute(
+/// Executes a line that isn't too long.
+fn execute_text<D: Disk, O: Sink>(
     alloc: Global,
-    limits: Limits,
-    rows: &mut Rows,
+    store: Store,
+    log: &mut D,
+    changes: &mut Vec<u64>,
+    text: &[u8],
+    output: &mut O,
+) -> Result<Store, Stop>
+    requires { IfSome (D.told log.old) (IsOnDisk store.log) }
+    ensures step { (payload : List ℕ) × (clock : Option ℕ) × (changes.new.items ≡ changes_with changes.old.items clock)
+        × Goes (LineLeaves store payload clock result) (D.told log.old) (D.told log.new)
+        × WhereTold (O.taken output.old) (O.taken output.new) (λ before now. length text.now ≤ 16384
+        → LineReplies (Rose (O.faults output.old) (O.faults output.new)) store text.now payload clock result before now) }
+    ensures limits { IfOk result (λ next. next.limits ≡ store.limits) }
+    ensures stop { IfErr result IsLineStop }
+    ensures disk { result ≡ Err Stop.NotStored → Rose (D.faults log.old) (D.faults log.new) }
+    ensures disk_later { D.faults log.old ≤ D.faults log.new }
+    ensures sink { result ≡ Err Stop.Sink → Rose (O.faults output.old) (O.faults output.new) }
+    ensures sink_later { O.faults output.old ≤ O.faults output.new }
+{
+    if is_comment(text) {
+        return Ok(store);
+    }
+    match Command::parse(alloc, text) {
+        Ok(command) => execute_command(store, log, changes, &command, output),
+        Err(CommandFault::Syntax) => tell(store, &Reply::NoCommand, output),
+        Err(CommandFault::Memory) => tell(store, &Reply::Refused(Refusal::Memory), output),
+    }
+}
+
+/// Executes a line, puts its reply, if it gets one, and hands the store back. Where the disk failed the line that tells of it is put.
+pub(crate) fn execute<D: Disk, O: Sink>(
+    alloc: Global,
+    store: Store,
+    log: &mut D,
+    changes: &mut Vec<u64>,
     kind: Line,
     text: &[u8],
-) -> Option<Reply>
-    requires { AreLimits limits }
-    ensures { (line : List ℕ) → IsLine kind text.now line → LineTold limits rows.old line result rows.new }
+    output: &mut O,
+) -> Result<Store, Stop>
+    requires { IfSome (D.told log.old) (IsOnDisk store.log) }
+    ensures step { (payload : List ℕ) × (clock : Option ℕ) × (changes.new.items ≡ changes_with changes.old.items clock)
+        × Goes (LineLeaves store payload clock result) (D.told log.old) (D.told log.new)
+        × WhereTold (O.taken output.old) (O.taken output.new) (λ before now. (line : List ℕ) → IsLine kind text.now line
+        → LineReplies (Rose (O.faults output.old) (O.faults output.new)) store line payload clock result before now) }
+    ensures limits { IfOk result (λ next. next.limits ≡ store.limits) }
+    ensures stop { IfErr result IsLineStop }
+    ensures disk { result ≡ Err Stop.NotStored → Rose (D.faults log.old) (D.faults log.new) }
+    ensures disk_later { D.faults log.old ≤ D.faults log.new }
+    ensures sink { result ≡ Err Stop.Sink → Rose (O.faults output.old) (O.faults output.new) }
+    ensures sink_later { O.faults output.old ≤ O.faults output.new }
 {
     match kind {
-        Line::TooLong => Some(Reply::Refused(Refusal::LongLine)),
-        Line::Text => {
-            if is_comment(text) {
-                None
-            } else {
-                Some(execute_command(alloc, limits, rows, text))
-            }
-        }
+        Line::TooLong => tell(store, &Reply::LongLine, output),
+        Line::Text => execute_text(alloc, store, log, changes, text, output),
     }
 }

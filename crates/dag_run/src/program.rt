@@ -1,136 +1,136 @@
-//! The top call: from the words and the input to the status and the output.
+//! The run: from the log, the source and the sink to the status.
 
-ghost use Rattle.std.specs.Prelude.{◌≡◌, ◌⊎◌, ◌↔◌, ◌≤◌, [], ◌∷◌, IsTrue, length, codes, string_bytes, map, ◌^◌};
+ghost use Rattle.std.specs.Prelude.{◌≡◌, ◌⊎◌, ◌↔◌, ◌<◌, ◌≤◌, ℕ, List, [], ◌∷◌, IsTrue, Err, IfErr, IfOk, IfSome, OnOk, codes, length, map, string_bytes};
 ghost use Rattle.outside.specs.Counts.{Rose};
 ghost use Rattle.outside.specs.Told.{WhereTold};
-ghost use Rattle.dag_run.specs.Limits.{AreLimits, standard};
-ghost use Rattle.dag_run.specs.Ends.{EndsAs, LimitHolds, StatusMeans, LimitMeans};
-ghost use Rattle.dag_run.specs.Stops.{IsRunStatus, IsStatus, status_of};
+ghost use Rattle.id_groups.specs.Name.{Name};
+ghost use Rattle.commit_graph.specs.World.{World};
+ghost use Rattle.disk_trait.specs.Calls.{Goes};
+ghost use Rattle.gated_log.specs.Load.{IsSureOf};
+ghost use Rattle.batch_codec.specs.Payload.{Payload};
+ghost use Rattle.change_rules.specs.Holding.{HoldAs};
+ghost use Rattle.change_rules.specs.Standard.{AreLimits, standard};
+ghost use Rattle.run_rules.specs.Means.{Means};
+ghost use Rattle.run_rules.specs.Ends.{status_of as end_status};
+ghost use Rattle.dag_store.specs.Loading.{KeepsHolding, IsLoadedStore};
+ghost use Rattle.dag_run.specs.Seen.{seen, streams};
+ghost use Rattle.dag_run.specs.Stops.{end_of, IsLoadStop, IsRunStatus, IsStatus};
+ghost use Rattle.dag_run.specs.Lines.{PutsFault};
+ghost use Rattle.dag_run.specs.Ends.{Begins, OpensRun, LoadPuts, LoadCalls, StatusMeans};
 
 use crate::execute::execute;
-use crate::put::put_reply;
-use crate::rows::Rows;
+use crate::replies::tell_fault;
+use crate::stops::Stop;
 use crate::{Limits, Moments, Report};
-use line_io::{LineFault, Lines, Sink, SinkFault, Source};
-use std::alloc::{AllocError, Global};
+use dag_store::{LoadFault, Store};
+use disk_trait::Disk;
+use line_io::{Lines, Sink, Source};
+use std::alloc::Global;
 
-/// Why a run ended before the end of its input.
-#[derive(Clone, Copy, PartialEq, Eq, Debug)]
-pub enum Stop {
-    /// Memory was wanting before the first line.
-    Memory,
-    /// The source failed.
-    Source,
-    /// The sink failed.
-    Sink,
-    /// The input is longer than the limit.
-    Limit,
-}
-
-impl From<AllocError> for Stop {
-    ghost use Rattle.std.specs.Prelude.{◌≡◌};
-    ghost use Rattle.dag_run.specs.declared.program.Stop.TheVariants.{Memory};
-
-    ghost from_gives = { λ _ stop. stop ≡ Memory };
-
-    fn from(_refused: AllocError) -> Stop {
-        Stop::Memory
-    }
-}
-
-impl From<SinkFault> for Stop {
-    ghost use Rattle.std.specs.Prelude.{◌≡◌};
-    ghost use Rattle.dag_run.specs.declared.program.Stop.TheVariants.{Sink};
-
-    ghost from_gives = { λ _ stop. stop ≡ Sink };
-
-    fn from(_fault: SinkFault) -> Stop {
-        Stop::Sink
-    }
-}
-
-impl From<LineFault> for Stop {
-    ghost use Rattle.std.specs.Prelude.{◌≡◌};
-    ghost use Rattle.dag_run.specs.Stops.{stop_of};
-
-    ghost from_gives = { λ fault stop. stop ≡ stop_of fault };
-
-    fn from(fault: LineFault) -> Stop {
-        match fault {
-            LineFault::Read => Stop::Source,
-            LineFault::Limit => Stop::Limit,
+/// Loads the store of the log. Where the disk fails the line that tells of it is put.
+fn load<D: Disk, O: Sink>(
+    alloc: Global,
+    limits: Limits,
+    log: &mut D,
+    output: &mut O,
+) -> Result<Store, Stop>
+    requires { AreLimits limits }
+    ensures limits { IfOk result (λ store. store.limits ≡ limits) }
+    ensures opens { (payloads : List Payload) (w : World Name) → IfSome (D.bytes log.old) (λ bytes. HoldAs limits.log bytes payloads w → OpensRun payloads w result) }
+    ensures images { (w : World Name) → Goes (KeepsHolding limits.log w) (D.told log.old) (D.told log.new) }
+    ensures sure { (result ≡ Err Stop.NotLoaded → ⊥) → (payloads : List (List ℕ)) → Goes (IsSureOf limits.log payloads) (D.told log.old) (D.told log.new) }
+    ensures done { IfOk result (λ store. Goes (IsLoadedStore store) (D.told log.old) (D.told log.new)) }
+    ensures calls { Goes LoadCalls (D.told log.old) (D.told log.new) }
+    ensures puts { WhereTold (O.taken output.old) (O.taken output.new) (LoadPuts (Rose (O.faults output.old) (O.faults output.new)) result) }
+    ensures quiet { (result ≡ Err Stop.NotLoaded → ⊥) → output.new ≡ output.old }
+    ensures stop { IfErr result IsLoadStop }
+    ensures cause { result ≡ Err Stop.NotLoaded → Rose (D.faults log.old) (D.faults log.new) }
+    ensures later { D.faults log.old ≤ D.faults log.new }
+    ensures sink_later { O.faults output.old ≤ O.faults output.new }
+{
+    match Store::load(alloc, log, limits) {
+        Ok(store) => Ok(store),
+        Err(LoadFault::Disk(_)) => {
+            tell_fault(output);
+            Err(Stop::NotLoaded)
         }
+        Err(LoadFault::Memory) => Err(Stop::Memory),
+        Err(LoadFault::Frame(_)) => Err(Stop::NoLog),
+        Err(LoadFault::TooLarge(_)) => Err(Stop::NoLog),
+        Err(LoadFault::Batch(_)) => Err(Stop::NoLog),
     }
 }
 
 /// Reads the lines of the input and puts the reply to each before the next is read.
-fn run<I: Source, O: Sink>(
+fn run<D: Disk, I: Source, O: Sink>(
     alloc: Global,
     limits: Limits,
+    log: &mut D,
     input: &mut I,
     output: &mut O,
+    changes: &mut Vec<u64>,
 ) -> Result<(), Stop>
-    requires { AreLimits limits }
-    ensures ends { WhereTold (I.left input.old) (I.left input.new) (λ bytes left.
-        WhereTold (O.taken output.old) (O.taken output.new) (EndsAs result limits bytes left)) }
-    ensures limit { WhereTold (I.left input.old) (I.left input.new) (λ bytes left. LimitHolds result limits bytes) }
-    ensures read { result ≡ Ok tt → WhereTold (I.left input.old) (I.left input.new) (λ bytes left. left ≡ []) }
-    ensures memory { result ≡ Err Stop.Memory → (input.new ≡ input.old) × (output.new ≡ output.old) }
+    requires limits { AreLimits limits }
+    requires none { changes.old.items ≡ [] }
+    ensures means { (w : World Name) (payloads : List Payload) (room : ℕ) → WhereTold (seen (D.told log.old) (I.left input.old) (O.taken output.old)) (seen (D.told log.new) (I.left input.new) (O.taken output.new))
+        (λ before after. Begins limits w payloads before
+        → Means limits w payloads room [] [] (streams before after) (Rose (O.faults output.old) (O.faults output.new)) before.disk after.disk (end_of result) changes.new.items) }
+    ensures quiet { result ≡ Err Stop.Memory → (input.new ≡ input.old) × (output.new ≡ output.old) }
+    ensures disk { (result ≡ Err Stop.NotLoaded) ⊎ (result ≡ Err Stop.NotStored) → Rose (D.faults log.old) (D.faults log.new) }
     ensures source { result ≡ Err Stop.Source → Rose (I.faults input.old) (I.faults input.new) }
     ensures sink { result ≡ Err Stop.Sink → Rose (O.faults output.old) (O.faults output.new) }
+    ensures disk_later { D.faults log.old ≤ D.faults log.new }
     ensures source_later { I.faults input.old ≤ I.faults input.new }
     ensures sink_later { O.faults output.old ≤ O.faults output.new }
 {
     let mut lines = Lines::new(alloc, limits.input)?;
-    let mut rows = Rows::empty(alloc);
+    let mut store = load(alloc, limits, log, output)?;
     'lines: while let Some(kind) = lines.next(input)? {
-        let reply = execute(alloc, limits, &mut rows, kind, lines.text());
-        put_reply(reply, output)?;
+        store = execute(alloc, store, log, changes, kind, lines.text(), output)?;
     }
     Ok(())
 }
 
-impl Report {
-    /// The report of a run that came to this end. No change was stored.
-    fn of(alloc: Global, end: Result<(), Stop>) -> Report
-        ensures status { result.status ≡ status_of end }
-        ensures changes { result.changes ≡ [] }
-    {
-        let status = match end {
-            Ok(()) => 0,
-            Err(Stop::Source) => 5,
-            Err(Stop::Sink) => 6,
-            Err(Stop::Memory) => 7,
-            Err(Stop::Limit) => 8,
-        };
-        Report {
-            status,
-            changes: Moments::none(alloc),
-        }
+/// The status of an end.
+fn status(end: Result<(), Stop>) -> u8
+    ensures { result ≡ end_status (end_of end) }
+{
+    match end {
+        Ok(()) => 0,
+        Err(Stop::NotLoaded) => 3,
+        Err(Stop::NotStored) => 3,
+        Err(Stop::NoLog) => 4,
+        Err(Stop::Source) => 5,
+        Err(Stop::Sink) => 6,
+        Err(Stop::Memory) => 7,
+        Err(Stop::Limit) => 8,
     }
 }
 
-/// Answers the lines of the input, within these limits. A reply is put before the next line is read.
-pub fn run_lines<I: Source, O: Sink>(
+/// Answers the lines of the input over the log, within these limits. A reply is put before the next line is read.
+pub fn run_lines<D: Disk, I: Source, O: Sink>(
     alloc: Global,
     limits: Limits,
+    log: &mut D,
     input: &mut I,
     output: &mut O,
 ) -> Report
     requires { AreLimits limits }
     ensures known { IsRunStatus result.status }
-    ensures output { WhereTold (I.left input.old) (I.left input.new) (λ bytes left.
-        WhereTold (O.taken output.old) (O.taken output.new) (StatusMeans limits result.status bytes left)) }
-    ensures limit { WhereTold (I.left input.old) (I.left input.new) (λ bytes left. LimitMeans limits result.status bytes) }
-    ensures read { result.status ≡ 0 → WhereTold (I.left input.old) (I.left input.new) (λ bytes left. left ≡ []) }
-    ensures untouched { result.status ≡ 7 → (input.new ≡ input.old) × (output.new ≡ output.old) }
+    ensures means { (w : World Name) (payloads : List Payload) (room : ℕ) → WhereTold (seen (D.told log.old) (I.left input.old) (O.taken output.old)) (seen (D.told log.new) (I.left input.new) (O.taken output.new))
+        (λ before after. Begins limits w payloads before → StatusMeans limits w payloads room
+        (Rose (D.faults log.old) (D.faults log.new)) (Rose (I.faults input.old) (I.faults input.new)) (Rose (O.faults output.old) (O.faults output.new)) result.status result.changes before after) }
+    ensures quiet { result.status ≡ 7 → (input.new ≡ input.old) × (output.new ≡ output.old) }
+    ensures disk { result.status ≡ 3 → Rose (D.faults log.old) (D.faults log.new) }
     ensures source { result.status ≡ 5 → Rose (I.faults input.old) (I.faults input.new) }
     ensures sink { result.status ≡ 6 → Rose (O.faults output.old) (O.faults output.new) }
-    ensures complete { ¬ (Rose (I.faults input.old) (I.faults input.new)) → ¬ (Rose (O.faults output.old) (O.faults output.new))
-        → WhereTold (I.left input.old) (I.left input.new) (λ bytes left. length bytes ≤ limits.input → (result.status ≡ 0) ⊎ (result.status ≡ 7)) }
-    ensures changes { result.changes ≡ [] }
 {
-    Report::of(alloc, run(alloc, limits, input, output))
+    let mut changes = Vec::new(alloc);
+    let end = run(alloc, limits, log, input, output, &mut changes);
+    Report {
+        status: status(end),
+        changes: Moments::new(changes),
+    }
 }
 
 /// Whether the words are the single word `run`.
@@ -143,32 +143,34 @@ fn is_run(words: &[String]) -> bool
     }
 }
 
-/// Runs the program over the words behind the `--`: answers the lines of the input, within the program's limits.
-pub fn top<I: Source, O: Sink>(
+/// Runs the program over the words behind the `--`: answers the lines of the input over the log, within the program's limits. The
+/// spare disk isn't touched.
+pub fn top<D: Disk, I: Source, O: Sink>(
     alloc: Global,
     words: &[String],
+    log: &mut D,
+    spare: &mut D,
     input: &mut I,
     output: &mut O,
 ) -> Report
     ensures known { IsStatus result.status }
     ensures usage { result.status ≡ 2 ↔ ¬ (map string_bytes words.now ≡ codes "run" ∷ []) }
-    ensures output { WhereTold (I.left input.old) (I.left input.new) (λ bytes left.
-        WhereTold (O.taken output.old) (O.taken output.new) (StatusMeans standard result.status bytes left)) }
-    ensures limit { WhereTold (I.left input.old) (I.left input.new) (λ bytes left. LimitMeans standard result.status bytes) }
-    ensures read { result.status ≡ 0 → WhereTold (I.left input.old) (I.left input.new) (λ bytes left. left ≡ []) }
-    ensures untouched { (result.status ≡ 2) ⊎ (result.status ≡ 7) → (input.new ≡ input.old) × (output.new ≡ output.old) }
+    ensures means { (w : World Name) (payloads : List Payload) (room : ℕ) → map string_bytes words.now ≡ codes "run" ∷ []
+        → WhereTold (seen (D.told log.old) (I.left input.old) (O.taken output.old)) (seen (D.told log.new) (I.left input.new) (O.taken output.new))
+        (λ before after. Begins standard w payloads before → StatusMeans standard w payloads room
+        (Rose (D.faults log.old) (D.faults log.new)) (Rose (I.faults input.old) (I.faults input.new)) (Rose (O.faults output.old) (O.faults output.new)) result.status result.changes before after) }
+    ensures quiet { (result.status ≡ 2) ⊎ (result.status ≡ 7) → (input.new ≡ input.old) × (output.new ≡ output.old) }
+    ensures untouched { result.status ≡ 2 → log.new ≡ log.old }
+    ensures disk { result.status ≡ 3 → Rose (D.faults log.old) (D.faults log.new) }
     ensures source { result.status ≡ 5 → Rose (I.faults input.old) (I.faults input.new) }
     ensures sink { result.status ≡ 6 → Rose (O.faults output.old) (O.faults output.new) }
-    ensures complete { map string_bytes words.now ≡ codes "run" ∷ []
-        → ¬ (Rose (I.faults input.old) (I.faults input.new)) → ¬ (Rose (O.faults output.old) (O.faults output.new))
-        → WhereTold (I.left input.old) (I.left input.new) (λ bytes left. length bytes ≤ 2 ^ 30 → (result.status ≡ 0) ⊎ (result.status ≡ 7)) }
-    ensures changes { result.changes ≡ [] }
+    ensures spare { spare.new ≡ spare.old }
 {
     if !is_run(words) {
         return Report {
             status: 2,
-            changes: Moments::none(alloc),
+            changes: Moments::new(Vec::new(alloc)),
         };
     }
-    run_lines(alloc, Limits::standard(), input, output)
+    run_lines(alloc, Limits::standard(), log, input, output)
 }

@@ -1,8 +1,7 @@
 //! How a run ended.
 
-ghost use Rattle.std.specs.Prelude.{◌≡◌, ◌<◌, ◌^◌, [], length, slice_get, Some};
+ghost use Rattle.std.specs.Prelude.{◌≡◌, ◌<◌, length, slice_get, Some};
 
-use std::alloc::Global;
 use std::marker::Model;
 
 /// Moments of the log's clock: one for each stored change, when it was acknowledged.
@@ -12,46 +11,43 @@ pub struct Moments {
 }
 
 impl Model for Moments {
-    ghost use Rattle.std.specs.Prelude.{List, ℕ, length, ◌<◌, ◌^◌};
+    ghost use Rattle.std.specs.Prelude.{List, ℕ};
 
     ghost Value = { List ℕ };
 
     ghost view = { λ m. m.moments.items };
-
-    ghost invariant = { λ m. length m.moments.items < 2 ^ 32 };
 }
 
 impl Moments {
-    /// No moments. It takes no memory.
-    pub fn none(alloc: Global) -> Moments
-        ensures { result ≡ [] }
+    /// The list of these moments.
+    pub(crate) fn new(moments: Vec<u64>) -> Moments
+        ensures { result ≡ moments.items }
     {
-        Moments {
-            moments: Vec::new(alloc),
-        }
+        Moments { moments }
     }
 
     /// How many there are.
-    pub fn len(&self) -> u32
+    pub fn len(&self) -> usize
         ensures { result ≡ length self.now }
     {
-        self.moments.len() as u32
+        self.moments.len()
     }
 
     /// The moment at this place.
-    pub fn at(&self, i: u32) -> u64
+    pub fn at(&self, i: usize) -> u64
         requires { i < length self.now }
         ensures { slice_get self.now i ≡ Some result }
     {
-        self.moments[i as usize]
+        self.moments[i]
     }
 }
 
 /// The status that a run ends with, and the moments of its stored changes.
 #[derive(Drop)]
 pub struct Report {
-    /// 0: the input was read to its end and all replies were written. 2: the words aren't a usage. 5: the source failed.
-    /// 6: the sink failed. 7: want of memory before the first line. 8: the input is longer than its limit.
+    /// 0: the input was read to its end and all replies were written. 2: the words aren't a usage. 3: the disk failed.
+    /// 4: the disk's bytes are no log. 5: the source failed. 6: the sink failed. 7: want of memory before the first line.
+    /// 8: the input is longer than its limit.
     pub status: u8,
     /// One moment for each stored change.
     pub changes: Moments,

@@ -1,5 +1,5 @@
 -- What is built so far. A command of any other verb or session is refused as one that isn't spelled right.
-use Rattle.std.specs.Prelude.{ℕ, Bool, true, IsTrue, ◌<◌}
+use Rattle.std.specs.Prelude.{ℕ, Bool, true, false, IsTrue, ◌<◌}
 use Rattle.step_rules.specs.Verb.{Verb, Add, Flush, Reload, Discard, Query, Count, IdOf, Status, Levels, Clone, Pull, Strip, CountMirrors, Drop}
 
 -- how many sessions are served
@@ -18,10 +18,10 @@ is_built Reload = true
 is_built Discard = true
 is_built CountMirrors = true
 is_built (Drop k) = true
-is_built Clone = true
+is_built Clone = false
 is_built Levels = true
-is_built (Strip names) = true
-is_built Pull = true
+is_built (Strip names) = false
+is_built Pull = false
 
 -- the session's command is built
 abbrev pub IsBuilt : ℕ → Verb → Type 0

@@ -172,7 +172,7 @@ module _ (st : Stored) (w : World Name) (none : has_lazy st.payloads w ≡ false
 outside-is : (a b : Outside) → a.cache ≡ b.cache → a.room ≡ b.room → a.mirrors ≡ b.mirrors → a ≡ b
 outside-is a b e f g = ap₂ {C = Outside} (λ c (m : List Mirror). record { cache = c; room = a.room; mirrors = m }) e g ∙ ap (λ n. record { cache = b.cache; room = n; mirrors = b.mirrors }) f
 
-outside-same : (st : State) (now : Stored) → GoesOutside st.outside st.outside.mirrors [] st.outside
+pub outside-same : (st : State) (now : Stored) → GoesOutside st.outside st.outside.mirrors [] st.outside
 outside-same st now = record { mirrors_are = refl; room = refl; cache = refl }
 
 -- the state with this stored part

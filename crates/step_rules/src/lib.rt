@@ -1,7 +1,7 @@
 //! Sessions over a stored world, and the mirrors that they ask.
 #![tactic(auto)]
 
-ghost use Rattle.std.specs.Prelude.{◌≡◌, ◌++◌, ℕ, List, [], ◌∷◌, length, true};
+ghost use Rattle.std.specs.Prelude.{◌≡◌, ◌++◌, ℕ, List, [], ◌∷◌, None, length, true};
 ghost use Rattle.id_groups.specs.Name.{Name as NameBytes};
 ghost use Rattle.change_rules.specs.declared.Limits.{Limits};
 ghost use Rattle.std.specs.List.{AllByRecursion};
@@ -14,6 +14,7 @@ ghost use Rattle.step_rules.specs.Verb.{Verb, IsVerb, Status};
 ghost use Rattle.step_rules.specs.Reply.{Reply, Refused, IsMismatch};
 ghost use Rattle.step_rules.specs.Step.{CommandStep};
 ghost use Rattle.step_rules.specs.Plain.{IsInside, HasAllNames, PlainStep};
+ghost use Rattle.step_rules.specs.Lone.{LoneStep};
 ghost use Rattle.step_rules.specs.Isolation.{IsIsolated};
 ghost use Rattle.step_rules.specs.Served.{IsServed};
 ghost use Rattle.step_rules.specs.Stands.{StandsFor, loaded_store};
@@ -79,6 +80,13 @@ pub fn nothing_asked()
         → PlainStep limits st.store s verb reply now → CommandStep limits st s verb reply (record st { store = now }) }
     ensures back { (limits : Limits) (st st' : State) (s : ℕ) (verb : Verb) (reply : Reply) → IsInside verb → HasAllNames st.store s
         → CommandStep limits st s verb reply st' → PlainStep limits st.store s verb reply st'.store × (st'.outside ≡ st.outside) }
+{}
+
+/// Where there are no mirrors and nothing was found, a command may go as what is stored alone decides it: what has to be asked
+/// is refused. It changes nothing outside.
+pub fn lone_steps()
+    ensures { (limits : Limits) (st : State) (now : Stored) (s : ℕ) (verb : Verb) (reply : Reply) → IsInside verb → st.outside.mirrors ≡ [] → ((id : ℕ) → st.outside.cache id ≡ None)
+        → LoneStep limits st.store s verb reply now → CommandStep limits st s verb reply (record st { store = now }) }
 {}
 
 /// A session sees the others only where it looks at the stored world, or at a mirror's master.

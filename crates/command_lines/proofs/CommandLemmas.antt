@@ -1,0 +1,254 @@
+-- What the parts of a command's text say of the whole.
+use Rattle.std.proofs.Common.{◌≡◌, ◌==◌, ◌≤◌, ◌<◌, ℕ, List, [], ◌∷◌, ◌++◌, ◌⊎◌, inl, inr, length, get_or, refl, sym, ◌∙◌, ap, subst, arith, codes, decimal, Option, Some, None, Err, Bool, true, false, nat_eq, append-nil}
+use Rattle.std.specs.Prelude.{IsTrue, if◌then◌else◌}
+use Rattle.std.specs.Cmp.Lexicographic.{pointwise}
+use Rattle.std.specs.declared.result.Result.{Result}
+use Rattle.std.specs.List.{AllZip, remove}
+use Rattle.std.proofs.lemmas.Slice.Zip.{AllZip-long}
+use Rattle.outside.specs.Parts.{HasNone, split_at}
+use Rattle.id_groups.specs.Name.{Name, SpellsName}
+use Rattle.set_expr.specs.Expr.{Expr}
+use Rattle.set_expr.specs.Spelling.{SpellsExpr}
+use Rattle.set_expr.proofs.Marks.{part-same}
+use Rattle.step_rules.specs.Step.{MayWantMemory}
+use Rattle.step_rules.specs.Verb.{Verb, Add, Flush, Reload, Discard, Query, Count, IdOf, Status, Levels, Clone, Pull, Strip, CountMirrors, Drop}
+use Rattle.run_rules.specs.Built.{is_built}
+use Rattle.run_rules.specs.Grammar.{SpellsVerb, SpellsNames, more_words}
+use Rattle.command_lines.specs.declared.words.Word.{Word}
+use Rattle.command_lines.specs.declared.words.Word.TheVariants as words
+use Rattle.command_lines.specs.Parts.{word_text, verb_word, AreNames, SpellsArgs, HasWord, SpellsParts, FitsNone, MayWant}
+use Rattle.command_lines.proofs.NamesLemmas.{words-of-text, split-words}
+use Rattle.command_lines.proofs.TextLemmas.{none-in, is_clear, clear}
+
+-- the text behind a word: nothing, or a blank and what it cuts off
+abbrev pub after : Option (List ℕ) → List ℕ
+after None = []
+after (Some args) = 32 ∷ args
+
+some-same : (v w : Word) → Some v ≡ Some w → v ≡ w
+some-same v w e = cc e
+
+-- a text is cut at its first blank in one way
+one-split : (f g : List ℕ) (x y : Option (List ℕ)) → HasNone 32 f → HasNone 32 g → f ++ after x ≡ g ++ after y → (f ≡ g) × (x ≡ y)
+one-split f g None None h k e = (sym (append-nil f) ∙ e ∙ append-nil g, refl)
+one-split f g None (Some b) h k e = absurd (none-in 32 g b (subst (HasNone 32) (sym (append-nil f) ∙ e) h))
+one-split f g (Some a) None h k e = absurd (none-in 32 f a (subst (HasNone 32) (sym (append-nil g) ∙ sym e) k))
+one-split f g (Some a) (Some b) h k e = let p = part-same 32 f a g b h k e in (p.0, ap (λ (z : List ℕ). Some z) p.1)
+
+-- words have no blank, and no two are written alike
+word-no-blank : (word : Word) → HasNone 32 (word_text word)
+word-no-blank word = clear (word_text word) (all word)
+  where
+    all : (word : Word) → is_clear 32 (word_text word) ≡ true
+    all words.Add = refl
+    all words.Flush = refl
+    all words.Reload = refl
+    all words.Discard = refl
+    all words.Query = refl
+    all words.Count = refl
+    all words.Id = refl
+    all words.Status = refl
+    all words.Levels = refl
+    all words.Mirrors = refl
+    all words.DropAt = refl
+
+abbrev word_in : List ℕ → Option Word
+word_in text =
+    if pointwise nat_eq text (codes "add") then Some words.Add
+    else if pointwise nat_eq text (codes "flush") then Some words.Flush
+    else if pointwise nat_eq text (codes "reload") then Some words.Reload
+    else if pointwise nat_eq text (codes "discard") then Some words.Discard
+    else if pointwise nat_eq text (codes "query") then Some words.Query
+    else if pointwise nat_eq text (codes "count") then Some words.Count
+    else if pointwise nat_eq text (codes "id") then Some words.Id
+    else if pointwise nat_eq text (codes "status") then Some words.Status
+    else if pointwise nat_eq text (codes "levels") then Some words.Levels
+    else if pointwise nat_eq text (codes "mirrors") then Some words.Mirrors
+    else Some words.DropAt
+
+word-again : (word : Word) → word_in (word_text word) ≡ Some word
+word-again words.Add = refl
+word-again words.Flush = refl
+word-again words.Reload = refl
+word-again words.Discard = refl
+word-again words.Query = refl
+word-again words.Count = refl
+word-again words.Id = refl
+word-again words.Status = refl
+word-again words.Levels = refl
+word-again words.Mirrors = refl
+word-again words.DropAt = refl
+
+one-word : (v w : Word) → word_text v ≡ word_text w → v ≡ w
+one-word v w e = some-same v w (sym (word-again v) ∙ ap word_in e ∙ word-again w)
+
+-- names behind a word: none, or a blank and their words
+names-parts : (text word : List ℕ) (names : List Name) → SpellsNames text word names
+    → ((names ≡ []) × (text ≡ word)) ⊎ ((args : List ℕ) × AreNames args names × (text ≡ word ++ 32 ∷ args))
+names-parts text word names h = by_words h.0 names h.1 h.2
+  where
+    by_words : (parts : List (List ℕ)) (names : List Name) → AllZip SpellsName parts names → text ≡ word ++ more_words parts
+        → ((names ≡ []) × (text ≡ word)) ⊎ ((args : List ℕ) × AreNames args names × (text ≡ word ++ 32 ∷ args))
+    by_words [] [] zip is = inl (refl, is ∙ append-nil word)
+    by_words [] (n ∷ names) zip is = absurd zip
+    by_words (part ∷ parts) [] zip is = absurd zip
+    by_words (part ∷ parts) (n ∷ names) zip is =
+        let split = split-words part parts (n ∷ names) zip in
+        inr (part ++ more_words parts, subst (λ l. AllZip SpellsName l (n ∷ names)) (sym split) zip, is)
+
+names-behind : (word args : List ℕ) (names : List Name) → AreNames args names → SpellsNames (word ++ 32 ∷ args) word names
+names-behind word args names zip = (split_at 32 args, zip, ap (λ xs. word ++ xs) (sym (words-of-text args)))
+
+-- the parts of a text that spells a verb
+abbrev Parts : List ℕ → Verb → Type 0
+Parts text verb = (word : Word) × (behind : Option (List ℕ)) × HasWord word behind verb × (text ≡ word_text word ++ after behind)
+
+bare : (text word : List ℕ) → text ≡ word → text ≡ word ++ []
+bare text word is = is ∙ sym (append-nil word)
+
+verb-parts : (text : List ℕ) (verb : Verb) → IsTrue (is_built verb) → SpellsVerb text verb → Parts text verb
+verb-parts text (Add name parents) b h = by_names (names-parts text (codes "add") (name ∷ parents) h.1)
+  where
+    by_names : ((name ∷ parents ≡ []) × (text ≡ codes "add")) ⊎ ((args : List ℕ) × AreNames args (name ∷ parents) × (text ≡ codes "add" ++ 32 ∷ args)) → Parts text (Add name parents)
+    by_names (inl p) = cc p.0
+    by_names (inr p) = (words.Add, Some p.0, (refl, (h.0, p.1)), p.2)
+verb-parts text (Flush heads) b h = by_names (names-parts text (codes "flush") heads h)
+  where
+    by_names : ((heads ≡ []) × (text ≡ codes "flush")) ⊎ ((args : List ℕ) × AreNames args heads × (text ≡ codes "flush" ++ 32 ∷ args)) → Parts text (Flush heads)
+    by_names (inl p) = (words.Flush, None, (refl, p.0), bare text (codes "flush") p.1)
+    by_names (inr p) = (words.Flush, Some p.0, (refl, p.1), p.2)
+verb-parts text Reload b h = (words.Reload, None, (refl, tt), bare text (codes "reload") h)
+verb-parts text Discard b h = (words.Discard, None, (refl, tt), bare text (codes "discard") h)
+verb-parts text (Query e) b h = (words.Query, Some h.0, (refl, h.1), h.2)
+verb-parts text (Count e) b h = (words.Count, Some h.0, (refl, h.1), h.2)
+verb-parts text (IdOf name) b h = (words.Id, Some h.0, (refl, h.1), h.2)
+verb-parts text Status b h = (words.Status, None, (refl, tt), bare text (codes "status") h)
+verb-parts text Levels b h = (words.Levels, None, (refl, tt), bare text (codes "levels") h)
+verb-parts text Clone b h = cc b
+verb-parts text Pull b h = cc b
+verb-parts text (Strip names) b h = cc b
+verb-parts text CountMirrors b h = (words.Mirrors, None, (refl, tt), bare text (codes "mirrors") h)
+verb-parts text (Drop k) b h = (words.DropAt, Some h.0, (refl, h.1), h.2)
+
+-- a text in parts is that of the verb
+abbrev Spelled : Word → Option (List ℕ) → Verb → Type 0
+Spelled word behind verb = IsTrue (is_built verb) × SpellsVerb (word_text word ++ after behind) verb
+
+parts-verb : (verb : Verb) (behind : Option (List ℕ)) (word : Word) → verb_word verb ≡ Some word → SpellsArgs verb behind → Spelled word behind verb
+parts-verb verb behind word e h = from verb behind h word e
+  where
+    from : (verb : Verb) (behind : Option (List ℕ)) → SpellsArgs verb behind → (word : Word) → verb_word verb ≡ Some word → Spelled word behind verb
+    from (Add name parents) (Some args) h word e = subst (λ w. Spelled w (Some args) (Add name parents)) (some-same words.Add word e) (refl, (h.0, names-behind (codes "add") args (name ∷ parents) h.1))
+    from (Flush heads) (Some args) h word e = subst (λ w. Spelled w (Some args) (Flush heads)) (some-same words.Flush word e) (refl, names-behind (codes "flush") args heads h)
+    from (Flush heads) None h word e = subst (λ w. Spelled w None (Flush heads)) (some-same words.Flush word e) (refl, subst (λ l. SpellsNames (codes "flush" ++ []) (codes "flush") l) (sym h) ([], tt, refl))
+    from Reload None h word e = subst (λ w. Spelled w None Reload) (some-same words.Reload word e) (refl, refl)
+    from Discard None h word e = subst (λ w. Spelled w None Discard) (some-same words.Discard word e) (refl, refl)
+    from (Query x) (Some args) h word e = subst (λ w. Spelled w (Some args) (Query x)) (some-same words.Query word e) (refl, (args, h, refl))
+    from (Count x) (Some args) h word e = subst (λ w. Spelled w (Some args) (Count x)) (some-same words.Count word e) (refl, (args, h, refl))
+    from (IdOf name) (Some args) h word e = subst (λ w. Spelled w (Some args) (IdOf name)) (some-same words.Id word e) (refl, (args, h, refl))
+    from Status None h word e = subst (λ w. Spelled w None Status) (some-same words.Status word e) (refl, refl)
+    from Levels None h word e = subst (λ w. Spelled w None Levels) (some-same words.Levels word e) (refl, refl)
+    from CountMirrors None h word e = subst (λ w. Spelled w None CountMirrors) (some-same words.Mirrors word e) (refl, refl)
+    from (Drop k) (Some args) h word e = subst (λ w. Spelled w (Some args) (Drop k)) (some-same words.DropAt word e) (refl, (args, h, refl))
+    from Clone behind h word e = cc e
+    from Pull behind h word e = cc e
+    from (Strip names) behind h word e = cc e
+    from (Add name parents) None h word e = absurd h
+    from Reload (Some args) h word e = absurd h
+    from Discard (Some args) h word e = absurd h
+    from (Query x) None h word e = absurd h
+    from (Count x) None h word e = absurd h
+    from (IdOf name) None h word e = absurd h
+    from Status (Some args) h word e = absurd h
+    from Levels (Some args) h word e = absurd h
+    from CountMirrors (Some args) h word e = absurd h
+    from (Drop k) None h word e = absurd h
+
+-- a text that is cut at its first blank spells what its parts spell
+pub in-parts : (text front : List ℕ) (behind : Option (List ℕ)) (verb : Verb) → HasNone 32 front → text ≡ front ++ after behind
+    → IsTrue (is_built verb) → SpellsVerb text verb → SpellsParts front behind verb
+in-parts text front behind verb clear is built h =
+    let p = verb-parts text verb built h in
+    let q = one-split (word_text p.0) front p.1 behind (word-no-blank p.0) clear (sym p.3 ∙ is) in
+    (p.0, sym q.0, (p.2.0, subst (SpellsArgs verb) q.1 p.2.1))
+
+pub of-parts : (text front : List ℕ) (behind : Option (List ℕ)) (verb : Verb) → text ≡ front ++ after behind → SpellsParts front behind verb
+    → IsTrue (is_built verb) × SpellsVerb text verb
+of-parts text front behind verb is h =
+    let s = parts-verb verb behind h.0 h.2.0 h.2.1 in
+    (s.0, subst (λ t. SpellsVerb t verb) (ap (λ f. f ++ after behind) (sym h.1) ∙ sym is) s.1)
+
+-- what fits none of a word's verbs
+pub fits-none : (front : List ℕ) (behind : Option (List ℕ)) (word : Word) → front ≡ word_text word → FitsNone word behind → (verb : Verb) → ¬ (SpellsParts front behind verb)
+fits-none front behind word is f verb h =
+    let same = one-word h.0 word (sym h.1 ∙ is) in
+    none verb behind h.2.1 h.0 h.2.0 (subst (λ w. FitsNone w behind) (sym same) f)
+  where
+    none : (verb : Verb) (behind : Option (List ℕ)) → SpellsArgs verb behind → (word : Word) → verb_word verb ≡ Some word → FitsNone word behind → ⊥
+    none (Add name parents) (Some args) h word e f = let g = subst (λ w. FitsNone w (Some args)) (sym (some-same words.Add word e)) f in g name parents h.0 h.1
+    none (Flush heads) (Some args) h word e f = let g = subst (λ w. FitsNone w (Some args)) (sym (some-same words.Flush word e)) f in g heads h
+    none (Flush heads) None h word e f = subst (λ w. FitsNone w None) (sym (some-same words.Flush word e)) f
+    none Reload None h word e f = subst (λ w. FitsNone w None) (sym (some-same words.Reload word e)) f
+    none Discard None h word e f = subst (λ w. FitsNone w None) (sym (some-same words.Discard word e)) f
+    none (Query x) (Some args) h word e f = let g = subst (λ w. FitsNone w (Some args)) (sym (some-same words.Query word e)) f in g x h
+    none (Count x) (Some args) h word e f = let g = subst (λ w. FitsNone w (Some args)) (sym (some-same words.Count word e)) f in g x h
+    none (IdOf name) (Some args) h word e f = let g = subst (λ w. FitsNone w (Some args)) (sym (some-same words.Id word e)) f in g name h
+    none Status None h word e f = subst (λ w. FitsNone w None) (sym (some-same words.Status word e)) f
+    none Levels None h word e f = subst (λ w. FitsNone w None) (sym (some-same words.Levels word e)) f
+    none CountMirrors None h word e f = subst (λ w. FitsNone w None) (sym (some-same words.Mirrors word e)) f
+    none (Drop k) (Some args) h word e f = let g = subst (λ w. FitsNone w (Some args)) (sym (some-same words.DropAt word e)) f in g k h
+    none Clone behind h word e f = cc e
+    none Pull behind h word e f = cc e
+    none (Strip names) behind h word e f = cc e
+    none (Add name parents) None h word e f = absurd h
+    none Reload (Some args) h word e f = absurd h
+    none Discard (Some args) h word e f = absurd h
+    none (Query x) None h word e f = absurd h
+    none (Count x) None h word e f = absurd h
+    none (IdOf name) None h word e f = absurd h
+    none Status (Some args) h word e f = absurd h
+    none Levels (Some args) h word e f = absurd h
+    none CountMirrors (Some args) h word e f = absurd h
+    none (Drop k) None h word e f = absurd h
+
+-- which verbs of a word may want memory
+pub may-want : (front : List ℕ) (behind : Option (List ℕ)) (word : Word) → front ≡ word_text word → MayWant word → (verb : Verb) → SpellsParts front behind verb → MayWantMemory verb
+may-want front behind word is m verb h =
+    let same = one-word h.0 word (sym h.1 ∙ is) in
+    may verb h.0 h.2.0 (subst MayWant (sym same) m)
+  where
+    may : (verb : Verb) (word : Word) → verb_word verb ≡ Some word → MayWant word → MayWantMemory verb
+    may Discard word e m = subst MayWant (sym (some-same words.Discard word e)) m
+    may Status word e m = subst MayWant (sym (some-same words.Status word e)) m
+    may Levels word e m = subst MayWant (sym (some-same words.Levels word e)) m
+    may CountMirrors word e m = subst MayWant (sym (some-same words.Mirrors word e)) m
+    may (Drop k) word e m = subst MayWant (sym (some-same words.DropAt word e)) m
+    may (Add name parents) word e m = tt
+    may (Flush heads) word e m = tt
+    may Reload word e m = tt
+    may (Query x) word e m = tt
+    may (Count x) word e m = tt
+    may (IdOf name) word e m = tt
+    may Clone word e m = tt
+    may Pull word e m = tt
+    may (Strip names) word e m = tt
+
+-- a text that is no word at all
+pub no-word : (front : List ℕ) (behind : Option (List ℕ)) → ((word : Word) → ¬ (front ≡ word_text word)) → (verb : Verb) → ¬ (SpellsParts front behind verb)
+no-word front behind none verb h = none h.0 h.1
+
+-- the first item, and the list without it
+pub first-and-rest : {X : Type 0} (xs : List X) (d : X) → 0 < length xs → xs ≡ get_or xs 0 d ∷ remove xs 0
+first-and-rest [] d h = absurd (omega (arith, h))
+first-and-rest (x ∷ xs) d h = refl
+
+-- more words than an add has names
+pub too-many : (args : List ℕ) (names : List Name) → AreNames args names → 9 < length names → FitsNone words.Add (Some args)
+too-many args names zip many name parents few h =
+    let long = AllZip-long SpellsName (split_at 32 args) names zip in
+    let same = AllZip-long SpellsName (split_at 32 args) (name ∷ parents) h in
+    omega (arith, long, same, many, few)
+
+-- a fault that is handed on is the same
+pub same-fault : {T E : Type 0} (r : Result T E) (x y z : E) → r ≡ Err x → x ≡ y → r ≡ Err z → y ≡ z
+same-fault r x y z is same goal = let e : x ≡ z = cc (sym is ∙ goal) in sym same ∙ e

@@ -1,0 +1,51 @@
+-- Prefixes, blanks and numbers of a line.
+use Rattle.std.proofs.Common.{◌≡◌, ◌≢◌, ◌==◌, ◌<◌, ◌+◌, ◌^◌, ℕ, List, [], ◌∷◌, ◌++◌, length, take, drop, refl, sym, ◌∙◌, ap, subst, arith, decimal, Some, None, true, false, nat_eq, true≢false}
+use Rattle.std.specs.Prelude.{position, Bool, not, ◌&&◌}
+use Rattle.std.specs.Char.{digit_value}
+use Rattle.std.specs.Str.Parse.{AllDigits}
+use Rattle.std.proofs.lemmas.Fmt.{decimal_is_IsNumeral}
+use Rattle.std.proofs.lemmas.Bool.{ne_eqb}
+use Rattle.outside.specs.Parts.{HasNone}
+use Rattle.outside.proofs.PartsLemmas.{position-none, position-some}
+use Rattle.id_groups.proofs.Listing.{and_true}
+use Rattle.set_expr.proofs.Marks.{part-same}
+
+-- bytes that hold a byte before others hold it
+pub none-in : (mark : ℕ) (xs ys : List ℕ) → ¬ (HasNone mark (xs ++ mark ∷ ys))
+none-in mark [] ys h = let same : (mark == mark) ≡ true = grind arith in true≢false (sym same ∙ h.0)
+none-in mark (x ∷ xs) ys h = none-in mark xs ys h.1
+
+blank-no-digit : digit_value 32 < 10 → ⊥
+blank-no-digit h = omega (arith, h)
+
+-- a decimal has no blank
+none-digit : (xs : List ℕ) → AllDigits 10 xs → HasNone 32 xs
+none-digit [] all = tt
+none-digit (b ∷ xs) all = (ne_eqb b 32 (λ same. blank-no-digit (let P : ℕ → Type 0 = λ n. digit_value n < 10 in subst P same all.0)), none-digit xs all.1)
+
+pub number-no-blank : (n : ℕ) → n < 2 ^ 64 → HasNone 32 (decimal n)
+number-no-blank n h = none-digit (decimal n) (decimal_is_IsNumeral n h).0.1
+
+module _ (line : List ℕ) (s : ℕ) (text : List ℕ) (small : s < 16) (is : line ≡ decimal s ++ 32 ∷ text) where
+  -- a line that begins with a number and a blank has one
+  pub some-blank : position (λ b. b == 32) line ≡ None → ⊥
+  some-blank none = none-in 32 (decimal s) text (subst (HasNone 32) is (position-none 32 line none))
+
+  -- the number stands before the first one
+  pub number-front : (len : ℕ) → position (λ b. b == 32) line ≡ Some len → take len line ≡ decimal s
+  number-front len at =
+      let found = position-some 32 line len at in
+      (part-same 32 (take len line) (drop (len + 1) line) (decimal s) text found.part (number-no-blank s (omega (arith, small))) (sym found.whole ∙ is)).0
+
+-- the test of a text that is given
+abbrev pub is_clear : ℕ → List ℕ → Bool
+is_clear mark [] = true
+is_clear mark (b ∷ bs) = not (b == mark) && is_clear mark bs
+
+false-of : (b : Bool) → not b ≡ true → b ≡ false
+false-of true h = sym h
+false-of false h = refl
+
+pub clear : (text : List ℕ) → is_clear 32 text ≡ true → HasNone 32 text
+clear [] h = tt
+clear (b ∷ bs) h = let p = and_true (not (b == 32)) (is_clear 32 bs) h in (false-of (b == 32) p.0, clear bs p.1)

@@ -1,0 +1,10 @@
+use Rattle.std.proofs.Common.{◌≡◌, length}
+use Rattle.outside.specs.Parts.{split_at}
+use Rattle.command_lines.proofs.NamesLemmas.{names_in, prepend}
+use Rattle.command_lines.proofs.command.parse_names.Given as goal
+
+abbrev pub invariant-words : goal.invariant-words
+invariant-words l = names_in (split_at 32 l.text) ≡ prepend l.names.items (names_in (split_at 32 l.rest))
+
+abbrev pub decreases-words : goal.decreases-words
+decreases-words l = length l.rest

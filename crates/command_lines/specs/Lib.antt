@@ -1,0 +1,4 @@
+pub mod Meant
+pub mod Parts
+pub mod Told
+pub mod Sending

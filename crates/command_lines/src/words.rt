@@ -1,0 +1,93 @@
+//! The words of a line: a verb's word, numbers, and where the blanks stand.
+
+ghost use Rattle.std.specs.Prelude.{◌≡◌, ◌==◌, ◌^◌, ◌<◌, ℕ, position, IfSome, IfNone};
+ghost use Rattle.set_expr.specs.Spelling.{SpellsNumber};
+ghost use Rattle.command_lines.specs.Parts.{word_text};
+
+use itoa::Buffer;
+use std::str;
+
+/// The word that a command's text begins with.
+#[derive(Clone, Copy, Debug, PartialEq, Eq)]
+pub enum Word {
+    /// A commit to be added.
+    Add,
+    /// What is pending to be stored.
+    Flush,
+    /// The newest world to be seen.
+    Reload,
+    /// What is pending to be let go.
+    Discard,
+    /// The members of an expression.
+    Query,
+    /// How many they are.
+    Count,
+    /// The id of a commit.
+    Id,
+    /// The sizes of what the session works on.
+    Status,
+    /// The sizes of the levels.
+    Levels,
+    /// How many mirrors there are.
+    Mirrors,
+    /// A mirror to be dropped.
+    DropAt,
+}
+
+/// The place of the first blank.
+pub(crate) fn blank(text: &[u8]) -> Option<usize>
+    ensures { result ≡ position (λ b. b == 32) text.now }
+{
+    text.iter().position(|byte| *byte == b' ')
+}
+
+/// The number whose decimal the text is: the one that is printed so.
+pub(crate) fn number_of(text: &[u8]) -> Option<u64>
+    ensures some { IfSome result (SpellsNumber text.now) }
+    ensures none { IfNone result ((n : ℕ) → ¬ (SpellsNumber text.now n)) }
+{
+    let Ok(digits) = str::from_utf8(text) else {
+        return None;
+    };
+    let Ok(n) = digits.parse::<u64>() else {
+        return None;
+    };
+    let mut buffer = Buffer::new();
+    if buffer.format(n).as_bytes() == text {
+        Some(n)
+    } else {
+        None
+    }
+}
+
+/// The verb's word that the text is.
+pub(crate) fn word_of(text: &[u8]) -> Option<Word>
+    ensures some { IfSome result (λ word. text.now ≡ word_text word) }
+    ensures none { IfNone result ((word : Word) → ¬ (text.now ≡ word_text word)) }
+{
+    if text == b"add".as_slice() {
+        Some(Word::Add)
+    } else if text == b"flush".as_slice() {
+        Some(Word::Flush)
+    } else if text == b"reload".as_slice() {
+        Some(Word::Reload)
+    } else if text == b"discard".as_slice() {
+        Some(Word::Discard)
+    } else if text == b"query".as_slice() {
+        Some(Word::Query)
+    } else if text == b"count".as_slice() {
+        Some(Word::Count)
+    } else if text == b"id".as_slice() {
+        Some(Word::Id)
+    } else if text == b"status".as_slice() {
+        Some(Word::Status)
+    } else if text == b"levels".as_slice() {
+        Some(Word::Levels)
+    } else if text == b"mirrors".as_slice() {
+        Some(Word::Mirrors)
+    } else if text == b"drop".as_slice() {
+        Some(Word::DropAt)
+    } else {
+        None
+    }
+}

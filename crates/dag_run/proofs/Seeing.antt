@@ -1,0 +1,48 @@
+-- Claims of a disk, a source and a sink at once.
+use Rattle.std.proofs.Common.{inl, inr, ℕ, ◌≡◌, List, Option, Some, None, IfSome, refl, sym, ap, ◌∙◌, ◌++◌, length, take, le_refl, ◌≤◌, ◌+◌, ◌-◌, ◌^◌, arith}
+use Rattle.outside.specs.Counts.{Rose}
+use Rattle.dag_run.specs.Lines.{PutsFault}
+use Rattle.std.proofs.lemmas.List.{take_all}
+use Rattle.outside.specs.Told.{WhereTold, TookFront}
+use Rattle.outside.proofs.ToldLemmas.{WhereTold-same, WhereTold-join, WhereTold-map}
+use Rattle.disk_trait.specs.Images.{Told, IsSound}
+use Rattle.disk_trait.specs.Calls.{Goes}
+use Rattle.dag_run.specs.Seen.{Seen, seen}
+
+-- what holds of each of the three
+pub record Each (Q : Told → Told → Type 0) (P R : List ℕ → List ℕ → Type 0) (a b : Seen) : Type 0 where
+  pub disk : Q a.disk b.disk
+  pub left : P a.left b.left
+  pub taken : R a.taken b.taken
+
+pub seen-each : (d e : Option Told) (i j o p : Option (List ℕ)) (Q : Told → Told → Type 0) (P R : List ℕ → List ℕ → Type 0) → WhereTold d e Q → WhereTold i j P → WhereTold o p R
+    → WhereTold (seen d i o) (seen e j p) (Each Q P R)
+seen-each None e i j o p Q P R q l t = tt
+seen-each (Some d) e None j o p Q P R q l t = tt
+seen-each (Some d) e (Some i) j None p Q P R q l t = tt
+seen-each (Some d) None (Some i) j (Some o) p Q P R q l t = absurd q
+seen-each (Some d) (Some e) (Some i) None (Some o) p Q P R q l t = absurd l
+seen-each (Some d) (Some e) (Some i) (Some j) (Some o) None Q P R q l t = absurd t
+seen-each (Some d) (Some e) (Some i) (Some j) (Some o) (Some p) Q P R q l t = record { disk = q; left = l; taken = t }
+
+-- a step of the three behind what was so
+pub seen-step : (d e f : Option Told) (i j k o p q : Option (List ℕ)) (A B : Seen → Seen → Type 0) (Q : Told → Told → Type 0) (P R : List ℕ → List ℕ → Type 0)
+    → ((x y z : Seen) → A x y → Each Q P R y z → B x z) → WhereTold (seen d i o) (seen e j p) A → WhereTold e f Q → WhereTold j k P → WhereTold p q R → WhereTold (seen d i o) (seen f k q) B
+seen-step d e f i j k o p q A B Q P R g a dd ii oo = WhereTold-join (seen d i o) (seen e j p) (seen f k q) A (Each Q P R) B g a (seen-each e f j k p q Q P R dd ii oo)
+
+-- a sound disk that stays as it is
+pub sound-told : (d : Option Told) → IfSome d IsSound → WhereTold d d (λ x y. (y ≡ x) × IsSound x)
+sound-told None h = tt
+sound-told (Some x) h = (refl, h)
+
+pub same-told : {X : Type 0} (a : Option X) → WhereTold a a (λ x y. y ≡ x)
+same-told a = WhereTold-same a (λ x y. y ≡ x) (λ x. refl)
+
+-- a count that rose later rose since before
+pub rose-since : (a b c : ℕ) → a ≤ b → Rose b c → Rose a c
+rose-since a b c le r = omega (arith, le, r)
+
+-- the line that tells of the disk is cut only where the sink failed
+pub puts-since : (a b c : ℕ) (x y : List ℕ) → a ≤ b → PutsFault (Rose b c) x y → PutsFault (Rose a c) x y
+puts-since a b c x y le (inl e) = inl e
+puts-since a b c x y le (inr h) = inr (rose-since a b c le h.0, h.1, h.2)

@@ -1,5 +1,0 @@
-use Rattle.dag_run.proofs.PutLemmas.{id_text-short}
-use Rattle.dag_run.proofs.put.printed.Goals as goal
-
-pub returns-clause-short : goal.returns-clause-short
-returns-clause-short c = rw c.print.ensures (id_text-short c.args.id (rw c.number-small.ensures.number at c.number-small.ensures.small))

@@ -1,6 +1,0 @@
-use Rattle.std.proofs.Common.{◌≡◌, [], take, drop}
-use Rattle.dag_run.specs.Tests.{twice}
-use Rattle.dag_run.proofs.rows.refuse_twice.Given as goal
-
-abbrev pub invariant-loop-place : goal.invariant-loop-place
-invariant-loop-place l = twice [] l.parents ≡ twice (take l.place l.parents) (drop l.place l.parents)

@@ -1,0 +1,3 @@
+pub mod Sees
+pub mod Standing
+pub mod Sizes

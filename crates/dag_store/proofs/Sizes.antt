@@ -1,0 +1,98 @@
+-- The steps that tell sizes, and the one that lets rows go.
+use Rattle.std.proofs.Common.{◌≡◌, ◌≤◌, ◌<◌, ℕ, inl, List, [], ◌∷◌, length, map, take, Option, Some, None, refl, sym, ap, subst, ◌∙◌, arith, get_or, set, append-nil}
+use Rattle.std.specs.List.{last_or}
+use Rattle.std.proofs.lemmas.List.{length-map}
+use Rattle.id_groups.specs.Name.{Name, same_name}
+use Rattle.commit_graph.specs.World.{Row, World, names_of, with_pending}
+use Rattle.commit_graph.specs.Ids.{parent_ids}
+use Rattle.segment_rules.specs.Flat.{flat_segments_of}
+use Rattle.segment_rules.specs.Levels.{level_counts}
+use Rattle.batch_codec.specs.Payload.{Payload}
+use Rattle.gated_log.specs.Held.{Held}
+use Rattle.name_map.specs.Added.{Placed, payloads_of}
+use Rattle.change_rules.specs.declared.Limits.{Limits}
+use Rattle.change_rules.specs.Tables.{newest, other_names_in}
+use Rattle.payload_tables.specs.Kept.{PlainTables, PlainOthers, AreOthersIn}
+use Rattle.payload_tables.specs.Pending.{IdRow, PlainPending, HoldsRows}
+use Rattle.payload_tables.specs.Bases.{ArePending, id_row}
+use Rattle.payload_tables.proofs.Lists.{names-length}
+use Rattle.flush_rebuild.specs.Asked.{MayStore}
+use Rattle.step_rules.specs.State.{Stored, session, pending_of, base_of, world_at, with_pending_rows}
+use Rattle.step_rules.specs.Verb.{Status, Levels, Discard}
+use Rattle.step_rules.specs.Reply.{Sizes, LevelSizes, Discarded}
+use Rattle.step_rules.specs.Lone.{LoneStep}
+use Rattle.step_rules.proofs.States.{alone}
+use Rattle.dag_store.specs.Kept.{PlainSession, PlainStore, IsKept, IsSessionOf, session_at, base_added, sixteen}
+use Rattle.dag_store.specs.Stands.{Stands}
+use Rattle.dag_store.proofs.Sees.{base-holds, all-hold}
+use Rattle.dag_store.proofs.Standing.{stands-with}
+
+abbrev payload-if : Option Placed → Option Payload
+payload-if None = None
+payload-if (Some a) = Some a.payload
+
+last-count : (others : PlainOthers) (o : Option Placed) (added : List Placed) → AreOthersIn others (last_or o added) → others.count ≡ length (other_names_in (last_or (payload-if o) (payloads_of added)))
+last-count others None [] h = h.count
+last-count others (Some a) [] h = h.count
+last-count others o (a ∷ added) h = last-count others (Some a) added h
+
+-- how many other ids a base has
+pub others-many : (others : PlainOthers) (added : List Placed) → AreOthersIn others (last_or None added) → others.count ≡ length (other_names_in (newest (payloads_of added)))
+others-many others added h = last-count others None added h
+
+-- so many rows are pending
+abbrev pub CountsRows : PlainPending → ℕ → Type 0
+CountsRows pending n = (rows : List IdRow) → HoldsRows pending rows → n ≡ length rows
+
+pub pending-many : (w : World Name) (pending : PlainPending) (rows : List (Row Name)) (n : ℕ) → ArePending w pending rows → CountsRows pending n → n ≡ length rows
+pending-many w pending rows n p c = c (map (id_row (with_pending w rows)) rows) p.held ∙ length-map rows (id_row (with_pending w rows))
+
+module _ (log : Held) (tables : PlainTables) (sessions : List PlainSession) (limits : Limits) (k : IsKept log tables sessions limits) (s : ℕ) (small : s < sixteen) where
+  abbrev kept : PlainStore
+  kept = record { log = log; sessions = sessions; limits = limits }
+
+  pub status-step : (m o p : ℕ) → m ≡ (session_at sessions s).below → o ≡ (session_at sessions s).others.count → CountsRows (session_at sessions s).pending p
+      → (began : ℕ) (st : Stored) → Stands began kept st → LoneStep limits st s Status (Sizes m o p) st
+  status-step m o p is_m is_o counts began st h =
+      let x = session_at sessions s in
+      let of = k.each s small in
+      let stand = (base-holds log tables sessions limits k began st h s small).stand in
+      let masters = is_m ∙ of.below ∙ stand.count in
+      let others = is_o ∙ others-many x.others (base_added k.added x) of.others ∙ ap (length {A = Name}) stand.names ∙ names-length (base_of st s).others in
+      let rows = pending-many (base_of st s) x.pending (pending_of st s) p (h.sessions s small).pending counts in
+      inl (rw (masters, others, rows) refl, refl)
+
+  -- the session has no rows any more
+  pub discard-step : (n : ℕ) (none : PlainPending) → CountsRows (session_at sessions s).pending n → HoldsRows none [] → none.first ≡ (session_at sessions s).pending.first
+      → (began : ℕ) (st : Stored) → Stands began kept st
+      → LoneStep limits st s Discard (Discarded n) (with_pending_rows st s [])
+      × Stands began (record { log = log; sessions = set sessions s (record (session_at sessions s) { pending = none }); limits = limits }) (with_pending_rows st s [])
+  discard-step n none counts held first began st h =
+      let x = session_at sessions s in
+      let y = session st s in
+      let w = base_of st s in
+      let one = h.sessions s small in
+      let fine = h.state.sessions s in
+      let named = alone w (h.state.worlds y.base fine.base) in
+      (
+        inl (ap Discarded (pending-many w x.pending (pending_of st s) n one.pending counts), refl),
+        stands-with began kept st s (record x { pending = none }) (record { base = y.base; pending = [] }) small k.count h
+        (record { base = fine.base; view = named })
+        (record { payloads = one.payloads; pending = record { first = first ∙ one.pending.first; held = held; view = named.world } }),
+      )
+
+  -- and may go on
+  pub discarded-of : (none : PlainPending) → HoldsRows none [] → none.first ≡ (session_at sessions s).pending.first → IsSessionOf k.added (record (session_at sessions s) { pending = none })
+  discarded-of none held first =
+      let of = k.each s small in
+      record {
+        payloads = of.payloads;
+        below = of.below;
+        others = of.others;
+        pending = record { rows = []; held = held; first = first ∙ of.pending.first; parents = tt; distinct = tt; fresh = λ name i. absurd i };
+        keeps = of.keeps;
+      }
+
+-- the levels of the stored master
+pub levels-step : (limits : Limits) (st : Stored) (s : ℕ) (counts : List ℕ) → counts ≡ level_counts (flat_segments_of 0 (parent_ids same_name st.stored st.stored.master)) → LoneStep limits st s Levels (LevelSizes counts) st
+levels-step limits st s counts is = inl (ap LevelSizes is, refl)

@@ -1,0 +1,89 @@
+-- How a flush ends, for the state and for the disk.
+use Rattle.std.specs.Prelude.{◌≡◌, ◌≤◌, ◌+◌, ℕ, List, [], ◌∷◌, ◌++◌, Option, Some, None, ⊤, length}
+use Rattle.id_groups.specs.Name.{Name}
+use Rattle.disk_trait.specs.Images.{Told, moment_of}
+use Rattle.batch_codec.specs.Payload.{Payload}
+use Rattle.gated_log.specs.Held.{Held}
+use Rattle.gated_log.specs.Holding.{HasPayloads, IsOnDisk, KeepsOldOrNew}
+use Rattle.change_rules.specs.Change.{text_of, flush_change}
+use Rattle.step_rules.specs.State.{Stored, worlds}
+use Rattle.step_rules.specs.Verb.{Flush}
+use Rattle.step_rules.specs.Reply.{Flushed as IsFlushed, Refused as IsRefusal}
+use Rattle.step_rules.specs.Worlds.{flush_of, after_flush}
+use Rattle.step_rules.specs.Lone.{LoneStep}
+use Rattle.dag_store.specs.declared.replies.Flushed.{Flushed}
+use Rattle.dag_store.specs.declared.replies.Flushed.TheVariants.{Done, Refused, Disk}
+use Rattle.dag_store.specs.Kept.{PlainStore}
+use Rattle.dag_store.specs.Stands.{Stands}
+use Rattle.dag_store.specs.Steps.{ChangesOnly}
+
+-- the state after the flush
+abbrev pub flush_end : Stored → ℕ → List Name → Stored
+flush_end st s heads = after_flush st s (flush_of st s heads)
+
+-- the change that the flush makes
+abbrev pub change_of : Stored → ℕ → List Name → Payload
+change_of st s heads = flush_change st.stored (flush_of st s heads)
+
+-- Another world is stored, by the payload of the change, of these bytes.
+pub record StoresBy (st : Stored) (s : ℕ) (heads : List Name) (payload : List ℕ) : Type 0 where
+  pub past : (flush_end st s heads).past ≡ worlds st
+  pub payloads : (flush_end st s heads).payloads ≡ st.payloads ++ change_of st s heads ∷ []
+  pub text : payload ≡ text_of (change_of st s heads)
+
+-- nothing is stored: where a clock is given, a payload is
+abbrev pub Stores : Option ℕ → Stored → ℕ → List Name → List ℕ → Type 0
+Stores None st s heads payload = ((flush_end st s heads).past ≡ st.past) × ((flush_end st s heads).payloads ≡ st.payloads)
+Stores (Some clock) st s heads payload = StoresBy st s heads payload
+
+-- What a flush of a store answers for a state that it stands for: the step's reply, and a store that stands for the state after
+-- it; or the refusal, and the store as it was; or, at a fault of the disk, the store is gone, and the payload is the one of the
+-- step that was to be taken.
+abbrev pub FlushStep : ℕ → PlainStore → Stored → ℕ → List Name → List ℕ → Flushed → Type 0
+FlushStep began old st s heads payload (Done new counts clock) =
+    LoneStep old.limits st s (Flush heads) (IsFlushed counts.master counts.others) (flush_end st s heads)
+    × Stands began new (flush_end st s heads) × Stores clock st s heads payload
+FlushStep began old st s heads payload (Refused same refusal) =
+    LoneStep old.limits st s (Flush heads) (IsRefusal refusal) st × Stands began same st
+FlushStep began old st s heads payload (Disk fault) =
+    LoneStep old.limits st s (Flush heads) (IsFlushed (length (flush_of st s heads).master) (length (flush_of st s heads).others)) (flush_end st s heads)
+    × StoresBy st s heads payload
+
+-- the same log, with some room
+abbrev pub HasRoom : Held → Held → Type 0
+HasRoom old new = new ≡ record old { room = new.room }
+
+-- what is sure once the payload is stored
+pub record HasStored (kept : PlainStore) (payload : List ℕ) (new : PlainStore) (clock : ℕ) (a b : Told) : Type 0 where
+  pub now : clock ≡ moment_of b
+  pub calls : clock ≡ moment_of a + 8
+  pub since : KeepsOldOrNew kept.log payload a b
+  pub payloads : HasPayloads kept.limits.log b (kept.log.payloads ++ payload ∷ [])
+  pub on_disk : IsOnDisk new.log b
+
+-- how a fault of the disk leaves it: the payload is stored, or isn't, after four calls at most
+pub record CutShort (kept : PlainStore) (payload : List ℕ) (a b : Told) : Type 0 where
+  pub calls : moment_of b ≤ moment_of a + 8
+  pub since : KeepsOldOrNew kept.log payload a b
+
+-- how the flush leaves a disk: as it was where nothing was written
+abbrev pub FlushLeaves : PlainStore → List ℕ → Flushed → Told → Told → Type 0
+FlushLeaves kept payload (Done new counts (Some clock)) a b = HasStored kept payload new clock a b
+FlushLeaves kept payload (Done new counts None) a b = b ≡ a
+FlushLeaves kept payload (Refused same refusal) a b = b ≡ a
+FlushLeaves kept payload (Disk fault) a b = CutShort kept payload a b
+
+-- only a flush that stores, or that a fault of the disk ends, calls the disk
+abbrev pub IsQuiet : Flushed → Type 0
+IsQuiet (Done new counts (Some clock)) = ⊥
+IsQuiet (Done new counts None) = ⊤
+IsQuiet (Refused same refusal) = ⊤
+IsQuiet (Disk fault) = ⊥
+
+-- What a flush leaves of the store: the session alone changes, and the log where something is stored. A refusal hands it back as it
+-- was, but for the log's room.
+abbrev pub LeavesStore : PlainStore → ℕ → Flushed → Type 0
+LeavesStore kept s (Done new counts (Some clock)) = ChangesOnly s (record kept { log = new.log }) new
+LeavesStore kept s (Done new counts None) = ChangesOnly s (record kept { log = new.log }) new × HasRoom kept.log new.log
+LeavesStore kept s (Refused same refusal) = (same ≡ record kept { log = same.log }) × HasRoom kept.log same.log
+LeavesStore kept s (Disk fault) = ⊤

@@ -1,0 +1,71 @@
+-- What contracts see of a store, and of which payloads its parts are.
+use Rattle.std.specs.Prelude.{◌≡◌, ◌<◌, ◌≤◌, ℕ, List, [], ◌∷◌, length, map, take, slice_index_or}
+use Rattle.id_groups.specs.Lists.{IsIn}
+use Rattle.id_groups.specs.Name.{Name}
+use Rattle.batch_codec.specs.Grammar.{count_after}
+use Rattle.gated_log.specs.Held.{Held, log_bytes}
+use Rattle.name_map.specs.Added.{Placed, payloads_of, AllStand}
+use Rattle.change_rules.specs.declared.Limits.{Limits}
+use Rattle.change_rules.specs.Standard.{AreLimits}
+use Rattle.change_rules.specs.Change.{text_of}
+use Rattle.change_rules.specs.Tables.{newest, other_names_in}
+use Rattle.payload_tables.specs.Kept.{PlainTables, PlainOthers, AreTablesOf, AreOthersIn, last_added}
+use Rattle.payload_tables.specs.Pending.{PlainPending}
+use Rattle.flush_rebuild.specs.Asked.{MayStore, IsStored}
+
+-- what is kept of a session
+pub record PlainSession : Type 0 where
+  -- how many payloads make its base, how many master ids these have, and the other ids of the last of them
+  pub payloads : ℕ
+  pub below : ℕ
+  pub others : PlainOthers
+  -- its rows that aren't stored
+  pub pending : PlainPending
+
+-- a session of nothing
+abbrev pub no_session : PlainSession
+no_session = record {
+  payloads = 0;
+  below = 0;
+  others = record { section = record { entries = []; end = 0 }; names = 0; count = 0; index = [] };
+  pending = record { first = 0; records = []; places = []; names = []; section = record { entries = []; end = 0 }; index = [] };
+}
+
+-- what is kept of a store: its log, its sixteen sessions, and its limits
+pub record PlainStore : Type 0 where
+  pub log : Held
+  pub sessions : List PlainSession
+  pub limits : Limits
+
+-- the session of that number
+abbrev pub session_at : List PlainSession → ℕ → PlainSession
+session_at sessions s = slice_index_or sessions s no_session
+
+-- the first payloads that were added, which make a session's base
+abbrev pub base_added : List Placed → PlainSession → List Placed
+base_added added x = take x.payloads added
+
+-- The session is on the first of the payloads that were added. Its rows may be stored behind them, and each name of the other
+-- ids of its base is still stored.
+pub record IsSessionOf (added : List Placed) (x : PlainSession) : Type 0 where
+  pub payloads : x.payloads ≤ length added
+  pub below : x.below ≡ count_after 0 (payloads_of (base_added added x))
+  pub others : AreOthersIn x.others (last_added (base_added added x))
+  pub pending : MayStore x.pending (base_added added x)
+  pub keeps : (name : Name) → IsIn name (other_names_in (newest (payloads_of (base_added added x)))) → IsStored added name
+
+-- how many sessions there are
+abbrev pub sixteen : ℕ
+sixteen = 16
+
+-- The log has the payloads that were added, which stand in its bytes; the tables are those of all of them, and each session is on
+-- some of them.
+pub record IsKept (log : Held) (tables : PlainTables) (sessions : List PlainSession) (limits : Limits) : Type 0 where
+  pub added : List Placed
+  pub tables_of : AreTablesOf tables added
+  pub stand : AllStand (log_bytes log) added
+  pub texts : log.payloads ≡ map text_of (payloads_of added)
+  pub count : length sessions ≡ sixteen
+  pub each : (s : ℕ) → s < sixteen → IsSessionOf added (session_at sessions s)
+  pub limits_fit : AreLimits limits
+  pub limit : log.limit ≡ limits.log

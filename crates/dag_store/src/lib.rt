@@ -1,0 +1,22 @@
+#![tactic(auto)]
+
+//! Sixteen sessions over one log.
+
+mod adding;
+mod flushing;
+mod loading;
+mod lookup;
+mod names;
+mod query;
+mod replies;
+mod session;
+mod store;
+
+pub use change_rules::{Limit, Limits};
+pub use high_segments::LevelCounts;
+pub use names::Names;
+pub use query::Found;
+pub use replies::{Added, Counts, Flushed, LoadFault};
+pub use set_query::{Answer, Expr};
+pub use step_rules::Refusal;
+pub use store::Store;

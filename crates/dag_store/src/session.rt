@@ -1,0 +1,37 @@
+//! What is kept of a session.
+
+ghost use Rattle.std.specs.Prelude.{◌≡◌, List, length, take};
+ghost use Rattle.name_map.specs.Added.{Placed, AllStand};
+ghost use Rattle.payload_tables.specs.Kept.{AreTablesOf};
+ghost use Rattle.payload_tables.specs.Bases.{IsBaseOf};
+ghost use Rattle.dag_store.specs.Kept.{IsSessionOf, base_added};
+
+use flush_rebuild::{BaseRef, OthersTable, PendingRows, Tables};
+use std::marker::Model;
+
+/// The first payloads of the log that make its base, and its rows that aren't stored. Contracts see what is kept.
+#[derive(Drop)]
+pub struct Session {
+    pub(crate) payloads: u32,
+    pub(crate) below: u64,
+    pub(crate) others: OthersTable,
+    pub(crate) pending: PendingRows,
+}
+
+impl Model for Session {
+    ghost use Rattle.dag_store.specs.Kept.{PlainSession};
+
+    ghost Value = { PlainSession };
+
+    ghost view = { λ s. record { payloads = s.payloads; below = s.below; others = s.others; pending = s.pending } };
+}
+
+impl Session {
+    /// Its base, lent with the log's bytes.
+    pub(crate) fn base<'a>(&'a self, bytes: &'a [u8], tables: &'a Tables) -> BaseRef<'a>
+        ensures { (added : List Placed) → IsSessionOf added self.now → AreTablesOf tables.now added → AllStand bytes.now added
+            → IsBaseOf result (base_added added self.now) }
+    {
+        BaseRef::over(bytes, tables, &self.others, self.below)
+    }
+}

@@ -1,0 +1,125 @@
+//! A store, and what it tells without memory.
+
+ghost use Rattle.std.specs.Prelude.{◌≡◌, ◌<◌, ◌≤◌, ℕ, List, [], Err, length, map, IfOk, IfSome};
+ghost use Rattle.id_groups.specs.Name.{Name as NameBytes};
+ghost use Rattle.outside.specs.Counts.{Rose};
+ghost use Rattle.commit_graph.specs.World.{World};
+ghost use Rattle.disk_trait.specs.Calls.{Goes};
+ghost use Rattle.gated_log.specs.Load.{IsSureOf};
+ghost use Rattle.batch_codec.specs.Payload.{Payload};
+ghost use Rattle.change_rules.specs.Standard.{AreLimits};
+ghost use Rattle.change_rules.specs.Change.{text_of};
+ghost use Rattle.change_rules.specs.Holding.{HoldAs};
+ghost use Rattle.gated_log.specs.Load.{WithinCalls};
+ghost use Rattle.step_rules.specs.State.{Stored, with_pending_rows};
+ghost use Rattle.step_rules.specs.Verb.{Discard, Levels, Status};
+ghost use Rattle.step_rules.specs.Reply.{Discarded, LevelSizes, Sizes};
+ghost use Rattle.step_rules.specs.Lone.{LoneStep};
+ghost use Rattle.dag_store.specs.Stands.{Stands};
+ghost use Rattle.dag_store.specs.Steps.{ChangesOnly};
+ghost use Rattle.dag_store.specs.Loading.{LoadAnswers, Opens, KeepsHolding, IsLoadedStore};
+
+use crate::loading::{new_sessions, read_tables};
+use crate::replies::{Counts, LoadFault};
+use crate::session::Session;
+use disk_trait::Disk;
+use flush_rebuild::{Limits, PendingRows, Tables};
+use gated_log::Log;
+use high_segments::LevelCounts;
+use std::alloc::Global;
+use std::marker::Model;
+
+/// A log, its tables, and sixteen sessions on it. Contracts see the log, what is kept of each session, and the limits.
+#[derive(Drop)]
+pub struct Store {
+    pub(crate) alloc: Global,
+    pub(crate) log: Log,
+    pub(crate) tables: Tables,
+    pub(crate) sessions: Vec<Session>,
+    pub(crate) limits: Limits,
+}
+
+impl Model for Store {
+    ghost use Rattle.dag_store.specs.Kept.{PlainStore, IsKept};
+
+    ghost Value = { PlainStore };
+
+    ghost view = { λ s. record { log = s.log; sessions = s.sessions.items; limits = s.limits } };
+
+    ghost invariant = { λ s. IsKept s.log s.tables s.sessions.items s.limits };
+}
+
+impl Store {
+    /// The store of a log: sixteen sessions on its newest world. While it is loaded, a crash leaves what holds that world.
+    pub fn load<D: Disk>(
+        alloc: Global,
+        disk: &mut D,
+        limits: Limits,
+    ) -> Result<Store, LoadFault>
+        requires { AreLimits limits }
+        ensures limits { IfOk result (λ store. store.limits ≡ limits) }
+        ensures answers { IfSome (D.bytes disk.old) (λ bytes. LoadAnswers limits bytes result) }
+        ensures opens { (payloads : List Payload) (w : World NameBytes) → IfSome (D.bytes disk.old) (λ bytes. HoldAs limits.log bytes payloads w → Opens limits payloads w result) }
+        ensures images { (w : World NameBytes) → Goes (KeepsHolding limits.log w) (D.told disk.old) (D.told disk.new) }
+        ensures sure { ((fault : _) → result ≡ Err (LoadFault.Disk fault) → ⊥)
+            → (payloads : List (List ℕ)) → Goes (IsSureOf limits.log payloads) (D.told disk.old) (D.told disk.new) }
+        ensures done { IfOk result (λ store. Goes (IsLoadedStore store) (D.told disk.old) (D.told disk.new)) }
+        ensures calls { Goes (WithinCalls 4) (D.told disk.old) (D.told disk.new) }
+        ensures later { D.faults disk.old ≤ D.faults disk.new }
+        ensures cause { (fault : _) → result ≡ Err (LoadFault.Disk fault) → Rose (D.faults disk.old) (D.faults disk.new) }
+    {
+        let log = Log::load(alloc, disk, limits.log)?;
+        let tables = read_tables(alloc, &log)?;
+        let sessions = new_sessions(alloc, &log, &tables)?;
+        Ok(Store {
+            alloc,
+            log,
+            tables,
+            sessions,
+            limits,
+        })
+    }
+
+    /// How many bytes the log may have.
+    pub fn log_limit(&self) -> u64
+        ensures limits { result ≡ self.now.limits.log }
+        ensures log { result ≡ self.now.log.limit }
+    {
+        self.limits.log
+    }
+
+    /// The sizes of what a session works on.
+    pub fn status(&self, s: u8) -> Counts
+        requires { s < 16 }
+        ensures { (began : ℕ) (st : Stored) → Stands began self.now st
+            → LoneStep self.now.limits st s Status (Sizes result.master result.others result.pending) st }
+    {
+        let session = &self.sessions[usize::from(s)];
+        Counts {
+            master: session.below,
+            others: u64::from(session.others.count()),
+            pending: u64::from(session.pending.len()),
+        }
+    }
+
+    /// How many segments the stored master has, level by level.
+    pub fn levels(&self) -> LevelCounts
+        ensures { (began s : ℕ) (st : Stored) → Stands began self.now st → LoneStep self.now.limits st s Levels (LevelSizes result) st }
+    {
+        self.tables.levels().counts()
+    }
+
+    /// Lets the pending rows of a session go, and answers how many they were.
+    pub fn discard(&mut self, s: u8) -> u32
+        requires { s < 16 }
+        ensures step { (began : ℕ) (st : Stored) → Stands began self.old st
+            → LoneStep self.old.limits st s Discard (Discarded result) (with_pending_rows st s []) × Stands began self.new (with_pending_rows st s []) }
+        ensures alone { ChangesOnly s self.old self.new }
+    {
+        let alloc = self.alloc;
+        let session = &mut self.sessions[usize::from(s)];
+        let count = session.pending.len();
+        session.pending = PendingRows::empty(alloc, session.pending.first());
+        count
+    }
+}
