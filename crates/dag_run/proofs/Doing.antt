@@ -1,5 +1,5 @@
 -- What executing a command does.
-use Rattle.std.proofs.Common.{◌≡◌, ◌<◌, ◌≤◌, ◌⊎◌, inl, inr, ℕ, Bool, true, false, not, List, [], ◌∷◌, ◌++◌, length, Option, Some, None, Ok, Err, IfOk, refl, sym, ap, subst, ◌∙◌, ⊎_elim, arith}
+use Rattle.std.proofs.Common.{◌≡◌, ◌<◌, ◌≤◌, ◌⊎◌, inl, inr, ℕ, Bool, true, false, not, List, [], ◌∷◌, ◌++◌, length, Option, Some, None, Ok, Err, IfOk, IfErr, refl, sym, ap, subst, ◌∙◌, ⊎_elim, arith}
 use Rattle.std.specs.Prelude.{◌&&◌}
 use Rattle.std.specs.declared.result.Result.{Result}
 use Rattle.std.proofs.lemmas.Bool.{ltb-true, lt-ltb}
@@ -15,7 +15,8 @@ use Rattle.change_rules.specs.declared.Limits.{Limits}
 use Rattle.step_rules.specs.declared.Refusal.{Refusal}
 use Rattle.step_rules.specs.State.{Stored}
 use Rattle.step_rules.specs.Verb.{Verb}
-use Rattle.step_rules.specs.Reply.{Reply, reply_text}
+use Rattle.step_rules.specs.Reply.{Reply, Refused, reply_text}
+use Rattle.run_rules.specs.Grammar.{SpellsCommand}
 use Rattle.dag_store.specs.Kept.{PlainStore}
 use Rattle.dag_store.specs.Stands.{Stands}
 use Rattle.dag_store.specs.Flushes.{HasRoom, HasStored, CutShort}
@@ -23,20 +24,80 @@ use Rattle.dag_run.specs.Alone.{CommandAlone, StepAlone}
 use Rattle.dag_run.specs.Lines.{Changes, HasChanged, PutsFault, PutsReply, IsLimited, Replies, IsPassed, CommandReplies, LineReplies, LineLeaves, StoresOn}
 use Rattle.dag_run.specs.declared.stops.Stop.{Stop}
 use Rattle.dag_run.specs.declared.stops.Stop.TheVariants as stops
-use Rattle.dag_run.proofs.Solo.{command-step}
+use Rattle.dag_run.proofs.Solo.{lone-alone, command-step}
+use Rattle.outside.specs.Told.{WhereTold}
+use Rattle.outside.proofs.ToldLemmas.{WhereTold-map}
+use Rattle.disk_trait.specs.Calls.{Goes}
+use Rattle.disk_trait.proofs.Telling.{goes-map, goes-same}
+use Rattle.step_rules.specs.declared.Refusal.TheVariants as why
+use Rattle.step_rules.specs.Plain.{IsInside}
+use Rattle.step_rules.specs.Step.{MayWantMemory}
+use Rattle.std.specs.Prelude.{OnOk, OnErr}
+use Rattle.id_groups.specs.Name.{same_name}
+use Rattle.set_expr.specs.Expr.{Expr}
+use Rattle.span_set.specs.Members.{ids_of}
+use Rattle.set_query.specs.declared.evaluation.Answer.{Answer}
+use Rattle.change_rules.specs.Rebase.{left_of}
+use Rattle.step_rules.specs.State.{pending_of, on_newest}
+use Rattle.step_rules.specs.Worlds.{with_added}
+use Rattle.step_rules.specs.Verb.{Add, Reload, IdOf, Count}
+use Rattle.step_rules.specs.Reply.{Added as IsAdded, Old as IsOld, Reloaded, Identified, Counted}
+use Rattle.dag_store.specs.declared.replies.Added.{Added}
+use Rattle.dag_store.specs.declared.replies.Added.TheVariants as adds
+use Rattle.dag_store.specs.Steps.{AddStep, ReloadStep, IdStep, CountStep, ChangesOnly}
+use Rattle.dag_run.specs.Replies.{reply_of_add, reply_of_reload, reply_of_id, reply_of_count}
+use Rattle.dag_store.specs.declared.replies.Counts.{Counts}
+use Rattle.dag_store.specs.declared.replies.Flushed.TheVariants as flushes
+use Rattle.dag_store.specs.Flushes.{Stores, StoresBy, FlushLeaves, LeavesStore, flush_end, change_of}
 
 -- ---- the disk
 module _ (kept store : PlainStore) (payload : List ℕ) where
   -- nothing was called
-  pub still-leaves : (r : Result PlainStore Stop) (a : Told) → IfOk r (λ next. next ≡ store) → ((stop : Stop) → r ≡ Err stop → stop ≡ stops.Sink) → HasRoom kept.log store.log → LineLeaves kept payload None r a a
+  still-leaves : (r : Result PlainStore Stop) (a : Told) → IfOk r (λ next. next ≡ store) → IfErr r (λ stop. stop ≡ stops.Sink) → HasRoom kept.log store.log → LineLeaves kept payload None r a a
   still-leaves (Ok next) a same stop room = (refl, subst (λ (n : PlainStore). HasRoom kept.log n.log) (sym same) room)
-  still-leaves (Err s) a same stop room = subst (λ t. LineLeaves kept payload None (Err t) a a) (sym (stop s refl)) refl
+  still-leaves (Err s) a same stop room = subst (λ t. LineLeaves kept payload None (Err t) a a) (sym stop) refl
+
+  pub still-goes : (r : Result PlainStore Stop) (d : Option Told) → IfOk r (λ next. next ≡ store) → IfErr r (λ stop. stop ≡ stops.Sink) → HasRoom kept.log store.log → Goes (LineLeaves kept payload None r) d d
+  still-goes r d same stop room = goes-same (LineLeaves kept payload None r) d (λ t. still-leaves r t same stop room)
 
   -- a change was stored
-  pub stored-leaves : (r : Result PlainStore Stop) (clock : ℕ) (a b : Told) → IfOk r (λ next. next ≡ store) → ((stop : Stop) → r ≡ Err stop → stop ≡ stops.Sink) → IsLimited kept → HasStored kept payload store clock a b
+  stored-leaves : (r : Result PlainStore Stop) (clock : ℕ) (a b : Told) → IfOk r (λ next. next ≡ store) → IfErr r (λ stop. stop ≡ stops.Sink) → IsLimited kept → HasStored kept payload store clock a b
       → LineLeaves kept payload (Some clock) r a b
   stored-leaves (Ok next) clock a b same stop limited has = (limited, subst (λ n. HasStored kept payload n clock a b) (sym same) has)
-  stored-leaves (Err s) clock a b same stop limited has = subst (λ t. LineLeaves kept payload (Some clock) (Err t) a b) (sym (stop s refl)) (limited, store, has)
+  stored-leaves (Err s) clock a b same stop limited has = subst (λ t. LineLeaves kept payload (Some clock) (Err t) a b) (sym stop) (limited, store, has)
+
+  flush-leaves : (r : Result PlainStore Stop) (s : ℕ) (counts : Counts) (clock : Option ℕ) (a b : Told) → IfOk r (λ next. next ≡ store) → IfErr r (λ stop. stop ≡ stops.Sink) → IsLimited kept
+      → LeavesStore kept s (flushes.Done store counts clock) → FlushLeaves kept payload (flushes.Done store counts clock) a b → LineLeaves kept payload clock r a b
+  flush-leaves r s counts None a b same stop limited left h = subst (λ t. LineLeaves kept payload None r a t) (sym h) (still-leaves r a same stop left.1)
+  flush-leaves r s counts (Some clock) a b same stop limited left h = stored-leaves r clock a b same stop limited h
+
+  pub flush-goes : (r : Result PlainStore Stop) (s : ℕ) (counts : Counts) (clock : Option ℕ) (d e : Option Told) → IfOk r (λ next. next ≡ store) → IfErr r (λ stop. stop ≡ stops.Sink) → IsLimited kept
+      → LeavesStore kept s (flushes.Done store counts clock) → Goes (FlushLeaves kept payload (flushes.Done store counts clock)) d e → Goes (LineLeaves kept payload clock r) d e
+  flush-goes r s counts clock d e same stop limited left h =
+      goes-map (FlushLeaves kept payload (flushes.Done store counts clock)) (LineLeaves kept payload clock r) d e (λ a b f. flush-leaves r s counts clock a b same stop limited left f) h
+
+pub refused-goes : (kept store : PlainStore) (payload : List ℕ) (r : Result PlainStore Stop) (refusal : Refusal) (d e : Option Told) → IfOk r (λ next. next ≡ store) → IfErr r (λ stop. stop ≡ stops.Sink) → HasRoom kept.log store.log
+    → Goes (FlushLeaves kept payload (flushes.Refused store refusal)) d e → Goes (LineLeaves kept payload None r) d e
+refused-goes kept store payload r refusal d e same stop room h =
+    goes-map (FlushLeaves kept payload (flushes.Refused store refusal)) (LineLeaves kept payload None r) d e (λ a b f. subst (λ t. LineLeaves kept payload None r a t) (sym f) (still-leaves kept store payload r a same stop room)) h
+
+pub short-goes : (kept : PlainStore) (payload : List ℕ) (clock : Option ℕ) (fault : DiskFault) (d e : Option Told) → IsLimited kept → Goes (FlushLeaves kept payload (flushes.Disk fault)) d e → Goes (LineLeaves kept payload clock (Err stops.NotStored)) d e
+short-goes kept payload None fault d e limited h = goes-map (FlushLeaves kept payload (flushes.Disk fault)) (LineLeaves kept payload None (Err stops.NotStored)) d e (λ a b f. (limited, f)) h
+short-goes kept payload (Some clock) fault d e limited h = goes-map (FlushLeaves kept payload (flushes.Disk fault)) (LineLeaves kept payload (Some clock) (Err stops.NotStored)) d e (λ a b f. (limited, f)) h
+
+pub limit-of : (kept : PlainStore) (limit : ℕ) → limit ≡ kept.limits.log → limit ≡ kept.log.limit → IsLimited kept
+limit-of kept limit e f = sym f ∙ e
+
+-- ---- what a flush changes
+pub change-of : (st : Stored) (s : ℕ) (heads : List Name) (payload : List ℕ) → StoresBy st s heads payload → HasChanged st (flush_end st s heads) payload
+change-of st s heads payload h = record { change = change_of st s heads; past = h.past; payloads = h.payloads; text = h.text }
+
+pub flush-changes : (clock : Option ℕ) (st : Stored) (s : ℕ) (heads : List Name) (payload : List ℕ) → Stores clock st s heads payload → Changes clock st (flush_end st s heads) payload
+flush-changes None st s heads payload h = h
+flush-changes (Some clock) st s heads payload h = change-of st s heads payload h
+
+pub memory-alone : (limits : Limits) (st : Stored) (s : ℕ) (verb : Verb) → IsInside verb → MayWantMemory verb → CommandAlone limits st s verb (Refused why.Memory) st
+memory-alone limits st s verb i may = lone-alone limits st s verb (Refused why.Memory) st i (inr (may, (refl, refl)))
 
 -- ---- the sink
 pub told-replies : (SinkFailed : Type 0) (began : ℕ) (st : Stored) (Does : Reply → Stored → Type 0) (payload : List ℕ) (clock : Option ℕ) (r : Result PlainStore Stop) (reply : Reply) (next : Stored) (store : PlainStore) (before now : List ℕ)
@@ -50,6 +111,16 @@ told-replies SinkFailed began st Does payload clock (Err stops.NotLoaded) reply 
 told-replies SinkFailed began st Does payload clock (Err stops.NotStored) reply next store before now put does changed stands = absurd put
 told-replies SinkFailed began st Does payload clock (Err stops.Source) reply next store before now put does changed stands = absurd put
 told-replies SinkFailed began st Does payload clock (Err stops.Limit) reply next store before now put does changed stands = absurd put
+
+-- the reply of a command
+pub command-told : (SinkFailed : Type 0) (kept store : PlainStore) (s : ℕ) (verb : Verb) (payload : List ℕ) (clock : Option ℕ) (r : Result PlainStore Stop) (reply : Reply) (o p : Option (List ℕ))
+    → ((began : ℕ) (st : Stored) → Stands began kept st → (next : Stored) × CommandAlone kept.limits st s verb reply next × Changes clock st next payload × Stands began store next)
+    → WhereTold o p (PutsReply store reply r) → WhereTold o p (CommandReplies SinkFailed kept s verb payload clock r)
+command-told SinkFailed kept store s verb payload clock r reply o p does h =
+    WhereTold-map o p (PutsReply store reply r) (CommandReplies SinkFailed kept s verb payload clock r)
+    (λ before now put began st stands.
+    let d = does began st stands in
+    told-replies SinkFailed began st (CommandAlone kept.limits st s verb) payload clock r reply d.0 store before now put d.1 d.2 d.3) h
 
 -- replies of a command are those of its line
 pub replies-map : (SinkFailed : Type 0) (began : ℕ) (st : Stored) (Does Makes : Reply → Stored → Type 0) (payload : List ℕ) (clock : Option ℕ) (r : Result PlainStore Stop) (before now : List ℕ)
@@ -95,3 +166,79 @@ room-on-disk old new a same h = subst (λ l. IsOnDisk l a) (sym same) h'
 pub ready-line : (kept next : PlainStore) (payload : List ℕ) (clock : Option ℕ) (a b : Told) → LineLeaves kept payload clock (Ok next) a b → IsOnDisk kept.log a → IsOnDisk next.log b
 ready-line kept next payload None a b h on = subst (λ t. IsOnDisk next.log t) (sym h.0) (room-on-disk kept.log next.log a h.1 on)
 ready-line kept next payload (Some clock) a b h on = h.1.on_disk
+
+-- ---- what each command does
+-- the reply comes with a state that the store stands for afterwards
+abbrev pub DoesSo : PlainStore → PlainStore → ℕ → Verb → Reply → Type 0
+DoesSo old new s verb reply =
+    (began : ℕ) (st : Stored) → Stands began old st → (next : Stored) × CommandAlone old.limits st s verb reply next × Changes None st next [] × Stands began new next
+
+pub add-does : (old new : PlainStore) (s : ℕ) (name : Name) (parents : List Name) (answer : Result Added Refusal) (reply : Reply) → reply ≡ reply_of_add answer
+    → ((began : ℕ) (st : Stored) → Stands began old st → AddStep began old st s name parents answer new) → DoesSo old new s (Add name parents) reply
+add-does old new s name parents (Ok (adds.New id)) reply e step began st h =
+    let f = step began st h in
+    (with_added st s name parents, subst (λ r. CommandAlone old.limits st s (Add name parents) r (with_added st s name parents)) (sym e) (lone-alone old.limits st s (Add name parents) (IsAdded id) (with_added st s name parents) tt f.0), (refl, refl), f.1)
+add-does old new s name parents (Ok (adds.Old id)) reply e step began st h =
+    let f = step began st h in
+    (st, subst (λ r. CommandAlone old.limits st s (Add name parents) r st) (sym e) (lone-alone old.limits st s (Add name parents) (IsOld id) st tt f.0), (refl, refl), subst (λ n. Stands began n st) (sym f.1) h)
+add-does old new s name parents (Err refusal) reply e step began st h =
+    let f = step began st h in
+    (st, subst (λ r. CommandAlone old.limits st s (Add name parents) r st) (sym e) (lone-alone old.limits st s (Add name parents) (Refused refusal) st tt f.0), (refl, refl), subst (λ n. Stands began n st) (sym f.1) h)
+
+pub reload-does : (old new : PlainStore) (s : ℕ) (answer : Result ℕ Refusal) (reply : Reply) → reply ≡ reply_of_reload answer
+    → ((began : ℕ) (st : Stored) → Stands began old st → ReloadStep began old st s answer new) → DoesSo old new s Reload reply
+reload-does old new s (Ok left) reply e step began st h =
+    let f = step began st h in
+    let next = on_newest st s (left_of same_name st.stored (pending_of st s)) in
+    (next, subst (λ r. CommandAlone old.limits st s Reload r next) (sym e) (lone-alone old.limits st s Reload (Reloaded left) next tt f.0), (refl, refl), f.1)
+reload-does old new s (Err refusal) reply e step began st h =
+    let f = step began st h in
+    (st, subst (λ r. CommandAlone old.limits st s Reload r st) (sym e) (lone-alone old.limits st s Reload (Refused refusal) st tt f.0), (refl, refl), subst (λ n. Stands began n st) (sym f.1) h)
+
+pub id-does : (old : PlainStore) (s : ℕ) (name : Name) (answer : Result ℕ Refusal) (reply : Reply) → reply ≡ reply_of_id answer
+    → ((began : ℕ) (st : Stored) → Stands began old st → IdStep old st s name answer) → DoesSo old old s (IdOf name) reply
+id-does old s name (Ok id) reply e step began st h =
+    (st, subst (λ r. CommandAlone old.limits st s (IdOf name) r st) (sym e) (lone-alone old.limits st s (IdOf name) (Identified id) st tt (step began st h)), (refl, refl), h)
+id-does old s name (Err refusal) reply e step began st h =
+    (st, subst (λ r. CommandAlone old.limits st s (IdOf name) r st) (sym e) (lone-alone old.limits st s (IdOf name) (Refused refusal) st tt (step began st h)), (refl, refl), h)
+
+pub count-does : (old : PlainStore) (s : ℕ) (e : Expr Name) (answer : Result Answer Refusal) (reply : Reply) → reply ≡ reply_of_count answer
+    → ((began : ℕ) (st : Stored) → Stands began old st → CountStep old st s e answer) → DoesSo old old s (Count e) reply
+count-does old s x (Ok answer) reply e step began st h =
+    let f = step began st h in
+    (st, subst (λ r. CommandAlone old.limits st s (Count x) r st) (sym e) (lone-alone old.limits st s (Count x) (Counted (length (ids_of answer.set))) st tt f.1), (refl, refl), h)
+count-does old s x (Err refusal) reply e step began st h =
+    (st, subst (λ r. CommandAlone old.limits st s (Count x) r st) (sym e) (lone-alone old.limits st s (Count x) (Refused refusal) st tt (step began st h)), (refl, refl), h)
+
+-- where the session alone changes, or nothing, the log stays
+pub room-same : (old new : PlainStore) → new.log ≡ old.log → HasRoom old.log new.log
+room-same old new e = subst (λ l. HasRoom old.log l) (sym e) refl
+
+pub room-on : {T : Type 0} (old new : PlainStore) (s : ℕ) (answer : Result T Refusal) → OnOk answer (ChangesOnly s old new) → OnErr answer (new ≡ old) → HasRoom old.log new.log
+room-on old new s (Ok x) done refused = room-same old new (ap (λ (n : PlainStore). n.log) done.1)
+room-on old new s (Err x) done refused = room-same old new (ap (λ (n : PlainStore). n.log) refused)
+
+-- a command that calls no disk
+pub quiet-command : (SinkFailed : Type 0) (old new : PlainStore) (s : ℕ) (verb asked : Verb) (r : Result PlainStore Stop) (reply : Reply) (d : Option Told) (o p : Option (List ℕ)) → asked ≡ verb
+    → IfOk r (λ next. next ≡ new) → IfErr r (λ stop. stop ≡ stops.Sink) → HasRoom old.log new.log → DoesSo old new s verb reply → WhereTold o p (PutsReply new reply r)
+    → Goes (LineLeaves old [] None r) d d × WhereTold o p (CommandReplies SinkFailed old s asked [] None r)
+quiet-command SinkFailed old new s verb asked r reply d o p e same stop room does put = (
+  still-goes old new [] r d same stop room,
+  subst (λ v. WhereTold o p (CommandReplies SinkFailed old s v [] None r)) (sym e) (command-told SinkFailed old new s verb [] None r reply o p does put),
+)
+
+-- ---- what each line does
+pub line-of-command : (SinkFailed : Type 0) (kept : PlainStore) (s : ℕ) (verb : Verb) (line payload : List ℕ) (clock : Option ℕ) (r : Result PlainStore Stop) (before now : List ℕ) → SpellsCommand line s verb → is_too_long line ≡ false → is_silent line ≡ false
+    → CommandReplies SinkFailed kept s verb payload clock r before now → LineReplies SinkFailed kept line payload clock r before now
+line-of-command SinkFailed kept s verb line payload clock r before now spells short silent h began st stands =
+    inr (silent, replies-map SinkFailed began st (CommandAlone kept.limits st s verb) (StepAlone kept.limits st line) payload clock r before now
+    (λ reply next. command-step kept.limits st line s verb reply next spells short) (h began st stands))
+
+-- a line that changes nothing
+pub line-told : (SinkFailed : Type 0) (kept : PlainStore) (line : List ℕ) (r : Result PlainStore Stop) (reply : Reply) (before now : List ℕ) → is_silent line ≡ false → ((st : Stored) → StepAlone kept.limits st line reply st)
+    → PutsReply kept reply r before now → LineReplies SinkFailed kept line [] None r before now
+line-told SinkFailed kept line r reply before now silent step put began st stands =
+    inr (silent, told-replies SinkFailed began st (StepAlone kept.limits st line) [] None r reply st kept before now put (step st) (refl, refl) stands)
+
+pub line-passed : (SinkFailed : Type 0) (kept : PlainStore) (line before : List ℕ) → is_silent line ≡ true → LineReplies SinkFailed kept line [] None (Ok kept) before before
+line-passed SinkFailed kept line before silent began st stands = inl (silent, refl, stands, refl)

@@ -160,7 +160,7 @@ module _ (limits : Limits) (fair : AreLimits limits) (w : World Name) (payloads 
       -- the sink failed in the reply
       cut : (is_silent line.0 ≡ false) × Replies SinkFailed (length payloads) h.last (StepAlone store.limits h.last line.0) payload clock (Err stops.Sink) mid.taken after.taken
           → StoresOn store payload clock mid.disk after.disk → RunMeans limits w payloads room SinkFailed (Err stops.Sink) (changes_with changes clock) before after
-      cut (silent, reply, st, step, changed, count, put) leaves =
+      cut (silent, (reply, st, step, changed, (count, put))) leaves =
           let stays = stays-line limits fair w payloads room before begins store changes payload clock h.lines (h.lines ++ line.0 ∷ []) h.replies (h.replies ++ reply ∷ []) h.last st mid.disk after.disk same h.run (run reply st silent step) h.stands h.stays changed leaves in
           record {
             lines = h.lines ++ line.0 ∷ [];
@@ -181,7 +181,7 @@ module _ (limits : Limits) (fair : AreLimits limits) (w : World Name) (payloads 
       -- the disk failed in its change
       failed : (is_silent line.0 ≡ false) × Replies SinkFailed (length payloads) h.last (StepAlone store.limits h.last line.0) payload clock (Err stops.NotStored) mid.taken after.taken
           → IsLimited store × CutShort store payload mid.disk after.disk → RunMeans limits w payloads room SinkFailed (Err stops.NotStored) (changes_with changes clock) before after
-      failed (silent, reply, st, step, changed, none, put) (limited, short) =
+      failed (silent, (reply, st, step, changed, none, put)) (limited, short) =
           let before-it = prefixes limits fair w payloads room before begins h.lines h.replies h.last h.run in
           let after-it = prefixes limits fair w payloads room before begins (h.lines ++ line.0 ∷ []) (h.replies ++ reply ∷ []) st (run reply st silent step) in
           subst (λ c. RunMeans limits w payloads room SinkFailed (Err stops.NotStored) (changes_with changes c) before after) (sym none) (record {

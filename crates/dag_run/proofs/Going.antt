@@ -113,7 +113,7 @@ module _ (limits : Limits) (fair : AreLimits limits) (w : World Name) (payloads 
       }
 
       replied : (is_silent line.0 ≡ false) × Replies SinkFailed (length payloads) h.last (StepAlone store.limits h.last line.0) payload clock (Ok next) mid.taken after.taken → Going limits w payloads room next (changes_with changes clock) new before after
-      replied (silent, reply, st, step, changed, stands, put) = record {
+      replied (silent, (reply, st, step, changed, stands, put)) = record {
         lines = h.lines ++ line.0 ∷ [];
         reads = read-on;
         replies = h.replies ++ reply ∷ [];

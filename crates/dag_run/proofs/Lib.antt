@@ -6,4 +6,3 @@ pub mod Staying
 pub mod Going
 pub mod Ending
 pub mod Doing
-pub mod Statuses

@@ -21,7 +21,7 @@ use Rattle.run_rules.specs.Stopped.{Stopped, ArePrefixes}
 use Rattle.run_rules.specs.Means.{last_of, loaded_at}
 use Rattle.run_rules.proofs.Nothing.{take-all}
 use Rattle.run_rules.proofs.Starts.{same-texts}
-use Rattle.run_rules.proofs.GoesOn.{goes-on, cut-short}
+use Rattle.run_rules.proofs.GoesOn.{goes-on, goes-on-sure, cut-short, cut-short-sure}
 use Rattle.dag_store.specs.Kept.{PlainStore}
 use Rattle.dag_store.specs.Flushes.{HasStored, CutShort}
 use Rattle.dag_store.specs.Loading.{IsLoadedStore}
@@ -121,7 +121,6 @@ module _ (limits : Limits) (w : World Name) (payloads : List Payload) (changes :
 
   -- it was stored
   pub stays-stored : (store : PlainStore) (clock : ℕ) → HasStored kept payload store clock a b → Stays limits w payloads (changes ++ clock ∷ []) next old b
-  unfolding goes-on
   stays-stored store clock s =
       let calls = s.calls in
       let now = s.now in
@@ -134,7 +133,8 @@ module _ (limits : Limits) (w : World Name) (payloads : List Payload) (changes :
         stored = length-append changes (moment_of b ∷ []) ∙ ap (λ n. n + 1) h.stored ∙ sym (ap length changed.past ∙ length-append last.past (last.stored ∷ []));
         stopped = goes-on limits.log w payloads changes last next changed.change kept.log old a b h.stopped h.stored sure-by (let le = h.begun in omega (arith, le)) before after changed.past changed.payloads bound texts
             (subst (λ t. KeepsOldOrNew kept.log t a b) changed.text s.since) more has;
-        sure = h.sure;
+        sure = goes-on-sure limits.log w payloads changes last next changed.change kept.log old a b h.stopped h.stored sure-by (let le = h.begun in omega (arith, le)) before after changed.past changed.payloads bound texts
+            (subst (λ t. KeepsOldOrNew kept.log t a b) changed.text s.since) more has ∙ h.sure;
         calls = sym (last-push (loaded_at old) changes (moment_of b));
         begun = (let le = h.begun in omega (arith, le, more));
         has = has;
@@ -146,8 +146,12 @@ module _ (limits : Limits) (w : World Name) (payloads : List Payload) (changes :
       (subst (λ t. KeepsOldOrNew kept.log t a b) changed.text s.since) s.since.later
 
   pub short-sure : (s : CutShort kept payload a b) → (stopped-short s).sure ≤ moment_of old + 2
-  unfolding stopped-short cut-short
-  short-sure s = let e = h.sure in omega (arith, e)
+  unfolding stopped-short
+  short-sure s =
+      let e = h.sure in
+      let same = cut-short-sure limits.log w payloads changes last next changed.change kept.log old a b h.stopped h.stored sure-by (let le = h.begun in omega (arith, le)) before after changed.past changed.payloads bound texts
+      (subst (λ t. KeepsOldOrNew kept.log t a b) changed.text s.since) s.since.later in
+      omega (arith, same, e)
 
 -- nothing was stored
 pub stays-same : (limits : Limits) (w : World Name) (payloads : List Payload) (changes : List ℕ) (last next : Stored) (old new : Told) → next.past ≡ last.past → next.payloads ≡ last.payloads

@@ -7,9 +7,12 @@ use Rattle.step_rules.specs.Reply.{Reply, Added as IsAdded, Old as IsOld, Reload
 use Rattle.dag_store.specs.declared.replies.Added.{Added}
 use Rattle.dag_store.specs.declared.replies.Added.TheVariants.{New, Old}
 
+abbrev pub reply_of_added : Added → Reply
+reply_of_added (New id) = IsAdded id
+reply_of_added (Old id) = IsOld id
+
 abbrev pub reply_of_add : Result Added Refusal → Reply
-reply_of_add (Ok (New id)) = IsAdded id
-reply_of_add (Ok (Old id)) = IsOld id
+reply_of_add (Ok added) = reply_of_added added
 reply_of_add (Err refusal) = Refused refusal
 
 abbrev pub reply_of_reload : Result ℕ Refusal → Reply

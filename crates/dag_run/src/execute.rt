@@ -8,7 +8,7 @@ ghost use Rattle.gated_log.specs.Holding.{IsOnDisk};
 ghost use Rattle.line_io.specs.Next.{IsLine};
 ghost use Rattle.line_io.specs.Lines.{is_empty_or_comment};
 ghost use Rattle.step_rules.specs.Verb.{Flush as ToFlush};
-ghost use Rattle.command_lines.specs.Meant.{meant};
+ghost use Rattle.command_lines.specs.Meant.{meant, HasFewParents};
 ghost use Rattle.dag_run.specs.Stops.{IsLineStop};
 ghost use Rattle.dag_run.specs.Lines.{changes_with, CommandReplies, LineReplies, LineLeaves};
 
@@ -91,6 +91,7 @@ fn execute_command<D: Disk, O: Sink>(
     output: &mut O,
 ) -> Result<Store, Stop>
     requires session { command.now.session < 16 }
+    requires few { HasFewParents (meant command.now.verb) }
     requires begins { IfSome (D.told log.old) (IsOnDisk store.log) }
     ensures step { (payload : List ℕ) × (clock : Option ℕ) × (changes.new.items ≡ changes_with changes.old.items clock)
         × Goes (LineLeaves store payload clock result) (D.told log.old) (D.told log.new)

@@ -3,9 +3,9 @@
 ghost use Rattle.std.specs.Prelude.{◌≡◌, ◌≤◌, IfErr, IfOk};
 ghost use Rattle.outside.specs.Counts.{HasCause, Rose};
 ghost use Rattle.outside.specs.Told.{WhereTold};
-ghost use Rattle.command_lines.specs.Meant.{told};
+ghost use Rattle.command_lines.specs.Told.{told};
 ghost use Rattle.dag_run.specs.Lines.{PutsReply, PutsFault};
-ghost use Rattle.dag_run.specs.Replies.{reply_of_add, reply_of_reload, reply_of_id, reply_of_count};
+ghost use Rattle.dag_run.specs.Replies.{reply_of_add, reply_of_added, reply_of_reload, reply_of_id, reply_of_count};
 
 use crate::stops::Stop;
 use command_lines::{Reply, put_disk_fault, put_reply};
@@ -13,13 +13,22 @@ use dag_store::{Added, Answer, Refusal, Store};
 use id_groups::Id;
 use line_io::Sink;
 
+/// What an add that was done is told.
+fn reply_of_added(added: Added) -> Reply
+    ensures { told result ≡ reply_of_added added }
+{
+    match added {
+        Added::New(id) => Reply::Added(id),
+        Added::Old(id) => Reply::Old(id),
+    }
+}
+
 /// What an add is told.
 pub(crate) fn reply_of_add(answer: Result<Added, Refusal>) -> Reply
     ensures { told result ≡ reply_of_add answer }
 {
     match answer {
-        Ok(Added::New(id)) => Reply::Added(id),
-        Ok(Added::Old(id)) => Reply::Old(id),
+        Ok(added) => reply_of_added(added),
         Err(refusal) => Reply::Refused(refusal),
     }
 }

@@ -143,6 +143,10 @@ module _ (limit : ℕ) (w : World Name) (payloads : List Payload) (changes : Lis
     ended = ended-later changes (moment_of mid) (moment_of new) s.ended (omega (arith, more));
   }
 
+  pub goes-on-sure : goes-on.sure ≡ s.sure
+  unfolding goes-on
+  goes-on-sure = refl
+
 module _ (limit : ℕ) (w : World Name) (payloads : List Payload) (changes : List ℕ) (final next : Stored) (p : Payload) (log : Held) (old mid new : Told)
     (s : Stopped limit w payloads changes final old mid) (stored : length changes ≡ length final.past) (begun : s.sure ≤ moment_of mid) (later : moment_of old ≤ moment_of mid)
     (before : ArePrefixes payloads final) (after : ArePrefixes payloads next) (past : next.past ≡ final.past ++ final.stored ∷ []) (spelled : next.payloads ≡ final.payloads ++ p ∷ [])
@@ -200,3 +204,7 @@ module _ (limit : ℕ) (w : World Name) (payloads : List Payload) (changes : Lis
     ascend = s.ascend;
     ended = still-ended changes (moment_of mid) (moment_of new) s.ended more;
   }
+
+  pub cut-short-sure : cut-short.sure ≡ s.sure
+  unfolding cut-short
+  cut-short-sure = refl
