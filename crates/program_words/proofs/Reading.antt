@@ -1,12 +1,16 @@
 -- What a parse finds is what the words' matches say.
-use Rattle.std.proofs.Common.{◌≡◌, ◌∙◌, ap, sym, subst, List, Option, Some, None, Result, codes, IfOk, []}
+use Rattle.std.proofs.Common.{◌≡◌, ◌∙◌, ap, sym, subst, List, Option, Some, None, Result, codes, IfOk, inl, inr, []}
 use Rattle.std.specs.Prelude.{MatchOption, Ok, Err}
 use Rattle.std.specs.Option.{ok_or}
 use Rattle.clap.specs.Words.{Text, found_of, first_value, one_text, one_of, first_of, rows_of, matches_of, fault_of}
 use Rattle.clap.proofs.WalkLemmas.{first_value-rows, one_text-rows}
 use Rattle.clap.specs.declared.parser.matches.ArgMatches.{ArgMatches}
+use Rattle.clap.specs.Words.{app_of}
+use Rattle.clap.specs.Built.{IsParsedFrom}
+use Rattle.clap.specs.declared.builder.command.Command.{Command}
+use Rattle.program_words.proofs.Numbers.{usage-of-mode}
 use Rattle.program_words.specs.Command.{command}
-use Rattle.program_words.specs.Usage.{WritesNumber, Finds, AreMatches, IsUsage, IsRefused}
+use Rattle.program_words.specs.Usage.{WritesNumber, Finds, AreMatches, IsUsage, IsNoUsage}
 use Rattle.program_words.specs.declared.usage.Usage.{Usage}
 use Rattle.program_words.specs.declared.usage.WordsFault.{WordsFault}
 use Rattle.program_words.specs.declared.usage.WordsFault.TheVariants as fault
@@ -26,20 +30,21 @@ module _ (m : ArgMatches) (words : List Text) (rows : rows_of (found_of m) ≡ m
     start = subst (λ t. WritesNumber 0 18446744073709551615 t usage.start) (text-is (codes "start")) h.start;
   }
 
-  from-matches : (usage : Usage) → AreMatches (matches_of command words) usage → Finds m usage
-  from-matches usage h = record {
-    mode = word-is ∙ h.mode;
-    cache = subst (λ t. WritesNumber 1 65536 t usage.cache) (sym (text-is (codes "cache"))) h.cache;
-    size = subst (λ t. WritesNumber 1 60000 t usage.size) (sym (text-is (codes "size"))) h.size;
-    start = subst (λ t. WritesNumber 0 18446744073709551615 t usage.start) (sym (text-is (codes "start"))) h.start;
-  }
-
   pub accepted : (o : Option Usage) (r : Result Usage WordsFault) → r ≡ ok_or o fault.Usage
       → MatchOption o ((usage : Usage) → ¬ (Finds m usage)) (Finds m) → fault_of command words ≡ [] → IfOk r (IsUsage words)
   accepted (Some usage) r e h takes = subst (λ s. IfOk s (IsUsage words)) (sym e) (record { takes = takes; matches = to-matches usage h })
   accepted None r e h takes = subst (λ s. IfOk s (IsUsage words)) (sym e) tt
 
-  pub refused : (o : Option Usage) (r : Result Usage WordsFault) → r ≡ ok_or o fault.Usage
-      → MatchOption o ((usage : Usage) → ¬ (Finds m usage)) (Finds m) → r ≡ Err fault.Usage → IsRefused words
-  refused (Some usage) r e h bad = let both : Ok usage ≡ Err fault.Usage = sym e ∙ bad in cc
-  refused None r e h bad = λ usage is. h usage (from-matches usage is.matches)
+  pub refused : (c : Command) → IsParsedFrom c m → app_of c ≡ command → (o : Option Usage) (r : Result Usage WordsFault) → r ≡ ok_or o fault.Usage
+      → MatchOption o ((usage : Usage) → ¬ (Finds m usage)) (Finds m) → r ≡ Err fault.Usage → IsNoUsage words
+  refused c p is (Some usage) r e h bad =
+      let both : Ok usage ≡ Err fault.Usage = sym e ∙ bad in
+      cc
+  refused c p is None r e h bad = inr (λ mode given.
+      let found = usage-of-mode c m p is mode (word-is ∙ given) in
+      h found.0 found.1)
+
+-- and where the words are no usage none reads as one
+pub no-usage : (words : List Text) → IsNoUsage words → (usage : Usage) → IsUsage words usage → ⊥
+no-usage words (inl faulty) usage is = faulty is.takes
+no-usage words (inr other) usage is = other usage.mode is.matches.mode

@@ -1,16 +1,18 @@
 -- The one simple command that the words are read as.
 use Rattle.std.specs.Prelude.{pos, ◌∷◌, [], ◌^◌, ◌-◌, Some, true, codes}
 use Rattle.clap.specs.Words.{App, Rule, new_app, new_rule, with_rule}
+use Rattle.clap.specs.declared.builder.action.ArgAction.TheVariants.{Set}
 use Rattle.clap.specs.declared.builder.value_parser.ValueParser.TheVariants as parser
 
 -- a mode has to be there
 abbrev pub mode : Rule
-mode = record (new_rule (codes "MODE")) { required = true }
+mode = record (new_rule (codes "MODE")) { required = true; action = Some Set }
 
 -- `--cache N`, from 1 to 65536, and 4096 where it isn't there
 abbrev pub cache : Rule
 cache = record (new_rule (codes "cache")) {
   long = Some (codes "cache");
+  action = Some Set;
   parser = Some (parser.Signed (pos 1) (pos 65536));
   defaults = codes "4096" ∷ [];
 }
@@ -19,6 +21,7 @@ cache = record (new_rule (codes "cache")) {
 abbrev pub size : Rule
 size = record (new_rule (codes "size")) {
   long = Some (codes "size");
+  action = Some Set;
   parser = Some (parser.Signed (pos 1) (pos 60000));
   defaults = codes "1000" ∷ [];
 }
@@ -27,6 +30,7 @@ size = record (new_rule (codes "size")) {
 abbrev pub start : Rule
 start = record (new_rule (codes "start")) {
   long = Some (codes "start");
+  action = Some Set;
   parser = Some (parser.Unsigned 0 (2 ^ 64 - 1));
   defaults = codes "0" ∷ [];
 }

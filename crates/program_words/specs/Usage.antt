@@ -1,5 +1,5 @@
 -- When words are a usage, and of what.
-use Rattle.std.specs.Prelude.{◌≡◌, ◌≤◌, ◌^◌, ◌-◌, ℕ, List, [], Option, Some, None, codes}
+use Rattle.std.specs.Prelude.{◌≡◌, ◌≢◌, ◌⊎◌, ◌≤◌, ◌^◌, ◌-◌, ℕ, List, [], Option, Some, None, codes}
 use Rattle.std.specs.Str.Parse.{IsNumeral, digits_value, without_leading_plus}
 use Rattle.clap.specs.Words.{Row, Text, fault_of, matches_of, one_of, first_of, found_of, one_text, first_value}
 use Rattle.clap.specs.declared.parser.matches.ArgMatches.{ArgMatches}
@@ -41,6 +41,7 @@ pub record IsUsage (words : List Text) (usage : Usage) : Type 0 where
   pub takes : fault_of command words ≡ []
   pub matches : AreMatches (matches_of command words) usage
 
--- they are the words of no usage
-abbrev pub IsRefused : List Text → Type 0
-IsRefused words = (usage : Usage) → IsUsage words usage → ⊥
+-- the command refuses the words, or their mode isn't one of the program's
+abbrev pub IsNoUsage : List Text → Type 0
+IsNoUsage words = (fault_of command words ≢ [])
+    ⊎ ((mode : Mode) → first_of (codes "MODE") (matches_of command words) ≢ Some (mode_text mode))

@@ -4,7 +4,7 @@ ghost use Rattle.std.specs.Prelude.{◌≡◌, IfOk, false};
 ghost use Rattle.clap.specs.Words.{app_of, rule_of};
 ghost use Rattle.program_words.specs.Command.{mode, cache, size, start, command as whole};
 
-use clap::{Arg, Command};
+use clap::{Arg, ArgAction, Command};
 use std::alloc::{AllocError, Global};
 
 /// The mode, which has to be there.
@@ -12,7 +12,9 @@ fn mode_arg<'a>(alloc: Global) -> Arg<'a>
     ensures rule { rule_of result ≡ mode }
     ensures global { result.global ≡ false }
 {
-    Arg::new(alloc, "MODE").required(true)
+    Arg::new(alloc, "MODE")
+        .required(true)
+        .action(ArgAction::Set)
 }
 
 /// How many fetched names are kept.
@@ -22,6 +24,7 @@ fn cache_arg<'a>(alloc: Global) -> Arg<'a>
 {
     Arg::new(alloc, "cache")
         .long("cache")
+        .action(ArgAction::Set)
         .value_parser(clap::value_parser!(u32).range(1..=65_536))
         .default_value("4096")
 }
@@ -33,6 +36,7 @@ fn size_arg<'a>(alloc: Global) -> Arg<'a>
 {
     Arg::new(alloc, "size")
         .long("size")
+        .action(ArgAction::Set)
         .value_parser(clap::value_parser!(u32).range(1..=60_000))
         .default_value("1000")
 }
@@ -44,6 +48,7 @@ fn start_arg<'a>(alloc: Global) -> Arg<'a>
 {
     Arg::new(alloc, "start")
         .long("start")
+        .action(ArgAction::Set)
         .value_parser(clap::value_parser!(u64))
         .default_value("0")
 }

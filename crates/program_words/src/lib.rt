@@ -3,7 +3,7 @@
 //! The words of a program's mode: what they are read as, and when they are refused.
 
 ghost use Rattle.std.specs.Prelude.{◌≡◌, map, string_bytes, IfOk};
-ghost use Rattle.program_words.specs.Usage.{IsUsage, IsRefused};
+ghost use Rattle.program_words.specs.Usage.{IsUsage, IsNoUsage};
 
 mod arguments;
 mod laws;
@@ -18,7 +18,7 @@ use std::alloc::Global;
 /// Reads the words behind the `--`: a mode, and what was chosen beside it.
 pub fn read_words(alloc: Global, words: &[String]) -> Result<Usage, WordsFault>
     ensures ok { IfOk result (λ usage. IsUsage (map string_bytes words.now) usage) }
-    ensures err { result ≡ Err WordsFault.Usage → IsRefused (map string_bytes words.now) }
+    ensures err { result ≡ Err WordsFault.Usage → IsNoUsage (map string_bytes words.now) }
 {
     let Ok(command) = command(alloc) else {
         return Err(WordsFault::Memory);

@@ -20,4 +20,4 @@ returns-in-Ok-try_get_matches_from-clause-err c =
     let words = map string_bytes c.args.words.now in
     let app-is : app_of c.in-Ok.command ≡ command = c.in-Ok.ensures in
     let rows = (c.in-Ok-try_get_matches_from.ensures.matches (ap is_simple app-is)).0 ∙ ap₂ matches_of app-is refl in
-    refused c.in-Ok-try_get_matches_from.matches words rows c.usage_of.result c.ok_or.result c.ok_or.ensures.value c.usage_of.ensures
+    refused c.in-Ok-try_get_matches_from.matches words rows c.in-Ok.command c.in-Ok-try_get_matches_from.ensures.parsed app-is c.usage_of.result c.ok_or.result c.ok_or.ensures.value c.usage_of.ensures
