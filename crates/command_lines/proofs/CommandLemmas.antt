@@ -1,24 +1,25 @@
 -- What the parts of a command's text say of the whole.
-use Rattle.std.proofs.Common.{◌≡◌, ◌==◌, ◌≤◌, ◌<◌, ℕ, List, [], ◌∷◌, ◌++◌, ◌⊎◌, inl, inr, length, get_or, refl, sym, ◌∙◌, ap, subst, arith, codes, decimal, Option, Some, None, Err, Bool, true, false, nat_eq, append-nil}
-use Rattle.std.specs.Prelude.{IsTrue, if◌then◌else◌}
+use Rattle.std.proofs.Common.{◌≡◌, ◌<◌, ℕ, List, [], ◌∷◌, ◌++◌, ◌⊎◌, inl, inr, length, get_or, refl, sym, ◌∙◌, ap, subst, arith, codes, decimal, Option, Some, None, Ok, Err, true, nat_eq, append-nil}
+use Rattle.std.specs.Prelude.{IsTrue, IfOk, if◌then◌else◌}
 use Rattle.std.specs.Cmp.Lexicographic.{pointwise}
 use Rattle.std.specs.declared.result.Result.{Result}
 use Rattle.std.specs.List.{AllZip, remove}
 use Rattle.std.proofs.lemmas.Slice.Zip.{AllZip-long}
 use Rattle.outside.specs.Parts.{HasNone, split_at}
-use Rattle.id_groups.specs.Name.{Name, SpellsName}
-use Rattle.set_expr.specs.Expr.{Expr}
-use Rattle.set_expr.specs.Spelling.{SpellsExpr}
+use Rattle.id_groups.specs.Name.{Name, SpellsName, name_of}
+use Rattle.id_groups.proofs.Names.{name_of-spelled}
 use Rattle.set_expr.proofs.Marks.{part-same}
 use Rattle.step_rules.specs.Step.{MayWantMemory}
 use Rattle.step_rules.specs.Verb.{Verb, Add, Flush, Reload, Discard, Query, Count, IdOf, Status, Levels, Clone, Pull, Strip, CountMirrors, Drop}
 use Rattle.run_rules.specs.Built.{is_built}
-use Rattle.run_rules.specs.Grammar.{SpellsVerb, SpellsNames, more_words}
+use Rattle.run_rules.specs.Grammar.{SpellsCommand, SpellsVerb, SpellsNames, more_words}
+use Rattle.command_lines.specs.declared.command.Verb.{Verb as Given}
 use Rattle.command_lines.specs.declared.words.Word.{Word}
 use Rattle.command_lines.specs.declared.words.Word.TheVariants as words
+use Rattle.command_lines.specs.Meant.{meant}
 use Rattle.command_lines.specs.Parts.{word_text, verb_word, AreNames, SpellsArgs, HasWord, SpellsParts, FitsNone, MayWant}
 use Rattle.command_lines.proofs.NamesLemmas.{words-of-text, split-words}
-use Rattle.command_lines.proofs.TextLemmas.{none-in, is_clear, clear}
+use Rattle.command_lines.proofs.TextLemmas.{none-in, is_clear, clear, number-no-blank}
 
 -- the text behind a word: nothing, or a blank and what it cuts off
 abbrev pub after : Option (List ℕ) → List ℕ
@@ -178,6 +179,12 @@ of-parts text front behind verb is h =
     let s = parts-verb verb behind h.0 h.2.0 h.2.1 in
     (s.0, subst (λ t. SpellsVerb t verb) (ap (λ f. f ++ after behind) (sym h.1) ∙ sym is) s.1)
 
+-- the same of what was read
+pub ok-parts : {E : Type 0} (text front : List ℕ) (behind : Option (List ℕ)) (r : Result Given E) → text ≡ front ++ after behind
+    → IfOk r (λ verb. SpellsParts front behind (meant verb)) → IfOk r (λ verb. IsTrue (is_built (meant verb)) × SpellsVerb text (meant verb))
+ok-parts text front behind (Ok verb) is h = of-parts text front behind (meant verb) is h
+ok-parts text front behind (Err fault) is h = tt
+
 -- what fits none of a word's verbs
 pub fits-none : (front : List ℕ) (behind : Option (List ℕ)) (word : Word) → front ≡ word_text word → FitsNone word behind → (verb : Verb) → ¬ (SpellsParts front behind verb)
 fits-none front behind word is f verb h =
@@ -237,6 +244,10 @@ may-want front behind word is m verb h =
 pub no-word : (front : List ℕ) (behind : Option (List ℕ)) → ((word : Word) → ¬ (front ≡ word_text word)) → (verb : Verb) → ¬ (SpellsParts front behind verb)
 no-word front behind none verb h = none h.0 h.1
 
+-- a text that is no name fits none
+pub no-name : (args : List ℕ) (word : Word) → word ≡ words.Id → None ≡ name_of args → FitsNone word (Some args)
+no-name args word is none = subst (λ w. FitsNone w (Some args)) (sym is) (λ name h. let e = name_of-spelled args name h in cc (none ∙ e))
+
 -- the first item, and the list without it
 pub first-and-rest : {X : Type 0} (xs : List X) (d : X) → 0 < length xs → xs ≡ get_or xs 0 d ∷ remove xs 0
 first-and-rest [] d h = absurd (omega (arith, h))
@@ -252,3 +263,11 @@ too-many args names zip many name parents few h =
 -- a fault that is handed on is the same
 pub same-fault : {T E : Type 0} (r : Result T E) (x y z : E) → r ≡ Err x → x ≡ y → r ≡ Err z → y ≡ z
 same-fault r x y z is same goal = let e : x ≡ z = cc (sym is ∙ goal) in sym same ∙ e
+
+-- what stands behind the session of a line spells the verb
+pub line-text : (line : List ℕ) (session : ℕ) (text : List ℕ) (s : ℕ) (verb : Verb) → session < 16 → line ≡ decimal session ++ 32 ∷ text → SpellsCommand line s verb
+    → IsTrue (is_built verb) × SpellsVerb text verb
+line-text line session text s verb small is h =
+    let clear : (n : ℕ) → n < 16 → HasNone 32 (decimal n) = λ n below. number-no-blank n (omega (arith, below)) in
+    let same = (part-same 32 (decimal session) text (decimal s) h.0 (clear session small) (clear s h.1.0) (sym is ∙ h.3)).1 in
+    (h.1.1, subst (λ t. SpellsVerb t verb) (sym same) h.2)

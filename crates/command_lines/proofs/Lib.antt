@@ -1,3 +1,4 @@
 pub mod NamesLemmas
 pub mod TextLemmas
 pub mod CommandLemmas
+pub mod PutLemmas

@@ -1,9 +1,9 @@
 -- Prefixes, blanks and numbers of a line.
-use Rattle.std.proofs.Common.{◌≡◌, ◌≢◌, ◌==◌, ◌<◌, ◌+◌, ◌^◌, ℕ, List, [], ◌∷◌, ◌++◌, length, take, drop, refl, sym, ◌∙◌, ap, subst, arith, decimal, Some, None, true, false, nat_eq, true≢false}
+use Rattle.std.proofs.Common.{◌≡◌, ◌==◌, ◌<◌, ◌+◌, ◌^◌, ℕ, List, [], ◌∷◌, ◌++◌, take, drop, refl, sym, ◌∙◌, ap, subst, arith, decimal, Some, None, true, false, true≢false}
 use Rattle.std.specs.Prelude.{position, Bool, not, ◌&&◌}
 use Rattle.std.specs.Char.{digit_value}
 use Rattle.std.specs.Str.Parse.{AllDigits}
-use Rattle.std.proofs.lemmas.Fmt.{decimal_is_IsNumeral}
+use Rattle.std.proofs.lemmas.Fmt.{decimal_is_IsNumeral, decimal_injective}
 use Rattle.std.proofs.lemmas.Bool.{ne_eqb}
 use Rattle.outside.specs.Parts.{HasNone}
 use Rattle.outside.proofs.PartsLemmas.{position-none, position-some}
@@ -36,6 +36,23 @@ module _ (line : List ℕ) (s : ℕ) (text : List ℕ) (small : s < 16) (is : li
   number-front len at =
       let found = position-some 32 line len at in
       (part-same 32 (take len line) (drop (len + 1) line) (decimal s) text found.part (number-no-blank s (omega (arith, small))) (sym found.whole ∙ is)).0
+
+-- a line is the number before its first blank, the blank, and what stands behind
+pub session-line : (line rest : List ℕ) (len n : ℕ) → position (λ b. b == 32) line ≡ Some len → take len line ≡ decimal n → rest ≡ drop (len + 1) line → line ≡ decimal n ++ 32 ∷ rest
+session-line line rest len n at front behind =
+    (position-some 32 line len at).whole ∙ ap (λ (t : List ℕ). t ++ 32 ∷ drop (len + 1) line) front ∙ ap (λ (t : List ℕ). decimal n ++ 32 ∷ t) (sym behind)
+
+-- the number stands before the blank alone
+pub same-session : (line : List ℕ) (len s t : ℕ) (text : List ℕ) → position (λ b. b == 32) line ≡ Some len → take len line ≡ decimal s → s < 2 ^ 64
+    → t < 16 → line ≡ decimal t ++ 32 ∷ text → s ≡ t
+same-session line len s t text at front bound small is = decimal_injective s t bound (omega (arith, small)) (sym front ∙ number-front line t text small is len at)
+
+-- a text is what stands before its first blank, the blank, and what stands behind
+pub blank-split : (text front rest : List ℕ) (len : ℕ) → position (λ b. b == 32) text ≡ Some len → front ≡ take len text → rest ≡ drop (len + 1) text
+    → HasNone 32 front × (text ≡ front ++ 32 ∷ rest)
+blank-split text front rest len at before behind =
+    let found = position-some 32 text len at in
+    (subst (HasNone 32) (sym before) found.part, found.whole ∙ ap (λ (t : List ℕ). t ++ 32 ∷ drop (len + 1) text) (sym before) ∙ ap (λ (t : List ℕ). front ++ 32 ∷ t) (sym behind))
 
 -- the test of a text that is given
 abbrev pub is_clear : ℕ → List ℕ → Bool

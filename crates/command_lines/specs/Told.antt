@@ -1,5 +1,4 @@
 -- What a reply of the code tells.
-use Rattle.dag_store.specs.declared.replies.Counts.{Counts}
 use Rattle.step_rules.specs.Reply.{Reply, Added, Old, Flushed, Reloaded, Discarded, Counted, Identified, Sizes, LevelSizes, Dropped, Refused, NoCommand, LongLine}
 use Rattle.command_lines.specs.declared.reply.Reply.{Reply as Given}
 use Rattle.command_lines.specs.declared.reply.Reply.TheVariants as given

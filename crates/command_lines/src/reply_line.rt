@@ -1,19 +1,17 @@
-//! The line of a reply, in a buffer of its own.
+//! Lines of replies, each in a buffer of its own.
 
-ghost use Rattle.std.specs.Prelude.{◌≡◌, ◌≤◌, ◌+◌, ◌++◌, [], ◌∷◌, length, map, decimal, codes};
+ghost use Rattle.std.specs.Prelude.{◌≡◌, ◌≤◌, ◌+◌, ◌++◌, [], ◌∷◌, length, decimal, codes};
 ghost use Rattle.id_groups.specs.Id.{id_text};
 ghost use Rattle.id_groups.specs.Name.{hex_text};
-ghost use Rattle.step_rules.specs.Reply.{limit_text, refusal_text, reply_text, words_text};
+ghost use Rattle.step_rules.specs.Reply.{limit_text, refusal_text, words_text};
 ghost use Rattle.command_lines.specs.Sending.{lines_text};
-ghost use Rattle.command_lines.specs.Told.{told};
 
-use crate::Reply;
 use arrayvec::ArrayVec;
-use dag_store::{Counts, LevelCounts, Limit, Refusal};
+use dag_store::{Counts, Limit, Refusal};
 use id_groups::{Id, Name};
 
 /// Room for the longest reply of one line.
-const LINE: usize = 192;
+pub(crate) const LINE: usize = 128;
 
 /// Appends a piece for which there is room.
 pub(crate) fn push_piece<const N: usize>(text: &mut ArrayVec<u8, N>, piece: &[u8])
@@ -42,8 +40,8 @@ fn printed<'a>(id: Id, out: &'a mut [u8; 24]) -> &'a [u8]
 }
 
 /// Appends a blank and a word.
-fn push_word(line: &mut ArrayVec<u8, LINE>, word: &[u8])
-    requires { length line.old.items + length word.now + 1 ≤ 192 }
+fn push_word<const N: usize>(line: &mut ArrayVec<u8, N>, word: &[u8])
+    requires { length line.old.items + length word.now + 1 ≤ N }
     ensures { line.new.items ≡ line.old.items ++ 32 ∷ word.now }
 {
     push_piece(line, b" ");
@@ -51,8 +49,8 @@ fn push_word(line: &mut ArrayVec<u8, LINE>, word: &[u8])
 }
 
 /// Appends a blank and the decimal of a number.
-fn push_number(line: &mut ArrayVec<u8, LINE>, number: u64)
-    requires { length line.old.items + 21 ≤ 192 }
+pub(crate) fn push_number<const N: usize>(line: &mut ArrayVec<u8, N>, number: u64)
+    requires { length line.old.items + 21 ≤ N }
     ensures text { line.new.items ≡ line.old.items ++ 32 ∷ decimal number }
     ensures short { length line.new.items ≤ length line.old.items + 21 }
 {
@@ -61,7 +59,7 @@ fn push_number(line: &mut ArrayVec<u8, LINE>, number: u64)
 
 /// The line of these words alone.
 pub(crate) fn line_of(head: &[u8]) -> ArrayVec<u8, LINE>
-    requires { length head.now ≤ 60 }
+    requires { length head.now ≤ 40 }
     ensures { result.items ≡ lines_text (head.now ∷ []) }
 {
     let mut line = ArrayVec::new();
@@ -72,7 +70,7 @@ pub(crate) fn line_of(head: &[u8]) -> ArrayVec<u8, LINE>
 
 /// The line with one word more.
 fn word_line(head: &[u8], word: &[u8]) -> ArrayVec<u8, LINE>
-    requires head { length head.now ≤ 60 }
+    requires head { length head.now ≤ 40 }
     requires word { length word.now ≤ 60 }
     ensures { result.items ≡ lines_text (words_text head.now (word.now ∷ []) ∷ []) }
 {
@@ -84,16 +82,16 @@ fn word_line(head: &[u8], word: &[u8]) -> ArrayVec<u8, LINE>
 }
 
 /// The line with a number behind the words.
-fn number_line(head: &[u8], number: u64) -> ArrayVec<u8, LINE>
-    requires { length head.now ≤ 60 }
+pub(crate) fn number_line(head: &[u8], number: u64) -> ArrayVec<u8, LINE>
+    requires { length head.now ≤ 40 }
     ensures { result.items ≡ lines_text (words_text head.now (decimal number ∷ []) ∷ []) }
 {
     word_line(head, decimal_text(number, &mut [0; 24]))
 }
 
 /// The line with an id behind the words.
-fn id_line(head: &[u8], id: Id) -> ArrayVec<u8, LINE>
-    requires { length head.now ≤ 60 }
+pub(crate) fn id_line(head: &[u8], id: Id) -> ArrayVec<u8, LINE>
+    requires { length head.now ≤ 40 }
     ensures { result.items ≡ lines_text (words_text head.now (id_text id ∷ []) ∷ []) }
 {
     word_line(head, printed(id, &mut [0; 24]))
@@ -101,7 +99,7 @@ fn id_line(head: &[u8], id: Id) -> ArrayVec<u8, LINE>
 
 /// The line with a name behind the words.
 fn name_line(head: &[u8], name: &Name) -> ArrayVec<u8, LINE>
-    requires { length head.now ≤ 60 }
+    requires { length head.now ≤ 40 }
     ensures { result.items ≡ lines_text (words_text head.now (hex_text name.now ∷ []) ∷ []) }
 {
     word_line(head, &name.to_hex())
@@ -109,7 +107,7 @@ fn name_line(head: &[u8], name: &Name) -> ArrayVec<u8, LINE>
 
 /// The line with a word and a number behind the words.
 fn counted_line(head: &[u8], word: &[u8], number: u64) -> ArrayVec<u8, LINE>
-    requires head { length head.now ≤ 60 }
+    requires head { length head.now ≤ 40 }
     requires word { length word.now ≤ 60 }
     ensures { result.items ≡ lines_text (words_text head.now (word.now ∷ decimal number ∷ []) ∷ []) }
 {
@@ -122,15 +120,15 @@ fn counted_line(head: &[u8], word: &[u8], number: u64) -> ArrayVec<u8, LINE>
 }
 
 /// The line with two numbers behind the words.
-fn pair_line(head: &[u8], first: u64, second: u64) -> ArrayVec<u8, LINE>
-    requires { length head.now ≤ 60 }
+pub(crate) fn pair_line(head: &[u8], first: u64, second: u64) -> ArrayVec<u8, LINE>
+    requires { length head.now ≤ 40 }
     ensures { result.items ≡ lines_text (words_text head.now (decimal first ∷ decimal second ∷ []) ∷ []) }
 {
     counted_line(head, decimal_text(first, &mut [0; 24]), second)
 }
 
 /// The line of the three sizes.
-fn sizes_line(counts: &Counts) -> ArrayVec<u8, LINE>
+pub(crate) fn sizes_line(counts: &Counts) -> ArrayVec<u8, LINE>
     ensures { result.items ≡ lines_text (words_text (codes "ok") (decimal counts.now.master ∷ decimal counts.now.others ∷ decimal counts.now.pending ∷ []) ∷ []) }
 {
     let mut line = ArrayVec::new();
@@ -138,19 +136,6 @@ fn sizes_line(counts: &Counts) -> ArrayVec<u8, LINE>
     push_number(&mut line, counts.master);
     push_number(&mut line, counts.others);
     push_number(&mut line, counts.pending);
-    push_piece(&mut line, b"\n");
-    line
-}
-
-/// The line of the sizes of levels.
-fn levels_line(counts: &LevelCounts) -> ArrayVec<u8, LINE>
-    ensures { result.items ≡ lines_text (words_text (codes "ok") (map decimal counts.now) ∷ []) }
-{
-    let mut line = ArrayVec::new();
-    push_piece(&mut line, b"ok");
-    for k in 0..counts.len() {
-        push_number(&mut line, u64::from(counts.at(k)));
-    }
     push_piece(&mut line, b"\n");
     line
 }
@@ -170,7 +155,7 @@ fn limit_word(limit: Limit) -> &'static [u8]
 }
 
 /// The line of a refusal.
-fn refusal_line(refusal: &Refusal) -> ArrayVec<u8, LINE>
+pub(crate) fn refusal_line(refusal: &Refusal) -> ArrayVec<u8, LINE>
     ensures { result.items ≡ lines_text (refusal_text refusal.now ∷ []) }
 {
     match refusal {
@@ -196,26 +181,5 @@ fn refusal_line(refusal: &Refusal) -> ArrayVec<u8, LINE>
         Refusal::MismatchClone(item) => number_line(b"err mismatch clone", *item),
         Refusal::MismatchRow(id) => number_line(b"err mismatch row", *id),
         Refusal::Memory => line_of(b"err memory"),
-    }
-}
-
-/// The line of a reply.
-pub(crate) fn reply_line(reply: &Reply) -> ArrayVec<u8, LINE>
-    ensures { result.items ≡ reply_text (told reply.now) }
-{
-    match reply {
-        Reply::Added(id) => id_line(b"ok added", *id),
-        Reply::Old(id) => id_line(b"ok old", *id),
-        Reply::Flushed(counts) => pair_line(b"ok flushed", counts.master, counts.others),
-        Reply::Reloaded(rows) => number_line(b"ok reloaded", u64::from(*rows)),
-        Reply::Discarded(rows) => number_line(b"ok discarded", u64::from(*rows)),
-        Reply::Counted(count) => number_line(b"ok", *count),
-        Reply::Identified(id) => id_line(b"ok", *id),
-        Reply::Sizes(counts) => sizes_line(counts),
-        Reply::LevelSizes(counts) => levels_line(counts),
-        Reply::Dropped(left) => number_line(b"ok dropped", *left),
-        Reply::Refused(refusal) => refusal_line(refusal),
-        Reply::NoCommand => line_of(b"err syntax"),
-        Reply::LongLine => line_of(b"err line 16384"),
     }
 }

@@ -35,6 +35,18 @@ use Rattle.dag_run.specs.Stops.{stop_of, end_of}
 use Rattle.dag_run.specs.Lines.{changes_with, HasChanged, PutsFault, IsLimited, Replies, IsPassed, LineReplies, LineLeaves, StoresOn}
 use Rattle.dag_run.specs.declared.stops.Stop.{Stop}
 use Rattle.dag_run.specs.declared.stops.Stop.TheVariants as stops
+use Rattle.std.proofs.Common.{IfSome}
+use Rattle.outside.specs.Told.{WhereTold}
+use Rattle.outside.proofs.ToldLemmas.{WhereTold-map}
+use Rattle.disk_trait.specs.Calls.{Goes}
+use Rattle.disk_trait.proofs.Telling.{goes-both, goes-from, goes-told}
+use Rattle.gated_log.specs.Load.{LoadCalls}
+use Rattle.change_rules.specs.Holding.{HoldAs}
+use Rattle.dag_store.specs.Loading.{KeepsHolding}
+use Rattle.dag_run.specs.Seen.{seen}
+use Rattle.dag_run.specs.Ends.{OpensRun, LoadPuts}
+use Rattle.dag_run.specs.Stops.{IsLoadStop}
+use Rattle.dag_run.proofs.Seeing.{Each, seen-each, same-told}
 use Rattle.dag_run.proofs.Reading.{Reads}
 use Rattle.dag_run.proofs.Going.{Going, prefixes, fresh-prefixes, stays-line, read-on, run-on}
 use Rattle.dag_run.proofs.Staying.{Stays, stopped-there, stopped-loaded, stopped-loading, stopped-short, short-sure, bytes-now, log-of}
@@ -47,6 +59,17 @@ RunMeans limits w payloads room SinkFailed result changes before after =
 wrote-fault : (SinkFailed : Type 0) (before mid after : Seen) (replies : List Reply) → mid.taken ≡ before.taken ++ output_of replies → PutsFault SinkFailed mid.taken after.taken → WroteFault (streams before after) SinkFailed replies
 wrote-fault SinkFailed before mid after replies e (inl put) = inl (put ∙ ap (λ t. t ++ disk_text) e)
 wrote-fault SinkFailed before mid after replies e (inr (failed, count, put)) = inr (failed, count, put ∙ ap (λ t. t ++ take count disk_text) e)
+
+-- the sink failed since before
+failed-since : (Here SinkFailed : Type 0) → (Here → SinkFailed) → (began : ℕ) (st : Stored) (Does : Reply → Stored → Type 0) (payload : List ℕ) (clock : Option ℕ) (stop : Stop) (before now : List ℕ)
+    → Replies Here began st Does payload clock (Err stop) before now → Replies SinkFailed began st Does payload clock (Err stop) before now
+failed-since Here SinkFailed since began st Does payload clock stops.NotStored before now h = (h.0, h.1, h.2, h.3, h.4, ⊎_elim (λ e. inl e) (λ f. inr (since f.0, f.1, f.2)) h.5)
+failed-since Here SinkFailed since began st Does payload clock stops.Sink before now h = h
+failed-since Here SinkFailed since began st Does payload clock stops.Memory before now h = absurd h
+failed-since Here SinkFailed since began st Does payload clock stops.NoLog before now h = absurd h
+failed-since Here SinkFailed since began st Does payload clock stops.NotLoaded before now h = absurd h
+failed-since Here SinkFailed since began st Does payload clock stops.Source before now h = absurd h
+failed-since Here SinkFailed since began st Does payload clock stops.Limit before now h = absurd h
 
 module _ (limits : Limits) (fair : AreLimits limits) (w : World Name) (payloads : List Payload) (room : ℕ) (SinkFailed : Type 0) (before : Seen) (begins : Begins limits w payloads before) where
   -- ---- before the first line
@@ -200,9 +223,10 @@ module _ (limits : Limits) (fair : AreLimits limits) (w : World Name) (payloads 
             kept = tt;
           })
 
-      pub going-stop : (stop : Stop) → ((l : List ℕ) → IsLine kind new.text l → LineReplies SinkFailed store l payload clock (Err stop) mid.taken after.taken)
+      pub going-stop : (Here : Type 0) → (Here → SinkFailed) → (stop : Stop) → ((l : List ℕ) → IsLine kind new.text l → LineReplies Here store l payload clock (Err stop) mid.taken after.taken)
           → LineLeaves store payload clock (Err stop) mid.disk after.disk → RunMeans limits w payloads room SinkFailed (Err stop) (changes_with changes clock) before after
-      going-stop stop told leaves = ⊎_elim (λ passed. absurd passed) (λ d. by_stop stop d leaves) (told line.0 line.1 (length payloads) h.last h.stands)
+      going-stop Here since stop told leaves = ⊎_elim (λ passed. absurd passed) (λ d. by_stop stop (d.0, failed-since Here SinkFailed since (length payloads) h.last (StepAlone store.limits h.last line.0) payload clock stop mid.taken after.taken d.1) leaves)
+          (told line.0 line.1 (length payloads) h.last h.stands)
         where
           by_stop : (s : Stop) → (is_silent line.0 ≡ false) × Replies SinkFailed (length payloads) h.last (StepAlone store.limits h.last line.0) payload clock (Err s) mid.taken after.taken
               → LineLeaves store payload clock (Err s) mid.disk after.disk → RunMeans limits w payloads room SinkFailed (Err s) (changes_with changes clock) before after
@@ -213,3 +237,36 @@ module _ (limits : Limits) (fair : AreLimits limits) (w : World Name) (payloads 
           by_stop stops.NotLoaded d l = absurd l
           by_stop stops.Source d l = absurd l
           by_stop stops.Limit d l = absurd l
+
+-- ---- where no store is loaded
+module _ (limits : Limits) (fair : AreLimits limits) (w : World Name) (payloads : List Payload) (room : ℕ) (SinkFailed : Type 0) (d e : Option Told) (i o q : Option (List ℕ)) where
+  abbrev pub MeansSo : Result Unit Stop → Seen → Seen → Type 0
+  MeansSo result before after = Begins limits w payloads before → RunMeans limits w payloads room SinkFailed result [] before after
+
+  abbrev Opening : Stop → Told → Type 0
+  Opening stop t = HoldAs limits.log t.bytes payloads w → OpensRun payloads w (Err stop)
+
+  pub load-stops : (stop : Stop) → IfSome d (Opening stop) → Goes (KeepsHolding limits.log w) d e → ((stop ≡ stops.NotLoaded → ⊥) → Goes (IsSureOf limits.log (map text_of payloads)) d e) → Goes LoadCalls d e → IsLoadStop stop
+      → WhereTold o q (LoadPuts SinkFailed (Err stop)) → WhereTold (seen d i o) (seen e i q) (MeansSo (Err stop))
+  load-stops stops.Memory opens keeps sure calls is put =
+      let Q : Told → Told → Type 0 = λ x y. KeepsHolding limits.log w x y × IsSureOf limits.log (map text_of payloads) x y in
+      let disk = goes-both (KeepsHolding limits.log w) (IsSureOf limits.log (map text_of payloads)) Q d e (λ x y r s. (r, s)) keeps (sure (λ no. cc no)) in
+      WhereTold-map (seen d i o) (seen e i q) (Each Q (λ x y. y ≡ x) (λ x y. y ≡ x)) (MeansSo (Err stops.Memory))
+      (λ x y t begins. ends-memory limits fair w payloads room SinkFailed x begins y (t.disk.0 begins.holds) t.disk.1 t.left t.taken)
+      (seen-each d e i i o q Q (λ x y. y ≡ x) (λ x y. y ≡ x) (goes-told Q d e disk) (same-told i) put)
+  load-stops stops.NotLoaded opens keeps sure calls is put =
+      let Q : Told → Told → Type 0 = λ x y. KeepsHolding limits.log w x y × LoadCalls x y in
+      let disk = goes-both (KeepsHolding limits.log w) LoadCalls Q d e (λ x y r s. (r, s)) keeps calls in
+      WhereTold-map (seen d i o) (seen e i q) (Each Q (λ x y. y ≡ x) (PutsFault SinkFailed)) (MeansSo (Err stops.NotLoaded))
+      (λ x y t begins. ends-unloaded limits fair w payloads room SinkFailed x begins y (t.disk.0 begins.holds) t.disk.1 t.taken)
+      (seen-each d e i i o q Q (λ x y. y ≡ x) (PutsFault SinkFailed) (goes-told Q d e disk) (same-told i) put)
+  load-stops stops.NoLog opens keeps sure calls is put =
+      let Q : Told → Told → Type 0 = λ x y. HoldAs limits.log x.bytes payloads w → ⊥ in
+      let disk = goes-from (KeepsHolding limits.log w) Q (Opening stops.NoLog) d e (λ x y f r. f) opens keeps in
+      WhereTold-map (seen d i o) (seen e i q) (Each Q (λ x y. y ≡ x) (λ x y. y ≡ x)) (MeansSo (Err stops.NoLog))
+      (λ x y t begins. absurd (t.disk begins.read))
+      (seen-each d e i i o q Q (λ x y. y ≡ x) (λ x y. y ≡ x) (goes-told Q d e disk) (same-told i) put)
+  load-stops stops.NotStored opens keeps sure calls is put = absurd is
+  load-stops stops.Source opens keeps sure calls is put = absurd is
+  load-stops stops.Sink opens keeps sure calls is put = absurd is
+  load-stops stops.Limit opens keeps sure calls is put = absurd is

@@ -1,8 +1,6 @@
 -- Claims of a disk, a source and a sink at once.
 use Rattle.std.proofs.Common.{inl, inr, ℕ, ◌≡◌, List, Option, Some, None, IfSome, refl, sym, ap, ◌∙◌, ◌++◌, length, take, le_refl, ◌≤◌, ◌+◌, ◌-◌, ◌^◌, arith}
 use Rattle.outside.specs.Counts.{Rose}
-use Rattle.dag_run.specs.Lines.{PutsFault}
-use Rattle.std.proofs.lemmas.List.{take_all}
 use Rattle.outside.specs.Told.{WhereTold, TookFront}
 use Rattle.outside.proofs.ToldLemmas.{WhereTold-same, WhereTold-join, WhereTold-map}
 use Rattle.disk_trait.specs.Images.{Told, IsSound}
@@ -41,8 +39,3 @@ same-told a = WhereTold-same a (λ x y. y ≡ x) (λ x. refl)
 -- a count that rose later rose since before
 pub rose-since : (a b c : ℕ) → a ≤ b → Rose b c → Rose a c
 rose-since a b c le r = omega (arith, le, r)
-
--- the line that tells of the disk is cut only where the sink failed
-pub puts-since : (a b c : ℕ) (x y : List ℕ) → a ≤ b → PutsFault (Rose b c) x y → PutsFault (Rose a c) x y
-puts-since a b c x y le (inl e) = inl e
-puts-since a b c x y le (inr h) = inr (rose-since a b c le h.0, h.1, h.2)

@@ -113,10 +113,13 @@ stays-start limits w payloads store old new fresh holds read is_sure loaded same
 module _ (limits : Limits) (w : World Name) (payloads : List Payload) (changes : List ℕ) (last next : Stored) (kept : PlainStore) (payload : List ℕ) (old a b : Told)
   (same : kept.limits ≡ limits) (limited : IsLimited kept) (texts : kept.log.payloads ≡ map text_of last.payloads)
   (h : Stays limits w payloads changes last old a) (before : ArePrefixes payloads last) (after : ArePrefixes payloads next) (changed : HasChanged last next payload) where
-  bound : kept.log.limit ≡ limits.log
+  pub bound : kept.log.limit ≡ limits.log
   bound = limited ∙ ap (λ (l : Limits). l.log) same
 
-  sure-by : h.stopped.sure ≤ moment_of a
+  pub later-by : moment_of old ≤ moment_of a
+  later-by = let le = h.begun in omega (arith, le)
+
+  pub sure-by : h.stopped.sure ≤ moment_of a
   sure-by = let e = h.sure in let le = h.begun in omega (arith, e, le)
 
   -- it was stored
@@ -131,9 +134,9 @@ module _ (limits : Limits) (w : World Name) (payloads : List Payload) (changes :
       s.payloads in
       subst (λ c. Stays limits w payloads (changes ++ c ∷ []) next old b) (sym now) (record {
         stored = length-append changes (moment_of b ∷ []) ∙ ap (λ n. n + 1) h.stored ∙ sym (ap length changed.past ∙ length-append last.past (last.stored ∷ []));
-        stopped = goes-on limits.log w payloads changes last next changed.change kept.log old a b h.stopped h.stored sure-by (let le = h.begun in omega (arith, le)) before after changed.past changed.payloads bound texts
+        stopped = goes-on limits.log w payloads changes last next changed.change kept.log old a b h.stopped h.stored sure-by later-by before after changed.past changed.payloads bound texts
             (subst (λ t. KeepsOldOrNew kept.log t a b) changed.text s.since) more has;
-        sure = goes-on-sure limits.log w payloads changes last next changed.change kept.log old a b h.stopped h.stored sure-by (let le = h.begun in omega (arith, le)) before after changed.past changed.payloads bound texts
+        sure = goes-on-sure limits.log w payloads changes last next changed.change kept.log old a b h.stopped h.stored sure-by later-by before after changed.past changed.payloads bound texts
             (subst (λ t. KeepsOldOrNew kept.log t a b) changed.text s.since) more has ∙ h.sure;
         calls = sym (last-push (loaded_at old) changes (moment_of b));
         begun = (let le = h.begun in omega (arith, le, more));
@@ -141,15 +144,14 @@ module _ (limits : Limits) (w : World Name) (payloads : List Payload) (changes :
       })
 
   -- the disk failed in it
-  pub stopped-short : CutShort kept payload a b → Stopped limits.log w payloads changes next old b
-  stopped-short s = cut-short limits.log w payloads changes last next changed.change kept.log old a b h.stopped h.stored sure-by (let le = h.begun in omega (arith, le)) before after changed.past changed.payloads bound texts
+  abbrev pub stopped-short : CutShort kept payload a b → Stopped limits.log w payloads changes next old b
+  stopped-short s = cut-short limits.log w payloads changes last next changed.change kept.log old a b h.stopped h.stored sure-by later-by before after changed.past changed.payloads bound texts
       (subst (λ t. KeepsOldOrNew kept.log t a b) changed.text s.since) s.since.later
 
   pub short-sure : (s : CutShort kept payload a b) → (stopped-short s).sure ≤ moment_of old + 2
-  unfolding stopped-short
   short-sure s =
       let e = h.sure in
-      let same = cut-short-sure limits.log w payloads changes last next changed.change kept.log old a b h.stopped h.stored sure-by (let le = h.begun in omega (arith, le)) before after changed.past changed.payloads bound texts
+      let same : (stopped-short s).sure ≡ h.stopped.sure = cut-short-sure limits.log w payloads changes last next changed.change kept.log old a b h.stopped h.stored sure-by later-by before after changed.past changed.payloads bound texts
       (subst (λ t. KeepsOldOrNew kept.log t a b) changed.text s.since) s.since.later in
       omega (arith, same, e)
 

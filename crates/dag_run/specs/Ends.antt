@@ -1,14 +1,13 @@
 -- What a run over a disk, a source and a sink says of its status, where they tell.
-use Rattle.std.specs.Prelude.{ℕ, ◌≡◌, ◌≤◌, List, [], length, Result, Ok, Err, ⊤}
+use Rattle.std.specs.Prelude.{ℕ, ◌≡◌, List, [], length, Result, Ok, Err, ⊤}
 use Rattle.id_groups.specs.Name.{Name}
 use Rattle.commit_graph.specs.World.{World}
 use Rattle.line_io.specs.Lines.{lines_of}
 use Rattle.batch_codec.specs.Payload.{Payload}
 use Rattle.change_rules.specs.declared.Limits.{Limits}
 use Rattle.run_rules.specs.Ends.{End, status_of}
-use Rattle.run_rules.specs.Means.{Means, IsComplete, RefusesLog, loaded_at}
+use Rattle.run_rules.specs.Means.{Means, IsComplete, RefusesLog}
 use Rattle.run_rules.specs.Premises.{Start}
-use Rattle.disk_trait.specs.Images.{Told, moment_of}
 use Rattle.step_rules.specs.State.{start}
 use Rattle.dag_store.specs.Kept.{PlainStore}
 use Rattle.dag_store.specs.Stands.{Stands}
@@ -42,7 +41,3 @@ OpensRun payloads w (Err _) = ⊤
 abbrev pub LoadPuts : Type 0 → Result PlainStore Stop → List ℕ → List ℕ → Type 0
 LoadPuts SinkFailed (Err NotLoaded) before now = PutsFault SinkFailed before now
 LoadPuts SinkFailed _ before now = now ≡ before
-
--- loading ends by the moment at which it would have ended without a fault
-abbrev pub LoadCalls : Told → Told → Type 0
-LoadCalls old new = moment_of new ≤ loaded_at old

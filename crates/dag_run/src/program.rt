@@ -6,7 +6,7 @@ ghost use Rattle.outside.specs.Told.{WhereTold};
 ghost use Rattle.id_groups.specs.Name.{Name};
 ghost use Rattle.commit_graph.specs.World.{World};
 ghost use Rattle.disk_trait.specs.Calls.{Goes};
-ghost use Rattle.gated_log.specs.Load.{IsSureOf};
+ghost use Rattle.gated_log.specs.Load.{IsSureOf, LoadCalls};
 ghost use Rattle.batch_codec.specs.Payload.{Payload};
 ghost use Rattle.change_rules.specs.Holding.{HoldAs};
 ghost use Rattle.change_rules.specs.Standard.{AreLimits, standard};
@@ -16,7 +16,7 @@ ghost use Rattle.dag_store.specs.Loading.{KeepsHolding, IsLoadedStore};
 ghost use Rattle.dag_run.specs.Seen.{seen, streams};
 ghost use Rattle.dag_run.specs.Stops.{end_of, IsLoadStop, IsRunStatus, IsStatus};
 ghost use Rattle.dag_run.specs.Lines.{PutsFault};
-ghost use Rattle.dag_run.specs.Ends.{Begins, OpensRun, LoadPuts, LoadCalls, StatusMeans};
+ghost use Rattle.dag_run.specs.Ends.{Begins, OpensRun, LoadPuts, StatusMeans};
 
 use crate::execute::execute;
 use crate::replies::tell_fault;

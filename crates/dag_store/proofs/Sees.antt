@@ -1,5 +1,5 @@
 -- What a store's parts say of a state that it stands for.
-use Rattle.std.proofs.Common.{◌≡◌, ◌≤◌, ◌<◌, ◌+◌, ℕ, zero, suc, Bool, true, false, not, ◌&&◌, ◌||◌, List, [], ◌∷◌, ◌++◌, length, map, take, drop, filter, flat_map, nat_eq, nat_lt, refl, sym, ap, ap₂, subst, ◌∙◌, arith, append-nil, append_assoc, if◌then◌else◌, le_refl}
+use Rattle.std.proofs.Common.{◌≡◌, ◌≤◌, ◌<◌, ◌+◌, ℕ, Bool, true, false, not, ◌&&◌, ◌||◌, List, [], ◌∷◌, ◌++◌, length, map, take, drop, filter, nat_eq, nat_lt, refl, sym, ap, ap₂, subst, ◌∙◌, arith, append-nil, append_assoc, if◌then◌else◌, le_refl}
 use Rattle.std.specs.List.{AllByRecursion, list_any, range_with_len}
 use Rattle.std.proofs.lemmas.List.{take_all, take-map, take-append-drop, map-append}
 use Rattle.std.proofs.lemmas.List.Elements.{filter-append}
@@ -7,9 +7,9 @@ use Rattle.std.proofs.lemmas.Grind.{flat_map-append}
 use Rattle.std.proofs.lemmas.Bool.{ltb-true, le-ltb, ne_eqb}
 use Rattle.id_groups.specs.Lists.{is_in}
 use Rattle.id_groups.specs.Name.{Name, same_name}
-use Rattle.commit_graph.specs.World.{Row, World, IsNamedWorld, names_of, with_pending}
+use Rattle.commit_graph.specs.World.{World, names_of}
 use Rattle.batch_codec.specs.Payload.{Payload, Known}
-use Rattle.batch_codec.specs.Grammar.{AreLawful, MayFollow, count_after}
+use Rattle.batch_codec.specs.Grammar.{AreLawful, count_after}
 use Rattle.batch_codec.proofs.Payloads.{one-payload}
 use Rattle.gated_log.specs.Held.{Held}
 use Rattle.name_map.specs.Added.{Placed, payloads_of}
@@ -23,9 +23,9 @@ use Rattle.payload_tables.specs.Kept.{PlainTables}
 use Rattle.payload_tables.specs.Bases.{IsBaseOf}
 use Rattle.payload_tables.proofs.Lists.{all-append, count-last}
 use Rattle.step_rules.specs.State.{Stored, session, pending_of, base_of, world_at}
-use Rattle.step_rules.specs.Asked.{is_unnamed, is_asked}
+use Rattle.step_rules.specs.Asked.{is_asked}
 use Rattle.step_rules.proofs.Sessions.{newest-now}
-use Rattle.dag_store.specs.Kept.{PlainSession, PlainStore, IsKept, session_at, base_added, sixteen}
+use Rattle.dag_store.specs.Kept.{PlainSession, IsKept, session_at, base_added, sixteen}
 use Rattle.dag_store.specs.Stands.{Stands}
 use Rattle.dag_store.specs.Looking.{Sees, is_asked_in}
 
@@ -97,7 +97,7 @@ module _ (front behind : List Payload) (w : World Name) (lawful : AreLawful [] (
   above = subst (λ n. AllByRecursion (λ (k : Known). n ≤ k.id) (known_in behind)) stand.count (known-above front behind (lawful-behind [] front behind lawful))
 
   -- those behind have names for none of its ids
-  lazy-front : (id : ℕ) → is_lazy (front ++ behind) w id ≡ is_lazy front w id
+  pub lazy-front : (id : ℕ) → is_lazy (front ++ behind) w id ≡ is_lazy front w id
   lazy-front id = by_test (nat_lt id (length w.master)) refl
     where
       by_test : (b : Bool) → nat_lt id (length w.master) ≡ b → (b && not (is_in nat_eq id (ids (known_in (front ++ behind))))) ≡ (b && not (is_in nat_eq id (ids (known_in front))))
@@ -123,7 +123,7 @@ module _ (log : Held) (tables : PlainTables) (sessions : List PlainSession) (lim
   whole = let c = h.count in take_all (began + length st.past) st.payloads (omega (arith, c))
 
   -- all payloads stand for the stored world
-  stored-holds : HoldPayloads st.payloads st.stored
+  pub stored-holds : HoldPayloads st.payloads st.stored
   stored-holds = subst (HoldPayloads st.payloads) (newest-now st) (subst (λ l. HoldPayloads l (world_at st (length st.past))) whole (h.worlds (length st.past) (le_refl _)))
 
   -- the payloads that were added are the state's
@@ -156,7 +156,7 @@ module _ (log : Held) (tables : PlainTables) (sessions : List PlainSession) (lim
   }
 
   -- the payloads behind a session's base
-  behind-base : (s : ℕ) → s < sixteen → st.payloads ≡ payloads_of (base_added k.added (session_at sessions s)) ++ drop (began + (session st s).base) st.payloads
+  pub behind-base : (s : ℕ) → s < sixteen → st.payloads ≡ payloads_of (base_added k.added (session_at sessions s)) ++ drop (began + (session st s).base) st.payloads
   behind-base s lt =
       let n = began + (session st s).base in
       sym (take-append-drop n st.payloads) ∙ ap (λ l. l ++ drop n st.payloads) (sym (base-are s lt))

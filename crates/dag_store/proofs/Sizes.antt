@@ -1,9 +1,9 @@
 -- The steps that tell sizes, and the one that lets rows go.
-use Rattle.std.proofs.Common.{◌≡◌, ◌≤◌, ◌<◌, ℕ, inl, List, [], ◌∷◌, length, map, take, Option, Some, None, refl, sym, ap, subst, ◌∙◌, arith, get_or, set, append-nil}
+use Rattle.std.proofs.Common.{◌≡◌, ◌<◌, ℕ, inl, List, [], ◌∷◌, length, map, Option, Some, None, refl, ap, ◌∙◌, set}
 use Rattle.std.specs.List.{last_or}
 use Rattle.std.proofs.lemmas.List.{length-map}
 use Rattle.id_groups.specs.Name.{Name, same_name}
-use Rattle.commit_graph.specs.World.{Row, World, names_of, with_pending}
+use Rattle.commit_graph.specs.World.{Row, World, with_pending}
 use Rattle.commit_graph.specs.Ids.{parent_ids}
 use Rattle.segment_rules.specs.Flat.{flat_segments_of}
 use Rattle.segment_rules.specs.Levels.{level_counts}
@@ -16,15 +16,14 @@ use Rattle.payload_tables.specs.Kept.{PlainTables, PlainOthers, AreOthersIn}
 use Rattle.payload_tables.specs.Pending.{IdRow, PlainPending, HoldsRows}
 use Rattle.payload_tables.specs.Bases.{ArePending, id_row}
 use Rattle.payload_tables.proofs.Lists.{names-length}
-use Rattle.flush_rebuild.specs.Asked.{MayStore}
-use Rattle.step_rules.specs.State.{Stored, session, pending_of, base_of, world_at, with_pending_rows}
+use Rattle.step_rules.specs.State.{Stored, session, pending_of, base_of, with_pending_rows}
 use Rattle.step_rules.specs.Verb.{Status, Levels, Discard}
 use Rattle.step_rules.specs.Reply.{Sizes, LevelSizes, Discarded}
 use Rattle.step_rules.specs.Lone.{LoneStep}
 use Rattle.step_rules.proofs.States.{alone}
 use Rattle.dag_store.specs.Kept.{PlainSession, PlainStore, IsKept, IsSessionOf, session_at, base_added, sixteen}
 use Rattle.dag_store.specs.Stands.{Stands}
-use Rattle.dag_store.proofs.Sees.{base-holds, all-hold}
+use Rattle.dag_store.proofs.Sees.{base-holds}
 use Rattle.dag_store.proofs.Standing.{stands-with}
 
 abbrev payload-if : Option Placed → Option Payload
@@ -73,12 +72,11 @@ module _ (log : Held) (tables : PlainTables) (sessions : List PlainSession) (lim
       let w = base_of st s in
       let one = h.sessions s small in
       let fine = h.state.sessions s in
-      let named = alone w (h.state.worlds y.base fine.base) in
-      (
+      let named = alone w (h.state.worlds y.base fine.base) in (
         inl (ap Discarded (pending-many w x.pending (pending_of st s) n one.pending counts), refl),
         stands-with began kept st s (record x { pending = none }) (record { base = y.base; pending = [] }) small k.count h
-        (record { base = fine.base; view = named })
-        (record { payloads = one.payloads; pending = record { first = first ∙ one.pending.first; held = held; view = named.world } }),
+            (record { base = fine.base; view = named })
+            (record { payloads = one.payloads; pending = record { first = first ∙ one.pending.first; held = held; view = named.world } }),
       )
 
   -- and may go on

@@ -1,11 +1,11 @@
 -- A store whose session is changed is kept, and stands for the state with that session.
-use Rattle.std.proofs.Common.{◌≡◌, ◌≤◌, ◌<◌, ◌⊎◌, inl, inr, ⊎_elim, ℕ, zero, suc, List, [], ◌∷◌, length, take, refl, sym, ap, subst, ◌∙◌, arith, get_or, set, length-set}
+use Rattle.std.proofs.Common.{◌≡◌, ◌<◌, ⊎_elim, ℕ, zero, suc, List, [], ◌∷◌, length, refl, sym, ap, subst, ◌∙◌, arith, get_or, set, length-set}
 use Rattle.std.proofs.lemmas.List.{get_or-set_same, get_or-set_other}
 use Rattle.std.proofs.lemmas.Bool.{cases_eq}
 use Rattle.gated_log.specs.Held.{Held}
 use Rattle.change_rules.specs.declared.Limits.{Limits}
 use Rattle.payload_tables.specs.Kept.{PlainTables}
-use Rattle.step_rules.specs.State.{Stored, Session, IsSession, new_session, session, with_session}
+use Rattle.step_rules.specs.State.{Stored, Session, IsSession, new_session, with_session}
 use Rattle.step_rules.proofs.States.{with_session-state}
 use Rattle.dag_store.specs.Kept.{PlainSession, PlainStore, IsKept, IsSessionOf, no_session, session_at, sixteen}
 use Rattle.dag_store.specs.Stands.{Stands, IsSessionFor}

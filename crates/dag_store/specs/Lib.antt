@@ -1,7 +1,10 @@
 pub mod Kept
 pub mod Stands
 pub mod Looking
+pub mod Adding
 pub mod Names
+pub mod Querying
 pub mod Steps
 pub mod Loading
 pub mod Flushes
+pub mod Shown

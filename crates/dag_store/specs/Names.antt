@@ -1,31 +1,58 @@
 -- The names of ids in a session's view, as they are lent.
-use Rattle.std.specs.Prelude.{ℕ, ◌+◌, ◌-◌, ◌*◌, ◌^◌, List, [], ◌∷◌, Option, Some, None, take, drop, nat_lt, nat_eq, if◌then◌else◌}
-use Rattle.id_groups.specs.Lists.{is_in}
+use Rattle.std.specs.Prelude.{ℕ, zero, suc, ◌+◌, ◌-◌, ◌*◌, ◌^◌, List, [], ◌∷◌, ◌++◌, Option, Some, None, length, take, drop, filter, flat_map, nat_lt, nat_eq, if◌then◌else◌}
 use Rattle.id_groups.specs.Name.{Name}
 use Rattle.id_groups.specs.declared.name.NameRef.{NameRef}
-use Rattle.commit_graph.specs.Ids.{place_of}
-use Rattle.span_set.specs.Down.{ids_left}
+use Rattle.batch_codec.specs.Payload.{Known}
 use Rattle.name_map.specs.Part.{PlainPart}
+use Rattle.name_map.specs.Added.{Placed}
 use Rattle.payload_tables.specs.declared.base.BaseRef.{BaseRef}
-use Rattle.payload_tables.specs.Pending.{PlainPending}
-use Rattle.dag_store.specs.declared.names.Names.{Names}
+use Rattle.payload_tables.specs.Bases.{IsBaseOf}
+use Rattle.payload_tables.specs.Pending.{IdRow, PlainPending, HoldsRows}
 
 -- the twenty bytes at a place
 abbrev pub name_at : List ℕ → ℕ → Name
 name_at bytes place = take 20 (drop place bytes)
 
--- the stored name of a master id: the parts of the map have the known ids, each with its name in the log
-abbrev pub known_name : List ℕ → List PlainPart → ℕ → Option Name
-known_name bytes [] id = None
-known_name bytes (part ∷ parts) id =
-    if is_in nat_eq id part.ids then Some (name_at bytes (part.start + 28 * place_of nat_eq id part.ids + 8)) else known_name bytes parts id
+-- known ids, each with its name in the log, which stand one after another from this place on
+abbrev pub known_at : List ℕ → ℕ → List ℕ → List Known
+known_at bytes place [] = []
+known_at bytes place (id ∷ ids) = record { id = id; name = name_at bytes (place + 8) } ∷ known_at bytes (place + 28) ids
 
--- the name of an id of a base, or of a pending row
+-- those of all parts of a map
+abbrev pub known_in : List ℕ → List PlainPart → List Known
+known_in bytes parts = flat_map (λ part. known_at bytes part.start part.ids) parts
+
+-- so many ids from this one on, with names that stand one after another from this place on
+abbrev pub others_at : List ℕ → ℕ → ℕ → ℕ → List Known
+others_at bytes id place zero = []
+others_at bytes id place (suc n) = record { id = id; name = name_at bytes place } ∷ others_at bytes (id + 1) (place + 20) n
+
+-- all ids of a base with a stored name, and these names, as the log's bytes have them
+abbrev pub stored_at : BaseRef → List Known
+stored_at base =
+    filter (λ k. nat_lt k.id base.below) (known_in base.bytes.now base.tables.now.names.parts)
+    ++ others_at base.bytes.now (2 ^ 56) base.others.now.names base.others.now.count
+
+-- the name of the first of these that has the id
+abbrev pub name_among : List Known → ℕ → Option Name
+name_among [] id = None
+name_among (k ∷ known) id = if nat_eq k.id id then Some k.name else name_among known id
+
+-- the name of the pending row with the id
+abbrev pub pending_name : PlainPending → ℕ → Option Name
+pending_name pending id =
+    let first = 2 ^ 56 + pending.first in
+    if nat_lt id first then None
+    else if nat_lt (id - first) (length pending.places) then Some (name_at pending.names (20 * (id - first)))
+    else None
+
+-- the stored name, or else that of the pending row
+abbrev pub name_or : Option Name → Option Name → Option Name
+name_or None other = other
+name_or (Some name) other = Some name
+
 abbrev pub name_in : BaseRef → PlainPending → ℕ → Option Name
-name_in base pending id =
-    if nat_lt id (2 ^ 56) then known_name base.bytes.now base.tables.now.names.parts id
-    else if nat_lt id (2 ^ 56 + base.others.now.count) then Some (name_at base.bytes.now (base.others.now.names + 20 * (id - 2 ^ 56)))
-    else Some (name_at pending.names (20 * (id - 2 ^ 56 - pending.first)))
+name_in base pending id = name_or (name_among (stored_at base) id) (pending_name pending id)
 
 -- the names of ids, up to the first that has none
 abbrev pub named_front : BaseRef → PlainPending → List ℕ → List Name
@@ -36,10 +63,21 @@ named_front base pending (id ∷ ids) = add (name_in base pending id) (named_fro
     add None names = []
     add (Some name) names = name ∷ names
 
--- what is still to come
-abbrev pub names_left : Names → List Name
-names_left names = named_front names.base names.pending.now (ids_left names.ids)
+-- the base is that of payloads that stand in the log, and the pending rows are kept as such
+pub record IsLent (base : BaseRef) (pending : PlainPending) : Type 0 where
+  pub added : List Placed
+  pub base_of : IsBaseOf base added
+  pub rows : List IdRow
+  pub held : HoldsRows pending rows
+
+-- what is still to come: contracts see the names of an answer as their list
+abbrev pub names_left : List Name → List Name
+names_left names = names
 
 -- the bytes of a lent name
 abbrev pub name_of : NameRef → Name
 name_of name = name.bytes.now
+
+abbrev pub lent_name : Option NameRef → Option Name
+lent_name None = None
+lent_name (Some name) = Some (name_of name)

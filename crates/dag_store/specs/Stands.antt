@@ -1,6 +1,6 @@
 -- The states that a store stands for.
-use Rattle.std.specs.Prelude.{◌≡◌, ◌<◌, ◌≤◌, ◌+◌, ℕ, List, length, map, take}
-use Rattle.commit_graph.specs.World.{World, KeepsRows}
+use Rattle.std.specs.Prelude.{◌≡◌, ◌<◌, ◌≤◌, ◌+◌, ℕ, length, map, take}
+use Rattle.commit_graph.specs.World.{KeepsRows}
 use Rattle.change_rules.specs.Change.{text_of}
 use Rattle.change_rules.specs.Holding.{HoldPayloads}
 use Rattle.payload_tables.specs.Bases.{ArePending}

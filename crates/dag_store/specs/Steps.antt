@@ -1,6 +1,8 @@
 -- What the calls of a session answer, for each state that the store stands for.
 use Rattle.std.specs.Prelude.{◌≡◌, ℕ, List, [], length, map, Result, Ok, Err, slice_set}
+use Rattle.id_groups.specs.Lists.{AreAllIn}
 use Rattle.id_groups.specs.Name.{Name, same_name}
+use Rattle.commit_graph.specs.World.{names_of, rows_of}
 use Rattle.commit_graph.specs.Ids.{id_in}
 use Rattle.set_expr.specs.Expr.{Expr}
 use Rattle.set_expr.specs.Meaning.{IsAnswer}
@@ -17,7 +19,7 @@ use Rattle.step_rules.specs.Lone.{LoneStep}
 use Rattle.dag_store.specs.declared.replies.Added.{Added}
 use Rattle.dag_store.specs.declared.replies.Added.TheVariants.{New, Old}
 use Rattle.dag_store.specs.declared.query.Found.{Found}
-use Rattle.dag_store.specs.Kept.{PlainSession, PlainStore, session_at, sixteen}
+use Rattle.dag_store.specs.Kept.{PlainSession, PlainStore}
 use Rattle.dag_store.specs.Stands.{Stands}
 
 -- only the session changes
@@ -43,8 +45,9 @@ abbrev pub IdStep : PlainStore → Stored → ℕ → Name → Result ℕ Refusa
 IdStep kept st s name (Ok id) = LoneStep kept.limits st s (IdOf name) (Identified id) st
 IdStep kept st s name (Err refusal) = LoneStep kept.limits st s (IdOf name) (Refused refusal) st
 
--- the ids are those of these names in the session's view, each of which is stored or pending
+-- the ids are those of these names of the session's view, each of which is stored or pending
 pub record AreIdsOf (st : Stored) (s : ℕ) (ids : List ℕ) (names : List Name) : Type 0 where
+  pub seen : AreAllIn names (names_of (rows_of (view_of st s)))
   pub ids_are : ids ≡ map (id_in same_name (view_of st s)) names
   pub stored : lazy_among st (base_of st s) names ≡ []
 

@@ -4,6 +4,7 @@
 
 mod adding;
 mod flushing;
+mod laws;
 mod loading;
 mod lookup;
 mod names;
@@ -14,6 +15,7 @@ mod store;
 
 pub use change_rules::{Limit, Limits};
 pub use high_segments::LevelCounts;
+pub use laws::stores_stand;
 pub use names::Names;
 pub use query::Found;
 pub use replies::{Added, Counts, Flushed, LoadFault};

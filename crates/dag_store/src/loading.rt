@@ -1,21 +1,22 @@
 //! Reading a log into a store's parts.
 
-ghost use Rattle.std.specs.Prelude.{◌≡◌, ◌⊎◌, ◌<◌, ℕ, List, [], length, map, IfOk, IfErr};
+ghost use Rattle.std.specs.Prelude.{◌≡◌, ◌⊎◌, ◌<◌, ◌≤◌, ◌+◌, ◌^◌, ◌++◌, ◌∷◌, ℕ, List, [], length, map, IfOk, IfErr, OnOk};
 ghost use Rattle.batch_codec.specs.Payload.{Payload};
 ghost use Rattle.gated_log.specs.Held.{log_bytes};
 ghost use Rattle.name_map.specs.Added.{Placed, payloads_of, AllStand};
 ghost use Rattle.change_rules.specs.Change.{text_of};
-ghost use Rattle.change_rules.specs.Unlawful.{IsFirstUnlawful};
+ghost use Rattle.change_rules.specs.Holding.{IsSpelled};
+ghost use Rattle.change_rules.specs.Unlawful.{IsFirstUnlawful, MayStand};
 ghost use Rattle.payload_tables.specs.Kept.{AreTablesOf};
-ghost use Rattle.payload_tables.specs.Pending.{HoldsRows};
-ghost use Rattle.dag_store.specs.Kept.{IsSessionOf, base_added, session_at, sixteen};
+ghost use Rattle.dag_store.specs.Kept.{session_at};
+ghost use Rattle.dag_store.specs.Loading.{IsOnNewest};
 
 use crate::replies::LoadFault;
 use crate::session::Session;
 use batch_codec::BatchRef;
-use flush_rebuild::{OthersTable, PendingRows, TableFault, Tables};
+use flush_rebuild::{TableFault, Tables};
 use gated_log::{LoadLog, Log};
-use std::alloc::{AllocError, Global};
+use std::alloc::{AllocError, AllocFailed, Global};
 
 impl From<LoadLog> for LoadFault {
     ghost use Rattle.std.specs.Prelude.{◌≡◌};
@@ -33,12 +34,68 @@ impl From<LoadLog> for LoadFault {
     }
 }
 
+impl From<AllocError> for LoadFault {
+    ghost use Rattle.std.specs.Prelude.{◌≡◌};
+    ghost use Rattle.dag_store.specs.declared.replies.LoadFault.TheVariants.{Memory};
+
+    ghost from_gives = { λ _ fault. fault ≡ Memory };
+
+    fn from(_refused: AllocError) -> LoadFault {
+        LoadFault::Memory
+    }
+}
+
+impl<T: Drop> From<AllocFailed<T>> for LoadFault {
+    ghost use Rattle.std.specs.Prelude.{◌≡◌};
+    ghost use Rattle.dag_store.specs.declared.replies.LoadFault.TheVariants.{Memory};
+
+    ghost from_gives = { λ _ fault. fault ≡ Memory };
+
+    fn from(_refused: AllocFailed<T>) -> LoadFault {
+        LoadFault::Memory
+    }
+}
+
+/// Adds the log's payload of the number `k`, whose bytes these are, at its place `at`.
+fn read_batch(
+    tables: &mut Tables,
+    bytes: &[u8],
+    payload: &[u8],
+    k: u32,
+    at: u64,
+) -> Result<(), LoadFault>
+    requires tables { (added : List Placed) × AreTablesOf tables.old added × AllStand bytes.now added }
+    requires room { at + length payload.now < 2 ^ 63 }
+    ensures added { (added : List Placed) → AreTablesOf tables.old added → AllStand bytes.now added
+        → OnOk result ((p : Payload) × IsSpelled payload.now p × AreTablesOf tables.new (added ++ record { at = at; payload = p } ∷ [])) }
+    ensures err { (added : List Placed) → AreTablesOf tables.old added → AllStand bytes.now added
+        → IfErr result (λ fault. (fault ≡ LoadFault.Memory) ⊎ ((fault ≡ LoadFault.Batch k) × ((p : Payload) → MayStand (payloads_of added) payload.now p → ⊥))) }
+{
+    let Some(batch) = BatchRef::read(payload) else {
+        return Err(LoadFault::Batch(k));
+    };
+    match tables.add_batch(bytes, &batch, at) {
+        Ok(()) => Ok(()),
+        Err(TableFault::Unlawful) => Err(LoadFault::Batch(k)),
+        Err(TableFault::Memory) => Err(LoadFault::Memory),
+    }
+}
+
 /// The tables of a log's payloads.
 pub(crate) fn read_tables(alloc: Global, log: &Log) -> Result<Tables, LoadFault>
+    requires { log.now.limit ≤ 2 ^ 32 }
     ensures ok { IfOk result (λ tables. (added : List Placed) × AreTablesOf tables added × AllStand (log_bytes log.now) added × (log.now.payloads ≡ map text_of (payloads_of added))) }
     ensures err { IfErr result (λ fault. (fault ≡ LoadFault.Memory) ⊎ ((k : ℕ) × (fault ≡ LoadFault.Batch k) × IsFirstUnlawful [] log.now.payloads k)) }
 {
-    Err(LoadFault::Memory)
+    let bytes = log.bytes();
+    let mut tables = Tables::empty(alloc);
+    let mut end = 0;
+    'batches: for k in 0..log.batch_count() {
+        let payload = log.batch(k);
+        read_batch(&mut tables, bytes, payload, k, end + 9)?;
+        end += 9 + payload.len() as u64;
+    }
+    Ok(tables)
 }
 
 /// Sixteen sessions without rows on all payloads of the log.
@@ -50,8 +107,13 @@ pub(crate) fn new_sessions(
     requires { (added : List Placed) × AreTablesOf tables.now added × (log.now.payloads ≡ map text_of (payloads_of added)) }
     ensures count { IfOk result (λ sessions. length sessions.items ≡ 16) }
     ensures each { (added : List Placed) (s : ℕ) → AreTablesOf tables.now added → log.now.payloads ≡ map text_of (payloads_of added) → s < 16
-        → IfOk result (λ sessions. IsSessionOf added (session_at sessions.items s) × ((session_at sessions.items s).payloads ≡ length added) × HoldsRows (session_at sessions.items s).pending []) }
+        → IfOk result (λ sessions. IsOnNewest added (session_at sessions.items s)) }
     ensures err { IfErr result (λ fault. fault ≡ LoadFault.Memory) }
 {
-    Err(LoadFault::Memory)
+    let mut sessions = Vec::with_capacity(alloc, 16)?;
+    'sessions: for _step in 0..16u32 {
+        let session = Session::newest(alloc, tables, log.batch_count())?;
+        sessions.push(session)?;
+    }
+    Ok(sessions)
 }

@@ -1,8 +1,13 @@
 //! Looking up names, where there are no mirrors.
 
-ghost use Rattle.std.specs.Prelude.{◌≡◌, List, true, IsTrue, ◌↔◌};
-ghost use Rattle.id_groups.specs.Name.{Name as NameBytes};
-ghost use Rattle.commit_graph.specs.World.{Row, World};
+ghost use Rattle.std.specs.Prelude.{◌≡◌, ◌<◌, List, ℕ, map, IfOk, IfErr, MatchResult, None, nat_eq};
+ghost use Rattle.std.specs.Cmp.Lexicographic.{pointwise};
+ghost use Rattle.id_groups.specs.Name.{Name as NameBytes, same_name};
+ghost use Rattle.commit_graph.specs.World.{Row, World, with_pending};
+ghost use Rattle.commit_graph.specs.Ids.{id_in};
+ghost use Rattle.segment_codec.specs.Lent.{parents_left};
+ghost use Rattle.segment_codec.specs.Table.{parents_at};
+ghost use Rattle.high_segments.specs.Views.{flats_in};
 ghost use Rattle.name_map.specs.Added.{Placed, payloads_of};
 ghost use Rattle.change_rules.specs.Tables.{StandFor};
 ghost use Rattle.change_rules.specs.Lazy.{has_lazy};
@@ -13,7 +18,9 @@ ghost use Rattle.dag_store.specs.Kept.{PlainSession, IsSessionOf, base_added};
 ghost use Rattle.dag_store.specs.Looking.{Sees, FindsName};
 
 use flush_rebuild::{BaseRef, PendingRows, Tables};
+use high_segments::View;
 use id_groups::{Id, Name};
+use segment_codec::{Parents, SegmentTable, Steps};
 use step_rules::Refusal;
 
 /// Whether some of the first master ids has no stored name.
@@ -47,4 +54,35 @@ pub(crate) fn find(
         return Err(Refusal::NoRemote);
     }
     Ok(None)
+}
+
+/// Whether these are the ids, in order.
+fn are_these(parents: Parents<'_>, ids: &[Id]) -> bool
+    ensures { result ≡ pointwise nat_eq (parents_left parents.entry) ids.now }
+{
+    let mut rest = parents;
+    match ids {
+        [] => rest.next().is_none(),
+        [id, others @ ..] => match rest.next() {
+            Some(parent) => parent.number() == id.number() && are_these(rest, others),
+            None => false,
+        },
+    }
+}
+
+/// Whether the id of the view has these parents, in order.
+pub(crate) fn has_parents(view: &View<'_>, id: Id, ids: &[Id]) -> bool
+    ensures { result ≡ pointwise nat_eq (parents_at (flats_in view.now) id) ids.now }
+{
+    let mut steps = Steps::new();
+    let Some(segment) = view.flat(id, &mut steps) else {
+        return ids.is_empty();
+    };
+    if segment.low().number() == id.number() {
+        return are_these(segment.parents(), ids);
+    }
+    match ids {
+        [parent] => parent.number() == id.number().saturating_sub(1),
+        _ => false,
+    }
 }

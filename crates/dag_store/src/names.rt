@@ -1,16 +1,93 @@
 //! The names of an answer, as they are lent.
 
-ghost use Rattle.std.specs.Prelude.{◌≡◌};
+ghost use Rattle.std.specs.Prelude.{◌≡◌, List};
+ghost use Rattle.name_map.specs.Added.{Placed};
+ghost use Rattle.payload_tables.specs.Bases.{IsBaseOf};
+ghost use Rattle.payload_tables.specs.Pending.{IdRow, HoldsRows};
+ghost use Rattle.dag_store.specs.Names.{lent_name, name_in, named_front, names_left, pending_name};
+ghost use Rattle.span_set.specs.Down.{ids_left};
 
 use flush_rebuild::{BaseRef, PendingRows};
-use id_groups::NameRef;
+use id_groups::{FIRST_OTHER, Id, NameRef};
 use span_set::IdsDown;
+use std::marker::Model;
 
 /// The names of the ids of an answer in a session's view, the greatest id first, lent from the log and from the pending rows; up to
-/// the first id that has no stored name, of which an answer has none.
-#[derive(Clone, Copy, Drop)]
+/// the first id that has no stored name, of which an answer has none. Contracts see the names that are left.
+#[derive(Drop)]
 pub struct Names<'a> {
     pub(crate) ids: IdsDown<'a>,
     pub(crate) base: BaseRef<'a>,
     pub(crate) pending: &'a PendingRows,
+}
+
+impl<'a> Model for Names<'a> {
+    ghost use Rattle.std.specs.Prelude.{List};
+    ghost use Rattle.id_groups.specs.Name.{Name};
+    ghost use Rattle.span_set.specs.Down.{ids_left};
+    ghost use Rattle.dag_store.specs.Names.{named_front, IsLent};
+
+    ghost Value = { List Name };
+
+    ghost view = { λ names. named_front names.base names.pending.now (ids_left names.ids) };
+
+    ghost invariant = { λ names. IsLent names.base names.pending.now };
+}
+
+/// The name of the pending row with the id.
+fn name_of_row<'a>(pending: &'a PendingRows, id: Id) -> Option<NameRef<'a>>
+    requires { (rows : List IdRow) × HoldsRows pending.now rows }
+    ensures { lent_name result ≡ pending_name pending.now id }
+{
+    let place = id.number().checked_sub(FIRST_OTHER + pending.first())?;
+    if place >= u64::from(pending.len()) {
+        return None;
+    }
+    Some(pending.name(place as u32))
+}
+
+/// The name of an id, which is stored or pending.
+fn name_of_id<'a>(base: &BaseRef<'a>, pending: &'a PendingRows, id: Id) -> Option<NameRef<'a>>
+    requires base { (added : List Placed) × IsBaseOf base.now added }
+    requires pending { (rows : List IdRow) × HoldsRows pending.now rows }
+    ensures { lent_name result ≡ name_in base.now pending.now id }
+{
+    if let Some(name) = base.name(id) {
+        return Some(name);
+    }
+    name_of_row(pending, id)
+}
+
+impl<'a> Names<'a> {
+    /// The names of these ids.
+    pub(crate) fn over(
+        ids: IdsDown<'a>,
+        base: BaseRef<'a>,
+        pending: &'a PendingRows,
+    ) -> Names<'a>
+        requires base { (added : List Placed) × IsBaseOf base added }
+        requires pending { (rows : List IdRow) × HoldsRows pending.now rows }
+        ensures { names_left result ≡ named_front base.entry pending.now (ids_left ids.entry) }
+    {
+        Names { ids, base, pending }
+    }
+}
+
+impl<'a> Iterator for Names<'a> {
+    type Item = NameRef<'a>;
+
+    ghost use Rattle.std.specs.Iterator.{YieldsFirstBy, item_count};
+    ghost use Rattle.dag_store.specs.Names.{names_left, name_of};
+
+    ghost next_gives = { YieldsFirstBy name_of names_left };
+
+    ghost remaining = { item_count names_left };
+
+    fn next(&mut self) -> Option<NameRef<'a>> {
+        let mut ids = self.ids;
+        let id = ids.next()?;
+        let name = name_of_id(&self.base, self.pending, id)?;
+        self.ids = ids;
+        Some(name)
+    }
 }

@@ -1,12 +1,14 @@
 //! What is kept of a session.
 
-ghost use Rattle.std.specs.Prelude.{◌≡◌, List, length, take};
+ghost use Rattle.std.specs.Prelude.{◌≡◌, List, length, take, IfOk};
 ghost use Rattle.name_map.specs.Added.{Placed, AllStand};
 ghost use Rattle.payload_tables.specs.Kept.{AreTablesOf};
 ghost use Rattle.payload_tables.specs.Bases.{IsBaseOf};
 ghost use Rattle.dag_store.specs.Kept.{IsSessionOf, base_added};
+ghost use Rattle.dag_store.specs.Loading.{IsOnNewest};
 
 use flush_rebuild::{BaseRef, OthersTable, PendingRows, Tables};
+use std::alloc::{AllocError, Global};
 use std::marker::Model;
 
 /// The first payloads of the log that make its base, and its rows that aren't stored. Contracts see what is kept.
@@ -27,6 +29,25 @@ impl Model for Session {
 }
 
 impl Session {
+    /// A session without rows on all of so many payloads, of which these are the tables.
+    pub(crate) fn newest(
+        alloc: Global,
+        tables: &Tables,
+        payloads: u32,
+    ) -> Result<Session, AllocError>
+        requires { (added : List Placed) × AreTablesOf tables.now added }
+        ensures { (added : List Placed) → AreTablesOf tables.now added → payloads ≡ length added → IfOk result (IsOnNewest added) }
+    {
+        let others = tables.others().copy(alloc)?;
+        let first = u64::from(others.count());
+        Ok(Session {
+            payloads,
+            below: tables.master_count(),
+            others,
+            pending: PendingRows::empty(alloc, first),
+        })
+    }
+
     /// Its base, lent with the log's bytes.
     pub(crate) fn base<'a>(&'a self, bytes: &'a [u8], tables: &'a Tables) -> BaseRef<'a>
         ensures { (added : List Placed) → IsSessionOf added self.now → AreTablesOf tables.now added → AllStand bytes.now added

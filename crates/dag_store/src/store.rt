@@ -51,11 +51,7 @@ impl Model for Store {
 
 impl Store {
     /// The store of a log: sixteen sessions on its newest world. While it is loaded, a crash leaves what holds that world.
-    pub fn load<D: Disk>(
-        alloc: Global,
-        disk: &mut D,
-        limits: Limits,
-    ) -> Result<Store, LoadFault>
+    pub fn load<D: Disk>(alloc: Global, disk: &mut D, limits: Limits) -> Result<Store, LoadFault>
         requires { AreLimits limits }
         ensures limits { IfOk result (λ store. store.limits ≡ limits) }
         ensures answers { IfSome (D.bytes disk.old) (λ bytes. LoadAnswers limits bytes result) }

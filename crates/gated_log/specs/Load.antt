@@ -1,5 +1,5 @@
 -- What loading answers, and what it does to a disk.
-use Rattle.std.specs.Prelude.{◌≡◌, ◌<◌, ◌≤◌, ◌⊎◌, ◌+◌, ◌*◌, ℕ, List, [], ◌∷◌, ◌++◌, length, replicate, Result, Ok, Err, ⊤}
+use Rattle.std.specs.Prelude.{◌≡◌, ◌<◌, ◌≤◌, ◌⊎◌, ◌+◌, ◌*◌, ℕ, List, [], ◌∷◌, ◌++◌, length, replicate, nat_le, if◌then◌else◌, Result, Ok, Err, ⊤}
 use Rattle.disk_trait.specs.Images.{Told, IsImage, LeftAt, moment_of, surely}
 use Rattle.disk_trait.specs.Since.{SureSince}
 use Rattle.gated_log.specs.Log.{IsLog, IsDamaged}
@@ -76,6 +76,10 @@ pub record IsStarted (log : Held) (old new : Told) : Type 0 where
 -- so many calls at most
 abbrev pub WithinCalls : ℕ → Told → Told → Type 0
 WithinCalls calls old new = moment_of new ≤ moment_of old + 2 * calls
+
+-- loading makes four calls at most for a fresh file, and three for any other
+abbrev pub LoadCalls : Told → Told → Type 0
+LoadCalls old new = moment_of new ≤ moment_of old + (if nat_le (length old.bytes) 1 then 8 else 6)
 
 -- so many calls, of which a sync was one and none wrote
 abbrev pub IsUnwritten : ℕ → Told → Told → Type 0

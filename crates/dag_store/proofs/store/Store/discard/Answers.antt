@@ -1,4 +1,4 @@
-use Rattle.std.proofs.Common.{◌≡◌, refl, sym, ap, subst, ◌∙◌, ℕ, List, [], set}
+use Rattle.std.proofs.Common.{sym, ap, subst, ◌∙◌, ℕ, [], set}
 use Rattle.step_rules.specs.State.{Stored, with_pending_rows}
 use Rattle.step_rules.specs.Verb.{Discard}
 use Rattle.step_rules.specs.Reply.{Discarded}
@@ -20,7 +20,7 @@ invariant_of-self c =
     let x = c.session.view_is ∙ session-there items c.args.s c.from.result c.index_mut-session.result.now _ c.requires k.count c.from.ensures c.index_mut-session.ensures.value in
     let first = c.empty.ensures.first ∙ c.first.ensures ∙ ap (λ (q : PlainSession). q.pending.first) x in
     let same = ap (λ n. set items n (record { payloads = c.session.inside.payloads; below = c.session.inside.below; others = c.session.inside.others; pending = none })) c.from.ensures
-        ∙ ap (λ (q : PlainSession). set items c.args.s (record q { pending = none })) x in
+    ∙ ap (λ (q : PlainSession). set items c.args.s (record q { pending = none })) x in
     subst (λ l. IsKept i.log i.tables l i.limits) (sym same)
     (kept-with i.log i.tables items i.limits k c.args.s (record (session_at items c.args.s) { pending = none }) c.requires
     (discarded-of i.log i.tables items i.limits k c.args.s c.requires none c.empty.ensures.rows first))
@@ -34,7 +34,7 @@ returns-clause-step c =
     let x = c.session.view_is ∙ session-there items c.args.s c.from.result c.index_mut-session.result.now _ c.requires k.count c.from.ensures c.index_mut-session.ensures.value in
     let first = c.empty.ensures.first ∙ c.first.ensures ∙ ap (λ (q : PlainSession). q.pending.first) x in
     let same = ap (λ n. set items n (record { payloads = c.session.inside.payloads; below = c.session.inside.below; others = c.session.inside.others; pending = none })) c.from.ensures
-        ∙ ap (λ (q : PlainSession). set items c.args.s (record q { pending = none })) x in
+    ∙ ap (λ (q : PlainSession). set items c.args.s (record q { pending = none })) x in
     subst (λ (q : PlainStore). (began : ℕ) (st : Stored) → Stands began q st → LoneStep q.limits st c.args.s Discard (Discarded c.len-count.result) (with_pending_rows st c.args.s [])
     × Stands began (record { log = i.log; sessions = set items c.from.result (record { payloads = c.session.inside.payloads; below = c.session.inside.below; others = c.session.inside.others; pending = none }); limits = i.limits }) (with_pending_rows st c.args.s []))
     c.self.view_is

@@ -1,9 +1,51 @@
-use Rattle.std.proofs.Common.{arith}
-use Rattle.disk_trait.proofs.Telling.{goes-same}
-use Rattle.disk_trait.proofs.Moments.{started}
-use Rattle.change_rules.specs.Holding.{HoldBytes}
-use Rattle.dag_store.specs.Loading.{KeepsHolding}
+use Rattle.std.proofs.Common.{Ok, Err, refl}
+use Rattle.std.proofs.lemmas.Result.{err_from_is_err_and}
+use Rattle.gated_log.specs.Load.{Loads, IsLogOf}
+use Rattle.change_rules.specs.Holding.{HoldAs}
+use Rattle.dag_store.specs.Kept.{PlainStore}
+use Rattle.dag_store.specs.Loading.{Opens, fault_of}
+use Rattle.dag_store.proofs.Opening.{loaded-kept, opened, refused, log-refused, tables-refused, if-some, load-keeps, load-done}
 use Rattle.dag_store.proofs.store.Store.load.Goals as goal
 
+pub returns-in_err-log-clause-images : goal.returns-in_err-log-clause-images
+returns-in_err-log-clause-images g c = λ w. load-keeps c.args.limits w (g.D.Disk.told c.args.disk.now) (g.D.Disk.told c.load.new.disk) c.requires (g.met.D.Disk.sound c.args.disk.now) c.in_err-log.ensures.fresh
+
+pub returns-in_err-tables-clause-images : goal.returns-in_err-tables-clause-images
+returns-in_err-tables-clause-images g c = λ w. load-keeps c.args.limits w (g.D.Disk.told c.args.disk.now) (g.D.Disk.told c.load.new.disk) c.requires (g.met.D.Disk.sound c.args.disk.now) c.in_ok-log.ensures.fresh
+
+pub returns-in_err-sessions-clause-images : goal.returns-in_err-sessions-clause-images
+returns-in_err-sessions-clause-images g c = λ w. load-keeps c.args.limits w (g.D.Disk.told c.args.disk.now) (g.D.Disk.told c.load.new.disk) c.requires (g.met.D.Disk.sound c.args.disk.now) c.in_ok-log.ensures.fresh
+
 pub returns-clause-images : goal.returns-clause-images
-returns-clause-images g c = λ w. goes-same (KeepsHolding c.args.limits.log w) (g.D.Disk.told c.args.disk.now) (λ t holds. started (λ moment image. HoldBytes c.args.limits.log image w) t holds)
+returns-clause-images g c = λ w. load-keeps c.args.limits w (g.D.Disk.told c.args.disk.now) (g.D.Disk.told c.load.new.disk) c.requires (g.met.D.Disk.sound c.args.disk.now) c.in_ok-log.ensures.fresh
+
+pub returns-in_err-log-clause-opens : goal.returns-in_err-log-clause-opens
+returns-in_err-log-clause-opens g c = λ payloads w.
+    let p = err_from_is_err_and c.from_residual.result c.from_residual.ensures.1 in
+    let fault = c.in_err-log.field-0.0 in
+    rw (p.1, p.2) (if-some (λ bytes. Loads c.args.limits.log bytes (Err fault)) (λ bytes. HoldAs c.args.limits.log bytes payloads w → Opens c.args.limits payloads w (Err (fault_of fault))) (g.D.Disk.bytes c.args.disk.now)
+    (λ bytes answers hold. refused c.args.limits payloads w bytes (fault_of fault) (log-refused c.args.limits bytes fault answers) hold) c.in_err-log.ensures.answers)
+
+pub returns-in_err-tables-clause-opens : goal.returns-in_err-tables-clause-opens
+returns-in_err-tables-clause-opens g c = λ payloads w.
+    let p = err_from_is_err_and c.from_residual-in_err-tables.result c.from_residual-in_err-tables.ensures.1 in
+    let fault = c.in_err-tables.field-0.0 in
+    rw (p.1, p.2) (if-some (λ bytes. IsLogOf c.args.limits.log bytes c.in_ok-log.log) (λ bytes. HoldAs c.args.limits.log bytes payloads w → Opens c.args.limits payloads w (Err fault)) (g.D.Disk.bytes c.args.disk.now)
+    (λ bytes log hold. refused c.args.limits payloads w bytes fault (tables-refused c.args.limits bytes c.in_ok-log.log fault log c.in_err-tables.ensures.err) hold) c.in_ok-log.ensures.answers)
+
+pub invariant_of-result : goal.invariant_of-result
+invariant_of-result g c =
+    let read = c.in_ok-tables.ensures.ok in
+    loaded-kept c.in_ok-log.log c.in_ok-tables.tables c.in_ok-sessions.sessions.items c.args.limits read.0 read.1 read.2 read.3 c.in_ok-sessions.ensures.count
+    (λ s small. c.in_ok-sessions.ensures.each read.0 s read.1 read.3 small) c.requires c.in_ok-log.ensures.limit
+
+pub returns-clause-opens : goal.returns-clause-opens
+returns-clause-opens g c = λ payloads w.
+    let store : PlainStore = record { log = c.in_ok-log.log; sessions = c.in_ok-sessions.sessions.items; limits = c.args.limits } in
+    let read = c.in_ok-tables.ensures.ok in
+    if-some (λ bytes. IsLogOf c.args.limits.log bytes c.in_ok-log.log) (λ bytes. HoldAs c.args.limits.log bytes payloads w → Opens c.args.limits payloads w (Ok store)) (g.D.Disk.bytes c.args.disk.now)
+    (λ bytes log hold. opened c.args.limits store c.in_ok-tables.tables read.0 payloads w bytes log read.1 read.3 (λ s small. c.in_ok-sessions.ensures.each read.0 s read.1 read.3 small) hold) c.in_ok-log.ensures.answers
+
+pub returns-clause-done : goal.returns-clause-done
+returns-clause-done g c =
+    load-done c.args.limits (record { log = c.in_ok-log.log; sessions = c.in_ok-sessions.sessions.items; limits = c.args.limits }) (g.D.Disk.told c.args.disk.now) (g.D.Disk.told c.load.new.disk) refl c.in_ok-log.ensures.limit c.in_ok-log.ensures.done

@@ -1,12 +1,12 @@
-use Rattle.std.proofs.Common.{◌≡◌, sym, ap, subst, ◌∙◌, ℕ}
+use Rattle.std.proofs.Common.{sym, ap, subst, ◌∙◌, ℕ}
 use Rattle.step_rules.specs.State.{Stored}
 use Rattle.step_rules.specs.Verb.{Status}
 use Rattle.step_rules.specs.Reply.{Sizes}
 use Rattle.step_rules.specs.Lone.{LoneStep}
-use Rattle.payload_tables.specs.Pending.{IdRow, HoldsRows}
-use Rattle.dag_store.specs.Kept.{PlainSession, PlainStore, session_at}
+use Rattle.payload_tables.specs.Pending.{HoldsRows}
+use Rattle.dag_store.specs.Kept.{PlainSession, PlainStore}
 use Rattle.dag_store.specs.Stands.{Stands}
-use Rattle.dag_store.proofs.Sizes.{status-step, CountsRows}
+use Rattle.dag_store.proofs.Sizes.{status-step}
 use Rattle.dag_store.proofs.Standing.{session-there}
 use Rattle.dag_store.proofs.store.Store.status.Goals as goal
 

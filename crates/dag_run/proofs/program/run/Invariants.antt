@@ -1,0 +1,25 @@
+use Rattle.std.proofs.Common.{◌≡◌, ◌≤◌, ℕ, List, IfSome}
+use Rattle.id_groups.specs.Name.{Name}
+use Rattle.commit_graph.specs.World.{World}
+use Rattle.outside.specs.Told.{WhereTold}
+use Rattle.line_io.specs.Reading.{budget}
+use Rattle.gated_log.specs.Holding.{IsOnDisk}
+use Rattle.batch_codec.specs.Payload.{Payload}
+use Rattle.dag_run.specs.Seen.{seen}
+use Rattle.dag_run.specs.Ends.{Begins}
+use Rattle.dag_run.proofs.Going.{Going}
+use Rattle.dag_run.proofs.program.run.Given as goal
+
+abbrev pub invariant-lines : goal.invariant-lines
+invariant-lines g l = record {
+  limits : l.store.limits ≡ l.fn.limits;
+  ready : IfSome (g.D.Disk.told l.log) (IsOnDisk l.store.log);
+  told : (w : World Name) (payloads : List Payload) (room : ℕ) → WhereTold (seen (g.D.Disk.told l.fn.log) (g.I.Source.left l.fn.input) (g.O.Sink.taken l.fn.output)) (seen (g.D.Disk.told l.log) (g.I.Source.left l.input) (g.O.Sink.taken l.output))
+      (λ before after. Begins l.fn.limits w payloads before → Going l.fn.limits w payloads room l.store l.changes.items l.lines before after);
+  disk_later : g.D.Disk.faults l.fn.log ≤ g.D.Disk.faults l.log;
+  source_later : g.I.Source.faults l.fn.input ≤ g.I.Source.faults l.input;
+  sink_later : g.O.Sink.faults l.fn.output ≤ g.O.Sink.faults l.output;
+}
+
+abbrev pub decreases-lines : goal.decreases-lines
+decreases-lines g l = budget l.lines

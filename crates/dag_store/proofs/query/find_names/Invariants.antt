@@ -1,0 +1,17 @@
+use Rattle.std.proofs.Common.{◌≡◌, List, None, map, take}
+use Rattle.id_groups.specs.Name.{Name, same_name}
+use Rattle.commit_graph.specs.World.{Row, World, with_pending}
+use Rattle.commit_graph.specs.Ids.{id_in}
+use Rattle.name_map.specs.Added.{Placed, payloads_of}
+use Rattle.set_expr.specs.Expr.{commits_in}
+use Rattle.set_expr.specs.Whole.{tree_of}
+use Rattle.change_rules.specs.Lazy.{has_lazy}
+use Rattle.step_rules.specs.Tests.{first_some}
+use Rattle.dag_store.specs.Looking.{Sees}
+use Rattle.dag_store.specs.Querying.{name_refusals}
+use Rattle.dag_store.proofs.query.find_names.Given as goal
+
+abbrev pub invariant-names : goal.invariant-names
+invariant-names l = (added : List Placed) (w : World Name) (rows : List (Row Name)) → Sees l.base l.pending added w rows → l.unnamed ≡ has_lazy (payloads_of added) w
+    → (first_some (name_refusals (payloads_of added) w rows (take l.k (commits_in (tree_of l.expr)))) ≡ None)
+    × (l.ids.items ≡ map (id_in same_name (with_pending w rows)) (take l.k (commits_in (tree_of l.expr))))

@@ -1,0 +1,78 @@
+use Rattle.std.proofs.Common.{◌≡◌, sym, ap, subst, ◌∙◌, List, length, map}
+use Rattle.id_groups.specs.Name.{same_name}
+use Rattle.commit_graph.specs.Ids.{id_in}
+use Rattle.commit_graph.specs.World.{with_pending}
+use Rattle.set_expr.specs.Expr.{commits_in}
+use Rattle.set_expr.specs.Whole.{tree_of}
+use Rattle.span_set.specs.Members.{IsCanonical}
+use Rattle.high_segments.specs.Views.{flats_in, lawful_flats}
+use Rattle.name_map.specs.Added.{payloads_of}
+use Rattle.payload_tables.specs.Bases.{ArePending, MayView}
+use Rattle.dag_store.specs.Kept.{PlainSession, base_added}
+use Rattle.dag_store.specs.Looking.{Sees}
+use Rattle.dag_store.proofs.QueryWorld.{some-seen, may-view, seen-by}
+use Rattle.dag_store.proofs.QueryAnswers.{found-held, evaluated, count-found, err-evaluates}
+use Rattle.dag_store.proofs.query.members.Goals as goal
+
+pub returns-in_err-ids : goal.returns-in_err-ids
+returns-in_err-ids c = λ added w rows t stand of h.
+    let x = c.args.session.now in
+    let base = c.base-base.result in
+    let b = c.base-base.ensures added of t stand in
+    let pending = ap (λ (q : PlainSession). q.pending) c.session.view_is in
+    let sees = subst (λ p. Sees base p (base_added added x) w rows) (sym pending) (seen-by c.args.tables.now added x t of base b w rows h) in
+    let unnamed = c.has_unnamed-unnamed.ensures added x w t of (ap (λ (q : PlainSession). q.below) c.session.view_is) h.stand in
+    err-evaluates (payloads_of (base_added added x)) w rows (tree_of c.args.expr.now) c.from_residual.result c.in_err-ids.field-0.0 c.from_residual.ensures.1
+    (c.in_err-ids.ensures (base_added added x) w rows sees unnamed)
+
+pub view-requires : goal.view-requires
+view-requires c =
+    let x = c.args.session.now in
+    let (added, t, stand, of) = c.requires in
+    let b = c.base-base.ensures added of t stand in
+    let pending = ap (λ (q : PlainSession). q.pending) c.session.view_is in
+    (base_added added x, b, subst (MayView c.base-base.result (base_added added x)) (sym pending) (may-view c.args.tables.now added x t of c.base-base.result b))
+
+pub eval-requires-clause-count : goal.eval-requires-clause-count
+eval-requires-clause-count c =
+    let x = c.args.session.now in
+    let (added, t, stand, of) = c.requires in
+    let (w, rows, h) = some-seen c.args.tables.now added x t of in
+    let base = c.base-base.result in
+    let b = c.base-base.ensures added of t stand in
+    let pending = ap (λ (q : PlainSession). q.pending) c.session.view_is in
+    let sees = subst (λ p. Sees base p (base_added added x) w rows) (sym pending) (seen-by c.args.tables.now added x t of base b w rows h) in
+    let unnamed = c.has_unnamed-unnamed.ensures added x w t of (ap (λ (q : PlainSession). q.below) c.session.view_is) h.stand in
+    let ids = c.in_ok-ids.ensures (base_added added x) w rows sees unnamed in
+    count-found (id_in same_name (with_pending w rows)) (commits_in (tree_of c.args.expr.now)) c.deref.result.now (c.deref.ensures.value ∙ ids.1)
+
+pub eval-requires-clause-held : goal.eval-requires-clause-held
+eval-requires-clause-held c =
+    let x = c.args.session.now in
+    let (added, t, stand, of) = c.requires in
+    let (w, rows, h) = some-seen c.args.tables.now added x t of in
+    let base = c.base-base.result in
+    let b = c.base-base.ensures added of t stand in
+    let pending = ap (λ (q : PlainSession). q.pending) c.session.view_is in
+    let seen = seen-by c.args.tables.now added x t of base b w rows h in
+    let sees = subst (λ p. Sees base p (base_added added x) w rows) (sym pending) seen in
+    let unnamed = c.has_unnamed-unnamed.ensures added x w t of (ap (λ (q : PlainSession). q.below) c.session.view_is) h.stand in
+    let ids = c.in_ok-ids.ensures (base_added added x) w rows sees unnamed in
+    let segments = c.view.ensures (base_added added x) w rows b h.stand (subst (λ p. ArePending w p rows) (sym pending) h.pending_rows) in
+    found-held base x.pending (base_added added x) w rows seen (flats_in c.view.result) segments (commits_in (tree_of c.args.expr.now)) ids.0 c.deref.result.now (c.deref.ensures.value ∙ ids.1)
+
+pub returns : goal.returns
+returns c = λ added w rows t stand of h.
+    let x = c.args.session.now in
+    let base = c.base-base.result in
+    let b = c.base-base.ensures added of t stand in
+    let pending = ap (λ (q : PlainSession). q.pending) c.session.view_is in
+    let seen = seen-by c.args.tables.now added x t of base b w rows h in
+    let sees = subst (λ p. Sees base p (base_added added x) w rows) (sym pending) seen in
+    let unnamed = c.has_unnamed-unnamed.ensures added x w t of (ap (λ (q : PlainSession). q.below) c.session.view_is) h.stand in
+    let ids = c.in_ok-ids.ensures (base_added added x) w rows sees unnamed in
+    let segments = c.view.ensures (base_added added x) w rows b h.stand (subst (λ p. ArePending w p rows) (sym pending) h.pending_rows) in
+    let same = c.set.ensures in
+    let r = evaluated base x.pending (base_added added x) w rows seen (flats_in c.view.result) segments (lawful_flats c.view.result) (tree_of c.args.expr.now) ids.0
+        c.deref.result.now (c.deref.ensures.value ∙ ids.1) c.in-Ok.answer.set (subst IsCanonical same c.spans-spans.ensures.canonical) c.in-Ok.ensures.members in
+    (ids.0, r.0, r.1, r.2, r.3)
