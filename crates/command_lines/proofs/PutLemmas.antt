@@ -13,7 +13,7 @@ use Rattle.outside.specs.Told.{TookFront}
 use Rattle.std.proofs.lemmas.Grind.{common_steps, flat_map-append}
 use Rattle.std.proofs.lemmas.Option.{slice_get_within, get_or_from_slice_get}
 use Rattle.step_rules.specs.Reply.{LevelSizes, Listed, reply_text, words_text}
-use Rattle.command_lines.specs.Sending.{Sends, lines_text}
+use Rattle.command_lines.specs.Sending.{Sends, lines_text, listed_text}
 
 decimal-short : (n : ℕ) → n < 2 ^ 64 → length (decimal n) ≤ 20
 decimal-short n h = search (rules, length-decimal-le 20)
@@ -115,17 +115,17 @@ pub levels-end : (counts : List ℕ) (k : ℕ) → length counts ≤ k → reply
 levels-end counts k all = levels-whole counts ∙ ap (λ (l : List ℕ). words_text (codes "ok") (map decimal l) ++ 10 ∷ []) (sym (take_all k counts all))
 
 -- how many names there are, as the last line tells it
-abbrev pub count_lines : List Name → List (List ℕ)
-count_lines names = words_text (codes "ok") (decimal (length names) ∷ []) ∷ []
+abbrev pub count_lines : ℕ → List (List ℕ)
+count_lines count = words_text (codes "ok") (decimal count ∷ []) ∷ []
 
 -- one name more
 pub name-next : (done : List Name) (name : Name) → lines_text (map hex_text (done ++ name ∷ [])) ≡ lines_text (map hex_text done) ++ lines_text (hex_text name ∷ [])
 name-next done name = ap lines_text (map-append hex_text done (name ∷ [])) ∙ lines-append (map hex_text done) (hex_text name ∷ [])
 
 -- all lines of an answer, of which the first names were sent
-pub names-part : (all done left : List Name) → all ≡ done ++ left → (more : List ℕ) × (reply_text (Listed all) ≡ lines_text (map hex_text done) ++ more)
-names-part all done left is =
-    let last = count_lines all in (
+pub names-part : (count : ℕ) (all done left : List Name) → all ≡ done ++ left → (more : List ℕ) × (listed_text all count ≡ lines_text (map hex_text done) ++ more)
+names-part count all done left is =
+    let last = count_lines count in (
       lines_text (map hex_text left ++ last),
       ap (λ (l : List Name). lines_text (map hex_text l ++ last)) is
           ∙ ap (λ (l : List (List ℕ)). lines_text (l ++ last)) (map-append hex_text done left)
@@ -133,10 +133,10 @@ names-part all done left is =
           ∙ lines-append (map hex_text done) (map hex_text left ++ last),
     )
 
-pub names-all : (all done left : List Name) → all ≡ done ++ left → left ≡ [] → reply_text (Listed all) ≡ lines_text (map hex_text done) ++ lines_text (count_lines all)
-names-all all done left is none =
+pub names-all : (count : ℕ) (all done left : List Name) → all ≡ done ++ left → left ≡ [] → listed_text all count ≡ lines_text (map hex_text done) ++ lines_text (count_lines count)
+names-all count all done left is none =
     let same : all ≡ done = is ∙ ap (λ (l : List Name). done ++ l) none ∙ append-nil done in
-    ap (λ (l : List Name). lines_text (map hex_text l ++ count_lines all)) same ∙ lines-append (map hex_text done) (count_lines all)
+    ap (λ (l : List Name). lines_text (map hex_text l ++ count_lines count)) same ∙ lines-append (map hex_text done) (count_lines count)
 
 -- which is short
 pub count-short : (n : ℕ) → n < 2 ^ 64 → length (lines_text (words_text (codes "ok") (decimal n ∷ []) ∷ [])) ≤ 64

@@ -4,9 +4,9 @@ ghost use Rattle.std.specs.Prelude.{◌≡◌, ◌≤◌, ◌+◌, length, Match
 ghost use Rattle.outside.specs.Counts.{HasCause};
 ghost use Rattle.outside.specs.Told.{WhereTold, TookFront, Puts};
 ghost use Rattle.run_rules.specs.Ends.{disk_text};
-ghost use Rattle.step_rules.specs.Reply.{LevelSizes, Listed, reply_text};
+ghost use Rattle.step_rules.specs.Reply.{LevelSizes, reply_text};
 ghost use Rattle.dag_store.specs.Names.{names_left};
-ghost use Rattle.command_lines.specs.Sending.{Sends};
+ghost use Rattle.command_lines.specs.Sending.{Sends, listed_text};
 ghost use Rattle.command_lines.specs.Told.{told};
 
 use crate::Reply;
@@ -63,10 +63,9 @@ fn put_levels<O: Sink>(output: &mut O, counts: &LevelCounts) -> Result<(), SinkF
     output.put(block.as_slice())
 }
 
-/// Puts names as they are lent, one a line, and how many they are.
+/// Puts names as they are lent, one a line, and this number of them, which is told to be how many they are.
 pub fn put_names<O: Sink>(output: &mut O, names: Names<'_>, count: u64) -> Result<(), SinkFault>
-    requires { count ≡ length (names_left names) }
-    ensures bytes { Puts (O.taken output.old) (O.taken output.new) result (reply_text (Listed (names_left names.entry))) }
+    ensures bytes { Puts (O.taken output.old) (O.taken output.new) result (listed_text (names_left names.entry) count) }
     ensures cause { HasCause (O.faults output.old) (O.faults output.new) result }
 {
     let mut block = ArrayVec::new();

@@ -41,10 +41,14 @@ use Rattle.change_rules.specs.Rebase.{left_of}
 use Rattle.step_rules.specs.State.{pending_of, on_newest}
 use Rattle.step_rules.specs.Worlds.{with_added}
 use Rattle.step_rules.specs.Verb.{Add, Reload, IdOf, Count}
-use Rattle.step_rules.specs.Reply.{Added as IsAdded, Old as IsOld, Reloaded, Identified, Counted}
+use Rattle.step_rules.specs.Reply.{Added as IsAdded, Old as IsOld, Reloaded, Identified, Counted, Listed}
 use Rattle.dag_store.specs.declared.replies.Added.{Added}
 use Rattle.dag_store.specs.declared.replies.Added.TheVariants as adds
-use Rattle.dag_store.specs.Steps.{AddStep, ReloadStep, IdStep, CountStep, ChangesOnly}
+use Rattle.std.proofs.Common.{length-map}
+use Rattle.commit_graph.specs.Ids.{id_in}
+use Rattle.step_rules.specs.State.{view_of}
+use Rattle.command_lines.specs.Sending.{listed_text}
+use Rattle.dag_store.specs.Steps.{AreIdsOf, AddStep, ReloadStep, IdStep, CountStep, ChangesOnly}
 use Rattle.dag_run.specs.Replies.{reply_of_add, reply_of_reload, reply_of_id, reply_of_count}
 use Rattle.dag_store.specs.declared.replies.Counts.{Counts}
 use Rattle.dag_store.specs.declared.replies.Flushed.TheVariants as flushes
@@ -242,3 +246,9 @@ line-told SinkFailed kept line r reply before now silent step put began st stand
 
 pub line-passed : (SinkFailed : Type 0) (kept : PlainStore) (line before : List ℕ) → is_silent line ≡ true → LineReplies SinkFailed kept line [] None (Ok kept) before before
 line-passed SinkFailed kept line before silent began st stands = inl (silent, refl, stands, refl)
+
+-- the text of an answer's names and of their number
+pub listed-is : (st : Stored) (s : ℕ) (ids : List ℕ) (names told : List Name) (count : ℕ) → AreIdsOf st s ids names → told ≡ names → count ≡ length ids → listed_text told count ≡ reply_text (Listed names)
+listed-is st s ids names told count are same is =
+    ap (λ ns. listed_text ns count) same
+    ∙ ap (λ n. listed_text names n) (is ∙ ap length are.ids_are ∙ length-map (id_in same_name (view_of st s)) names)

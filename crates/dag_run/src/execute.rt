@@ -12,7 +12,7 @@ ghost use Rattle.command_lines.specs.Meant.{meant, HasFewParents};
 ghost use Rattle.dag_run.specs.Stops.{IsLineStop};
 ghost use Rattle.dag_run.specs.Lines.{changes_with, CommandReplies, LineReplies, LineLeaves};
 
-use crate::replies::{reply_of_add, reply_of_count, reply_of_id, reply_of_reload, tell, tell_fault};
+use crate::replies::{list, reply_of_add, reply_of_count, reply_of_id, reply_of_reload, tell, tell_fault};
 use crate::stops::Stop;
 use command_lines::{Command, CommandFault, Reply, Verb};
 use dag_store::{Flushed, Refusal, Store};
@@ -119,7 +119,7 @@ fn execute_command<D: Disk, O: Sink>(
             let count = store.discard(s);
             tell(store, &Reply::Discarded(count), output)
         }
-        Verb::Query(_) => tell(store, &Reply::Refused(Refusal::Memory), output),
+        Verb::Query(expr) => list(store, s, expr, output),
         Verb::Count(expr) => {
             let answer = store.count(s, expr);
             tell(store, &reply_of_count(answer), output)

@@ -1,15 +1,23 @@
 //! The replies that the store's answers are, and how they are put.
 
-ghost use Rattle.std.specs.Prelude.{◌≡◌, ◌≤◌, IfErr, IfOk};
+ghost use Rattle.std.specs.Prelude.{◌≡◌, ◌<◌, ◌≤◌, ℕ, List, [], None, IfErr, IfOk};
 ghost use Rattle.outside.specs.Counts.{HasCause, Rose};
 ghost use Rattle.outside.specs.Told.{WhereTold};
+ghost use Rattle.id_groups.specs.Name.{Name};
+ghost use Rattle.span_set.specs.Members.{ids_of};
+ghost use Rattle.set_expr.specs.Whole.{tree_of};
+ghost use Rattle.step_rules.specs.State.{Stored};
+ghost use Rattle.step_rules.specs.Verb.{Query};
+ghost use Rattle.step_rules.specs.Reply.{Listed};
+ghost use Rattle.dag_store.specs.Stands.{Stands};
+ghost use Rattle.dag_store.specs.Steps.{AreIdsOf};
 ghost use Rattle.command_lines.specs.Told.{told};
-ghost use Rattle.dag_run.specs.Lines.{PutsReply, PutsFault};
+ghost use Rattle.dag_run.specs.Lines.{CommandReplies, PutsReply, PutsFault};
 ghost use Rattle.dag_run.specs.Replies.{reply_of_add, reply_of_added, reply_of_reload, reply_of_id, reply_of_count};
 
 use crate::stops::Stop;
-use command_lines::{Reply, put_disk_fault, put_reply};
-use dag_store::{Added, Answer, Refusal, Store};
+use command_lines::{Reply, put_disk_fault, put_names, put_reply};
+use dag_store::{Added, Answer, Expr, Found, Refusal, Store};
 use id_groups::Id;
 use line_io::Sink;
 
@@ -72,6 +80,45 @@ pub(crate) fn tell<O: Sink>(store: Store, reply: &Reply, output: &mut O) -> Resu
 {
     put_reply(reply, output)?;
     Ok(store)
+}
+
+/// Puts the names of an answer, and hands the store back.
+fn list_names<O: Sink>(
+    store: Store,
+    s: u8,
+    found: &Found,
+    output: &mut O,
+) -> Result<Store, Stop>
+    requires { s < 16 }
+    ensures bytes { WhereTold (O.taken output.old) (O.taken output.new) (λ before now. (began : ℕ) (st : Stored) (names : List Name) → Stands began store st
+        → AreIdsOf st s (ids_of found.now.answer.set) names → PutsReply store (Listed names) result before now) }
+    ensures same { IfOk result (λ next. next ≡ store) }
+    ensures stop { IfErr result (λ stop. stop ≡ Stop.Sink) }
+    ensures cause { HasCause (O.faults output.old) (O.faults output.new) result }
+{
+    let names = store.names(s, found);
+    let count = found.answer().count();
+    put_names(output, names, count)?;
+    Ok(store)
+}
+
+/// Puts the answer of an expression, and hands the store back.
+pub(crate) fn list<O: Sink>(
+    store: Store,
+    s: u8,
+    expr: &Expr,
+    output: &mut O,
+) -> Result<Store, Stop>
+    requires { s < 16 }
+    ensures told { WhereTold (O.taken output.old) (O.taken output.new) (CommandReplies (Rose (O.faults output.old) (O.faults output.new)) store s (Query (tree_of expr.now)) [] None result) }
+    ensures same { IfOk result (λ next. next ≡ store) }
+    ensures stop { IfErr result (λ stop. stop ≡ Stop.Sink) }
+    ensures cause { HasCause (O.faults output.old) (O.faults output.new) result }
+{
+    match store.query(s, expr) {
+        Ok(found) => list_names(store, s, &found, output),
+        Err(refusal) => tell(store, &Reply::Refused(refusal), output),
+    }
 }
 
 /// Puts the last line of a run that the disk ended.

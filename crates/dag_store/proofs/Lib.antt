@@ -3,6 +3,7 @@ pub mod Standing
 pub mod Sizes
 pub mod Newest
 pub mod Loads
+pub mod Lawful
 pub mod StoredNames
 pub mod ParentTests
 pub mod Counting

@@ -59,3 +59,14 @@ pub record IsLoadedStore (store : PlainStore) (old new : Told) : Type 0 where
   pub other : 2 ≤ length old.bytes → moment_of new ≡ moment_of old + 6
   pub payloads : HasPayloads store.limits.log new store.log.payloads
   pub on_disk : IsOnDisk store.log new
+
+-- the file is no log
+abbrev pub IsNoLogFault : LoadFault → Type 0
+IsNoLogFault (Frame at) = ⊤
+IsNoLogFault (TooLarge size) = ⊤
+IsNoLogFault (Batch k) = ⊤
+IsNoLogFault _ = ⊥
+
+-- a read gives what it gave before
+abbrev pub SameBytes : Told → Told → Type 0
+SameBytes old new = new.bytes ≡ old.bytes

@@ -1,6 +1,6 @@
 //! A store, and what it tells without memory.
 
-ghost use Rattle.std.specs.Prelude.{◌≡◌, ◌<◌, ◌≤◌, ℕ, List, [], Err, length, map, IfOk, IfSome};
+ghost use Rattle.std.specs.Prelude.{◌≡◌, ◌<◌, ◌≤◌, ℕ, List, [], Err, length, map, IfErr, IfOk, IfSome};
 ghost use Rattle.id_groups.specs.Name.{Name as NameBytes};
 ghost use Rattle.outside.specs.Counts.{Rose};
 ghost use Rattle.commit_graph.specs.World.{World};
@@ -10,14 +10,15 @@ ghost use Rattle.batch_codec.specs.Payload.{Payload};
 ghost use Rattle.change_rules.specs.Standard.{AreLimits};
 ghost use Rattle.change_rules.specs.Change.{text_of};
 ghost use Rattle.change_rules.specs.Holding.{HoldAs};
-ghost use Rattle.gated_log.specs.Load.{WithinCalls};
+ghost use Rattle.change_rules.specs.Unlawful.{IsNoLog};
+ghost use Rattle.gated_log.specs.Load.{LoadCalls, WithinCalls};
 ghost use Rattle.step_rules.specs.State.{Stored, with_pending_rows};
 ghost use Rattle.step_rules.specs.Verb.{Discard, Levels, Status};
 ghost use Rattle.step_rules.specs.Reply.{Discarded, LevelSizes, Sizes};
 ghost use Rattle.step_rules.specs.Lone.{LoneStep};
 ghost use Rattle.dag_store.specs.Stands.{Stands};
 ghost use Rattle.dag_store.specs.Steps.{ChangesOnly};
-ghost use Rattle.dag_store.specs.Loading.{LoadAnswers, Opens, KeepsHolding, IsLoadedStore};
+ghost use Rattle.dag_store.specs.Loading.{LoadAnswers, Opens, KeepsHolding, IsLoadedStore, IsNoLogFault, SameBytes};
 
 use crate::loading::{new_sessions, read_tables};
 use crate::replies::{Counts, LoadFault};
@@ -61,6 +62,9 @@ impl Store {
             → (payloads : List (List ℕ)) → Goes (IsSureOf limits.log payloads) (D.told disk.old) (D.told disk.new) }
         ensures done { IfOk result (λ store. Goes (IsLoadedStore store) (D.told disk.old) (D.told disk.new)) }
         ensures calls { Goes (WithinCalls 4) (D.told disk.old) (D.told disk.new) }
+        ensures within { Goes LoadCalls (D.told disk.old) (D.told disk.new) }
+        ensures unwritten { IfErr result (λ fault. IsNoLogFault fault → Goes SameBytes (D.told disk.old) (D.told disk.new)) }
+        ensures lawful { IfOk result (λ store. IfSome (D.bytes disk.old) (λ bytes. IsNoLog limits.log bytes → ⊥)) }
         ensures later { D.faults disk.old ≤ D.faults disk.new }
         ensures cause { (fault : _) → result ≡ Err (LoadFault.Disk fault) → Rose (D.faults disk.old) (D.faults disk.new) }
     {

@@ -1,11 +1,13 @@
 -- How many calls were made.
-use Rattle.std.proofs.Common.{◌≡◌, ℕ, ◌+◌, ◌≤◌, List, length, Option, ◌∙◌, ap, arith, ⊎_elim}
+use Rattle.std.proofs.Common.{◌≡◌, ℕ, ◌+◌, ◌≤◌, List, length, Option, IfSome, Bool, true, false, nat_le, if◌then◌else◌, ◌∙◌, sym, ap, subst, arith, ⊎_elim}
+use Rattle.std.proofs.lemmas.Bool.{le-leb}
+use Rattle.std.specs.Prelude.{OnOk, Result, Ok, Err}
 use Rattle.disk_trait.specs.Images.{Unsynced, Told, moment_of, surely}
 use Rattle.disk_trait.specs.Calls.{after_call, Passes, Writes, FailsToWrite, Syncs, Succeeds, OrRefuses, Goes, with_range, overwritten}
 use Rattle.disk_trait.proofs.Moments.{moment-call}
-use Rattle.disk_trait.proofs.Telling.{goes-then, goes-map, goes-same}
-use Rattle.gated_log.specs.Load.{WithinCalls, IsUnwritten}
-use Rattle.gated_log.proofs.LoadCalls.{IsSized, ReadsOnce}
+use Rattle.disk_trait.proofs.Telling.{goes-then, goes-map, goes-same, goes-from}
+use Rattle.gated_log.specs.Load.{WithinCalls, LoadCalls, KeepsBytes, IsUnwritten}
+use Rattle.gated_log.proofs.LoadCalls.{IsSized, ReadsOnce, size_was}
 
 abbrev pub Step : Told → Told → Type 0
 Step old new = moment_of new ≤ moment_of old + 2
@@ -89,3 +91,48 @@ pub read-unwritten : (a b c : Option Told) → Goes IsSized a b → Goes Passes 
 read-unwritten a b c v w =
     goes-then IsSized Passes (IsUnwritten 3) a b c
     (λ x y z s r. (let m = s.clock in let k = ap moment_of r ∙ moment-call y y.now y.now y.bytes in omega (arith, m, k), ap (λ (t : Told). t.bytes) r ∙ s.bytes, ap (λ (t : Told). t.now) r ∙ s.sure)) v w
+
+-- ---- as many calls as loading may make
+within-six : (a b : Told) → moment_of b ≤ moment_of a + 6 → LoadCalls a b
+within-six a b le = by_length (nat_le (length a.bytes) 1)
+  where
+    by_length : (c : Bool) → moment_of b ≤ moment_of a + (if c then 8 else 6)
+    by_length true = omega (arith, le)
+    by_length false = le
+
+within-eight : (a b : Told) → length a.bytes ≤ 1 → moment_of b ≤ moment_of a + 8 → LoadCalls a b
+within-eight a b few le = subst (λ c. moment_of b ≤ moment_of a + (if c then 8 else 6)) (sym (le-leb (length a.bytes) 1 few)) le
+
+pub one-within : (a b : Option Told) → Goes Step a b → Goes LoadCalls a b
+one-within a b v = goes-map Step LoadCalls a b (λ x y r. within-six x y (omega (arith, r))) v
+
+pub two-within : (a b c : Option Told) → Goes Step a b → Goes Step b c → Goes LoadCalls a c
+two-within a b c v w = goes-then Step Step LoadCalls a b c (λ x y z r s. within-six x z (omega (arith, r, s))) v w
+
+pub sized-within : (a b : Option Told) → Goes IsSized a b → Goes LoadCalls a b
+sized-within a b v = goes-map IsSized LoadCalls a b (λ x y s. within-six x y (let m = s.clock in omega (arith, m))) v
+
+pub read-within : (a b c : Option Told) → Goes IsSized a b → Goes ReadsOnce b c → Goes LoadCalls a c
+read-within a b c v w = goes-then IsSized Step LoadCalls a b c (λ x y z s r. within-six x z (let m = s.clock in omega (arith, m, r))) v (steps-once b c w)
+
+pub start-within : (size : ℕ) (a b c : Option Told) → size ≤ 1 → Goes IsSized a b → IfSome b (λ t. size ≡ length t.bytes) → Goes (WithinCalls 2) b c → Goes LoadCalls a c
+start-within size a b c few v is w =
+    goes-from (λ x z. moment_of z ≤ moment_of x + 8) LoadCalls (λ x. size ≡ length x.bytes) a c (λ x z e le. within-eight x z (omega (arith, e, few)) le) (size_was size a b v is)
+    (goes-then IsSized (WithinCalls 2) (λ x z. moment_of z ≤ moment_of x + 8) a b c (λ x y z s r. (let m = s.clock in omega (arith, m, r))) v w)
+
+-- ---- what was written
+pub read-kept : (a b c : Option Told) → Goes IsSized a b → Goes Passes b c → Goes KeepsBytes a c
+read-kept a b c v w = goes-then IsSized Passes KeepsBytes a b c (λ x y z s r many. ap (λ (t : Told). t.bytes) r ∙ s.bytes) v w
+
+pub start-kept : (size : ℕ) (a b c : Option Told) → size ≤ 1 → Goes IsSized a b → IfSome b (λ t. size ≡ length t.bytes) → Goes (WithinCalls 2) b c → Goes KeepsBytes a c
+start-kept size a b c few v is w =
+    goes-from (λ x z. moment_of z ≤ moment_of x + 8) KeepsBytes (λ x. size ≡ length x.bytes) a c (λ x z e le many. absurd (omega (arith, e, few, many))) (size_was size a b v is)
+    (goes-then IsSized (WithinCalls 2) (λ x z. moment_of z ≤ moment_of x + 8) a b c (λ x y z s r. (let m = s.clock in omega (arith, m, r))) v w)
+
+pub on-ok : {T E P : Type 0} (r : Result T E) → P → OnOk r P
+on-ok (Ok x) p = p
+on-ok (Err e) p = tt
+
+pub then-ok : {T E P Q : Type 0} (r : Result T E) → (P → Q) → OnOk r P → OnOk r Q
+then-ok (Ok x) f p = f p
+then-ok (Err e) f p = tt

@@ -81,6 +81,10 @@ WithinCalls calls old new = moment_of new ≤ moment_of old + 2 * calls
 abbrev pub LoadCalls : Told → Told → Type 0
 LoadCalls old new = moment_of new ≤ moment_of old + (if nat_le (length old.bytes) 1 then 8 else 6)
 
+-- a file that isn't fresh has the bytes that it had
+abbrev pub KeepsBytes : Told → Told → Type 0
+KeepsBytes old new = 2 ≤ length old.bytes → new.bytes ≡ old.bytes
+
 -- so many calls, of which a sync was one and none wrote
 abbrev pub IsUnwritten : ℕ → Told → Told → Type 0
 IsUnwritten calls old new = (moment_of new ≡ moment_of old + 2 * calls) × (new.bytes ≡ old.bytes) × (new.now ≡ surely old.bytes)

@@ -14,7 +14,7 @@ ghost use Rattle.gated_log.specs.Log.{IsLog, IsDamaged, batches, gates_of, log_l
 ghost use Rattle.gated_log.specs.Held.{Held, log_bytes, staged, room_of};
 ghost use Rattle.gated_log.specs.Holding.{IsOnDisk, IsLogWithin, KeepsOldOrNew, HasNew};
 ghost use Rattle.gated_log.specs.Commit.{Answers, Reserves, CommitsInPart};
-ghost use Rattle.gated_log.specs.Load.{Loads, LeavesOldOrFresh, LeavesFresh, KeepsImages, KeepsPayloads, IsSureOf, IsLoaded, IsLogOf, OnlyReads, after_reads, IsFresh, IsStarted, WithinCalls, IsUnwritten};
+ghost use Rattle.gated_log.specs.Load.{LoadCalls, KeepsBytes, Loads, LeavesOldOrFresh, LeavesFresh, KeepsImages, KeepsPayloads, IsSureOf, IsLoaded, IsLogOf, OnlyReads, after_reads, IsFresh, IsStarted, WithinCalls, IsUnwritten};
 
 mod errors;
 mod scan;
@@ -133,6 +133,8 @@ impl Log {
         ensures sure { ((fault : _) → result ≡ Err (LoadLog.Disk fault) → ⊥) → (payloads : List (List ℕ)) → Goes (IsSureOf limit payloads) (D.told disk.old) (D.told disk.new) }
         ensures done { IfOk result (λ log. Goes (IsLoaded log) (D.told disk.old) (D.told disk.new)) }
         ensures calls { Goes (WithinCalls 4) (D.told disk.old) (D.told disk.new) }
+        ensures within { Goes LoadCalls (D.told disk.old) (D.told disk.new) }
+        ensures unwritten { OnOk result (Goes KeepsBytes (D.told disk.old) (D.told disk.new)) }
         ensures too_large { (size : _) → result ≡ Err (LoadLog.TooLarge size) → Goes (IsUnwritten 2) (D.told disk.old) (D.told disk.new) }
         ensures damaged { (at : _) → result ≡ Err (LoadLog.Damaged at) → Goes (IsUnwritten 3) (D.told disk.old) (D.told disk.new) }
         ensures later { D.faults disk.old ≤ D.faults disk.new }

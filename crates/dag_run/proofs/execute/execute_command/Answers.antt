@@ -13,7 +13,7 @@ use Rattle.dag_store.specs.Kept.{PlainStore}
 use Rattle.dag_store.specs.Steps.{AddStep}
 use Rattle.dag_run.specs.Lines.{CommandReplies}
 use Rattle.dag_run.proofs.Solo.{lone-alone, mirrors-alone, drop-alone}
-use Rattle.dag_run.proofs.Doing.{add-does, reload-does, id-does, count-does, room-same, room-on, quiet-command, memory-alone}
+use Rattle.dag_run.proofs.Doing.{add-does, reload-does, id-does, count-does, room-same, room-on, quiet-command, still-goes}
 use Rattle.dag_run.proofs.execute.execute_command.Goals as goal
 
 pub returns-in-Add-clause-step : goal.returns-in-Add-clause-step
@@ -50,12 +50,10 @@ returns-in-Discard-clause-step g c =
 pub returns-in-Query-clause-step : goal.returns-in-Query-clause-step
 returns-in-Query-clause-step g c =
     let old = c.args.store in
-    let s = c.args.command.now.session in
-    let q = quiet-command (Rose (g.O.Sink.faults c.args.output.now) (g.O.Sink.faults c.tell-in-Query.new.output)) old old s (Query (tree_of c.in-Query.field-0)) (meant c.args.command.now.verb) c.tell-in-Query.result (Refused why.Memory) (g.D.Disk.told c.args.log.now) (g.O.Sink.taken c.args.output.now) (g.O.Sink.taken c.tell-in-Query.new.output)
-    (ap meant c.in-Query.is) c.tell-in-Query.ensures.same c.tell-in-Query.ensures.stop refl
-    (λ began st h. (st, memory-alone old.limits st s (Query (tree_of c.in-Query.field-0)) tt tt, (refl, refl), h))
-    c.tell-in-Query.ensures.bytes in
-    ([], None, refl, q.0, q.1)
+    let failed : Type 0 = Rose (g.O.Sink.faults c.args.output.now) (g.O.Sink.faults c.list.new.output) in (
+      [], None, refl, still-goes old old [] c.list.result (g.D.Disk.told c.args.log.now) c.list.ensures.same c.list.ensures.stop refl,
+      subst (λ v. WhereTold (g.O.Sink.taken c.args.output.now) (g.O.Sink.taken c.list.new.output) (CommandReplies failed old c.args.command.now.session v [] None c.list.result)) (sym (ap meant c.in-Query.is)) c.list.ensures.told,
+    )
 
 pub returns-in-Count-clause-step : goal.returns-in-Count-clause-step
 returns-in-Count-clause-step g c =

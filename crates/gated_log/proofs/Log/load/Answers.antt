@@ -4,6 +4,7 @@ use Rattle.gated_log.specs.Load.{Loads}
 use Rattle.gated_log.proofs.LoadCalls.{sync_fails, size_fails, sized, sized_keeps, images_kept, payloads_kept, start_images, start_keeps, read_keeps, size_is, read_done, start_done}
 use Rattle.gated_log.proofs.Fresh.{old_kept, fresh_started}
 use Rattle.gated_log.proofs.Sureness.{sure_behind, sure_sized, sure_read}
+use Rattle.gated_log.proofs.Counted.{steps-pass, steps-sync, one-within, two-within, sized-within, read-within, start-within, read-kept, start-kept, on-ok, then-ok}
 use Rattle.gated_log.proofs.Log.load.Goals as goal
 
 pub returns-in_err-sync-clause-moments : goal.returns-in_err-sync-clause-moments
@@ -58,3 +59,25 @@ returns-then-size-le1-clause-sure g c = λ no ps. sure_behind c.args.limit ps (g
 
 pub returns-clause-sure : goal.returns-clause-sure
 returns-clause-sure g c = λ no ps. sure_read c.args.limit ps (g.D.Disk.told c.args.disk.now) (g.D.Disk.told c.sync.new.self) (g.D.Disk.told c.size.new.self) (g.D.Disk.told c.read_all.new.disk) c.in_ok-sync.ensures.ok c.in_ok-size.ensures.ok c.read_all.ensures.reads
+
+pub returns-in_err-sync-clause-within : goal.returns-in_err-sync-clause-within
+returns-in_err-sync-clause-within g c = one-within (g.D.Disk.told c.args.disk.now) (g.D.Disk.told c.sync.new.self) (steps-pass (g.D.Disk.told c.args.disk.now) (g.D.Disk.told c.sync.new.self) c.in_err-sync.ensures.err)
+
+pub returns-in_err-size-clause-within : goal.returns-in_err-size-clause-within
+returns-in_err-size-clause-within g c =
+    two-within (g.D.Disk.told c.args.disk.now) (g.D.Disk.told c.sync.new.self) (g.D.Disk.told c.size.new.self) (steps-sync (g.D.Disk.told c.args.disk.now) (g.D.Disk.told c.sync.new.self) c.in_ok-sync.ensures.ok) (steps-pass (g.D.Disk.told c.sync.new.self) (g.D.Disk.told c.size.new.self) c.in_err-size.ensures.err)
+
+pub returns-then-size-limit-clause-within : goal.returns-then-size-limit-clause-within
+returns-then-size-limit-clause-within g c = sized-within (g.D.Disk.told c.args.disk.now) (g.D.Disk.told c.size.new.self) (sized (g.D.Disk.told c.args.disk.now) (g.D.Disk.told c.sync.new.self) (g.D.Disk.told c.size.new.self) (g.met.D.Disk.sound c.args.disk.now) c.in_ok-sync.ensures.ok c.in_ok-size.ensures.ok)
+
+pub returns-then-size-le1-clause-within : goal.returns-then-size-le1-clause-within
+returns-then-size-le1-clause-within g c = start-within c.in_ok-size.size (g.D.Disk.told c.args.disk.now) (g.D.Disk.told c.size.new.self) (g.D.Disk.told c.start.new.disk) (omega arith) (sized (g.D.Disk.told c.args.disk.now) (g.D.Disk.told c.sync.new.self) (g.D.Disk.told c.size.new.self) (g.met.D.Disk.sound c.args.disk.now) c.in_ok-sync.ensures.ok c.in_ok-size.ensures.ok) (size_is c.in_ok-size.size (g.D.Disk.told c.sync.new.self) (g.D.Disk.told c.size.new.self) c.in_ok-size.ensures.ok (of_told (λ b. c.in_ok-size.size ≡ length b) (g.D.Disk.bytes c.sync.new.self) (g.D.Disk.told c.sync.new.self) (g.met.D.Disk.tells c.sync.new.self) c.in_ok-size.ensures.size)) c.start.ensures.calls
+
+pub returns-clause-within : goal.returns-clause-within
+returns-clause-within g c = read-within (g.D.Disk.told c.args.disk.now) (g.D.Disk.told c.size.new.self) (g.D.Disk.told c.read_all.new.disk) (sized (g.D.Disk.told c.args.disk.now) (g.D.Disk.told c.sync.new.self) (g.D.Disk.told c.size.new.self) (g.met.D.Disk.sound c.args.disk.now) c.in_ok-sync.ensures.ok c.in_ok-size.ensures.ok) c.read_all.ensures.reads
+
+pub returns-then-size-le1-clause-unwritten : goal.returns-then-size-le1-clause-unwritten
+returns-then-size-le1-clause-unwritten g c = on-ok c.start.result (start-kept c.in_ok-size.size (g.D.Disk.told c.args.disk.now) (g.D.Disk.told c.size.new.self) (g.D.Disk.told c.start.new.disk) (omega arith) (sized (g.D.Disk.told c.args.disk.now) (g.D.Disk.told c.sync.new.self) (g.D.Disk.told c.size.new.self) (g.met.D.Disk.sound c.args.disk.now) c.in_ok-sync.ensures.ok c.in_ok-size.ensures.ok) (size_is c.in_ok-size.size (g.D.Disk.told c.sync.new.self) (g.D.Disk.told c.size.new.self) c.in_ok-size.ensures.ok (of_told (λ b. c.in_ok-size.size ≡ length b) (g.D.Disk.bytes c.sync.new.self) (g.D.Disk.told c.sync.new.self) (g.met.D.Disk.tells c.sync.new.self) c.in_ok-size.ensures.size)) c.start.ensures.calls)
+
+pub returns-clause-unwritten : goal.returns-clause-unwritten
+returns-clause-unwritten g c = then-ok c.read_all.result (read-kept (g.D.Disk.told c.args.disk.now) (g.D.Disk.told c.size.new.self) (g.D.Disk.told c.read_all.new.disk) (sized (g.D.Disk.told c.args.disk.now) (g.D.Disk.told c.sync.new.self) (g.D.Disk.told c.size.new.self) (g.met.D.Disk.sound c.args.disk.now) c.in_ok-sync.ensures.ok c.in_ok-size.ensures.ok)) c.read_all.ensures.ok

@@ -1,10 +1,14 @@
-use Rattle.std.proofs.Common.{Ok, Err, refl}
+use Rattle.std.proofs.Common.{Ok, Err, refl, ap}
 use Rattle.std.proofs.lemmas.Result.{err_from_is_err_and}
 use Rattle.gated_log.specs.Load.{Loads, IsLogOf}
 use Rattle.change_rules.specs.Holding.{HoldAs}
 use Rattle.dag_store.specs.Kept.{PlainStore}
 use Rattle.dag_store.specs.Loading.{Opens, fault_of}
 use Rattle.dag_store.proofs.Opening.{loaded-kept, opened, refused, log-refused, tables-refused, if-some, load-keeps, load-done}
+use Rattle.disk_trait.proofs.Telling.{of_told}
+use Rattle.name_map.specs.Added.{payloads_of}
+use Rattle.change_rules.specs.Unlawful.{IsNoLog}
+use Rattle.dag_store.proofs.Lawful.{lawful-log, log-unwritten, tables-unwritten}
 use Rattle.dag_store.proofs.store.Store.load.Goals as goal
 
 pub returns-in_err-log-clause-images : goal.returns-in_err-log-clause-images
@@ -49,3 +53,23 @@ returns-clause-opens g c = λ payloads w.
 pub returns-clause-done : goal.returns-clause-done
 returns-clause-done g c =
     load-done c.args.limits (record { log = c.in_ok-log.log; sessions = c.in_ok-sessions.sessions.items; limits = c.args.limits }) (g.D.Disk.told c.args.disk.now) (g.D.Disk.told c.load.new.disk) refl c.in_ok-log.ensures.limit c.in_ok-log.ensures.done
+
+pub returns-in_err-log-clause-unwritten : goal.returns-in_err-log-clause-unwritten
+returns-in_err-log-clause-unwritten g c =
+    let p = err_from_is_err_and c.from_residual.result c.from_residual.ensures.1 in
+    let fault = c.in_err-log.field-0.0 in
+    rw (p.1, p.2) (log-unwritten fault (g.D.Disk.told c.args.disk.now) (g.D.Disk.told c.load.new.disk) (λ size e. c.in_err-log.ensures.too_large size (ap Err e)) (λ at e. c.in_err-log.ensures.damaged at (ap Err e)))
+
+pub returns-in_err-tables-clause-unwritten : goal.returns-in_err-tables-clause-unwritten
+returns-in_err-tables-clause-unwritten g c =
+    let p = err_from_is_err_and c.from_residual-in_err-tables.result c.from_residual-in_err-tables.ensures.1 in
+    let fault = c.in_err-tables.field-0.0 in
+    let log = c.in_ok-log.log in
+    rw (p.1, p.2) (tables-unwritten c.args.limits.log log fault (g.D.Disk.told c.args.disk.now) (g.D.Disk.told c.load.new.disk) c.in_err-tables.ensures.err
+    (of_told (λ bytes. IsLogOf c.args.limits.log bytes log) (g.D.Disk.bytes c.args.disk.now) (g.D.Disk.told c.args.disk.now) (g.met.D.Disk.tells c.args.disk.now) c.in_ok-log.ensures.answers) c.in_ok-log.ensures.unwritten)
+
+pub returns-clause-lawful : goal.returns-clause-lawful
+returns-clause-lawful g c =
+    let read = c.in_ok-tables.ensures.ok in
+    if-some (λ bytes. IsLogOf c.args.limits.log bytes c.in_ok-log.log) (λ bytes. IsNoLog c.args.limits.log bytes → ⊥) (g.D.Disk.bytes c.args.disk.now)
+    (λ bytes log. lawful-log c.args.limits.log bytes c.in_ok-log.log (payloads_of read.0) log read.1.lawful read.3) c.in_ok-log.ensures.answers
