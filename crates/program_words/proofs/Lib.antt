@@ -1,3 +1,4 @@
 pub mod Reading
 pub mod Defaults
 pub mod Numbers
+pub mod Exactly

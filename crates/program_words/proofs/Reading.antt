@@ -1,5 +1,5 @@
 -- What a parse finds is what the words' matches say.
-use Rattle.std.proofs.Common.{◌≡◌, ◌∙◌, ap, sym, subst, List, Option, Some, None, Result, codes, IfOk, inl, inr, []}
+use Rattle.std.proofs.Common.{◌≡◌, ◌∙◌, ap, sym, subst, List, Option, Some, None, Result, codes, IfOk, inr, []}
 use Rattle.std.specs.Prelude.{MatchOption, Ok, Err}
 use Rattle.std.specs.Option.{ok_or}
 use Rattle.clap.specs.Words.{Text, found_of, first_value, one_text, one_of, first_of, rows_of, matches_of, fault_of}
@@ -43,8 +43,3 @@ module _ (m : ArgMatches) (words : List Text) (rows : rows_of (found_of m) ≡ m
   refused c p is None r e h bad = inr (λ mode given.
       let found = usage-of-mode c m p is mode (word-is ∙ given) in
       h found.0 found.1)
-
--- and where the words are no usage none reads as one
-pub no-usage : (words : List Text) → IsNoUsage words → (usage : Usage) → IsUsage words usage → ⊥
-no-usage words (inl faulty) usage is = faulty is.takes
-no-usage words (inr other) usage is = other usage.mode is.matches.mode

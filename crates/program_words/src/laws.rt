@@ -1,10 +1,11 @@
 //! Words and what they are read as, proved by computing.
 
-ghost use Rattle.std.specs.Prelude.{◌≡◌, ◌∷◌, [], codes};
-ghost use Rattle.clap.specs.Words.{fault_of};
+ghost use Rattle.std.specs.Prelude.{◌≡◌, ◌∷◌, [], List, codes};
+ghost use Rattle.clap.specs.Words.{Text, fault_of};
 ghost use Rattle.clap.specs.declared.error.kind.ErrorKind.TheVariants as kind;
 ghost use Rattle.program_words.specs.Command.{command as whole};
-ghost use Rattle.program_words.specs.Usage.{AreMatches};
+ghost use Rattle.program_words.specs.Usage.{AreMatches, IsUsage, IsNoUsage};
+ghost use Rattle.program_words.specs.declared.usage.Usage.{Usage};
 ghost use Rattle.clap.specs.Words.{matches_of};
 ghost use Rattle.program_words.specs.declared.usage.Mode.TheVariants.{Run, Demo};
 
@@ -19,4 +20,10 @@ pub fn words_spelled_out()
     ensures read { AreMatches (matches_of whole (codes "--size" ∷ codes "3" ∷ codes "demo" ∷ codes "--start=5" ∷ []))
         (record { mode = Demo; cache = 4096; size = 3; start = 5 }) }
     ensures plain { AreMatches (matches_of whole (codes "run" ∷ [])) (record { mode = Run; cache = 4096; size = 1000; start = 0 }) }
+{}
+
+/// Words are a usage in one way at most, and those of no usage in none.
+pub fn usages_are_exact()
+    ensures one { (words : List Text) (a b : Usage) → IsUsage words a → IsUsage words b → a ≡ b }
+    ensures none { (words : List Text) (usage : Usage) → IsNoUsage words → IsUsage words usage → ⊥ }
 {}

@@ -10,7 +10,7 @@ mod laws;
 mod usage;
 
 use crate::arguments::command;
-pub use crate::laws::words_spelled_out;
+pub use crate::laws::{usages_are_exact, words_spelled_out};
 pub use crate::usage::{Mode, Usage, WordsFault};
 use clap::error::ErrorKind;
 use std::alloc::Global;

@@ -1,0 +1,38 @@
+-- Words are a usage in one way at most, and never beside being none.
+use Rattle.std.proofs.Common.{◌≡◌, ◌∙◌, ap, sym, refl, ℕ, List, Option, Some, None, [], inl, inr}
+use Rattle.std.proofs.lemmas.Bool.{eqb-false}
+use Rattle.std.specs.Prelude.{slice_index, unwrap_or}
+use Rattle.clap.specs.Words.{Text}
+use Rattle.program_words.specs.Usage.{WritesNumber, AreTexts, IsUsage, IsNoUsage, mode_text}
+use Rattle.program_words.specs.declared.usage.Mode.{Mode}
+use Rattle.program_words.specs.declared.usage.Mode.TheVariants.{Run, Demo}
+use Rattle.program_words.specs.declared.usage.Usage.{Usage}
+
+one-mode : (a b : Mode) → mode_text a ≡ mode_text b → a ≡ b
+one-mode Run Run e = refl
+one-mode Demo Demo e = refl
+one-mode Run Demo e = absurd (eqb-false 114 100 refl (ap (λ (t : Text). slice_index t 0) e))
+one-mode Demo Run e = absurd (eqb-false 100 114 refl (ap (λ (t : Text). slice_index t 0) e))
+
+one-number : (low high : ℕ) (o : Option Text) (m n : ℕ) → WritesNumber low high o m → WritesNumber low high o n → m ≡ n
+one-number low high None m n a b = absurd a
+one-number low high (Some text) m n a b = a.1 ∙ sym b.1
+
+abbrev whole : Mode → ℕ → ℕ → ℕ → Usage
+whole mode cache size start = record { mode = mode; cache = cache; size = size; start = start }
+
+one-text : (mode cache size start : Option Text) (a b : Usage) → AreTexts mode cache size start a → AreTexts mode cache size start b → a ≡ b
+one-text mode cache size start a b f g =
+    let modes = one-mode a.mode b.mode (ap (λ text. unwrap_or text []) (sym f.mode ∙ g.mode)) in
+    let caches = one-number 1 65536 cache a.cache b.cache f.cache g.cache in
+    let sizes = one-number 1 60000 size a.size b.size f.size g.size in
+    let starts = one-number 0 18446744073709551615 start a.start b.start f.start g.start in
+    ap (λ x. whole x a.cache a.size a.start) modes ∙ (ap (λ x. whole b.mode x a.size a.start) caches
+    ∙ (ap (λ x. whole b.mode b.cache x a.start) sizes ∙ ap (whole b.mode b.cache b.size) starts))
+
+pub one-usage : (words : List Text) (a b : Usage) → IsUsage words a → IsUsage words b → a ≡ b
+one-usage words a b f g = one-text _ _ _ _ a b f.matches g.matches
+
+pub no-usage : (words : List Text) (usage : Usage) → IsNoUsage words → IsUsage words usage → ⊥
+no-usage words usage (inl faulty) is = faulty is.takes
+no-usage words usage (inr other) is = other usage.mode is.matches.mode
