@@ -17,5 +17,6 @@ test:
 	$(RT) ci
 	RT="$(RT)" sh tests/must_not_compile.sh
 	sh tests/words.sh
+	sh tests/random_runs.sh
 	sh tests/whole_runs.sh
 	sh tests/real_files.sh

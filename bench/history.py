@@ -1,0 +1,37 @@
+#!/usr/bin/env python3
+"""Command lines of a drawn history: `history.py COMMITS [EACH]` prints the adds, and a flush of the newest behind each EACH of them.
+
+Of ten commits three are merges and one begins anew near by, so that a million have some 400,000 flat segments. The names are
+digests of the commits' numbers.
+"""
+import hashlib
+import random
+import sys
+
+
+def name(i):
+    return hashlib.sha1(str(i).encode()).hexdigest()
+
+
+def lines(commits, each):
+    draw = random.Random(7)
+    names = [name(i) for i in range(commits)]
+    left = []
+    for i in range(commits):
+        kind = draw.randrange(10)
+        parents = [i - 1] if i else []
+        if i > 70 and kind == 0:
+            left.append(i - 1)
+            parents = [i - draw.randrange(2, 64)]
+        elif i > 70 and kind < 4:
+            other = left.pop() if left else i - draw.randrange(2, 64)
+            if other != i - 1:
+                parents.append(other)
+        yield " ".join(["0 add", names[i], *(names[p] for p in parents)])
+        if (i + 1) % each == 0 or i + 1 == commits:
+            yield f"0 flush {names[i]}"
+
+
+if __name__ == "__main__":
+    for line in lines(int(sys.argv[1]), int(sys.argv[2]) if len(sys.argv) > 2 else 1000):
+        print(line)

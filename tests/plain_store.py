@@ -1,0 +1,471 @@
+#!/usr/bin/env python3
+"""The store as its definitions have it: plain worlds, walks of rows, one world for each session.
+
+Reads command lines and prints the reply to each, as the program does over a log that no clone began. It is slow and shares no
+code and no idea with the program, so that the two can be compared. `plain_store.py LOG < LINES` goes on from the world of LOG, if
+there is such a file, and writes the log afterwards.
+"""
+import os
+import re
+import sys
+
+OTHER = 1 << 56
+LIMITS = {"pending": 65536, "others": 65536, "master": 16777216, "log": 1 << 30, "answer": 1048576}
+NAME = re.compile(r"[0-9a-fA-F]{40}")
+NUMBER = re.compile(r"0|[1-9][0-9]*")
+ONE = {"parents", "children", "ancestors", "descendants", "heads", "roots", "tips", "merges", "common", "gca"}
+TWO = {"range", "only", "union", "inter", "minus"}
+
+
+class Refused(Exception):
+    """A reply that refuses a line."""
+
+
+class World:
+    """Rows of master and the others, each a name with its parents' names."""
+
+    def __init__(self, master, others):
+        self.master = master
+        self.others = others
+        self.parents = dict(master + others)
+        self.ids = {name: i for i, (name, _) in enumerate(master)}
+        self.ids.update({name: OTHER + j for j, (name, _) in enumerate(others)})
+
+    def same(self, other):
+        return self.master == other.master and self.others == other.others
+
+    def down(self):
+        return [name for name, _ in reversed(self.others)] + [name for name, _ in reversed(self.master)]
+
+    def reached(self, names):
+        """All that these names reach."""
+        found, waiting = set(), list(names)
+        while waiting:
+            name = waiting.pop()
+            if name not in found:
+                found.add(name)
+                waiting.extend(self.parents[name])
+        return found
+
+
+def print_id(number):
+    return str(number) if number < OTHER else f"N{number - OTHER}"
+
+
+# Expressions: a parsed tree of tuples, and its members by the definition of each form.
+
+
+def parse_expr(text):
+    """The tree of a text, its names in order; None where the text isn't in the grammar."""
+    names, nodes = [], 0
+    at = 0
+
+    def number(stop):
+        nonlocal at
+        match = NUMBER.match(text, at)
+        if not match or text[match.end() : match.end() + 1] != stop or int(match.group()) >= 1 << 64:
+            raise ValueError
+        at = match.end()
+        return int(match.group())
+
+    def expect(char):
+        nonlocal at
+        if text[at : at + 1] != char:
+            raise ValueError
+        at += 1
+
+    def tree(depth):
+        nonlocal at, nodes
+        nodes += 1
+        if depth > 32 or nodes > 256:
+            raise ValueError
+        match = NAME.match(text, at)
+        if match:
+            at = match.end()
+            names.append(match.group().lower())
+            return ("name", names[-1])
+        match = re.compile(r"[a-z]+").match(text, at)
+        if not match:
+            raise ValueError
+        word, at = match.group(), match.end()
+        if word in ("all", "master", "others"):
+            return (word,)
+        expect("(")
+        if word == "up":
+            match = NAME.match(text, at)
+            if not match:
+                raise ValueError
+            at = match.end()
+            names.append(match.group().lower())
+            name = names[-1]
+            expect(",")
+            steps = number(")")
+            expect(")")
+            return ("up", name, steps)
+        if word not in ONE and word not in TWO and word != "top":
+            raise ValueError
+        first = tree(depth + 1)
+        if word in ONE:
+            expect(")")
+            return (word, first)
+        expect(",")
+        second = number(")") if word == "top" else tree(depth + 1)
+        expect(")")
+        return (word, first, second)
+
+    try:
+        result = tree(1)
+    except ValueError:
+        return None
+    return (result, names) if at == len(text) else None
+
+
+def members(world, tree):
+    head = tree[0]
+    everything = set(world.parents)
+    if head == "name":
+        return {tree[1]}
+    if head == "all":
+        return everything
+    if head == "master":
+        return {name for name, _ in world.master}
+    if head == "others":
+        return {name for name, _ in world.others}
+    if head == "up":
+        name = tree[1]
+        for _ in range(min(tree[2], len(everything) + 1)):
+            if not world.parents[name]:
+                return set()
+            name = world.parents[name][0]
+        return {name}
+    if head == "top":
+        some = sorted(members(world, tree[1]), key=world.ids.get, reverse=True)
+        return set(some[: tree[2]])
+    some = members(world, tree[1])
+    parents = {p for name in some for p in world.parents[name]}
+    children = {name for name in everything if any(p in some for p in world.parents[name])}
+    if head == "parents":
+        return parents
+    if head == "children":
+        return children
+    if head == "ancestors":
+        return world.reached(some)
+    if head == "descendants":
+        return {name for name in everything if world.reached([name]) & some}
+    if head == "heads":
+        return some - parents
+    if head == "roots":
+        return some - children
+    if head == "tips":
+        return {x for x in some if not any(x != y and x in world.reached([y]) for y in some)}
+    if head == "merges":
+        return {name for name in some if len(world.parents[name]) >= 2}
+    if head in ("common", "gca"):
+        shared = set.intersection(*(world.reached([name]) for name in some)) if some else set()
+        if head == "common":
+            return shared
+        return shared - {p for name in shared for p in world.parents[name]}
+    other = members(world, tree[2])
+    if head == "union":
+        return some | other
+    if head == "inter":
+        return some & other
+    if head == "minus":
+        return some - other
+    if head == "only":
+        return world.reached(some) - world.reached(other)
+    below = world.reached(other)
+    return {name for name in below if world.reached([name]) & some}
+
+
+# Segments, levels, and the bytes of payloads.
+
+
+def flat_segments(first, parents):
+    """Segments of ids that stand one behind the other from the first on: low, high, parents."""
+    segments = []
+    for i, ids in enumerate(parents, first):
+        if segments and ids == [i - 1] and i > first:
+            segments[-1][1] = i
+        else:
+            segments.append([i, i, ids])
+    return segments
+
+
+def level_sizes(segments):
+    sizes, level = [len(segments)], segments[:-1]
+    for _ in range(7):
+        groups, i = [], 0
+        while i + 16 <= len(level):
+            j = max(j for j in range(i, i + 16) if has_one_head(level[i : j + 1]))
+            group = level[i : j + 1]
+            low = group[0][0]
+            groups.append([low, group[-1][1], sorted({p for s in group for p in s[2] if p < low})])
+            i = j + 1
+        sizes.append(len(groups))
+        level = groups
+    while len(sizes) > 1 and sizes[-1] == 0:
+        sizes.pop()
+    return sizes
+
+
+def has_one_head(group):
+    parents = {p for s in group for p in s[2]}
+    return all(s[1] in parents for s in group[:-1])
+
+
+def variable(number):
+    out = bytearray()
+    while number >= 128:
+        out.append(number % 128 + 128)
+        number //= 128
+    out.append(number)
+    return bytes(out)
+
+
+def record(segment):
+    low, high, parents = segment
+    head = bytes([0 if parents else 1, 0]) + high.to_bytes(8, "big") + variable(high - low)
+    return head + variable(len(parents)) + b"".join(variable(p) for p in parents)
+
+
+def payload(old, new):
+    """The payload of the change from one world to the next."""
+    before = len(old.master)
+    ids = lambda rows: [[new.ids[p] for p in parents] for _, parents in rows]
+    masters = flat_segments(before, ids(new.master[before:]))
+    others = flat_segments(OTHER, ids(new.others))
+    known = list(enumerate((name for name, _ in new.master[before:]), before))
+    return b"".join(
+        [
+            b"\1\1",
+            before.to_bytes(8, "big"),
+            len(new.master).to_bytes(8, "big"),
+            len(masters).to_bytes(4, "big"),
+            *map(record, masters),
+            len(known).to_bytes(4, "big"),
+            *(i.to_bytes(8, "big") + bytes.fromhex(name) for i, name in known),
+            b"\0\0",
+            len(new.others).to_bytes(4, "big"),
+            len(others).to_bytes(4, "big"),
+            *map(record, others),
+            *(bytes.fromhex(name) for name, _ in new.others),
+        ]
+    )
+
+
+def read_variable(data, at):
+    number, shift = 0, 0
+    while True:
+        byte = data[at]
+        number |= (byte & 127) << shift
+        at, shift = at + 1, shift + 7
+        if byte < 128:
+            return number, at
+
+
+def read_log(data):
+    """The payloads of a log of flushes, and its world."""
+    payloads, at = [], 0
+    while len(data) > 1 and data[at] == 1:
+        size = int.from_bytes(data[at + 1 : at + 9], "big")
+        payloads.append(data[at + 9 : at + 9 + size])
+        at += 9 + size
+    parents, names, others, other_names = [], [], [], []
+    for data in payloads:
+        at = 18
+
+        def records():
+            nonlocal at
+            count, at = int.from_bytes(data[at : at + 4], "big"), at + 4
+            rows = []
+            for _ in range(count):
+                high = int.from_bytes(data[at + 2 : at + 10], "big")
+                length, at = read_variable(data, at + 10)
+                count_, at = read_variable(data, at)
+                ids = []
+                for _ in range(count_):
+                    number, at = read_variable(data, at)
+                    ids.append(number)
+                rows.append(ids)
+                rows.extend([i] for i in range(high - length, high))
+            return rows
+
+        parents += records()
+        count, at = int.from_bytes(data[at : at + 4], "big"), at + 4
+        for _ in range(count):
+            names.append(data[at + 8 : at + 28].hex())
+            at += 28
+        at += 2
+        count, at = int.from_bytes(data[at : at + 4], "big"), at + 4
+        others = records()
+        other_names = [data[at + 20 * j : at + 20 * j + 20].hex() for j in range(count)]
+    name = lambda i: names[i] if i < OTHER else other_names[i - OTHER]
+    rows = lambda list_, own: [(own[k], [name(p) for p in ids]) for k, ids in enumerate(list_)]
+    return payloads, World(rows(parents, names), rows(others, other_names))
+
+
+class Store:
+    def __init__(self, data, limits):
+        self.payloads, world = read_log(data)
+        self.worlds = [world]
+        self.limits = limits
+        self.sessions = [[0, []] for _ in range(16)]
+
+    def log_length(self):
+        return 1 + sum(9 + len(p) for p in self.payloads)
+
+    def log(self):
+        return b"".join(b"\1" + len(p).to_bytes(8, "big") + p for p in self.payloads) + b"\0"
+
+    def view(self, s):
+        base, pending = self.sessions[s]
+        world = self.worlds[base]
+        return World(world.master, world.others + pending)
+
+    def check(self, what, count):
+        if count > self.limits[what]:
+            raise Refused(f"err full {what} {self.limits[what]}")
+
+    def rebased(self, s):
+        world, left = self.worlds[-1], []
+        for name, parents in self.sessions[s][1]:
+            if name not in world.ids:
+                left.append((name, parents))
+            elif world.parents[name] != parents:
+                raise Refused(f"err conflict {name}")
+        return left
+
+    def find(self, world, name):
+        if name not in world.ids:
+            raise Refused(f"err unknown {name}")
+        return world.ids[name]
+
+    def add(self, s, name, parents):
+        view = self.view(s)
+        for p in parents:
+            self.find(view, p)
+        for i, p in enumerate(parents):
+            if p in parents[:i]:
+                raise Refused(f"err twice {p}")
+        if name in view.ids:
+            if view.parents[name] != parents:
+                raise Refused(f"err differs {name}")
+            return [f"ok old {print_id(view.ids[name])}"]
+        self.check("pending", len(self.sessions[s][1]) + 1)
+        self.sessions[s][1].append((name, parents))
+        return [f"ok added {print_id(self.view(s).ids[name])}"]
+
+    def flush(self, s, heads):
+        world = self.worlds[-1]
+        known = World(world.master, world.others + [r for r in self.sessions[s][1] if r[0] not in world.ids])
+        for head in heads:
+            self.find(known, head)
+        view = World(world.master, world.others + self.rebased(s))
+        order = [name for name, _ in view.master]
+        placed = set(order)
+        for head in heads:
+            stack = [(head, 0)]
+            while stack:
+                name, k = stack.pop()
+                if name in placed:
+                    continue
+                if k < len(view.parents[name]):
+                    stack += [(name, k + 1), (view.parents[name][k], 0)]
+                else:
+                    placed.add(name)
+                    order.append(name)
+        new = World(
+            [(name, view.parents[name]) for name in order],
+            [row for row in view.others if row[0] not in placed],
+        )
+        self.check("others", len(new.others))
+        self.check("master", len(new.master))
+        if not new.same(world):
+            text = payload(world, new)
+            self.check("log", self.log_length() + 9 + len(text))
+            self.payloads.append(text)
+            self.worlds.append(new)
+        self.sessions[s] = [len(self.worlds) - 1, []]
+        return [f"ok flushed {len(new.master)} {len(new.others)}"]
+
+    def reload(self, s):
+        left = self.rebased(s)
+        self.sessions[s] = [len(self.worlds) - 1, left]
+        return [f"ok reloaded {len(left)}"]
+
+    def discard(self, s):
+        count = len(self.sessions[s][1])
+        self.sessions[s][1] = []
+        return [f"ok discarded {count}"]
+
+    def answer(self, s, expr):
+        tree, names = expr
+        view = self.view(s)
+        for name in names:
+            self.find(view, name)
+        found = members(view, tree)
+        return [name for name in view.down() if name in found]
+
+    def query(self, s, expr):
+        names = self.answer(s, expr)
+        if len(names) > self.limits["answer"]:
+            raise Refused(f"err answer {len(names)}")
+        return names + [f"ok {len(names)}"]
+
+    def count(self, s, expr):
+        return [f"ok {len(self.answer(s, expr))}"]
+
+    def status(self, s):
+        base, pending = self.sessions[s]
+        world = self.worlds[base]
+        return [f"ok {len(world.master)} {len(world.others)} {len(pending)}"]
+
+    def levels(self):
+        world = self.worlds[-1]
+        parents = [[world.ids[p] for p in parents] for _, parents in world.master]
+        return ["ok " + " ".join(map(str, level_sizes(flat_segments(0, parents))))]
+
+    def line(self, text):
+        words = text.split(" ")
+        if len(words) < 2 or not NUMBER.fullmatch(words[0]) or int(words[0]) > 15:
+            return ["err syntax"]
+        s, verb, args = int(words[0]), words[1], words[2:]
+        names = [a.lower() for a in args] if all(NAME.fullmatch(a) for a in args) else None
+        expr = parse_expr(args[0]) if len(args) == 1 else None
+        try:
+            if verb == "add" and names and len(names) <= 9:
+                return self.add(s, names[0], names[1:])
+            if verb == "flush" and names is not None:
+                return self.flush(s, names)
+            if verb in ("reload", "discard", "status") and not args:
+                return getattr(self, verb)(s)
+            if verb == "levels" and not args:
+                return self.levels()
+            if verb in ("query", "count") and expr:
+                return getattr(self, verb)(s, expr)
+            if verb == "id" and names and len(names) == 1:
+                return [f"ok {print_id(self.find(self.view(s), names[0]))}"]
+            if verb == "mirrors" and not args:
+                return ["ok 0"]
+            if verb == "drop" and len(args) == 1 and NUMBER.fullmatch(args[0]) and int(args[0]) < 1 << 64:
+                return ["err no-remote"]
+        except Refused as refusal:
+            return [str(refusal)]
+        return ["err syntax"]
+
+
+def main():
+    path = sys.argv[1]
+    data = open(path, "rb").read() if os.path.exists(path) else b""
+    store = Store(data, LIMITS)
+    for line in sys.stdin:
+        text = line.removesuffix("\n").removesuffix("\r")
+        if text and not text.startswith("#"):
+            print("\n".join(store.line(text)))
+    with open(path, "wb") as log:
+        log.write(store.log())
+
+
+if __name__ == "__main__":
+    main()
