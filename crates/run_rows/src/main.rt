@@ -7,6 +7,7 @@
 ghost use Rattle.std.specs.Prelude.{◌<◌};
 
 use dag_run::{Limits, run_lines};
+use disk_memory::MemoryDisk;
 use line_io::{Line, LineFault, Lines, MemorySource, Sink, SinkFault, StdSink, StdSource};
 use std::alloc::{AllocError, AllocFailed, Global};
 use std::io;
@@ -47,10 +48,11 @@ impl From<SinkFault> for Stop {
     }
 }
 
-/// Runs the lines of one case from an empty state, and empties it.
+/// Runs the lines of one case over a new disk, and empties it.
 fn run_case<O: Sink>(alloc: Global, case: &mut Vec<u8>, output: &mut O) -> Result<(), AllocError> {
+    let mut disk = MemoryDisk::new(alloc, &[], &[], None)?;
     let mut input = MemorySource::new(alloc, case, 65_536, &[])?;
-    let _report = run_lines(alloc, Limits::standard(), &mut input, output);
+    let _report = run_lines(alloc, Limits::standard(), &mut disk, &mut input, output);
     case.clear();
     Ok(())
 }

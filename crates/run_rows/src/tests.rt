@@ -1,10 +1,10 @@
 //! Whole runs that a file can't show: other limits, faults, the program's words, long lines and long answers.
 
 ghost use Rattle.std.specs.Prelude.{◌<◌};
-ghost use Rattle.dag_run.specs.Limits.{AreLimits};
+ghost use Rattle.change_rules.specs.Standard.{AreLimits};
 
-use dag_run::{Command, Limits, NameList, run_lines, split_words, top};
-use id_groups::Name;
+use dag_run::{Limits, run_lines, split_words, top};
+use disk_memory::MemoryDisk;
 use line_io::{MemorySink, MemorySource};
 use std::alloc::{AllocError, Global};
 use std::test::Fail;
@@ -56,8 +56,9 @@ fn answer(
     requires cut { 0 < cut }
     requires limits { AreLimits limits }
 {
+    let mut disk = MemoryDisk::new(alloc, &[], &[], None)?;
     let mut input = MemorySource::new(alloc, lines, cut, fails)?;
-    let report = run_lines(alloc, limits, &mut input, output);
+    let report = run_lines(alloc, limits, &mut disk, &mut input, output);
     Ok((report.status, input.left()))
 }
 
@@ -71,6 +72,9 @@ fn limits_are_kept(rt: HostRuntime) -> Result<(), Fail> {
     ] {
         let limits = Limits {
             pending,
+            others: 10,
+            master: 10,
+            log: 1000,
             answer: 1,
             input,
         };
@@ -179,7 +183,16 @@ fn the_mode_is_one_word(rt: HostRuntime) -> Result<(), Fail> {
         let words = words_of(rt.alloc(), texts)?;
         let mut input = MemorySource::new(rt.alloc(), b"0 status\n", 1, &[])?;
         let mut output = MemorySink::new(rt.alloc(), &[])?;
-        let report = top(rt.alloc(), &words, &mut input, &mut output);
+        let mut disk = MemoryDisk::new(rt.alloc(), &[], &[], None)?;
+        let mut spare = MemoryDisk::new(rt.alloc(), &[], &[], None)?;
+        let report = top(
+            rt.alloc(),
+            &words,
+            &mut disk,
+            &mut spare,
+            &mut input,
+            &mut output,
+        );
         assert_eq!(rt;
             (report.status, report.changes.len(), input.left()),
             (status, 0, left)
@@ -216,11 +229,60 @@ fn long_answers_are_put_in_blocks(rt: HostRuntime) -> Result<(), Fail> {
     Ok(())
 }
 
+/// A commit that is stored, and the sizes then.
+const STORED: &str = "0 add 00000000000000000000000000000000000000a1
+0 flush 00000000000000000000000000000000000000a1
+0 status
+";
+
 #[test]
-fn commands_and_names_are_lent(rt: HostRuntime) -> Result<(), Fail> {
-    assert!(rt; Command::parse(rt.alloc(), b"0 status").is_ok());
-    assert!(rt; Command::parse(rt.alloc(), b"0 stat").is_err());
-    let list = NameList::new(vec![in rt.alloc(); Name::from_bytes([7; 20])]?);
-    assert_eq!(rt; list.names(), [Name::from_bytes([7; 20])].as_slice());
+fn a_change_is_acknowledged_or_cut_short(rt: HostRuntime) -> Result<(), Fail> {
+    // Loading a new disk takes four calls, and storing four more. Where the log's first write or a change's is to fail the run ends.
+    let rows: [(&[u64], u8, usize, &[u8]); 4] = [
+        (&[], 0, 1, b"ok added N0\nok flushed 1 0\nok 1 0 0\n"),
+        (&[2], 3, 0, b"err disk\n"),
+        (&[5], 3, 0, b"ok added N0\nerr disk\n"),
+        (&[9], 0, 1, b"ok added N0\nok flushed 1 0\nok 1 0 0\n"),
+    ];
+    for (fails, status, changes, replies) in rows {
+        let mut disk = MemoryDisk::new(rt.alloc(), &[], fails, None)?;
+        let mut input = MemorySource::new(rt.alloc(), STORED.as_bytes(), 100, &[])?;
+        let mut output = MemorySink::new(rt.alloc(), &[])?;
+        let report = run_lines(
+            rt.alloc(),
+            Limits::standard(),
+            &mut disk,
+            &mut input,
+            &mut output,
+        );
+        assert_eq!(rt; (report.status, report.changes.len()), (status, changes));
+        assert_eq!(rt; output.bytes(), replies);
+    }
+    Ok(())
+}
+
+#[test]
+fn a_run_goes_on_from_the_last(rt: HostRuntime) -> Result<(), Fail> {
+    let mut disk = MemoryDisk::new(rt.alloc(), &[], &[], None)?;
+    for (lines, status, replies) in [
+        (STORED, 0, "ok added N0\nok flushed 1 0\nok 1 0 0\n"),
+        (
+            "15 id 00000000000000000000000000000000000000a1\n",
+            0,
+            "ok 0\n",
+        ),
+    ] {
+        let mut input = MemorySource::new(rt.alloc(), lines.as_bytes(), 100, &[])?;
+        let mut output = MemorySink::new(rt.alloc(), &[])?;
+        let report = run_lines(
+            rt.alloc(),
+            Limits::standard(),
+            &mut disk,
+            &mut input,
+            &mut output,
+        );
+        assert_eq!(rt; report.status, status);
+        assert_eq!(rt; output.bytes(), replies.as_bytes());
+    }
     Ok(())
 }
