@@ -1,10 +1,9 @@
 -- Claims of a disk, a source and a sink at once.
-use Rattle.std.proofs.Common.{inl, inr, ℕ, ◌≡◌, List, Option, Some, None, IfSome, refl, sym, ap, ◌∙◌, ◌++◌, length, take, le_refl, ◌≤◌, ◌+◌, ◌-◌, ◌^◌, arith}
+use Rattle.std.proofs.Common.{ℕ, ◌≡◌, List, Option, Some, None, IfSome, refl, ◌≤◌, arith}
 use Rattle.outside.specs.Counts.{Rose}
-use Rattle.outside.specs.Told.{WhereTold, TookFront}
-use Rattle.outside.proofs.ToldLemmas.{WhereTold-same, WhereTold-join, WhereTold-map}
+use Rattle.outside.specs.Told.{WhereTold}
+use Rattle.outside.proofs.ToldLemmas.{WhereTold-same, WhereTold-join}
 use Rattle.disk_trait.specs.Images.{Told, IsSound}
-use Rattle.disk_trait.specs.Calls.{Goes}
 use Rattle.dag_run.specs.Seen.{Seen, seen}
 
 -- what holds of each of the three

@@ -1,5 +1,5 @@
 -- From the end of a run to its status, and which logs are refused.
-use Rattle.std.proofs.Common.{ℕ, ◌≡◌, ◌≤◌, ◌<◌, ◌⊎◌, inl, inr, ⊎_elim, List, [], length, Option, Some, None, Ok, Err, IfSome, refl, sym, subst, ◌∙◌, arith}
+use Rattle.std.proofs.Common.{ℕ, ◌≡◌, ◌≤◌, ◌⊎◌, inl, inr, ⊎_elim, List, [], length, Option, Some, None, Ok, Err, IfSome, refl, sym, subst, ◌∙◌, arith}
 use Rattle.std.specs.declared.result.Result.{Result}
 use Rattle.id_groups.specs.Name.{Name}
 use Rattle.commit_graph.specs.World.{World}
@@ -11,7 +11,7 @@ use Rattle.change_rules.specs.declared.Limits.{Limits}
 use Rattle.change_rules.specs.Unlawful.{IsNoLog}
 use Rattle.step_rules.specs.State.{at_start}
 use Rattle.step_rules.specs.Reply.{Reply}
-use Rattle.run_rules.specs.Ends.{Streams, End, Done, NotLoaded, NoLog, NoMemory, EndsAs, status_of as end_status}
+use Rattle.run_rules.specs.Ends.{Streams, Done, NotLoaded, NoLog, NoMemory, EndsAs, status_of as end_status}
 use Rattle.run_rules.specs.Means.{Means, IsComplete, RefusesLog}
 use Rattle.run_rules.proofs.Matched.{run-answered}
 use Rattle.outside.specs.Told.{WhereTold}

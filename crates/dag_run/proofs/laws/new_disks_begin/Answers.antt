@@ -1,7 +1,6 @@
-use Rattle.std.proofs.Common.{◌≡◌, ℕ, [], length, refl, sym, subst, inl, zero-le}
+use Rattle.std.proofs.Common.{◌≡◌, ℕ, [], refl, sym, subst, inl, zero-le}
 use Rattle.disk_trait.proofs.Loss.{image-stable}
 use Rattle.commit_graph.specs.World.{empty_world}
-use Rattle.change_rules.specs.Tables.{StandFor}
 use Rattle.change_rules.specs.Holding.{HoldAs, HoldBytes}
 use Rattle.dag_run.proofs.laws.new_disks_begin.Goals as goal
 

@@ -1,7 +1,7 @@
-use Rattle.std.proofs.Common.{[], ◌≡◌, ◌≤◌, ◌⊎◌, sym, subst, ◌∙◌, List, ℕ, Err, length}
+use Rattle.std.proofs.Common.{[], ◌≡◌, sym, subst, ◌∙◌}
 use Rattle.outside.specs.Counts.{Rose}
 use Rattle.outside.proofs.ToldLemmas.{WhereTold-map}
-use Rattle.dag_run.specs.Seen.{Seen, seen, streams}
+use Rattle.dag_run.specs.Seen.{seen, streams}
 use Rattle.dag_run.specs.Stops.{end_of}
 use Rattle.commit_graph.specs.World.{empty_world}
 use Rattle.outside.specs.Told.{WhereTold}
