@@ -3,9 +3,9 @@ RT ?= rt
 
 .PHONY: run try test
 
-# Proves the program, builds it and runs it on the sample: some ten minutes the first time.
+# Proves the program, builds it and runs it on the sample, over a new log: some ten minutes the first time.
 run:
-	cd crates/segdag && $(RT) run -- log -- run < stdin
+	cd crates/segdag && rm -f out/log && $(RT) run -- out/log -- run < stdin
 
 # Runs the program on the sample without its proofs, in half a minute: `proved=no` stands in the last line.
 try:
@@ -17,3 +17,5 @@ test:
 	$(RT) ci
 	RT="$(RT)" sh tests/must_not_compile.sh
 	sh tests/words.sh
+	sh tests/whole_runs.sh
+	sh tests/real_files.sh

@@ -1,16 +1,18 @@
 #!/bin/sh
 # What the built program makes of its words: those that are no usage end it with status 2 and one line on standard error, and a
-# usage without any input with status 0. Neither writes anything on standard output.
+# usage without any input with status 0, and a log of one byte that it makes. Neither writes anything on standard output.
 set -eu
 cd "$(dirname "$0")/.."
-program=crates/segdag/out/segdag
+program=${PROGRAM:-$PWD/crates/segdag/out/segdag}
 if [ ! -x "$program" ]; then
     echo "words: $program isn't built, so this isn't tried; make run builds it"
     exit 0
 fi
 
-told=$(mktemp)
-trap 'rm -f "$told"' EXIT
+folder=$(mktemp -d)
+trap 'rm -rf "$folder"' EXIT
+told=$folder/told
+cd "$folder"
 
 # The status is the first word, the number of lines on standard error the second; the program's words are those behind.
 ends() {
@@ -36,7 +38,15 @@ ends 2 1 log -- run run
 ends 2 1 log remote -- Run
 ends 2 1 -- log -- run
 ends 2 1 "$(printf '\377')" -- run
+if [ -e log ]; then
+    echo "words: a log was made for words that are no usage"
+    exit 1
+fi
 ends 0 0 log -- run
+if [ "$(od -An -tx1 log | tr -d ' ')" != 00 ]; then
+    echo "words: the new log is $(od -An -tx1 log)"
+    exit 1
+fi
 ends 0 0 log remote other -- run
 ends 0 0 run -- run
 echo "words: all end as they must"

@@ -1,12 +1,13 @@
 #![tactic(auto)]
 
 //! Runs of command lines as data: the standard input holds cases, each behind a line that begins with `==`. The replies to
-//! the lines of each case go to the standard output, behind the case's own line. Reading a case takes one carriage return off
-//! the end of each of its lines, and running it the next.
+//! the lines of each case go to the standard output, behind the case's own line and before one of how it ended: the status, the
+//! bytes of its log, and the moment of each change. A case whose line begins with `== again` goes over the log of the one before,
+//! any other over a fresh one. Reading a case takes one carriage return off the end of each of its lines, and running it the next.
 
 ghost use Rattle.std.specs.Prelude.{◌<◌};
 
-use dag_run::{Limits, run_lines};
+use dag_run::{Limits, Report, run_lines};
 use disk_memory::MemoryDisk;
 use line_io::{Line, LineFault, Lines, MemorySource, Sink, SinkFault, StdSink, StdSource};
 use std::alloc::{AllocError, AllocFailed, Global};
@@ -48,30 +49,69 @@ impl From<SinkFault> for Stop {
     }
 }
 
-/// Runs the lines of one case over a new disk, and empties it.
-fn run_case<O: Sink>(alloc: Global, case: &mut Vec<u8>, output: &mut O) -> Result<(), AllocError> {
-    let mut disk = MemoryDisk::new(alloc, &[], &[], None)?;
-    let mut input = MemorySource::new(alloc, case, 65_536, &[])?;
-    let _report = run_lines(alloc, Limits::standard(), &mut disk, &mut input, output);
-    case.clear();
+/// The lines of a case, and the log that they go over.
+#[derive(Drop)]
+struct Case {
+    lines: Vec<u8>,
+    log: Vec<u8>,
+    begun: bool,
+}
+
+/// The line that says how a run ended.
+fn end_of(alloc: Global, report: &Report, size: usize) -> Result<String, AllocError> {
+    let mut line = format!(in alloc; "-- {} {size}", report.status)?;
+    for i in 0..report.changes.len() {
+        let change = report.changes.at(i);
+        line.push_str(format!(in alloc; " {change}")?.as_str())?;
+    }
+    line.push('\n')?;
+    Ok(line)
+}
+
+/// Runs the lines of a case over its log, which is as they leave it then, and empties them.
+fn run_case<O: Sink>(alloc: Global, case: &mut Case, output: &mut O) -> Result<(), Stop> {
+    let mut disk = MemoryDisk::new(alloc, &case.log, &[], None)?;
+    let mut input = MemorySource::new(alloc, &case.lines, 65_536, &[])?;
+    let report = run_lines(alloc, Limits::standard(), &mut disk, &mut input, output);
+    let end = end_of(alloc, &report, disk.bytes().len())?;
+    output.put(end.as_bytes())?;
+    case.lines.clear();
+    case.log.clear();
+    case.log.extend_from_slice(disk.bytes())?;
+    Ok(())
+}
+
+/// Ends the case before, and begins one with this line.
+fn begin<O: Sink>(
+    alloc: Global,
+    case: &mut Case,
+    title: &[u8],
+    output: &mut O,
+) -> Result<(), Stop> {
+    if case.begun {
+        run_case(alloc, case, output)?;
+    }
+    case.begun = true;
+    if !title.starts_with(b"== again") {
+        case.log.clear();
+    }
+    output.put(title)?;
+    output.put(b"\n")?;
     Ok(())
 }
 
 /// Takes one line of the cases.
 fn take_line<O: Sink>(
     alloc: Global,
-    case: &mut Vec<u8>,
+    case: &mut Case,
     line: &[u8],
     output: &mut O,
 ) -> Result<(), Stop> {
     if line.starts_with(b"==") {
-        run_case(alloc, case, output)?;
-        output.put(line)?;
-        output.put(b"\n")?;
-    } else {
-        case.extend_from_slice(line)?;
-        case.push(b'\n')?;
+        return begin(alloc, case, line, output);
     }
+    case.lines.extend_from_slice(line)?;
+    case.lines.push(b'\n')?;
     Ok(())
 }
 
@@ -80,7 +120,11 @@ fn run_all(rt: &HostRuntime) -> Result<(), Stop> {
     let mut input = StdSource::new(rt.reader());
     let mut output = StdSink::new(io::writer(rt));
     let mut lines = Lines::new(alloc, 1 << 30)?;
-    let mut case = Vec::new(alloc);
+    let mut case = Case {
+        lines: Vec::new(alloc),
+        log: Vec::new(alloc),
+        begun: false,
+    };
     for _line in 0..u64::MAX {
         let Some(kind) = lines.next(&mut input)? else {
             break;

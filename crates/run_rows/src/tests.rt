@@ -4,7 +4,8 @@ ghost use Rattle.std.specs.Prelude.{◌<◌};
 ghost use Rattle.change_rules.specs.Standard.{AreLimits};
 
 use dag_run::{Limits, run_lines, split_words, top};
-use disk_memory::MemoryDisk;
+use disk_memory::{Choice, Fill, MemoryDisk};
+use disk_trait::Disk;
 use line_io::{MemorySink, MemorySource};
 use std::alloc::{AllocError, Global};
 use std::test::Fail;
@@ -43,8 +44,8 @@ const THREE: &str = "0 add 00000000000000000000000000000000000000a1
 0 query all
 ";
 
-/// Answers the lines, which come in pieces of so many bytes from a source that fails at these calls. The status, and how many
-/// bytes are left unread.
+/// Answers the lines over a fresh disk, which come in pieces of so many bytes from a source that fails at these calls. The status,
+/// and how many bytes are left unread.
 fn answer(
     alloc: Global,
     limits: Limits,
@@ -62,27 +63,233 @@ fn answer(
     Ok((report.status, input.left()))
 }
 
+/// The standard limits, but for these.
+fn limits_of(pending: u32, others: u32, master: u32, log: u64, answer: u32, input: u64) -> Limits {
+    Limits {
+        pending,
+        others,
+        master,
+        log,
+        answer,
+        input,
+    }
+}
+
+/// Two commits, and a flush of them, in 98 bytes of a log.
+const FLUSHED: &str = "0 add 00000000000000000000000000000000000000a1
+0 add 00000000000000000000000000000000000000b1 00000000000000000000000000000000000000a1
+0 flush
+";
+
+/// The same with the second as a head.
+const MASTERED: &str = "0 add 00000000000000000000000000000000000000a1
+0 add 00000000000000000000000000000000000000b1 00000000000000000000000000000000000000a1
+0 flush 00000000000000000000000000000000000000b1
+";
+
+/// A third commit for a log that is full.
+const FULL_LOG: &str = "0 add 00000000000000000000000000000000000000a1
+0 add 00000000000000000000000000000000000000b1 00000000000000000000000000000000000000a1
+0 flush
+0 add 00000000000000000000000000000000000000c1 00000000000000000000000000000000000000b1
+0 flush
+0 status
+";
+
 #[test]
 fn limits_are_kept(rt: HostRuntime) -> Result<(), Fail> {
-    for (pending, input, lines, status, replies) in [
-        (2, 1 << 30, IN_ORDER, 0, IN_ORDER_REPLIES),
-        (1, 9, "0 status\n0 status\n", 8, "ok 0 0 0\n"),
-        (1, 8, "0 status", 0, "ok 0 0 0\n"),
-        (1, 8, "0 status\n", 8, ""),
+    let most = 1 << 30;
+    for (limits, lines, status, replies) in [
+        (
+            limits_of(2, 9, 9, 999, 1, most),
+            IN_ORDER,
+            0,
+            IN_ORDER_REPLIES,
+        ),
+        (
+            limits_of(1, 9, 9, 999, 1, 9),
+            "0 status\n0 status\n",
+            8,
+            "ok 0 0 0\n",
+        ),
+        (limits_of(1, 9, 9, 999, 1, 8), "0 status", 0, "ok 0 0 0\n"),
+        (limits_of(1, 9, 9, 999, 1, 8), "0 status\n", 8, ""),
+        (
+            limits_of(2, 1, 9, 999, 1, most),
+            FLUSHED,
+            0,
+            "ok added N0\nok added N1\nerr full others 1\n",
+        ),
+        (
+            limits_of(2, 1, 1, 999, 1, most),
+            MASTERED,
+            0,
+            "ok added N0\nok added N1\nerr full master 1\n",
+        ),
+        (
+            limits_of(2, 9, 9, 98, 1, most),
+            FULL_LOG,
+            0,
+            "ok added N0\nok added N1\nok flushed 0 2\nok added N2\nerr full log 98\nok 0 2 1\n",
+        ),
     ] {
-        let limits = Limits {
-            pending,
-            others: 10,
-            master: 10,
-            log: 1000,
-            answer: 1,
-            input,
-        };
         let mut output = MemorySink::new(rt.alloc(), &[])?;
         let (ended, _) = answer(rt.alloc(), limits, lines.as_bytes(), 1, &[], &mut output)?;
         assert_eq!(rt; ended, status);
         assert_eq!(rt; output.bytes(), replies.as_bytes(), "at {lines}");
     }
+    Ok(())
+}
+
+/// The log of two commits of the others.
+const LOG: [u8; 98] = [
+    1, 0, 0, 0, 0, 0, 0, 0, 88, 1, 1, 0, 0, 0, 0, 0, 0, 0, 0, 0, 0, 0, 0, 0, 0, 0, 0, 0, 0, 0, 0,
+    0, 0, 0, 0, 0, 0, 0, 0, 0, 2, 0, 0, 0, 1, 1, 0, 1, 0, 0, 0, 0, 0, 0, 1, 1, 0, 0, 0, 0, 0, 0, 0,
+    0, 0, 0, 0, 0, 0, 0, 0, 0, 0, 0, 0, 0, 161, 0, 0, 0, 0, 0, 0, 0, 0, 0, 0, 0, 0, 0, 0, 0, 0, 0,
+    0, 0, 177, 0,
+];
+
+/// The same with the number 1 of a record in two bytes.
+const LONGER: [u8; 99] = [
+    1, 0, 0, 0, 0, 0, 0, 0, 89, 1, 1, 0, 0, 0, 0, 0, 0, 0, 0, 0, 0, 0, 0, 0, 0, 0, 0, 0, 0, 0, 0,
+    0, 0, 0, 0, 0, 0, 0, 0, 0, 2, 0, 0, 0, 1, 1, 0, 1, 0, 0, 0, 0, 0, 0, 1, 129, 0, 0, 0, 0, 0, 0,
+    0, 0, 0, 0, 0, 0, 0, 0, 0, 0, 0, 0, 0, 0, 0, 161, 0, 0, 0, 0, 0, 0, 0, 0, 0, 0, 0, 0, 0, 0, 0,
+    0, 0, 0, 0, 177, 0,
+];
+
+/// The log with a byte behind its closed gate.
+const PAST: [u8; 99] = [
+    1, 0, 0, 0, 0, 0, 0, 0, 88, 1, 1, 0, 0, 0, 0, 0, 0, 0, 0, 0, 0, 0, 0, 0, 0, 0, 0, 0, 0, 0, 0,
+    0, 0, 0, 0, 0, 0, 0, 0, 0, 2, 0, 0, 0, 1, 1, 0, 1, 0, 0, 0, 0, 0, 0, 1, 1, 0, 0, 0, 0, 0, 0, 0,
+    0, 0, 0, 0, 0, 0, 0, 0, 0, 0, 0, 0, 0, 161, 0, 0, 0, 0, 0, 0, 0, 0, 0, 0, 0, 0, 0, 0, 0, 0, 0,
+    0, 0, 177, 0, 7,
+];
+
+#[test]
+fn a_log_of_no_commits_in_turn_is_refused(rt: HostRuntime) -> Result<(), Fail> {
+    // Bytes that run past the end; the log with a longer spelling of a number; and a log that is longer than its limit.
+    for (bytes, limit, status) in [
+        ([1, 0, 0, 0, 0, 0, 0, 0, 5, 170].as_slice(), 98, 4),
+        (&LONGER, 999, 4),
+        (&LOG, 98, 0),
+        (&PAST, 98, 4),
+        (&PAST, 99, 0),
+    ] {
+        let mut disk = MemoryDisk::new(rt.alloc(), bytes, &[], None)?;
+        let mut input = MemorySource::new(rt.alloc(), b"0 status\n", 9, &[])?;
+        let mut output = MemorySink::new(rt.alloc(), &[])?;
+        let limits = limits_of(9, 9, 9, limit, 9, 99);
+        let report = run_lines(rt.alloc(), limits, &mut disk, &mut input, &mut output);
+        assert_eq!(rt; (report.status, report.changes.len()), (status, 0));
+        assert_eq!(rt; output.bytes().len(), if status == 0 { 9 } else { 0 });
+        assert_eq!(rt; disk.bytes(), bytes);
+    }
+    Ok(())
+}
+
+/// Answers lines over a disk; the status.
+fn run_on(
+    alloc: Global,
+    disk: &mut MemoryDisk,
+    lines: &str,
+    output: &mut MemorySink,
+) -> Result<u8, AllocError> {
+    let mut input = MemorySource::new(alloc, lines.as_bytes(), 100, &[])?;
+    Ok(run_lines(alloc, Limits::standard(), disk, &mut input, output).status)
+}
+
+#[test]
+fn each_call_of_the_disk_fails_in_turn(rt: HostRuntime) -> Result<(), Fail> {
+    // The calls of loading a fresh disk are 1 to 4, those of the flush 5 to 8.
+    for call in 1..9 {
+        let mut disk = MemoryDisk::new(rt.alloc(), &[], &[call], None)?;
+        let mut output = MemorySink::new(rt.alloc(), &[])?;
+        assert_eq!(rt; run_on(rt.alloc(), &mut disk, FLUSHED, &mut output)?, 3);
+        let replies = if call < 5 {
+            b"err disk\n".as_slice()
+        } else {
+            b"ok added N0\nok added N1\nerr disk\n".as_slice()
+        };
+        assert_eq!(rt; output.bytes(), replies, "at {call}");
+        assert_eq!(rt; disk.clock(), 2 * call);
+    }
+    Ok(())
+}
+
+/// What a crash leaves of a disk at a moment is loaded again and asked for its sizes; the answer's place for others, or 99.
+fn others_left(
+    alloc: Global,
+    disk: &MemoryDisk,
+    moment: u64,
+    fill: Fill,
+    size: u64,
+) -> Result<u8, AllocError> {
+    if disk.clock() < moment {
+        return Ok(99);
+    }
+    let choice = Choice { moment, fill, size };
+    let mut later = disk.crash(&choice)?;
+    let mut output = MemorySink::new(alloc, &[])?;
+    if run_on(alloc, &mut later, "0 status\n", &mut output)? != 0 {
+        return Ok(99);
+    }
+    match output.bytes() {
+        [b'o', b'k', b' ', b'0', b' ', others, ..] => Ok(*others - b'0'),
+        _ => Ok(99),
+    }
+}
+
+#[test]
+fn a_crash_leaves_the_flush_or_not(rt: HostRuntime) -> Result<(), Fail> {
+    let alloc = rt.alloc();
+    let mut disk = MemoryDisk::new(alloc, &[], &[], None)?;
+    let mut output = MemorySink::new(alloc, &[])?;
+    assert_eq!(rt; run_on(alloc, &mut disk, FLUSHED, &mut output)?, 0);
+    assert_eq!(rt; disk.bytes(), LOG.as_slice());
+    for moment in 0..17 {
+        for fill in [
+            Fill::Old,
+            Fill::New,
+            Fill::Byte(0),
+            Fill::Byte(1),
+            Fill::Byte(127),
+        ] {
+            for size in [0, 1, 50, 98] {
+                let others = others_left(alloc, &disk, moment, fill, size)?;
+                let is_right = if moment < 13 {
+                    others == 0
+                } else {
+                    others == 2 || (moment < 16 && others == 0)
+                };
+                assert!(rt; is_right, "{others} at {moment}");
+            }
+        }
+    }
+    Ok(())
+}
+
+#[test]
+fn a_log_goes_on_after_a_crash(rt: HostRuntime) -> Result<(), Fail> {
+    let alloc = rt.alloc();
+    let mut disk = MemoryDisk::new(alloc, &[], &[], Some(7))?;
+    let mut output = MemorySink::new(alloc, &[])?;
+    assert_eq!(rt; run_on(alloc, &mut disk, FLUSHED, &mut output)?, 3);
+    if disk.clock() < 15 {
+        return Ok(());
+    }
+    let choice = Choice {
+        moment: 15,
+        fill: Fill::Byte(127),
+        size: 98,
+    };
+    let mut later = disk.crash(&choice)?;
+    let mut output = MemorySink::new(alloc, &[])?;
+    assert_eq!(rt; run_on(alloc, &mut later, FLUSHED, &mut output)?, 0);
+    assert_eq!(rt;
+        output.bytes(),
+        b"ok added N0\nok added N1\nok flushed 0 2\n".as_slice()
+    );
+    assert_eq!(rt; later.bytes(), LOG.as_slice());
     Ok(())
 }
 
@@ -181,14 +388,14 @@ fn the_mode_is_one_word(rt: HostRuntime) -> Result<(), Fail> {
     ];
     for (texts, status, left, replies) in rows {
         let words = words_of(rt.alloc(), texts)?;
+        let mut log = MemoryDisk::new(rt.alloc(), &[], &[], None)?;
+        let mut spare = MemoryDisk::new(rt.alloc(), &[], &[], None)?;
         let mut input = MemorySource::new(rt.alloc(), b"0 status\n", 1, &[])?;
         let mut output = MemorySink::new(rt.alloc(), &[])?;
-        let mut disk = MemoryDisk::new(rt.alloc(), &[], &[], None)?;
-        let mut spare = MemoryDisk::new(rt.alloc(), &[], &[], None)?;
         let report = top(
             rt.alloc(),
             &words,
-            &mut disk,
+            &mut log,
             &mut spare,
             &mut input,
             &mut output,
@@ -225,64 +432,6 @@ fn long_answers_are_put_in_blocks(rt: HostRuntime) -> Result<(), Fail> {
         let limits = Limits::standard();
         let (ended, _) = answer(rt.alloc(), limits, lines.as_bytes(), 1000, &[], &mut output)?;
         assert_eq!(rt; (ended, output.bytes().len()), (status, size));
-    }
-    Ok(())
-}
-
-/// A commit that is stored, and the sizes then.
-const STORED: &str = "0 add 00000000000000000000000000000000000000a1
-0 flush 00000000000000000000000000000000000000a1
-0 status
-";
-
-#[test]
-fn a_change_is_acknowledged_or_cut_short(rt: HostRuntime) -> Result<(), Fail> {
-    // Loading a new disk takes four calls, and storing four more. Where the log's first write or a change's is to fail the run ends.
-    let rows: [(&[u64], u8, usize, &[u8]); 4] = [
-        (&[], 0, 1, b"ok added N0\nok flushed 1 0\nok 1 0 0\n"),
-        (&[2], 3, 0, b"err disk\n"),
-        (&[5], 3, 0, b"ok added N0\nerr disk\n"),
-        (&[9], 0, 1, b"ok added N0\nok flushed 1 0\nok 1 0 0\n"),
-    ];
-    for (fails, status, changes, replies) in rows {
-        let mut disk = MemoryDisk::new(rt.alloc(), &[], fails, None)?;
-        let mut input = MemorySource::new(rt.alloc(), STORED.as_bytes(), 100, &[])?;
-        let mut output = MemorySink::new(rt.alloc(), &[])?;
-        let report = run_lines(
-            rt.alloc(),
-            Limits::standard(),
-            &mut disk,
-            &mut input,
-            &mut output,
-        );
-        assert_eq!(rt; (report.status, report.changes.len()), (status, changes));
-        assert_eq!(rt; output.bytes(), replies);
-    }
-    Ok(())
-}
-
-#[test]
-fn a_run_goes_on_from_the_last(rt: HostRuntime) -> Result<(), Fail> {
-    let mut disk = MemoryDisk::new(rt.alloc(), &[], &[], None)?;
-    for (lines, status, replies) in [
-        (STORED, 0, "ok added N0\nok flushed 1 0\nok 1 0 0\n"),
-        (
-            "15 id 00000000000000000000000000000000000000a1\n",
-            0,
-            "ok 0\n",
-        ),
-    ] {
-        let mut input = MemorySource::new(rt.alloc(), lines.as_bytes(), 100, &[])?;
-        let mut output = MemorySink::new(rt.alloc(), &[])?;
-        let report = run_lines(
-            rt.alloc(),
-            Limits::standard(),
-            &mut disk,
-            &mut input,
-            &mut output,
-        );
-        assert_eq!(rt; report.status, status);
-        assert_eq!(rt; output.bytes(), replies.as_bytes());
     }
     Ok(())
 }

@@ -1,19 +1,28 @@
 #![tactic(auto)]
 
-//! The program `segdag`: answers command lines of standard input on standard output.
+//! The program `segdag`: answers command lines of standard input on standard output, over the log in a file.
 
-ghost use Rattle.std.specs.Prelude.{◌≡◌, ◌⊎◌, ◌<◌, ◌≤◌, ◌^◌, ◌↔◌, [], length, map, string_bytes, MatchOption};
+ghost use Rattle.std.specs.Prelude.{◌≡◌, ◌⊎◌, ◌<◌, ◌^◌, ◌↔◌, ◌==◌, ◌&&◌, not, length, map, string_bytes, if◌then◌else◌, ℕ, List};
 ghost use Rattle.std.specs.Process.{exit_status};
 ghost use Rattle.outside.specs.Counts.{Rose};
 ghost use Rattle.outside.specs.Told.{WhereTold};
-ghost use Rattle.dag_run.specs.Ends.{StatusMeans, LimitMeans};
-ghost use Rattle.dag_run.specs.Limits.{standard};
+ghost use Rattle.id_groups.specs.Name.{Name};
+ghost use Rattle.commit_graph.specs.World.{World};
+ghost use Rattle.batch_codec.specs.Payload.{Payload};
+ghost use Rattle.change_rules.specs.Standard.{standard};
+ghost use Rattle.dag_run.specs.Seen.{seen};
+ghost use Rattle.dag_run.specs.Ends.{Begins, StatusMeans};
 ghost use Rattle.dag_run.specs.Stops.{IsStatus};
-ghost use Rattle.segdag.specs.Usage.{IsUsage, mode_words};
+ghost use Rattle.segdag.specs.Usage.{IsUsage};
 
-use dag_run::{split_words, top};
+mod words;
+
+use crate::words::{log_of, mode_of};
+use dag_run::top;
+use disk_trait::Disk;
+use file_disk::FileDisk;
 use line_io::{Sink, Source, StdSink, StdSource};
-use std::alloc::Global;
+use std::alloc::{AllocError, Global};
 use std::io::ErrorKind;
 use std::process::ExitCode;
 use std::{env, io};
@@ -21,41 +30,43 @@ use std::{env, io};
 /// The status of words that aren't a usage.
 const NO_USAGE: u8 = 2;
 
+/// The status where the disk failed.
+const DISK_FAILED: u8 = 3;
+
 /// The status where the words want memory.
 const NO_MEMORY: u8 = 7;
 
-/// The words behind the first `--`, of words with the program's own name in front. `None` where it is missing or where the log's
-/// path is.
-fn mode_of<'a>(words: &'a [String]) -> Option<&'a [String]>
-    requires { length words.now < 2 ^ 32 }
-    ensures { MatchOption result (mode_words (map string_bytes words.now) ≡ None)
-        (λ mode. mode_words (map string_bytes words.now) ≡ Some (map string_bytes mode.now)) }
-{
-    let (_name, words) = words.split_first()?;
-    let split = split_words(words)?;
-    Some(&words[split.rest as usize..])
-}
+/// The status where the log was never opened.
+const NOT_OPENED: u8 = 9;
 
-/// Answers the lines of the input where the words, the program's own name in front, are a usage, and gives the status.
-fn answer<I: Source, O: Sink>(alloc: Global, words: &[String], input: &mut I, output: &mut O) -> u8
+/// Answers the lines of the input over the log where the words, the program's own name in front, are a usage, and gives the
+/// status.
+fn answer<D: Disk, I: Source, O: Sink>(
+    alloc: Global,
+    words: &[String],
+    log: &mut D,
+    spare: &mut D,
+    input: &mut I,
+    output: &mut O,
+) -> u8
     requires { length words.now < 2 ^ 32 }
     ensures known { IsStatus result }
     ensures usage { result ≡ 2 ↔ ¬ (IsUsage (map string_bytes words.now)) }
-    ensures output { WhereTold (I.left input.old) (I.left input.new) (λ bytes left.
-        WhereTold (O.taken output.old) (O.taken output.new) (StatusMeans standard result bytes left)) }
-    ensures limit { WhereTold (I.left input.old) (I.left input.new) (λ bytes left. LimitMeans standard result bytes) }
-    ensures read { result ≡ 0 → WhereTold (I.left input.old) (I.left input.new) (λ bytes left. left ≡ []) }
-    ensures untouched { (result ≡ 2) ⊎ (result ≡ 7) → (input.new ≡ input.old) × (output.new ≡ output.old) }
+    ensures means { (w : World Name) (payloads : List Payload) (room : ℕ) → IsUsage (map string_bytes words.now)
+        → WhereTold (seen (D.told log.old) (I.left input.old) (O.taken output.old)) (seen (D.told log.new) (I.left input.new) (O.taken output.new))
+        (λ before after. Begins standard w payloads before → (changes : List ℕ) × StatusMeans standard w payloads room
+        (Rose (D.faults log.old) (D.faults log.new)) (Rose (I.faults input.old) (I.faults input.new)) (Rose (O.faults output.old) (O.faults output.new)) result changes before after) }
+    ensures quiet { (result ≡ 2) ⊎ (result ≡ 7) → (input.new ≡ input.old) × (output.new ≡ output.old) }
+    ensures untouched { result ≡ 2 → log.new ≡ log.old }
+    ensures disk { result ≡ 3 → Rose (D.faults log.old) (D.faults log.new) }
     ensures source { result ≡ 5 → Rose (I.faults input.old) (I.faults input.new) }
     ensures sink { result ≡ 6 → Rose (O.faults output.old) (O.faults output.new) }
-    ensures complete { IsUsage (map string_bytes words.now)
-        → ¬ (Rose (I.faults input.old) (I.faults input.new)) → ¬ (Rose (O.faults output.old) (O.faults output.new))
-        → WhereTold (I.left input.old) (I.left input.new) (λ bytes left. length bytes ≤ 2 ^ 30 → (result ≡ 0) ⊎ (result ≡ 7)) }
+    ensures spare { spare.new ≡ spare.old }
 {
     let Some(mode) = mode_of(words) else {
         return NO_USAGE;
     };
-    top(alloc, mode, input, output).status
+    top(alloc, mode, log, spare, input, output).status
 }
 
 /// The words, the program's own name in front; or the status where memory is wanting, or where one of them isn't UTF-8 text.
@@ -69,15 +80,55 @@ fn words_of(rt: &HostRuntime) -> Result<Vec<String>, u8> {
         .map_err(|_refused| NO_MEMORY)
 }
 
+/// The file at this path with this behind it; it is made where there is none. Nothing is opened yet.
+fn disk_at(
+    rt: &HostRuntime,
+    path: &str,
+    ending: &str,
+) -> Result<FileDisk<HostRuntime>, AllocError> {
+    let path = format!(in rt.alloc(); "{path}{ending}")?;
+    Ok(FileDisk::new(rt.clone()?, path, true))
+}
+
+/// The program's own status: where the disk failed and the log was never opened it is another one.
+fn own_status(status: u8, is_opened: bool) -> u8
+    ensures { result ≡ if status == 3 && not is_opened then 9 else status }
+{
+    if status == DISK_FAILED && !is_opened {
+        return NOT_OPENED;
+    }
+    status
+}
+
+/// Answers the lines of standard input on standard output over the log at this path, and gives the status.
+fn run_over(rt: &HostRuntime, words: &[String], path: &str) -> Result<u8, AllocError>
+    requires { length words.now < 2 ^ 32 }
+{
+    let mut log = disk_at(rt, path, "")?;
+    let mut spare = disk_at(rt, path, ".new")?;
+    let mut input = StdSource::new(rt.reader());
+    let mut output = StdSink::new(io::writer(rt));
+    let status = answer(
+        rt.alloc(),
+        words,
+        &mut log,
+        &mut spare,
+        &mut input,
+        &mut output,
+    );
+    Ok(own_status(status, log.opened()))
+}
+
 /// Answers the lines of standard input on standard output, and gives the status.
 fn run(rt: &HostRuntime) -> Result<u8, u8> {
     let words = words_of(rt)?;
     if words.len() >= 1 << 32 {
         return Err(NO_USAGE);
     }
-    let mut input = StdSource::new(rt.reader());
-    let mut output = StdSink::new(io::writer(rt));
-    Ok(answer(rt.alloc(), &words, &mut input, &mut output))
+    let Some(path) = log_of(&words) else {
+        return Err(NO_USAGE);
+    };
+    run_over(rt, &words, path).map_err(|_refused| NO_MEMORY)
 }
 
 /// Ends with this status. Where the words were no usage it says on standard error how the program is called.

@@ -4,7 +4,7 @@ use Rattle.std.proofs.lemmas.List.{drop-map, take_all, length-drop}
 use Rattle.dag_run.specs.Words.{dashes_at, split_of}
 use Rattle.dag_run.specs.declared.words.Split.{Split}
 use Rattle.segdag.specs.Usage.{mode_words}
-use Rattle.segdag.proofs.mode_of.Goals as goal
+use Rattle.segdag.proofs.words.mode_of.Goals as goal
 
 -- what is behind a place, by a function of each item
 behind : {X Y : Type 0} (f : X → Y) (place : ℕ) (items : List X)

@@ -1,0 +1,116 @@
+"""The runs of whole_runs.sh: whole_runs.py PROGRAM FOLDER. In lines and replies [b1] stands for the name of 19 zero bytes and b1."""
+import os
+import re
+import subprocess
+import sys
+
+PROGRAM = os.path.abspath(sys.argv[1])
+LOG = os.path.join(sys.argv[2], "log")
+
+
+def spelled(text):
+    return re.sub(r"\[(\w\w)\]", lambda found: found.group(1).rjust(40, "0"), text)
+
+
+def check(what, lines, replies, status=0, size=None):
+    """The run over these lines, divided by line feeds or semicolons, has these replies; the log then has so many bytes."""
+    lines, replies = ([line.strip() for line in re.split("[;\n]", text) if line.strip()] for text in (lines, replies))
+    text = "".join(spelled(line) + "\n" for line in lines)
+    done = subprocess.run([PROGRAM, LOG, "--", "run"], input=text.encode(), stdout=subprocess.PIPE, timeout=60)
+    given = done.stdout.decode().splitlines()
+    if done.returncode != status or given != [spelled(reply) for reply in replies]:
+        sys.exit(f"whole_runs: {what}: status {done.returncode}, {given}")
+    if size is not None and os.path.getsize(LOG) != size:
+        sys.exit(f"whole_runs: {what}: the log has {os.path.getsize(LOG)} bytes")
+
+
+def fresh(*arguments, **options):
+    """The same over a new log."""
+    if os.path.exists(LOG):
+        os.remove(LOG)
+    check(*arguments, **options)
+
+
+def added(count):
+    return "".join(f"ok added N{i}; " for i in range(count))
+
+
+PAIR = "0 add [a1]; 0 add [b1] [a1]; "
+CHAIN = PAIR + "0 add [c1] [b1]; "
+FORK = PAIR + "0 add [c1] [a1]; "
+DAY = "0 add [01]; 0 add [02] [01]; 0 add [03] [02]; 0 add [04] [02]; 0 add [05] [04]; 0 add [06] [03] [05]; "
+
+
+def ladder():
+    """Id 0, then by turns one on the newest and one on the two newest."""
+    lines = "0 add [01]; "
+    for i in range(1, 35):
+        parents = [i - 1] if i % 2 else [i - 2, i - 1]
+        lines += f"0 add [{i + 1:02x}] " + " ".join(f"[{parent + 1:02x}]" for parent in parents) + "; "
+    return lines
+
+
+fresh("no input", "", "", size=1)
+fresh("two commits", PAIR + "0 query all", added(2) + "[b1]; [a1]; ok 2", size=1)
+fresh("an unknown parent", "0 add [c1] [d1]; 0 status", "err unknown [d1]; ok 0 0 0")
+fresh(
+    "what is there already",
+    PAIR + "0 add [b1] [a1]; 0 add [b1]; 0 add [c1] [a1] [a1]",
+    added(2) + "ok old N1; err differs [b1]; err twice [a1]",
+)
+fresh("two flushes of nothing", PAIR + "0 flush; 0 flush", added(2) + "ok flushed 0 2; ok flushed 0 2", size=98)
+fresh(
+    "a flush of a branch",
+    FORK + "0 flush [c1]; 0 query all",
+    added(3) + "ok flushed 2 1; [b1]; [c1]; [a1]; ok 3",
+    size=147,
+)
+check("the run after it", "3 query all", "[b1]; [c1]; [a1]; ok 3", size=147)
+fresh("heads and tips", CHAIN + "0 query heads(union([a1],[c1])); 0 query tips(union([a1],[c1]))", added(3) + "[c1]; [a1]; ok 2; [c1]; ok 1")
+fresh(
+    "two greatest common ancestors",
+    FORK + "0 add [d1] [b1] [c1]; 0 add [e1] [c1] [b1]; 0 query gca(union([d1],[e1]))",
+    added(5) + "[c1]; [b1]; ok 2",
+)
+fresh("what nothing has in common", "0 query common(minus(all,all))", "ok 0")
+fresh("first parents", CHAIN + "0 query up([a1],1); 0 query up([c1],0)", added(3) + "ok 0; [c1]; ok 1")
+fresh(
+    "a session behind",
+    FORK + "0 flush [c1]; 1 reload; 1 add [d1] [b1]; 0 flush [b1]; 1 query all; 1 flush; 1 id [d1]",
+    added(3) + "ok flushed 2 1; ok reloaded 0; ok added N1; ok flushed 3 0; [d1]; [b1]; [c1]; [a1]; ok 4; ok flushed 3 1; ok N0",
+)
+fresh(
+    "a conflict",
+    PAIR + "0 flush; 1 add [b1]; 1 reload; 1 flush; 1 status; 1 discard; 1 reload; 1 status",
+    added(2) + "ok flushed 0 2; ok added N0; err conflict [b1]; err conflict [b1]; ok 0 0 1; ok discarded 1; ok reloaded 0; ok 0 2 0",
+)
+fresh(
+    "a ladder",
+    ladder() + "0 flush [23]; 0 levels; 0 count ancestors([20])",
+    added(35) + "ok flushed 35 0; ok 18 1; ok 32",
+)
+fresh(
+    "a day",
+    DAY + "0 query only([06],[03]); 0 query range([02],[05]); 0 query merges(all)",
+    added(6) + "[06]; [05]; [04]; ok 3; [05]; [04]; [02]; ok 3; [06]; ok 1",
+)
+fresh("its flush", DAY + "0 flush [06]", added(6) + "ok flushed 6 0")
+check(
+    "the day after",
+    """0 id [05]; 0 levels; 0 query gca(union([03],[05])); 0 query roots(union([04],[05])); 0 query children([02])
+    0 query descendants([03]); 0 query top(all,2); 0 query inter(ancestors([03]),ancestors([05]))
+    0 query minus(all,ancestors([05])); 0 query parents([06]); 0 count master; 0 count others""",
+    """ok 4; ok 3; [02]; ok 1; [04]; ok 1; [04]; [03]; ok 2
+    [06]; [03]; ok 2; [06]; [05]; ok 2; [02]; [01]; ok 2
+    [06]; [03]; ok 2; [05]; [03]; ok 2; ok 6; ok 0""",
+)
+fresh(
+    "lines that are no commands",
+    "16 status; 0 add; 0  status; 0 query all,all; 0 id a1; 00 status",
+    "err syntax; " * 6,
+)
+fresh("a line that is too long", "0 " + "x" * 16383 + "; 0 status", "err line 16384; ok 0 0 0")
+with open(LOG, "wb") as log:
+    log.write(bytes([1, 0, 0, 0, 0, 0, 0, 0, 5, 170]))
+check("a damaged log", "0 status", "", status=4, size=10)
+print("whole_runs: all are answered as they must")
