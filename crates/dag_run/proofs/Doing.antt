@@ -1,11 +1,9 @@
 -- What executing a command does.
-use Rattle.std.proofs.Common.{◌≡◌, ◌<◌, ◌≤◌, ◌⊎◌, inl, inr, ℕ, Bool, true, false, not, List, [], ◌∷◌, ◌++◌, length, Option, Some, None, Ok, Err, IfOk, IfErr, refl, sym, ap, subst, ◌∙◌, ⊎_elim, arith}
+use Rattle.std.proofs.Common.{◌≡◌, ◌<◌, ◌≤◌, inl, inr, ℕ, Bool, true, false, not, List, [], length, Option, Some, None, Ok, Err, IfOk, IfErr, refl, sym, ap, subst, ◌∙◌, arith}
 use Rattle.std.specs.Prelude.{◌&&◌}
 use Rattle.std.specs.declared.result.Result.{Result}
 use Rattle.std.proofs.lemmas.Bool.{ltb-true, lt-ltb}
 use Rattle.id_groups.specs.Name.{Name}
-use Rattle.outside.specs.Counts.{Rose}
-use Rattle.outside.specs.Told.{TookFront}
 use Rattle.disk_trait.specs.Images.{Told}
 use Rattle.disk_trait.specs.declared.DiskFault.{DiskFault}
 use Rattle.line_io.specs.Lines.{is_silent, is_too_long, is_empty_or_comment}
@@ -19,9 +17,9 @@ use Rattle.step_rules.specs.Reply.{Reply, Refused, reply_text}
 use Rattle.run_rules.specs.Grammar.{SpellsCommand}
 use Rattle.dag_store.specs.Kept.{PlainStore}
 use Rattle.dag_store.specs.Stands.{Stands}
-use Rattle.dag_store.specs.Flushes.{HasRoom, HasStored, CutShort}
+use Rattle.dag_store.specs.Flushes.{HasRoom, HasStored}
 use Rattle.dag_run.specs.Alone.{CommandAlone, StepAlone}
-use Rattle.dag_run.specs.Lines.{Changes, HasChanged, PutsFault, PutsReply, IsLimited, Replies, IsPassed, CommandReplies, LineReplies, LineLeaves, StoresOn}
+use Rattle.dag_run.specs.Lines.{Changes, HasChanged, PutsReply, IsLimited, Replies, CommandReplies, LineReplies, LineLeaves}
 use Rattle.dag_run.specs.declared.stops.Stop.{Stop}
 use Rattle.dag_run.specs.declared.stops.Stop.TheVariants as stops
 use Rattle.dag_run.proofs.Solo.{lone-alone, command-step}
@@ -235,8 +233,11 @@ quiet-command SinkFailed old new s verb asked r reply d o p e same stop room doe
 pub line-of-command : (SinkFailed : Type 0) (kept : PlainStore) (s : ℕ) (verb : Verb) (line payload : List ℕ) (clock : Option ℕ) (r : Result PlainStore Stop) (before now : List ℕ) → SpellsCommand line s verb → is_too_long line ≡ false → is_silent line ≡ false
     → CommandReplies SinkFailed kept s verb payload clock r before now → LineReplies SinkFailed kept line payload clock r before now
 line-of-command SinkFailed kept s verb line payload clock r before now spells short silent h began st stands =
-    inr (silent, replies-map SinkFailed began st (CommandAlone kept.limits st s verb) (StepAlone kept.limits st line) payload clock r before now
-    (λ reply next. command-step kept.limits st line s verb reply next spells short) (h began st stands))
+    inr (
+      silent,
+      replies-map SinkFailed began st (CommandAlone kept.limits st s verb) (StepAlone kept.limits st line) payload clock r before now
+          (λ reply next. command-step kept.limits st line s verb reply next spells short) (h began st stands),
+    )
 
 -- a line that changes nothing
 pub line-told : (SinkFailed : Type 0) (kept : PlainStore) (line : List ℕ) (r : Result PlainStore Stop) (reply : Reply) (before now : List ℕ) → is_silent line ≡ false → ((st : Stored) → StepAlone kept.limits st line reply st)

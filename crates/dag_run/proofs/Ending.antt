@@ -1,5 +1,5 @@
 -- How a run ends.
-use Rattle.std.proofs.Common.{ℕ, ◌≡◌, ◌≤◌, ◌+◌, ◌⊎◌, inl, inr, ⊎_elim, true, false, List, [], ◌∷◌, ◌++◌, length, map, take, refl, sym, ◌∙◌, ap, subst, append_assoc, append-nil, Option, Some, None, Ok, Err, arith}
+use Rattle.std.proofs.Common.{ℕ, ◌≡◌, ◌≤◌, ◌+◌, inl, inr, ⊎_elim, false, List, [], ◌∷◌, ◌++◌, length, map, take, refl, sym, ◌∙◌, ap, subst, append_assoc, append-nil, Option, Some, None, Ok, Err, arith}
 use Rattle.std.specs.declared.result.Result.{Result}
 use Rattle.std.proofs.lemmas.Bool.{ltb-true, ltb-false}
 use Rattle.id_groups.specs.Name.{Name}
@@ -8,7 +8,7 @@ use Rattle.disk_trait.specs.Images.{Told, IsSound, moment_of}
 use Rattle.disk_trait.specs.Since.{SureSince}
 use Rattle.gated_log.specs.Load.{IsSureOf}
 use Rattle.line_io.specs.Lines.{lines_of, whole_lines, is_silent}
-use Rattle.line_io.specs.Reading.{Reading, lines_left, whole_left}
+use Rattle.line_io.specs.Reading.{Reading, lines_left}
 use Rattle.line_io.specs.Next.{NextLine, IsLine, IsReadOut}
 use Rattle.line_io.specs.declared.lines.Line.{Line}
 use Rattle.line_io.specs.declared.lines.LineFault.{LineFault}
@@ -21,18 +21,16 @@ use Rattle.change_rules.specs.Holding.{HoldBytes}
 use Rattle.step_rules.specs.State.{Stored, at_start, start}
 use Rattle.step_rules.specs.Reply.{Reply, reply_text}
 use Rattle.run_rules.specs.Run.{Run, output_of}
-use Rattle.run_rules.specs.Ends.{End, Done, OverLimit, NoSource, NoSink, NotLoaded, NotStored, NoLog, NoMemory, EndsAs, WroteFault, disk_text}
-use Rattle.run_rules.specs.Stopped.{Stopped}
-use Rattle.run_rules.specs.Means.{Means, Keeps, Leaves, FailsAt, last_of, loaded_at}
+use Rattle.run_rules.specs.Ends.{End, Done, OverLimit, NoSource, NoMemory, EndsAs, WroteFault, disk_text}
+use Rattle.run_rules.specs.Means.{Means, Keeps, Leaves, FailsAt, loaded_at}
 use Rattle.gated_log.specs.Holding.{IsLogWithin}
 use Rattle.dag_store.specs.Flushes.{CutShort}
 use Rattle.dag_store.specs.Kept.{PlainStore}
-use Rattle.dag_store.specs.Stands.{Stands}
 use Rattle.dag_run.specs.Seen.{Seen, streams}
 use Rattle.dag_run.specs.Alone.{alone, StepAlone}
 use Rattle.dag_run.specs.Ends.{Begins}
 use Rattle.dag_run.specs.Stops.{stop_of, end_of}
-use Rattle.dag_run.specs.Lines.{changes_with, HasChanged, PutsFault, IsLimited, Replies, IsPassed, LineReplies, LineLeaves, StoresOn}
+use Rattle.dag_run.specs.Lines.{changes_with, PutsFault, IsLimited, Replies, LineReplies, LineLeaves, StoresOn}
 use Rattle.dag_run.specs.declared.stops.Stop.{Stop}
 use Rattle.dag_run.specs.declared.stops.Stop.TheVariants as stops
 use Rattle.std.proofs.Common.{IfSome}
@@ -49,7 +47,7 @@ use Rattle.dag_run.specs.Stops.{IsLoadStop}
 use Rattle.dag_run.proofs.Seeing.{Each, seen-each, same-told}
 use Rattle.dag_run.proofs.Reading.{Reads}
 use Rattle.dag_run.proofs.Going.{Going, prefixes, fresh-prefixes, stays-line, read-on, run-on}
-use Rattle.dag_run.proofs.Staying.{Stays, stopped-there, stopped-loaded, stopped-loading, stopped-short, short-sure, bytes-now, log-of}
+use Rattle.dag_run.proofs.Staying.{stopped-there, stopped-loaded, stopped-loading, stopped-short, short-sure, bytes-now, log-of}
 
 -- what a run ends as means what a run has to
 abbrev pub RunMeans : Limits → World Name → List Payload → ℕ → Type 0 → Result Unit Stop → List ℕ → Seen → Seen → Type 0

@@ -1,13 +1,12 @@
 -- What holds from line to line of a run.
-use Rattle.std.proofs.Common.{ℕ, ◌≡◌, ◌≤◌, ◌+◌, ◌⊎◌, inl, inr, ⊎_elim, true, false, List, [], ◌∷◌, ◌++◌, length, map, refl, sym, ◌∙◌, ap, subst, append_assoc, append-nil, Option, Some, None, Ok, Err}
-use Rattle.std.specs.declared.result.Result.{Result}
+use Rattle.std.proofs.Common.{ℕ, ◌≡◌, ⊎_elim, false, List, [], ◌∷◌, ◌++◌, length, map, refl, sym, ◌∙◌, ap, subst, append_assoc, append-nil, Option, Some, None, Ok}
 use Rattle.id_groups.specs.Name.{Name}
 use Rattle.commit_graph.specs.World.{World}
-use Rattle.disk_trait.specs.Images.{Told, moment_of}
+use Rattle.disk_trait.specs.Images.{Told}
 use Rattle.disk_trait.specs.Since.{SureSince}
 use Rattle.gated_log.specs.Load.{IsSureOf}
-use Rattle.line_io.specs.Lines.{lines_of, is_silent}
-use Rattle.line_io.specs.Reading.{Reading, new_reading, lines_left}
+use Rattle.line_io.specs.Lines.{is_silent}
+use Rattle.line_io.specs.Reading.{Reading, new_reading}
 use Rattle.line_io.specs.Next.{NextLine, IsLine, IsReadOut}
 use Rattle.line_io.specs.declared.lines.Line.{Line}
 use Rattle.batch_codec.specs.Payload.{Payload}

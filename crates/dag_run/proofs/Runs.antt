@@ -1,5 +1,5 @@
 -- Runs over lines.
-use Rattle.std.proofs.Common.{ℕ, ◌≡◌, Bool, true, false, List, [], ◌∷◌, ◌++◌, refl, sym, ◌∙◌, ap, subst, append_assoc, append-nil}
+use Rattle.std.proofs.Common.{ℕ, ◌≡◌, true, false, List, [], ◌∷◌, ◌++◌, refl, sym, ◌∙◌, ap, subst, append_assoc, append-nil}
 use Rattle.line_io.specs.Lines.{is_silent}
 use Rattle.change_rules.specs.declared.Limits.{Limits}
 use Rattle.step_rules.specs.State.{State}

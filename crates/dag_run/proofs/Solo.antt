@@ -1,13 +1,13 @@
 -- Commands and lines where there are no mirrors.
-use Rattle.std.proofs.Common.{ℕ, ◌≡◌, inl, inr, true, false, List, [], Option, Some, None, refl}
+use Rattle.std.proofs.Common.{ℕ, ◌≡◌, inl, inr, true, false, List, [], None, refl}
 use Rattle.std.proofs.Math.Dec.{leb-suc-zero}
 use Rattle.line_io.specs.Lines.{is_too_long}
 use Rattle.change_rules.specs.declared.Limits.{Limits}
-use Rattle.step_rules.specs.State.{Stored, no_names}
+use Rattle.step_rules.specs.State.{Stored}
 use Rattle.step_rules.specs.Verb.{Verb, CountMirrors, Drop}
 use Rattle.step_rules.specs.Reply.{Reply, Counted, Refused, NoCommand, LongLine}
 use Rattle.step_rules.specs.declared.Refusal.TheVariants as why
-use Rattle.step_rules.specs.Step.{CommandStep, MayWantMemory}
+use Rattle.step_rules.specs.Step.{MayWantMemory}
 use Rattle.step_rules.specs.Plain.{IsInside}
 use Rattle.step_rules.specs.Lone.{LoneStep}
 use Rattle.step_rules.proofs.Lone.{lone-from}

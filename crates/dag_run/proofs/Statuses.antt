@@ -1,5 +1,5 @@
 -- From the end of a run to its status, and which logs are refused.
-use Rattle.std.proofs.Common.{ℕ, ◌≡◌, ◌≤◌, ◌<◌, ◌⊎◌, inl, inr, ⊎_elim, List, [], length, Option, Some, None, Ok, Err, IfSome, refl, sym, subst, ◌∙◌, arith}
+use Rattle.std.proofs.Common.{ℕ, ◌≡◌, ◌≤◌, ◌⊎◌, inl, inr, ⊎_elim, List, [], length, Option, Some, None, Ok, Err, IfSome, refl, sym, subst, ◌∙◌, arith}
 use Rattle.std.specs.declared.result.Result.{Result}
 use Rattle.id_groups.specs.Name.{Name}
 use Rattle.commit_graph.specs.World.{World}
@@ -11,10 +11,17 @@ use Rattle.change_rules.specs.declared.Limits.{Limits}
 use Rattle.change_rules.specs.Unlawful.{IsNoLog}
 use Rattle.step_rules.specs.State.{at_start}
 use Rattle.step_rules.specs.Reply.{Reply}
-use Rattle.run_rules.specs.Ends.{Streams, End, Done, NoMemory, EndsAs, status_of as end_status}
-use Rattle.run_rules.specs.Means.{Means, IsComplete}
+use Rattle.run_rules.specs.Ends.{Streams, Done, NotLoaded, NoLog, NoMemory, EndsAs, status_of as end_status}
+use Rattle.run_rules.specs.Means.{Means, IsComplete, RefusesLog}
 use Rattle.run_rules.proofs.Matched.{run-answered}
-use Rattle.dag_run.specs.Ends.{RunRefuses, StatusRefuses, LoadRefuses}
+use Rattle.outside.specs.Told.{WhereTold}
+use Rattle.outside.proofs.ToldLemmas.{WhereTold-map, WhereTold-both}
+use Rattle.disk_trait.specs.Calls.{Goes}
+use Rattle.disk_trait.proofs.Telling.{goes-told}
+use Rattle.dag_store.specs.Loading.{SameBytes}
+use Rattle.dag_run.specs.Seen.{Seen, seen, streams}
+use Rattle.dag_run.specs.Ends.{RunRefuses, StatusRefuses, EndRefuses, LoadRefuses}
+use Rattle.dag_run.proofs.Seeing.{seen-disk, seen-taken, seen-before}
 use Rattle.dag_run.specs.Stops.{end_of, stop_of, IsRunStatus, IsLineStop, IsLoadStop}
 use Rattle.dag_run.specs.declared.stops.Stop.{Stop}
 use Rattle.dag_run.specs.declared.stops.Stop.TheVariants as stops
@@ -145,3 +152,46 @@ status-refuses limit (Some bytes) end status e h = (
 
     no_memory : (r : Result Unit Stop) → r ≡ Err stops.Memory → end_status (end_of r) ≡ 7
     no_memory r a = subst (λ x. end_status (end_of x) ≡ 7) (sym a) refl
+
+-- ---- the end that refuses a log
+end-refuses : (limit : ℕ) (end : Result Unit Stop) (io : Streams) (old new : Told) → RunRefuses limit old.bytes end → (end ≡ Err stops.NoLog → (new.bytes ≡ old.bytes) × (io.now ≡ io.taken)) → RefusesLog limit io old new (end_of end)
+end-refuses limit end io old new h still = record {
+  cause = λ e. let is = log-end end e in (h.0 is, (still is).0, (still is).1);
+  exactly = λ n. ⊎_elim (λ a. inl (subst (λ x. end_of x ≡ NoLog) (sym a) refl)) (λ r. inr (⊎_elim (λ a. inl (subst (λ x. end_of x ≡ NotLoaded) (sym a) refl)) (λ a. inr (subst (λ x. end_of x ≡ NoMemory) (sym a) refl)) r)) (h.1 n);
+}
+  where
+    log-end : (r : Result Unit Stop) → end_of r ≡ NoLog → r ≡ Err stops.NoLog
+    log-end (Ok x) e = absurd (cc e)
+    log-end (Err stops.Memory) e = absurd (cc e)
+    log-end (Err stops.NoLog) e = refl
+    log-end (Err stops.NotLoaded) e = absurd (cc e)
+    log-end (Err stops.NotStored) e = absurd (cc e)
+    log-end (Err stops.Source) e = absurd (cc e)
+    log-end (Err stops.Sink) e = absurd (cc e)
+    log-end (Err stops.Limit) e = absurd (cc e)
+
+-- where nothing was written
+still-so : (d e : Option Told) (i j o p : Option (List ℕ)) (A : Seen → Seen → Type 0) (end : Result Unit Stop) → WhereTold (seen d i o) (seen e j p) A → (end ≡ Err stops.NoLog → Goes SameBytes d e × WhereTold o p (λ x y. y ≡ x))
+    → WhereTold (seen d i o) (seen e j p) (λ x y. end ≡ Err stops.NoLog → (y.disk.bytes ≡ x.disk.bytes) × (y.taken ≡ x.taken))
+still-so d e i j o p A end told still = by_end end still
+  where
+    by_end : (r : Result Unit Stop) → (r ≡ Err stops.NoLog → Goes SameBytes d e × WhereTold o p (λ x y. y ≡ x))
+        → WhereTold (seen d i o) (seen e j p) (λ x y. r ≡ Err stops.NoLog → (y.disk.bytes ≡ x.disk.bytes) × (y.taken ≡ x.taken))
+    by_end (Err stops.NoLog) h =
+        let s = h refl in
+        WhereTold-both (seen d i o) (seen e j p) (λ x y. y.disk.bytes ≡ x.disk.bytes) (λ x y. y.taken ≡ x.taken) _ (λ x y a b e. (a, b))
+        (seen-disk d e i j o p A SameBytes told (goes-told SameBytes d e s.0)) (seen-taken d e i j o p A (λ x y. y ≡ x) told s.1)
+    by_end (Ok x) h = WhereTold-map (seen d i o) (seen e j p) A _ (λ x y a e. absurd (cc e)) told
+    by_end (Err stops.Memory) h = WhereTold-map (seen d i o) (seen e j p) A _ (λ x y a e. absurd (cc e)) told
+    by_end (Err stops.NotLoaded) h = WhereTold-map (seen d i o) (seen e j p) A _ (λ x y a e. absurd (cc e)) told
+    by_end (Err stops.NotStored) h = WhereTold-map (seen d i o) (seen e j p) A _ (λ x y a e. absurd (cc e)) told
+    by_end (Err stops.Source) h = WhereTold-map (seen d i o) (seen e j p) A _ (λ x y a e. absurd (cc e)) told
+    by_end (Err stops.Sink) h = WhereTold-map (seen d i o) (seen e j p) A _ (λ x y a e. absurd (cc e)) told
+    by_end (Err stops.Limit) h = WhereTold-map (seen d i o) (seen e j p) A _ (λ x y a e. absurd (cc e)) told
+
+pub no-log : (limits : Limits) (status : ℕ) (d e : Option Told) (i j o p : Option (List ℕ)) (A : Seen → Seen → Type 0) (end : Result Unit Stop) → status ≡ end_status (end_of end) → WhereTold (seen d i o) (seen e j p) A
+    → (end ≡ Err stops.NoLog → Goes SameBytes d e × WhereTold o p (λ x y. y ≡ x)) → IfSome d (λ t. RunRefuses limits.log t.bytes end) → WhereTold (seen d i o) (seen e j p) (EndRefuses limits status)
+no-log limits status d e i j o p A end is told still refuses =
+    WhereTold-both (seen d i o) (seen e j p) (λ x y. RunRefuses limits.log x.disk.bytes end) (λ x y. end ≡ Err stops.NoLog → (y.disk.bytes ≡ x.disk.bytes) × (y.taken ≡ x.taken)) (EndRefuses limits status)
+    (λ x y r s. (end_of end, is, end-refuses limits.log end (streams x y) x.disk y.disk r s))
+    (seen-before d e i j o p A (λ t. RunRefuses limits.log t.bytes end) told refuses) (still-so d e i j o p A end told still)

@@ -1,5 +1,5 @@
 -- What a crash leaves, from one change to the next.
-use Rattle.std.proofs.Common.{◌≡◌, ◌≤◌, ◌<◌, ◌+◌, ◌⊎◌, inl, inr, ℕ, List, [], ◌∷◌, ◌++◌, length, map, take, refl, sym, ap, subst, ◌∙◌, arith, length-append, zero-le, le_antisymm, ⊎_elim, subst₂, Bool, true, false, nat_le, if◌then◌else◌}
+use Rattle.std.proofs.Common.{◌≡◌, ◌≤◌, ◌<◌, ◌+◌, inl, ℕ, List, [], ◌∷◌, ◌++◌, length, map, take, refl, sym, ap, subst, ◌∙◌, arith, length-append, zero-le, le_antisymm, ⊎_elim, subst₂, Bool, true, false, nat_le, if◌then◌else◌}
 use Rattle.std.proofs.lemmas.Bool.{leb-true, leb-false}
 use Rattle.std.proofs.lemmas.List.{map-append}
 use Rattle.segment_codec.proofs.Tables.{le_or_lt}
@@ -9,14 +9,13 @@ use Rattle.disk_trait.specs.Images.{Told, IsImage, IsSound, LeftAt, moment_of}
 use Rattle.disk_trait.specs.Since.{SureSince}
 use Rattle.disk_trait.proofs.Loss.{last-append}
 use Rattle.gated_log.specs.Log.{IsLog}
-use Rattle.gated_log.specs.Held.{Held}
 use Rattle.gated_log.specs.Load.{IsSureOf}
 use Rattle.gated_log.specs.Holding.{IsLogWithin, HasPayloads, KeepsOldOrNew}
 use Rattle.batch_codec.specs.Payload.{Payload}
 use Rattle.change_rules.specs.declared.Limits.{Limits}
 use Rattle.change_rules.specs.Change.{text_of}
 use Rattle.change_rules.specs.Holding.{HoldAs, HoldBytes, HoldsNow}
-use Rattle.step_rules.specs.State.{Stored, start, worlds}
+use Rattle.step_rules.specs.State.{Stored, start}
 use Rattle.run_rules.specs.Stopped.{Stopped, ArePrefixes}
 use Rattle.run_rules.specs.Means.{last_of, loaded_at}
 use Rattle.run_rules.proofs.Nothing.{take-all}
@@ -111,8 +110,8 @@ stays-start limits w payloads store old new fresh holds read is_sure loaded same
 
 -- ---- a change
 module _ (limits : Limits) (w : World Name) (payloads : List Payload) (changes : List ℕ) (last next : Stored) (kept : PlainStore) (payload : List ℕ) (old a b : Told)
-  (same : kept.limits ≡ limits) (limited : IsLimited kept) (texts : kept.log.payloads ≡ map text_of last.payloads)
-  (h : Stays limits w payloads changes last old a) (before : ArePrefixes payloads last) (after : ArePrefixes payloads next) (changed : HasChanged last next payload) where
+    (same : kept.limits ≡ limits) (limited : IsLimited kept) (texts : kept.log.payloads ≡ map text_of last.payloads)
+    (h : Stays limits w payloads changes last old a) (before : ArePrefixes payloads last) (after : ArePrefixes payloads next) (changed : HasChanged last next payload) where
   pub bound : kept.log.limit ≡ limits.log
   bound = limited ∙ ap (λ (l : Limits). l.log) same
 

@@ -6,7 +6,7 @@ use Rattle.line_io.specs.Lines.{lines_of}
 use Rattle.batch_codec.specs.Payload.{Payload}
 use Rattle.change_rules.specs.declared.Limits.{Limits}
 use Rattle.run_rules.specs.Ends.{End, status_of}
-use Rattle.run_rules.specs.Means.{Means, IsComplete}
+use Rattle.run_rules.specs.Means.{Means, IsComplete, RefusesLog}
 use Rattle.run_rules.specs.Premises.{Start}
 use Rattle.change_rules.specs.Unlawful.{IsNoLog}
 use Rattle.step_rules.specs.State.{start}
@@ -32,6 +32,11 @@ StatusMeans limits w payloads room DiskFailed SourceFailed SinkFailed status cha
 -- wanting before the first line.
 abbrev pub StatusRefuses : ℕ → List ℕ → ℕ → Type 0
 StatusRefuses limit bytes status = (status ≡ 4 → IsNoLog limit bytes) × (IsNoLog limit bytes → (status ≡ 4) ⊎ ((status ≡ 3) ⊎ (status ≡ 7)))
+
+-- The status is that of an end which refuses exactly what is no log, with nothing written and nothing put. Over a disk that holds a
+-- world it is the end of what the run means.
+abbrev pub EndRefuses : Limits → ℕ → Seen → Seen → Type 0
+EndRefuses limits status before after = (end : End) × (status ≡ status_of end) × RefusesLog limits.log (streams before after) before.disk after.disk end
 
 -- the same of a run's result
 abbrev pub RunRefuses : ℕ → List ℕ → Result Unit Stop → Type 0

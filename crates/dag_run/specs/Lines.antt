@@ -4,7 +4,6 @@ use Rattle.outside.specs.Told.{TookFront}
 use Rattle.disk_trait.specs.Images.{Told}
 use Rattle.line_io.specs.Lines.{is_silent}
 use Rattle.batch_codec.specs.Payload.{Payload}
-use Rattle.change_rules.specs.declared.Limits.{Limits}
 use Rattle.change_rules.specs.Change.{text_of}
 use Rattle.step_rules.specs.State.{Stored, worlds}
 use Rattle.step_rules.specs.Verb.{Verb}

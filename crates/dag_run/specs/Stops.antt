@@ -1,5 +1,5 @@
 -- Why a run stops, and how it ends then.
-use Rattle.std.specs.Prelude.{◌≡◌, ℕ, ◌==◌, List, [], ◌∷◌, IsTrue, Ok, Err, ⊤}
+use Rattle.std.specs.Prelude.{ℕ, ◌==◌, [], ◌∷◌, IsTrue, Ok, Err, ⊤}
 use Rattle.std.specs.List.{list_any}
 use Rattle.std.specs.declared.result.Result.{Result}
 use Rattle.line_io.specs.declared.lines.LineFault.{LineFault}

@@ -16,7 +16,7 @@ ghost use Rattle.dag_store.specs.Loading.{KeepsHolding, IsLoadedStore, SameBytes
 ghost use Rattle.dag_run.specs.Seen.{seen, streams};
 ghost use Rattle.dag_run.specs.Stops.{end_of, IsLoadStop, IsRunStatus, IsStatus};
 ghost use Rattle.dag_run.specs.Lines.{PutsFault};
-ghost use Rattle.dag_run.specs.Ends.{Begins, OpensRun, LoadPuts, LoadRefuses, RunRefuses, StatusMeans, StatusRefuses};
+ghost use Rattle.dag_run.specs.Ends.{Begins, OpensRun, LoadPuts, LoadRefuses, RunRefuses, EndRefuses, StatusMeans, StatusRefuses};
 
 use crate::execute::execute;
 use crate::replies::tell_fault;
@@ -125,6 +125,7 @@ pub fn run_lines<D: Disk, I: Source, O: Sink>(
         (λ before after. Begins limits w payloads before → StatusMeans limits w payloads room
         (Rose (D.faults log.old) (D.faults log.new)) (Rose (I.faults input.old) (I.faults input.new)) (Rose (O.faults output.old) (O.faults output.new)) result.status result.changes before after) }
     ensures refuses { IfSome (D.bytes log.old) (λ bytes. StatusRefuses limits.log bytes result.status) }
+    ensures no_log { WhereTold (seen (D.told log.old) (I.left input.old) (O.taken output.old)) (seen (D.told log.new) (I.left input.new) (O.taken output.new)) (EndRefuses limits result.status) }
     ensures unwritten { result.status ≡ 4 → Goes SameBytes (D.told log.old) (D.told log.new) × (output.new ≡ output.old) }
     ensures quiet { result.status ≡ 7 → (input.new ≡ input.old) × (output.new ≡ output.old) }
     ensures disk { result.status ≡ 3 → Rose (D.faults log.old) (D.faults log.new) }
@@ -166,6 +167,8 @@ pub fn top<D: Disk, I: Source, O: Sink>(
         (λ before after. Begins standard w payloads before → StatusMeans standard w payloads room
         (Rose (D.faults log.old) (D.faults log.new)) (Rose (I.faults input.old) (I.faults input.new)) (Rose (O.faults output.old) (O.faults output.new)) result.status result.changes before after) }
     ensures refuses { map string_bytes words.now ≡ codes "run" ∷ [] → IfSome (D.bytes log.old) (λ bytes. StatusRefuses standard.log bytes result.status) }
+    ensures no_log { map string_bytes words.now ≡ codes "run" ∷ []
+        → WhereTold (seen (D.told log.old) (I.left input.old) (O.taken output.old)) (seen (D.told log.new) (I.left input.new) (O.taken output.new)) (EndRefuses standard result.status) }
     ensures unwritten { result.status ≡ 4 → Goes SameBytes (D.told log.old) (D.told log.new) × (output.new ≡ output.old) }
     ensures quiet { (result.status ≡ 2) ⊎ (result.status ≡ 7) → (input.new ≡ input.old) × (output.new ≡ output.old) }
     ensures untouched { result.status ≡ 2 → log.new ≡ log.old }

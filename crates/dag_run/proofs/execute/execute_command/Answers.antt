@@ -1,11 +1,10 @@
-use Rattle.std.proofs.Common.{◌≡◌, [], ℕ, List, None, Some, length, refl, sym, ap, subst, ◌∙◌}
+use Rattle.std.proofs.Common.{[], None, refl, sym, ap, subst}
 use Rattle.outside.specs.Counts.{Rose}
-use Rattle.span_set.specs.Members.{ids_of}
 use Rattle.set_expr.specs.Whole.{tree_of}
 use Rattle.step_rules.specs.declared.Refusal.TheVariants as why
 use Rattle.step_rules.specs.State.{with_pending_rows}
-use Rattle.step_rules.specs.Verb.{Add, Flush, Reload, Discard, Query, Count, IdOf, Status, Levels, CountMirrors, Drop}
-use Rattle.step_rules.specs.Reply.{Reply, Discarded, Counted, Sizes, LevelSizes, Refused}
+use Rattle.step_rules.specs.Verb.{Add, Reload, Discard, Count, IdOf, Status, Levels, CountMirrors, Drop}
+use Rattle.step_rules.specs.Reply.{Discarded, Counted, Sizes, LevelSizes, Refused}
 use Rattle.command_lines.specs.Meant.{meant}
 use Rattle.command_lines.specs.Told.{told}
 use Rattle.outside.specs.Told.{WhereTold}
@@ -51,7 +50,10 @@ pub returns-in-Query-clause-step : goal.returns-in-Query-clause-step
 returns-in-Query-clause-step g c =
     let old = c.args.store in
     let failed : Type 0 = Rose (g.O.Sink.faults c.args.output.now) (g.O.Sink.faults c.list.new.output) in (
-      [], None, refl, still-goes old old [] c.list.result (g.D.Disk.told c.args.log.now) c.list.ensures.same c.list.ensures.stop refl,
+      [],
+      None,
+      refl,
+      still-goes old old [] c.list.result (g.D.Disk.told c.args.log.now) c.list.ensures.same c.list.ensures.stop refl,
       subst (λ v. WhereTold (g.O.Sink.taken c.args.output.now) (g.O.Sink.taken c.list.new.output) (CommandReplies failed old c.args.command.now.session v [] None c.list.result)) (sym (ap meant c.in-Query.is)) c.list.ensures.told,
     )
 
@@ -114,4 +116,3 @@ returns-in-DropAt-clause-step g c =
     (λ began st h. (st, drop-alone old.limits st s c.in-DropAt.field-0, (refl, refl), h))
     c.tell-in-DropAt.ensures.bytes in
     ([], None, refl, q.0, q.1)
-

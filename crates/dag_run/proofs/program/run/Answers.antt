@@ -1,9 +1,6 @@
-use Rattle.std.proofs.Common.{ℕ, ◌≡◌, ◌≤◌, List, [], ◌++◌, map, Option, Some, None, Ok, Err, IfSome, rules, refl, sym, ap, subst, ◌∙◌}
+use Rattle.std.proofs.Common.{ℕ, ◌≡◌, List, [], map, Some, None, Ok, Err, rules, refl, sym, ap, subst, ◌∙◌}
 use Rattle.std.proofs.lemmas.Result.{err_from_is_err_and}
-use Rattle.id_groups.specs.Name.{Name}
-use Rattle.commit_graph.specs.World.{World}
 use Rattle.outside.specs.Counts.{Rose}
-use Rattle.outside.specs.Told.{WhereTold}
 use Rattle.outside.proofs.ToldLemmas.{WhereTold-map, WhereTold-same, WhereTold-both}
 use Rattle.disk_trait.specs.Images.{Told, IsSound}
 use Rattle.disk_trait.proofs.Telling.{goes-both, goes-from, goes-new, goes-told, if_forth, of_told}
@@ -11,13 +8,12 @@ use Rattle.gated_log.specs.Holding.{IsOnDisk}
 use Rattle.gated_log.specs.Load.{IsSureOf}
 use Rattle.line_io.specs.Next.{NextLine, IsLine, IsReadOut}
 use Rattle.line_io.specs.Reading.{new_reading}
-use Rattle.batch_codec.specs.Payload.{Payload}
 use Rattle.change_rules.specs.Change.{text_of}
 use Rattle.change_rules.specs.Holding.{HoldAs}
 use Rattle.dag_store.specs.Loading.{KeepsHolding, IsLoadedStore}
-use Rattle.dag_run.specs.Seen.{Seen, seen}
-use Rattle.dag_run.specs.Ends.{Begins, OpensRun, LoadPuts}
-use Rattle.dag_run.specs.Lines.{LineLeaves, LineReplies, changes_with}
+use Rattle.dag_run.specs.Seen.{seen}
+use Rattle.dag_run.specs.Ends.{Begins, OpensRun}
+use Rattle.dag_run.specs.Lines.{LineLeaves, LineReplies}
 use Rattle.dag_run.specs.declared.stops.Stop.TheVariants as stops
 use Rattle.dag_run.proofs.Doing.{ready-line}
 use Rattle.dag_run.proofs.Seeing.{Each, seen-each, seen-step, sound-told, same-told, rose-since}

@@ -1,11 +1,15 @@
-use Rattle.std.proofs.Common.{◌≡◌, ◌≤◌, ◌⊎◌, sym, subst, ◌∙◌, List, ℕ, Err, length}
+use Rattle.std.proofs.Common.{[], ◌≡◌, sym, subst, ◌∙◌}
 use Rattle.outside.specs.Counts.{Rose}
 use Rattle.outside.proofs.ToldLemmas.{WhereTold-map}
-use Rattle.dag_run.specs.Seen.{Seen, seen, streams}
+use Rattle.dag_run.specs.Seen.{seen, streams}
 use Rattle.dag_run.specs.Stops.{end_of}
-use Rattle.dag_run.specs.Ends.{Begins, StatusMeans}
+use Rattle.commit_graph.specs.World.{empty_world}
+use Rattle.outside.specs.Told.{WhereTold}
+use Rattle.disk_trait.proofs.Telling.{of_told}
+use Rattle.dag_run.proofs.Seeing.{same-told}
+use Rattle.dag_run.specs.Ends.{Begins, RunRefuses, StatusMeans}
 use Rattle.dag_run.proofs.Ending.{RunMeans}
-use Rattle.dag_run.proofs.Statuses.{status-known, of-disk, of-log, of-source, of-sink, of-memory, complete, status-refuses}
+use Rattle.dag_run.proofs.Statuses.{status-known, of-disk, of-log, of-source, of-sink, of-memory, complete, status-refuses, no-log}
 use Rattle.dag_run.proofs.program.run_lines.Goals as goal
 
 pub returns-clause-known : goal.returns-clause-known
@@ -46,3 +50,16 @@ returns-clause-source g c = λ e. c.run-end.ensures.source (of-source c.run-end.
 
 pub returns-clause-sink : goal.returns-clause-sink
 returns-clause-sink g c = λ e. c.run-end.ensures.sink (of-sink c.run-end.result (sym c.status.ensures ∙ e))
+
+pub returns-clause-no_log : goal.returns-clause-no_log
+returns-clause-no_log g c =
+    let limits = c.args.limits in
+    let end = c.run-end.result in
+    let cs = c.run-end.new.changes.items in
+    let d = g.D.Disk.told c.args.log.now in let e = g.D.Disk.told c.run-end.new.log in
+    let i = g.I.Source.left c.args.input.now in let j = g.I.Source.left c.run-end.new.input in
+    let o = g.O.Sink.taken c.args.output.now in let p = g.O.Sink.taken c.run-end.new.output in
+    let sink : Type 0 = Rose (g.O.Sink.faults c.args.output.now) (g.O.Sink.faults c.run-end.new.output) in
+    no-log limits c.status.result d e i j o p (λ x y. Begins limits empty_world [] x → RunMeans limits empty_world [] 0 sink end cs x y) end c.status.ensures (c.run-end.ensures.means empty_world [] 0)
+    (λ is. let u = c.run-end.ensures.unwritten is in (u.0, subst (λ out. WhereTold o (g.O.Sink.taken out) (λ x y. y ≡ x)) (sym u.1) (same-told o)))
+    (of_told (λ bytes. RunRefuses limits.log bytes end) (g.D.Disk.bytes c.args.log.now) d (g.met.D.Disk.tells c.args.log.now) c.run-end.ensures.refuses)

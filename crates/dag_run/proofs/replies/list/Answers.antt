@@ -1,4 +1,4 @@
-use Rattle.std.proofs.Common.{◌≡◌, ℕ, List, [], None, refl}
+use Rattle.std.proofs.Common.{ℕ, List, [], None, refl}
 use Rattle.outside.specs.Counts.{Rose}
 use Rattle.outside.proofs.ToldLemmas.{WhereTold-map}
 use Rattle.id_groups.specs.Name.{Name}
