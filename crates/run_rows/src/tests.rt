@@ -115,40 +115,36 @@ const FULL_LOG: &str = "0 add 00000000000000000000000000000000000000a1
 #[test]
 fn limits_are_kept(rt: HostRuntime) -> Result<(), Fail> {
     let most = 1 << 30;
-    for (limits, lines, status, replies) in [
+    for ((pending, others, master, log, names, input), lines, status, replies) in [
+        ((2, 9, 9, 999, 1, most), IN_ORDER, 0, IN_ORDER_REPLIES),
         (
-            limits_of(2, 9, 9, 999, 1, most),
-            IN_ORDER,
-            0,
-            IN_ORDER_REPLIES,
-        ),
-        (
-            limits_of(1, 9, 9, 999, 1, 9),
+            (1, 9, 9, 999, 1, 9),
             "0 status\n0 status\n",
             8,
             "ok 0 0 0\n",
         ),
-        (limits_of(1, 9, 9, 999, 1, 8), "0 status", 0, "ok 0 0 0\n"),
-        (limits_of(1, 9, 9, 999, 1, 8), "0 status\n", 8, ""),
+        ((1, 9, 9, 999, 1, 8), "0 status", 0, "ok 0 0 0\n"),
+        ((1, 9, 9, 999, 1, 8), "0 status\n", 8, ""),
         (
-            limits_of(2, 1, 9, 999, 1, most),
+            (2, 1, 9, 999, 1, most),
             FLUSHED,
             0,
             "ok added N0\nok added N1\nerr full others 1\n",
         ),
         (
-            limits_of(2, 1, 1, 999, 1, most),
+            (2, 1, 1, 999, 1, most),
             MASTERED,
             0,
             "ok added N0\nok added N1\nerr full master 1\n",
         ),
         (
-            limits_of(2, 9, 9, 98, 1, most),
+            (2, 9, 9, 98, 1, most),
             FULL_LOG,
             0,
             "ok added N0\nok added N1\nok flushed 0 2\nok added N2\nerr full log 98\nok 0 2 1\n",
         ),
     ] {
+        let limits = limits_of(pending, others, master, log, names, input);
         let mut output = MemorySink::new(rt.alloc(), &[])?;
         let (ended, _) = answer(rt.alloc(), limits, lines.as_bytes(), 1, &[], &mut output)?;
         assert_eq!(rt; ended, status);
