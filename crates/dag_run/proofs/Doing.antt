@@ -235,8 +235,11 @@ quiet-command SinkFailed old new s verb asked r reply d o p e same stop room doe
 pub line-of-command : (SinkFailed : Type 0) (kept : PlainStore) (s : ℕ) (verb : Verb) (line payload : List ℕ) (clock : Option ℕ) (r : Result PlainStore Stop) (before now : List ℕ) → SpellsCommand line s verb → is_too_long line ≡ false → is_silent line ≡ false
     → CommandReplies SinkFailed kept s verb payload clock r before now → LineReplies SinkFailed kept line payload clock r before now
 line-of-command SinkFailed kept s verb line payload clock r before now spells short silent h began st stands =
-    inr (silent, replies-map SinkFailed began st (CommandAlone kept.limits st s verb) (StepAlone kept.limits st line) payload clock r before now
-    (λ reply next. command-step kept.limits st line s verb reply next spells short) (h began st stands))
+    inr (
+      silent,
+      replies-map SinkFailed began st (CommandAlone kept.limits st s verb) (StepAlone kept.limits st line) payload clock r before now
+          (λ reply next. command-step kept.limits st line s verb reply next spells short) (h began st stands),
+    )
 
 -- a line that changes nothing
 pub line-told : (SinkFailed : Type 0) (kept : PlainStore) (line : List ℕ) (r : Result PlainStore Stop) (reply : Reply) (before now : List ℕ) → is_silent line ≡ false → ((st : Stored) → StepAlone kept.limits st line reply st)

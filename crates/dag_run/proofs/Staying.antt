@@ -111,8 +111,8 @@ stays-start limits w payloads store old new fresh holds read is_sure loaded same
 
 -- ---- a change
 module _ (limits : Limits) (w : World Name) (payloads : List Payload) (changes : List ℕ) (last next : Stored) (kept : PlainStore) (payload : List ℕ) (old a b : Told)
-  (same : kept.limits ≡ limits) (limited : IsLimited kept) (texts : kept.log.payloads ≡ map text_of last.payloads)
-  (h : Stays limits w payloads changes last old a) (before : ArePrefixes payloads last) (after : ArePrefixes payloads next) (changed : HasChanged last next payload) where
+    (same : kept.limits ≡ limits) (limited : IsLimited kept) (texts : kept.log.payloads ≡ map text_of last.payloads)
+    (h : Stays limits w payloads changes last old a) (before : ArePrefixes payloads last) (after : ArePrefixes payloads next) (changed : HasChanged last next payload) where
   pub bound : kept.log.limit ≡ limits.log
   bound = limited ∙ ap (λ (l : Limits). l.log) same
 

@@ -12,7 +12,9 @@ ghost use Rattle.command_lines.specs.Meant.{meant, HasFewParents};
 ghost use Rattle.dag_run.specs.Stops.{IsLineStop};
 ghost use Rattle.dag_run.specs.Lines.{changes_with, CommandReplies, LineReplies, LineLeaves};
 
-use crate::replies::{list, reply_of_add, reply_of_count, reply_of_id, reply_of_reload, tell, tell_fault};
+use crate::replies::{
+    list, reply_of_add, reply_of_count, reply_of_id, reply_of_reload, tell, tell_fault,
+};
 use crate::stops::Stop;
 use command_lines::{Command, CommandFault, Reply, Verb};
 use dag_store::{Flushed, Refusal, Store};

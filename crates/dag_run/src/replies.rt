@@ -83,12 +83,7 @@ pub(crate) fn tell<O: Sink>(store: Store, reply: &Reply, output: &mut O) -> Resu
 }
 
 /// Puts the names of an answer, and hands the store back.
-fn list_names<O: Sink>(
-    store: Store,
-    s: u8,
-    found: &Found,
-    output: &mut O,
-) -> Result<Store, Stop>
+fn list_names<O: Sink>(store: Store, s: u8, found: &Found, output: &mut O) -> Result<Store, Stop>
     requires { s < 16 }
     ensures bytes { WhereTold (O.taken output.old) (O.taken output.new) (λ before now. (began : ℕ) (st : Stored) (names : List Name) → Stands began store st
         → AreIdsOf st s (ids_of found.now.answer.set) names → PutsReply store (Listed names) result before now) }
@@ -103,12 +98,7 @@ fn list_names<O: Sink>(
 }
 
 /// Puts the answer of an expression, and hands the store back.
-pub(crate) fn list<O: Sink>(
-    store: Store,
-    s: u8,
-    expr: &Expr,
-    output: &mut O,
-) -> Result<Store, Stop>
+pub(crate) fn list<O: Sink>(store: Store, s: u8, expr: &Expr, output: &mut O) -> Result<Store, Stop>
     requires { s < 16 }
     ensures told { WhereTold (O.taken output.old) (O.taken output.new) (CommandReplies (Rose (O.faults output.old) (O.faults output.new)) store s (Query (tree_of expr.now)) [] None result) }
     ensures same { IfOk result (λ next. next ≡ store) }

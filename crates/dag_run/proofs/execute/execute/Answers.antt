@@ -15,13 +15,16 @@ returns-in-TooLong-clause-step g c =
     let text = c.args.text.now in
     let r = c.tell.result in
     let failed : Type 0 = Rose (g.O.Sink.faults c.args.output.now) (g.O.Sink.faults c.tell.new.output) in (
-      [], None, refl, still-goes store store [] r (g.D.Disk.told c.args.log.now) c.tell.ensures.same c.tell.ensures.stop refl,
+      [],
+      None,
+      refl,
+      still-goes store store [] r (g.D.Disk.told c.args.log.now) c.tell.ensures.same c.tell.ensures.stop refl,
       WhereTold-map (g.O.Sink.taken c.args.output.now) (g.O.Sink.taken c.tell.new.output) (PutsReply store LongLine r)
-      (λ before now. (line : List ℕ) → IsLine c.args.kind text line → LineReplies failed store line [] None r before now)
-      (λ before now put line is.
-      let long = long-line line (subst (λ (k : Line). IsLine k text line) c.in-TooLong.is is) in
-      line-told failed store line r LongLine before now (long-not-silent line long) (λ st. long-step store.limits st line long) put)
-      c.tell.ensures.bytes,
+          (λ before now. (line : List ℕ) → IsLine c.args.kind text line → LineReplies failed store line [] None r before now)
+          (λ before now put line is.
+          let long = long-line line (subst (λ (k : Line). IsLine k text line) c.in-TooLong.is is) in
+          line-told failed store line r LongLine before now (long-not-silent line long) (λ st. long-step store.limits st line long) put)
+          c.tell.ensures.bytes,
     )
 
 pub returns-in-Text-clause-step : goal.returns-in-Text-clause-step
@@ -31,11 +34,14 @@ returns-in-Text-clause-step g c =
     let p = c.execute_text.ensures.step in
     let r = c.execute_text.result in
     let failed : Type 0 = Rose (g.O.Sink.faults c.args.output.now) (g.O.Sink.faults c.execute_text.new.output) in (
-      p.0, p.1, p.2, p.3,
+      p.0,
+      p.1,
+      p.2,
+      p.3,
       WhereTold-map (g.O.Sink.taken c.args.output.now) (g.O.Sink.taken c.execute_text.new.output) (λ before now. length text ≤ 16384 → LineReplies failed store text p.0 p.1 r before now)
-      (λ before now. (line : List ℕ) → IsLine c.args.kind text line → LineReplies failed store line p.0 p.1 r before now)
-      (λ before now h line is.
-      let e = subst (λ (k : Line). IsLine k text line) c.in-Text.is is in
-      subst (λ l. LineReplies failed store l p.0 p.1 r before now) (sym e.0) (h e.1))
-      p.4,
+          (λ before now. (line : List ℕ) → IsLine c.args.kind text line → LineReplies failed store line p.0 p.1 r before now)
+          (λ before now h line is.
+          let e = subst (λ (k : Line). IsLine k text line) c.in-Text.is is in
+          subst (λ l. LineReplies failed store l p.0 p.1 r before now) (sym e.0) (h e.1))
+          p.4,
     )

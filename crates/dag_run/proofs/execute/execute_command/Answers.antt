@@ -51,7 +51,10 @@ pub returns-in-Query-clause-step : goal.returns-in-Query-clause-step
 returns-in-Query-clause-step g c =
     let old = c.args.store in
     let failed : Type 0 = Rose (g.O.Sink.faults c.args.output.now) (g.O.Sink.faults c.list.new.output) in (
-      [], None, refl, still-goes old old [] c.list.result (g.D.Disk.told c.args.log.now) c.list.ensures.same c.list.ensures.stop refl,
+      [],
+      None,
+      refl,
+      still-goes old old [] c.list.result (g.D.Disk.told c.args.log.now) c.list.ensures.same c.list.ensures.stop refl,
       subst (λ v. WhereTold (g.O.Sink.taken c.args.output.now) (g.O.Sink.taken c.list.new.output) (CommandReplies failed old c.args.command.now.session v [] None c.list.result)) (sym (ap meant c.in-Query.is)) c.list.ensures.told,
     )
 
@@ -114,4 +117,3 @@ returns-in-DropAt-clause-step g c =
     (λ began st h. (st, drop-alone old.limits st s c.in-DropAt.field-0, (refl, refl), h))
     c.tell-in-DropAt.ensures.bytes in
     ([], None, refl, q.0, q.1)
-

@@ -19,12 +19,15 @@ returns-in-Ok-clause-step g c =
     let failed : Type 0 = Rose (g.O.Sink.faults c.args.output.now) (g.O.Sink.faults c.execute_command.new.output) in
     let s = c.in-Ok.command.session in
     let verb = meant c.in-Ok.command.verb in (
-      p.0, p.1, p.2, p.3,
+      p.0,
+      p.1,
+      p.2,
+      p.3,
       WhereTold-map (g.O.Sink.taken c.args.output.now) (g.O.Sink.taken c.execute_command.new.output) (CommandReplies failed store s verb p.0 p.1 r) (λ before now. length text ≤ 16384 → LineReplies failed store text p.0 p.1 r before now)
-      (λ before now h le.
-      let e = text-short text text (refl, le) in
-      line-of-command failed store s verb text p.0 p.1 r before now c.in-Ok.ensures.ok e.short (short-silent text text false e (sym c.is_comment.ensures ∙ c.if-is_comment.false)) h)
-      p.4,
+          (λ before now h le.
+          let e = text-short text text (refl, le) in
+          line-of-command failed store s verb text p.0 p.1 r before now c.in-Ok.ensures.ok e.short (short-silent text text false e (sym c.is_comment.ensures ∙ c.if-is_comment.false)) h)
+          p.4,
     )
 
 pub returns-in-Err-Syntax-clause-step : goal.returns-in-Err-Syntax-clause-step
@@ -33,13 +36,16 @@ returns-in-Err-Syntax-clause-step g c =
     let text = c.args.text.now in
     let r = c.tell.result in
     let failed : Type 0 = Rose (g.O.Sink.faults c.args.output.now) (g.O.Sink.faults c.tell.new.output) in (
-      [], None, refl, still-goes store store [] r (g.D.Disk.told c.args.log.now) c.tell.ensures.same c.tell.ensures.stop refl,
+      [],
+      None,
+      refl,
+      still-goes store store [] r (g.D.Disk.told c.args.log.now) c.tell.ensures.same c.tell.ensures.stop refl,
       WhereTold-map (g.O.Sink.taken c.args.output.now) (g.O.Sink.taken c.tell.new.output) (PutsReply store NoCommand r) (λ before now. length text ≤ 16384 → LineReplies failed store text [] None r before now)
-      (λ before now put le.
-      let e = text-short text text (refl, le) in
-      line-told failed store text r NoCommand before now (short-silent text text false e (sym c.is_comment.ensures ∙ c.if-is_comment.false))
-      (λ st. syntax-step store.limits st text e.short (c.in-Err-Syntax.ensures.syntax (ap Err c.in-Err-Syntax.field-0-is))) put)
-      c.tell.ensures.bytes,
+          (λ before now put le.
+          let e = text-short text text (refl, le) in
+          line-told failed store text r NoCommand before now (short-silent text text false e (sym c.is_comment.ensures ∙ c.if-is_comment.false))
+          (λ st. syntax-step store.limits st text e.short (c.in-Err-Syntax.ensures.syntax (ap Err c.in-Err-Syntax.field-0-is))) put)
+          c.tell.ensures.bytes,
     )
 
 pub returns-in-Err-Memory-clause-step : goal.returns-in-Err-Memory-clause-step
@@ -48,11 +54,14 @@ returns-in-Err-Memory-clause-step g c =
     let text = c.args.text.now in
     let r = c.tell-in-Err-Memory.result in
     let failed : Type 0 = Rose (g.O.Sink.faults c.args.output.now) (g.O.Sink.faults c.tell-in-Err-Memory.new.output) in (
-      [], None, refl, still-goes store store [] r (g.D.Disk.told c.args.log.now) c.tell-in-Err-Memory.ensures.same c.tell-in-Err-Memory.ensures.stop refl,
+      [],
+      None,
+      refl,
+      still-goes store store [] r (g.D.Disk.told c.args.log.now) c.tell-in-Err-Memory.ensures.same c.tell-in-Err-Memory.ensures.stop refl,
       WhereTold-map (g.O.Sink.taken c.args.output.now) (g.O.Sink.taken c.tell-in-Err-Memory.new.output) (PutsReply store (Refused why.Memory) r) (λ before now. length text ≤ 16384 → LineReplies failed store text [] None r before now)
-      (λ before now put le.
-      let e = text-short text text (refl, le) in
-      line-told failed store text r (Refused why.Memory) before now (short-silent text text false e (sym c.is_comment.ensures ∙ c.if-is_comment.false))
-      (λ st. memory-step store.limits st text e.short (c.in-Err-Memory.ensures.memory (ap Err c.in-Err-Memory.field-0-is))) put)
-      c.tell-in-Err-Memory.ensures.bytes,
+          (λ before now put le.
+          let e = text-short text text (refl, le) in
+          line-told failed store text r (Refused why.Memory) before now (short-silent text text false e (sym c.is_comment.ensures ∙ c.if-is_comment.false))
+          (λ st. memory-step store.limits st text e.short (c.in-Err-Memory.ensures.memory (ap Err c.in-Err-Memory.field-0-is))) put)
+          c.tell-in-Err-Memory.ensures.bytes,
     )

@@ -17,9 +17,12 @@ returns-then-is_err-clause-step g c =
     let store = c.args.store in
     let o = g.O.Sink.taken c.args.output.now in let p = g.O.Sink.taken c.tell.new.output in
     let verb = Flush c.args.heads.now in (
-      [], None, c.try_reserve.ensures.items, still-goes store store [] c.tell.result (g.D.Disk.told c.args.log.now) c.tell.ensures.same c.tell.ensures.stop refl,
+      [],
+      None,
+      c.try_reserve.ensures.items,
+      still-goes store store [] c.tell.result (g.D.Disk.told c.args.log.now) c.tell.ensures.same c.tell.ensures.stop refl,
       command-told (Rose (g.O.Sink.faults c.args.output.now) (g.O.Sink.faults c.tell.new.output)) store store c.args.s verb [] None c.tell.result (Refused why.Memory) o p
-      (λ began st h. (st, memory-alone store.limits st c.args.s verb tt tt, (refl, refl), h)) c.tell.ensures.bytes,
+          (λ began st h. (st, memory-alone store.limits st c.args.s verb tt tt, (refl, refl), h)) c.tell.ensures.bytes,
     )
 
 pub returns-in-Done-clause-step : goal.returns-in-Done-clause-step
@@ -32,14 +35,16 @@ returns-in-Done-clause-step g c =
     let r = c.tell-in-Done.result in
     let o = g.O.Sink.taken c.args.output.now in let p = g.O.Sink.taken c.tell-in-Done.new.output in
     let verb = Flush c.args.heads.now in (
-      step.0, clock, c.note.ensures ∙ ap (λ l. changes_with l clock) c.try_reserve.ensures.items,
+      step.0,
+      clock,
+      c.note.ensures ∙ ap (λ l. changes_with l clock) c.try_reserve.ensures.items,
       flush-goes old new step.0 r c.args.s counts clock (g.D.Disk.told c.args.log.now) (g.D.Disk.told c.flush.new.disk) c.tell-in-Done.ensures.same c.tell-in-Done.ensures.stop
-      (limit-of old c.log_limit-limit.result c.log_limit-limit.ensures.limits c.log_limit-limit.ensures.log) c.in-Done.ensures.leaves step.1,
+          (limit-of old c.log_limit-limit.result c.log_limit-limit.ensures.limits c.log_limit-limit.ensures.log) c.in-Done.ensures.leaves step.1,
       command-told (Rose (g.O.Sink.faults c.args.output.now) (g.O.Sink.faults c.tell-in-Done.new.output)) old new c.args.s verb step.0 clock r (Flushed counts.master counts.others) o p
-      (λ began st h.
-      let f = step.2 began st h in
-      (flush_end st c.args.s c.args.heads.now, lone-alone old.limits st c.args.s verb (Flushed counts.master counts.others) (flush_end st c.args.s c.args.heads.now) tt f.0, flush-changes clock st c.args.s c.args.heads.now step.0 f.2, f.1))
-      c.tell-in-Done.ensures.bytes,
+          (λ began st h.
+          let f = step.2 began st h in
+          (flush_end st c.args.s c.args.heads.now, lone-alone old.limits st c.args.s verb (Flushed counts.master counts.others) (flush_end st c.args.s c.args.heads.now) tt f.0, flush-changes clock st c.args.s c.args.heads.now step.0 f.2, f.1))
+          c.tell-in-Done.ensures.bytes,
     )
 
 pub returns-in-Refused-clause-step : goal.returns-in-Refused-clause-step
@@ -51,11 +56,13 @@ returns-in-Refused-clause-step g c =
     let r = c.tell-in-Refused.result in
     let o = g.O.Sink.taken c.args.output.now in let p = g.O.Sink.taken c.tell-in-Refused.new.output in
     let verb = Flush c.args.heads.now in (
-      step.0, None, c.try_reserve.ensures.items,
+      step.0,
+      None,
+      c.try_reserve.ensures.items,
       refused-goes old new step.0 r refusal (g.D.Disk.told c.args.log.now) (g.D.Disk.told c.flush.new.disk) c.tell-in-Refused.ensures.same c.tell-in-Refused.ensures.stop c.in-Refused.ensures.leaves.1 step.1,
       command-told (Rose (g.O.Sink.faults c.args.output.now) (g.O.Sink.faults c.tell-in-Refused.new.output)) old new c.args.s verb step.0 None r (Refused refusal) o p
-      (λ began st h. let f = step.2 began st h in (st, lone-alone old.limits st c.args.s verb (Refused refusal) st tt f.0, (refl, refl), f.1))
-      c.tell-in-Refused.ensures.bytes,
+          (λ began st h. let f = step.2 began st h in (st, lone-alone old.limits st c.args.s verb (Refused refusal) st tt f.0, (refl, refl), f.1))
+          c.tell-in-Refused.ensures.bytes,
     )
 
 pub returns-in-Disk-clause-step : goal.returns-in-Disk-clause-step
@@ -65,11 +72,13 @@ returns-in-Disk-clause-step g c =
     let o = g.O.Sink.taken c.args.output.now in let p = g.O.Sink.taken c.tell_fault.new.output in
     let verb = Flush c.args.heads.now in
     let failed : Type 0 = Rose (g.O.Sink.faults c.args.output.now) (g.O.Sink.faults c.tell_fault.new.output) in (
-      step.0, None, c.try_reserve.ensures.items,
+      step.0,
+      None,
+      c.try_reserve.ensures.items,
       short-goes old step.0 None c.in-Disk.field-0 (g.D.Disk.told c.args.log.now) (g.D.Disk.told c.flush.new.disk) (limit-of old c.log_limit-limit.result c.log_limit-limit.ensures.limits c.log_limit-limit.ensures.log) step.1,
       WhereTold-map o p (PutsFault failed) (CommandReplies failed old c.args.s verb step.0 None (Err stops.NotStored))
-      (λ before now put began st h.
-      let f = step.2 began st h in
-      (Flushed _ _, flush_end st c.args.s c.args.heads.now, lone-alone old.limits st c.args.s verb _ (flush_end st c.args.s c.args.heads.now) tt f.0, change-of st c.args.s c.args.heads.now step.0 f.1, refl, put))
-      c.tell_fault.ensures.bytes,
+          (λ before now put began st h.
+          let f = step.2 began st h in
+          (Flushed _ _, flush_end st c.args.s c.args.heads.now, lone-alone old.limits st c.args.s verb _ (flush_end st c.args.s c.args.heads.now) tt f.0, change-of st c.args.s c.args.heads.now step.0 f.1, refl, put))
+          c.tell_fault.ensures.bytes,
     )

@@ -23,8 +23,11 @@ returns-clause-bytes g c =
     let text = listed_text (names_left c.names-names.result) c.count-count.result in
     WhereTold-map (g.O.Sink.taken c.args.output.now) (g.O.Sink.taken c.put_names.new.output) (λ x y. y ≡ x ++ text)
     (λ before now. (began : ℕ) (st : Stored) (names : List Name) → Stands began store st → AreIdsOf st c.args.s ids names → PutsReply store (Listed names) (Ok store) before now)
-    (λ before now put began st names h are. (refl, put ∙ ap (λ t. before ++ t) (listed-is st c.args.s ids names (names_left c.names-names.result) c.count-count.result are (c.names-names.ensures began st names h are)
-    (c.count-count.ensures ∙ ap (λ (a : Answer). length (ids_of a.set)) c.answer.ensures))))
+    (λ before now put began st names h are. (
+      refl,
+      put ∙ ap (λ t. before ++ t) (listed-is st c.args.s ids names (names_left c.names-names.result) c.count-count.result are (c.names-names.ensures began st names h are)
+          (c.count-count.ensures ∙ ap (λ (a : Answer). length (ids_of a.set)) c.answer.ensures)),
+    ))
     c.in_ok-put_names.ensures.bytes
 
 pub returns-in_err-put_names-clause-bytes : goal.returns-in_err-put_names-clause-bytes
