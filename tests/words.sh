@@ -34,7 +34,11 @@ ends 2 1 log run
 ends 2 1 -- run
 ends 2 1 log --
 ends 2 1 log -- walk
+ends 2 1 log -- --help
 ends 2 1 log -- run run
+ends 2 1 log -- run --cache 0
+ends 2 1 log -- run --cache
+ends 2 1 log -- demo
 ends 2 1 log remote -- Run
 ends 2 1 -- log -- run
 ends 2 1 "$(printf '\377')" -- run
@@ -48,5 +52,7 @@ if [ "$(od -An -tx1 log | tr -d ' ')" != 00 ]; then
     exit 1
 fi
 ends 0 0 log remote other -- run
+ends 0 0 log -- run --cache 5
+ends 0 0 log -- --cache=5 run
 ends 0 0 run -- run
 echo "words: all end as they must"

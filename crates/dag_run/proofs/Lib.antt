@@ -7,3 +7,4 @@ pub mod Going
 pub mod Ending
 pub mod Doing
 pub mod Statuses
+pub mod Usages

@@ -1,4 +1,5 @@
 pub mod Words
+pub mod Modes
 pub mod Seen
 pub mod Alone
 pub mod Stops

@@ -1,6 +1,6 @@
 //! The run: from the log, the source and the sink to the status.
 
-ghost use Rattle.std.specs.Prelude.{◌≡◌, ◌⊎◌, ◌↔◌, ◌<◌, ◌≤◌, ℕ, List, [], ◌∷◌, IsTrue, Err, IfErr, IfOk, IfSome, OnOk, codes, length, map, string_bytes};
+ghost use Rattle.std.specs.Prelude.{◌≡◌, ◌⊎◌, ◌<◌, ◌≤◌, ℕ, List, [], ◌∷◌, Err, IfErr, IfOk, IfSome, MatchResult, OnOk, length, map, string_bytes};
 ghost use Rattle.outside.specs.Counts.{Rose};
 ghost use Rattle.outside.specs.Told.{WhereTold};
 ghost use Rattle.id_groups.specs.Name.{Name};
@@ -13,6 +13,8 @@ ghost use Rattle.change_rules.specs.Standard.{AreLimits, standard};
 ghost use Rattle.run_rules.specs.Means.{Means};
 ghost use Rattle.run_rules.specs.Ends.{status_of as end_status};
 ghost use Rattle.dag_store.specs.Loading.{KeepsHolding, IsLoadedStore, SameBytes};
+ghost use Rattle.program_words.specs.Usage.{IsUsage};
+ghost use Rattle.dag_run.specs.Modes.{EndsAtOnce, IsUsageOf, RefusesWords};
 ghost use Rattle.dag_run.specs.Seen.{seen, streams};
 ghost use Rattle.dag_run.specs.Stops.{end_of, IsLoadStop, IsRunStatus, IsStatus};
 ghost use Rattle.dag_run.specs.Lines.{PutsFault};
@@ -25,6 +27,7 @@ use crate::{Limits, Moments, Report};
 use dag_store::{LoadFault, Store};
 use disk_trait::Disk;
 use line_io::{Lines, Sink, Source};
+use program_words::{Mode, Usage, WordsFault, read_words};
 use std::alloc::Global;
 
 /// Loads the store of the log. Where the disk fails the line that tells of it is put.
@@ -140,18 +143,19 @@ pub fn run_lines<D: Disk, I: Source, O: Sink>(
     }
 }
 
-/// Whether the words are the single word `run`.
-fn is_run(words: &[String]) -> bool
-    ensures { IsTrue result ↔ (map string_bytes words.now ≡ codes "run" ∷ []) }
+/// The usage that the words are; or the status of a program that ends at once.
+fn usage_of(alloc: Global, words: &[String]) -> Result<Usage, u8>
+    ensures { MatchResult result (IsUsage (map string_bytes words.now)) (EndsAtOnce (map string_bytes words.now)) }
 {
-    match words {
-        [word] => word.as_str() == "run",
-        _ => false,
+    match read_words(alloc, words) {
+        Ok(usage) => Ok(usage),
+        Err(WordsFault::Usage) => Err(2),
+        Err(WordsFault::Memory) => Err(7),
     }
 }
 
 /// Runs the program over the words behind the `--`: answers the lines of the input over the log, within the program's limits. The
-/// spare disk isn't touched.
+/// spare disk isn't touched, and the demonstration isn't built.
 pub fn top<D: Disk, I: Source, O: Sink>(
     alloc: Global,
     words: &[String],
@@ -161,13 +165,13 @@ pub fn top<D: Disk, I: Source, O: Sink>(
     output: &mut O,
 ) -> Report
     ensures known { IsStatus result.status }
-    ensures usage { result.status ≡ 2 ↔ ¬ (map string_bytes words.now ≡ codes "run" ∷ []) }
-    ensures means { (w : World Name) (payloads : List Payload) (room : ℕ) → map string_bytes words.now ≡ codes "run" ∷ []
+    ensures usage { RefusesWords (map string_bytes words.now) result.status }
+    ensures means { (w : World Name) (payloads : List Payload) (room : ℕ) → IsUsageOf Mode.Run (map string_bytes words.now)
         → WhereTold (seen (D.told log.old) (I.left input.old) (O.taken output.old)) (seen (D.told log.new) (I.left input.new) (O.taken output.new))
         (λ before after. Begins standard w payloads before → StatusMeans standard w payloads room
         (Rose (D.faults log.old) (D.faults log.new)) (Rose (I.faults input.old) (I.faults input.new)) (Rose (O.faults output.old) (O.faults output.new)) result.status result.changes before after) }
-    ensures refuses { map string_bytes words.now ≡ codes "run" ∷ [] → IfSome (D.bytes log.old) (λ bytes. StatusRefuses standard.log bytes result.status) }
-    ensures no_log { map string_bytes words.now ≡ codes "run" ∷ []
+    ensures refuses { IsUsageOf Mode.Run (map string_bytes words.now) → IfSome (D.bytes log.old) (λ bytes. StatusRefuses standard.log bytes result.status) }
+    ensures no_log { IsUsageOf Mode.Run (map string_bytes words.now)
         → WhereTold (seen (D.told log.old) (I.left input.old) (O.taken output.old)) (seen (D.told log.new) (I.left input.new) (O.taken output.new)) (EndRefuses standard result.status) }
     ensures unwritten { result.status ≡ 4 → Goes SameBytes (D.told log.old) (D.told log.new) × (output.new ≡ output.old) }
     ensures quiet { (result.status ≡ 2) ⊎ (result.status ≡ 7) → (input.new ≡ input.old) × (output.new ≡ output.old) }
@@ -177,11 +181,12 @@ pub fn top<D: Disk, I: Source, O: Sink>(
     ensures sink { result.status ≡ 6 → Rose (O.faults output.old) (O.faults output.new) }
     ensures spare { spare.new ≡ spare.old }
 {
-    if !is_run(words) {
-        return Report {
-            status: 2,
-            changes: Moments::of(Vec::new(alloc)),
-        };
+    let usage = match usage_of(alloc, words) {
+        Ok(usage) => usage,
+        Err(status) => return Report::idle(alloc, status),
+    };
+    match usage.mode {
+        Mode::Run => run_lines(alloc, Limits::standard(), log, input, output),
+        Mode::Demo => Report::idle(alloc, 2),
     }
-    run_lines(alloc, Limits::standard(), log, input, output)
 }

@@ -1,7 +1,8 @@
 //! How a run ended.
 
-ghost use Rattle.std.specs.Prelude.{◌≡◌, ◌<◌, length, slice_get, Some};
+ghost use Rattle.std.specs.Prelude.{◌≡◌, ◌<◌, [], length, slice_get, Some};
 
+use std::alloc::Global;
 use std::marker::Model;
 
 /// Moments of the log's clock: one for each stored change, when it was acknowledged.
@@ -51,4 +52,17 @@ pub struct Report {
     pub status: u8,
     /// One moment for each stored change.
     pub changes: Moments,
+}
+
+impl Report {
+    /// A program that ended with this status, and did nothing.
+    pub(crate) fn idle(alloc: Global, status: u8) -> Report
+        ensures status { result.status ≡ status }
+        ensures changes { result.changes ≡ [] }
+    {
+        Report {
+            status,
+            changes: Moments::of(Vec::new(alloc)),
+        }
+    }
 }

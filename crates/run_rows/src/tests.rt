@@ -391,12 +391,17 @@ fn words_are_split_at_the_dashes(rt: HostRuntime) -> Result<(), Fail> {
 }
 
 #[test]
-fn the_mode_is_one_word(rt: HostRuntime) -> Result<(), Fail> {
-    let rows: [(&[&str], u8, u64, &[u8]); 4] = [
+fn the_words_are_a_mode_and_its_options(rt: HostRuntime) -> Result<(), Fail> {
+    let rows: [(&[&str], u8, u64, &[u8]); 9] = [
         (&[], 2, 9, b""),
         (&["log"], 2, 9, b""),
-        (&["run", "--"], 2, 9, b""),
+        (&["run", "run"], 2, 9, b""),
+        (&["run", "--cache", "0"], 2, 9, b""),
+        (&["--help"], 2, 9, b""),
+        (&["demo"], 2, 9, b""),
         (&["run"], 0, 0, b"ok 0 0 0\n"),
+        (&["run", "--cache", "5"], 0, 0, b"ok 0 0 0\n"),
+        (&["--cache=5", "run"], 0, 0, b"ok 0 0 0\n"),
     ];
     for (texts, status, left, replies) in rows {
         let words = words_of(rt.alloc(), texts)?;

@@ -2,7 +2,7 @@
 
 //! The program `segdag`: answers command lines of standard input on standard output, over the log in a file.
 
-ghost use Rattle.std.specs.Prelude.{◌≡◌, ◌⊎◌, ◌<◌, ◌^◌, ◌↔◌, ◌==◌, ◌&&◌, not, length, map, string_bytes, if◌then◌else◌, ℕ, List};
+ghost use Rattle.std.specs.Prelude.{◌≡◌, ◌⊎◌, ◌<◌, ◌^◌, ◌==◌, ◌&&◌, not, length, map, string_bytes, if◌then◌else◌, ℕ, List};
 ghost use Rattle.std.specs.Process.{exit_status};
 ghost use Rattle.outside.specs.Counts.{Rose};
 ghost use Rattle.outside.specs.Told.{WhereTold};
@@ -13,7 +13,7 @@ ghost use Rattle.change_rules.specs.Standard.{standard};
 ghost use Rattle.dag_run.specs.Seen.{seen};
 ghost use Rattle.dag_run.specs.Ends.{Begins, StatusMeans};
 ghost use Rattle.dag_run.specs.Stops.{IsStatus};
-ghost use Rattle.segdag.specs.Usage.{IsUsage};
+ghost use Rattle.segdag.specs.Usage.{IsUsage, Refuses};
 
 mod words;
 
@@ -22,6 +22,7 @@ use dag_run::top;
 use disk_trait::Disk;
 use file_disk::FileDisk;
 use line_io::{Sink, Source, StdSink, StdSource};
+use program_words::Mode;
 use std::alloc::{AllocError, Global};
 use std::io::ErrorKind;
 use std::process::ExitCode;
@@ -51,8 +52,8 @@ fn answer<D: Disk, I: Source, O: Sink>(
 ) -> u8
     requires { length words.now < 2 ^ 32 }
     ensures known { IsStatus result }
-    ensures usage { result ≡ 2 ↔ ¬ (IsUsage (map string_bytes words.now)) }
-    ensures means { (w : World Name) (payloads : List Payload) (room : ℕ) → IsUsage (map string_bytes words.now)
+    ensures usage { Refuses (map string_bytes words.now) result }
+    ensures means { (w : World Name) (payloads : List Payload) (room : ℕ) → IsUsage Mode.Run (map string_bytes words.now)
         → WhereTold (seen (D.told log.old) (I.left input.old) (O.taken output.old)) (seen (D.told log.new) (I.left input.new) (O.taken output.new))
         (λ before after. Begins standard w payloads before → (changes : List ℕ) × StatusMeans standard w payloads room
         (Rose (D.faults log.old) (D.faults log.new)) (Rose (I.faults input.old) (I.faults input.new)) (Rose (O.faults output.old) (O.faults output.new)) result changes before after) }

@@ -1,12 +1,19 @@
-use Rattle.std.proofs.Common.{◌≡◌, ◌∙◌, ap, sym, map, string_bytes, codes, [], ◌∷◌}
-use Rattle.std.specs.Prelude.{unwrap_or}
+use Rattle.std.proofs.Common.{◌≡◌, ℕ, List, Option, Some, None, sym, subst, map, string_bytes}
+use Rattle.std.specs.Prelude.{MatchOption}
 use Rattle.outside.proofs.ToldLemmas.{WhereTold-map}
+use Rattle.dag_run.specs.Modes.{IsUsageOf, RefusesWords}
 use Rattle.dag_run.specs.Seen.{seen}
+use Rattle.program_words.specs.declared.usage.Mode.TheVariants.{Run}
+use Rattle.segdag.specs.Usage.{mode_words}
 use Rattle.segdag.proofs.answer.Goals as goal
+
+pub returns-clause-usage : goal.returns-clause-usage
+returns-clause-usage g c =
+    subst (λ mode. MatchOption mode (c.top.result.status ≡ 2) (λ w. RefusesWords w c.top.result.status)) (sym c.in-Some.ensures) c.top.ensures.usage
 
 pub returns-clause-means : goal.returns-clause-means
 returns-clause-means g c = λ w payloads room used.
-    let is-run : map string_bytes c.in-Some.mode.now ≡ codes "run" ∷ [] = ap (λ mode. unwrap_or mode []) (sym c.in-Some.ensures ∙ used) in
+    let of = subst (λ mode. MatchOption mode ⊥ (IsUsageOf Run)) c.in-Some.ensures used in
     WhereTold-map (seen (g.D.Disk.told c.args.log.now) (g.I.Source.left c.args.input.now) (g.O.Sink.taken c.args.output.now))
     (seen (g.D.Disk.told c.top.new.log) (g.I.Source.left c.top.new.input) (g.O.Sink.taken c.top.new.output)) _ _
-    (λ before after means begins. (c.top.result.changes, means begins)) (c.top.ensures.means w payloads room is-run)
+    (λ before after means begins. (c.top.result.changes, means begins)) (c.top.ensures.means w payloads room of)
