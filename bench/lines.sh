@@ -19,5 +19,5 @@ print('0 count ancestors(%s)' % name(count - 1))
 PY
 for input in comments history; do
   echo "== $input"
-  ( time "$program" log -- run < "$work/$input" | tail -n 2 ) 2>&1 | grep -v '^$'
+  ( time "$program" "$work/log-$input" -- run < "$work/$input" | tail -n 2 ) 2>&1 | grep -v '^$'
 done
