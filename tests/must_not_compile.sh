@@ -1,6 +1,7 @@
 #!/bin/sh
-# A log is taken by its commit, so that a payload that is lent from it must be let go before. No contract can say so: here the
-# compiler has to refuse a program that holds one longer, and to take the same program without that. Nothing is proved here.
+# A log is taken by its commit and a store by its flush, so that a payload or a name that is lent from it must be let go before. No
+# contract can say so: here the compiler has to refuse a program that holds one longer, and to take the same program without that.
+# Nothing is proved here.
 set -eu
 cd "$(dirname "$0")/.."
 rt=${RT:-rt}
@@ -12,11 +13,8 @@ fi
 copy=$(mktemp -d)
 trap 'rm -rf "$copy"' EXIT
 mkdir -p "$copy/crates/lent/src"
-{
-    grep -E '^(outside|disk_trait|gated_log):' crates.txt
-    echo 'lent: disk_trait gated_log'
-} > "$copy/crates.txt"
-for crate in outside disk_trait gated_log; do
+grep -E '^[a-z_]+:' crates.txt | grep -vE '^(command_lines|dag_run|segdag|bench|bench_levels|[a-z_]*_rows|run_rules):' > "$copy/crates.txt"
+for crate in $(cut -d: -f1 "$copy/crates.txt"); do
     mkdir "$copy/crates/$crate"
     for part in src specs proofs; do
         if [ -d "crates/$crate/$part" ]; then
@@ -24,12 +22,14 @@ for crate in outside disk_trait gated_log; do
         fi
     done
 done
+echo 'lent: dag_store disk_trait gated_log' >> "$copy/crates.txt"
 
-# Writes a program that commits, with these lines in the function, and prints what the compiler says of it.
+# Writes a program that commits and flushes, with these lines in the functions, and prints what the compiler says of it.
 compile() {
     cat > "$copy/crates/lent/src/main.rt" << END
 #![tactic(auto)]
 
+use dag_store::{Flushed, Found, Store};
 use disk_trait::Disk;
 use gated_log::{Committed, Log};
 use std::process::ExitCode;
@@ -39,6 +39,11 @@ fn commit<D: Disk>(log: Log, disk: &mut D, payload: &[u8]) -> Committed {
 $1
 }
 
+fn flush<D: Disk>(store: Store, disk: &mut D, found: &Found) -> Flushed {
+    let mut lent = store.names(0, found);
+$2
+}
+
 fn main(_rt: HostRuntime) -> ExitCode {
     ExitCode::SUCCESS
 }
@@ -46,25 +51,28 @@ END
     (cd "$copy/crates/lent" && "$rt" try 2>&1) || true
 }
 
-said=$(compile '    let committed = log.commit(disk, payload);
+# Each try: what it is, what the compiler has to say, and the lines of the commit and of the flush.
+try() {
+    said=$(compile "$3" "$4")
+    case $said in
+        *"$2"*) ;;
+        *)
+            echo "must_not_compile: $1:"
+            echo "$said"
+            exit 1
+            ;;
+    esac
+}
+
+commits='    let _size = lent.len();
+    log.commit(disk, payload)'
+flushes='    let _first = lent.next();
+    store.flush(disk, 0, &[])'
+try "a commit and a flush behind the loans are refused" "run=ended status=0" "$commits" "$flushes"
+try "a commit while bytes are lent isn't refused" "borrow-e0505" '    let committed = log.commit(disk, payload);
     let _size = lent.len();
-    committed')
-case $said in
-    *borrow-e0505*) ;;
-    *)
-        echo "must_not_compile: a commit while bytes are lent isn't refused:"
-        echo "$said"
-        exit 1
-        ;;
-esac
-said=$(compile '    let _size = lent.len();
-    log.commit(disk, payload)')
-case $said in
-    *"run=ended status=0"*) ;;
-    *)
-        echo "must_not_compile: a commit behind the loan is refused:"
-        echo "$said"
-        exit 1
-        ;;
-esac
-echo "must_not_compile: a commit while bytes are lent is refused"
+    committed' "$flushes"
+try "a flush while names are lent isn't refused" "borrow-e0505" "$commits" '    let flushed = store.flush(disk, 0, &[]);
+    let _first = lent.next();
+    flushed'
+echo "must_not_compile: a commit while bytes are lent is refused, and a flush while names are"
