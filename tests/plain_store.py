@@ -459,8 +459,8 @@ def main():
     path = sys.argv[1]
     data = open(path, "rb").read() if os.path.exists(path) else b""
     store = Store(data, LIMITS)
-    for line in sys.stdin:
-        text = line.removesuffix("\n").removesuffix("\r")
+    for line in sys.stdin.buffer:
+        text = re.sub(r"\r?\n\Z", "", line.decode("latin-1"))
         if text and not text.startswith("#"):
             print("\n".join(store.line(text)))
     with open(path, "wb") as log:
