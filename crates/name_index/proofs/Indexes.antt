@@ -70,13 +70,17 @@ module _ (bytes : List ℕ) where
     stands = subst (λ p. take 20 (drop p bytes) ≡ n.name) same h.stands;
   }
 
+  -- what stands in the bytes stands from the place 0
+  pub stand-from : (all : List NamedPlace) → Stand bytes all → StandFrom 0 bytes all
+  stand-from all h = all-of (StandsFrom 0 bytes) all (λ n i. from-zero n (each-of (StandsAt bytes) all h n i))
+
   split-joined : (held : List (List NamedPlace)) → StandFrom 0 bytes (joined held) → AllByRecursion (StandFrom 0 bytes) held
   split-joined [] h = tt
   split-joined (run ∷ runs) h = (all-left (StandsFrom 0 bytes) run (joined runs) h, split-joined runs (all-right (StandsFrom 0 bytes) run (joined runs) h))
 
   -- all runs of an index stand where its names do
   pub runs-stand : (all : List NamedPlace) (held : List (List NamedPlace)) → IsPermutation all (joined held) → Stand bytes all → AllByRecursion (StandFrom 0 bytes) held
-  runs-stand all held moved h = split-joined held (all-moved (StandsFrom 0 bytes) all (joined held) moved (all-of (StandsFrom 0 bytes) all (λ n i. from-zero n (each-of (StandsAt bytes) all h n i))))
+  runs-stand all held moved h = split-joined held (all-moved (StandsFrom 0 bytes) all (joined held) moved (stand-from all h))
 
 module _ (at : ℕ) (bytes : List ℕ) (run : List Entry) (others : List (List Entry)) (name : Name) where
   pub first-has : (held : List (List NamedPlace)) (place : ℕ) → AreRuns (run ∷ others) held → AllByRecursion (StandFrom at bytes) held

@@ -61,6 +61,15 @@ distinct-now run all new held holds moved h once apart =
     let news = distinct-moved _ _ (IsPermutation-sym _ _ (IsPermutation-map (λ n. n.name) new holds.held holds.same)) once in
     distinct-both all new h news (λ name i j. apart (common-by _ _ name (names-moved new holds.held holds.same name j) (names-moved all (joined held) moved name i)))
 
+-- one run of names that are distinct is an index
+pub one-run : (run : List Entry) (new : List NamedPlace) (holds : Holds run new) → AreDistinct (names_in holds.held) → IsIndexOf (run ∷ []) new
+one-run run new holds once = record {
+  held = holds.held ∷ [];
+  in_order = (holds.run, tt);
+  same = subst (λ l. IsPermutation new l) (sym (append-nil holds.held)) holds.same;
+  distinct = distinct-moved _ _ (IsPermutation-sym _ _ (IsPermutation-map (λ n. n.name) new holds.held holds.same)) once;
+}
+
 -- parts of runs
 
 runs-take : (k : ℕ) (runs : List (List Entry)) (held : List (List NamedPlace)) → AreRuns runs held → AreRuns (take k runs) (take k held)

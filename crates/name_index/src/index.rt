@@ -179,6 +179,34 @@ impl NameIndex {
         Ok(())
     }
 
+    /// The index that holds this run alone.
+    fn of_run(alloc: Global, run: Run) -> Result<NameIndex, AllocError>
+        ensures { IfOk result (λ index. index ≡ run ∷ []) }
+    {
+        let mut runs = Vec::new(alloc);
+        runs.push(run)?;
+        Ok(NameIndex { alloc, runs })
+    }
+
+    /// The index of the names that stand at these places in the bytes, made at once. `Double` comes only where they aren't
+    /// distinct.
+    pub fn of_places(
+        alloc: Global,
+        bytes: &[u8],
+        places: &[u64],
+    ) -> Result<NameIndex, IndexFault>
+        ensures made { IfOk result (λ index. (new : List NamedPlace) → Stand bytes.now new → places_in new ≡ places.now → IsIndexOf index new) }
+        ensures double { (new : List NamedPlace) → Stand bytes.now new → places_in new ≡ places.now → result ≡ Err Fault.Double → ¬ AreDistinct (names_in new) }
+    {
+        let stretch = Stretch { bytes, at: 0 };
+        let run = Run::of_places(alloc, &stretch, places)?;
+        if run.has_double(&stretch) {
+            return Err(IndexFault::Double);
+        }
+        let index = NameIndex::of_run(alloc, run)?;
+        Ok(index)
+    }
+
     /// Adds the names that stand at these places, in bytes `added` that stand, or will stand, at `at`. The names that
     /// are held already stand in `bytes`. `Double` comes only where the names together aren't distinct, and `Memory`
     /// for want of memory; either leaves the index as it was.
