@@ -7,3 +7,5 @@ pub mod Answers
 pub mod Places
 pub mod More
 pub mod Meeting
+pub mod OtherNames
+pub mod Building

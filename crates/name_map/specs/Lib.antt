@@ -3,3 +3,4 @@ pub mod Added
 pub mod Map
 pub mod Found
 pub mod Adding
+pub mod Build

@@ -66,7 +66,7 @@ fn insert_known(
 }
 
 /// Refuses other names that aren't distinct, or meet a known one of the payload.
-fn check_own_names(
+pub(crate) fn check_own_names(
     alloc: Global,
     known: &KnownSlice<'_>,
     others: &NameSlice<'_>,
@@ -103,7 +103,7 @@ pub(crate) fn check_others(
 }
 
 /// Adds a part at the end. On want of memory all stay.
-fn push_part(parts: &mut Vec<Part>, part: Part) -> Result<(), AllocError>
+pub(crate) fn push_part(parts: &mut Vec<Part>, part: Part) -> Result<(), AllocError>
     ensures pushed { OnOk result (parts.new.items ≡ parts.old.items ++ part ∷ []) }
     ensures unchanged { OnErr result (parts.new.items ≡ parts.old.items) }
 {

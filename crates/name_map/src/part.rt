@@ -6,6 +6,7 @@ ghost use Rattle.batch_codec.specs.Reading.{ids_ascend};
 ghost use Rattle.batch_codec.specs.Payload.{known_ids};
 ghost use Rattle.batch_codec.specs.Grammar.{IsPayload};
 ghost use Rattle.batch_codec.specs.Lent.{payload_of, ids_of as lent_ids};
+ghost use Rattle.name_map.specs.Added.{every};
 ghost use Rattle.name_map.specs.Part.{ids_of, upward, count_below, IsIndexIn, IsPlaceIn, IsPart};
 
 use crate::sizes::{ENTRY_BYTES, ID_BYTES};
@@ -167,6 +168,28 @@ impl Part {
             start,
             ids,
         })
+    }
+
+    /// How many known ids there are.
+    fn count(&self) -> u64
+        ensures { result ≡ length self.now.ids }
+    {
+        match &self.ids {
+            KnownIds::All(count) => u64::from(*count),
+            KnownIds::Listed(ids) => ids.len() as u64,
+        }
+    }
+
+    /// The places in the log of the names of the known ids.
+    pub(crate) fn places(&self, alloc: Global) -> Result<Vec<u64>, AllocError>
+        ensures { IfOk result (λ places. places.items ≡ every (self.now.start + 8) 28 (length self.now.ids)) }
+    {
+        let count = self.count();
+        let mut places = Vec::with_capacity(alloc, count as usize)?;
+        'ids: for i in 0..count {
+            places.push(self.start + ENTRY_BYTES * i + ID_BYTES)?;
+        }
+        Ok(places)
     }
 
     /// The place in the log of the first known id.
