@@ -19,7 +19,7 @@ lawful-more before [] p h f = (subst (λ l. MayFollow l p) (append-nil before) f
 lawful-more before (q ∷ more) p h f = (h.0, lawful-more (before ++ q ∷ []) more p h.1 (subst (λ l. MayFollow l p) (sym (append_assoc before (q ∷ []) more)) f))
 
 -- the heads and the count of a clone, with one payload more
-heads-more : (payloads : List Payload) (p : Payload) → IsPayload p → (p.kind ≡ 2 → payloads ≡ []) → by_kind p.kind p.heads (remote_heads payloads) ≡ remote_heads (payloads ++ p ∷ [])
+pub heads-more : (payloads : List Payload) (p : Payload) → IsPayload p → (p.kind ≡ 2 → payloads ≡ []) → by_kind p.kind p.heads (remote_heads payloads) ≡ remote_heads (payloads ++ p ∷ [])
 heads-more payloads p h first = ⊎_elim
     (λ (f : IsFlush p). ap (λ b. if b then p.heads else remote_heads payloads) (ap (λ n. n == 2) f.kind)
     ∙ sym (flat-snoc (λ (q : Payload). q.heads) payloads p ∙ ap (λ l. remote_heads payloads ++ l) f.no_heads ∙ append-nil (remote_heads payloads)))
@@ -29,13 +29,13 @@ count-behind : (payloads : List Payload) (p : Payload) → p.kind ≡ 1 → clon
 count-behind [] p e = ap (λ b. if b then p.after else 0) (ap (λ n. n == 2) e)
 count-behind (q ∷ payloads) p e = ap (λ n. if q.kind == 2 then q.after else n) (count-behind payloads p e)
 
-count-more : (payloads : List Payload) (p : Payload) → IsPayload p → (p.kind ≡ 2 → payloads ≡ []) → by_kind p.kind p.after (cloned_count payloads) ≡ cloned_count (payloads ++ p ∷ [])
+pub count-more : (payloads : List Payload) (p : Payload) → IsPayload p → (p.kind ≡ 2 → payloads ≡ []) → by_kind p.kind p.after (cloned_count payloads) ≡ cloned_count (payloads ++ p ∷ [])
 count-more payloads p h first = ⊎_elim
     (λ (f : IsFlush p). ap (λ b. if b then p.after else cloned_count payloads) (ap (λ n. n == 2) f.kind) ∙ sym (count-behind payloads p f.kind))
     (λ (c : IsClone p). ap (λ b. if b then p.after else cloned_count payloads) (ap (λ n. n == 2) c.kind)
     ∙ sym (ap (λ l. cloned_count (l ++ p ∷ [])) (first c.kind) ∙ ap (λ b. if b then p.after else 0) (ap (λ n. n == 2) c.kind))) h.by_kind
 
-no-payloads : (added : List Placed) → added ≡ [] → payloads_of added ≡ []
+pub no-payloads : (added : List Placed) → added ≡ [] → payloads_of added ≡ []
 no-payloads added e = ap payloads_of e
 
 pub tables-more : (tables : PlainTables) (new : PlainTables) (added : List Placed) (a : Placed) → AreTablesOf tables added → IsPayload a.payload → a.payload.before ≡ tables.names.masters

@@ -33,17 +33,21 @@ behind-join first [] ys = refl
 behind-join first (s ∷ xs) ys = behind-join (s.high + 1) xs ys
 
 -- the payload's records may follow those of the table
-pub may-follow : (table : Kept) (levels : KeptLevels) (names : PlainMap) (added : List Placed) (p : Payload) (bytes records : List ℕ) → AreMastersOf table levels names added → AllStand bytes added
+pub records-follow : (table : Kept) (added : List Placed) (p : Payload) (bytes records : List ℕ) → IsTableOf table (master_records added) → AllStand bytes added
     → IsPayload p → p.before ≡ table.end → records ≡ flat_map segment_bytes p.master → MayFollow table bytes records (master_records added) p.master
-may-follow table levels names added p bytes records b stand h e r =
+records-follow table added p bytes records is stand h e r =
     record {
-      table_of = b.flat;
+      table_of = is;
       stand = masters-stand bytes added stand;
       are = are-records p records h r;
       in_turn = masters-turn p table.end h (sym e);
       small = subst (λ n. place_behind n p.master ≤ 16777216) e (subst (λ n. n ≤ 16777216) (sym (follow-behind p.before p.after p.master h.cover.master)) h.counts.master);
-      few = few-masters table added p b.flat h e;
+      few = few-masters table added p is h e;
     }
+
+pub may-follow : (table : Kept) (levels : KeptLevels) (names : PlainMap) (added : List Placed) (p : Payload) (bytes records : List ℕ) → AreMastersOf table levels names added → AllStand bytes added
+    → IsPayload p → p.before ≡ table.end → records ≡ flat_map segment_bytes p.master → MayFollow table bytes records (master_records added) p.master
+may-follow table levels names added p bytes records b stand h e r = records-follow table added p bytes records b.flat stand h e r
 
 -- the flat segments of the table with more records
 pub extended-are : (old new : Kept) (before : List PlacedSegment) (at : ℕ) (segments : List Segment) → IsTableOf old before → IsTableOf new (before ++ placed_segments at segments)

@@ -11,3 +11,4 @@ pub mod Heading
 pub mod Following
 pub mod Pushing
 pub mod Stored
+pub mod Building

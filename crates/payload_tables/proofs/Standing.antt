@@ -11,16 +11,10 @@ use Rattle.flat_segments.specs.Placed.{Placed as PlacedSegment, placed, segments
 use Rattle.flat_segments.proofs.Callers.{placed-stand}
 use Rattle.name_map.specs.Added.{Placed, AllStand, payloads_of}
 use Rattle.name_map.proofs.Standing.{stand-parts, payload-fits}
+pub use Rattle.name_map.proofs.OtherNames.{Stands, other-names-in}
 use Rattle.payload_tables.specs.Kept.{master_records, other_records}
 use Rattle.payload_tables.proofs.Lists.{all-append, count-last}
 use Rattle.payload_tables.proofs.Joined.{follow-join}
-
--- a piece of a payload, behind so many bytes
-pub record Stands (p : Payload) (piece : List ℕ) (n : ℕ) : Type 0 where
-  pub front : List ℕ
-  pub behind : List ℕ
-  pub whole : payload_bytes 1 p ≡ front ++ (piece ++ behind)
-  pub size : length front ≡ n
 
 pub masters-in : (p : Payload) → Stands p (flat_map segment_bytes p.master) master_start
 unfolding payload_bytes
@@ -83,25 +77,6 @@ others-in p h =
       front = front;
       behind = names_bytes p.other_names;
       whole = sym (simp append_assoc refl);
-      size = (let a = length-append {A = ℕ} masters (to_be_bytes w32 (length p.known) ++ (known ++ mid)) in let b = length-append {A = ℕ} known mid in let c = length-append {A = ℕ} heads tail in
-          let d = knowns-size p.known (payload-fits p h) in let e = names-size p.heads h.head_names in omega (arith, a, b, c, d, e));
-    }
-
-pub other-names-in : (p : Payload) → IsPayload p → Stands p (names_bytes p.other_names) (names_start p)
-unfolding payload_bytes
-other-names-in p h =
-    let b8 : List ℕ = 1 ∷ p.kind ∷ to_be_bytes w64 p.before in
-    let masters : List ℕ = flat_map segment_bytes p.master in
-    let known : List ℕ = flat_map known_bytes p.known in
-    let heads : List ℕ = names_bytes p.heads in
-    let others : List ℕ = flat_map segment_bytes p.others in
-    let tail : List ℕ = to_be_bytes w32 (length p.other_names) ++ (to_be_bytes w32 (length p.others) ++ others) in
-    let mid : List ℕ = to_be_bytes w16 (length p.heads) ++ (heads ++ tail) in
-    let front : List ℕ = b8 ++ (to_be_bytes w64 p.after ++ (to_be_bytes w32 (length p.master) ++ (masters ++ (to_be_bytes w32 (length p.known) ++ (known ++ mid))))) in
-    record {
-      front = front;
-      behind = [];
-      whole = sym (simp (append_assoc, append-nil) refl);
       size = (let a = length-append {A = ℕ} masters (to_be_bytes w32 (length p.known) ++ (known ++ mid)) in let b = length-append {A = ℕ} known mid in let c = length-append {A = ℕ} heads tail in
           let d = knowns-size p.known (payload-fits p h) in let e = names-size p.heads h.head_names in omega (arith, a, b, c, d, e));
     }

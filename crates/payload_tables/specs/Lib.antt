@@ -2,3 +2,4 @@ pub mod Kept
 pub mod Pending
 pub mod Sections
 pub mod Bases
+pub mod Build

@@ -3,6 +3,7 @@
 //! What is kept of a log's payloads and of pending rows, and the world that a session sees by them.
 
 mod base;
+mod build;
 mod fault;
 mod heads;
 mod masters;
@@ -12,6 +13,7 @@ mod piece;
 mod tables;
 
 pub use base::BaseRef;
+pub use build::TablesBuild;
 pub use fault::TableFault;
 pub use others::OthersTable;
 pub use pending::PendingRows;

@@ -25,7 +25,7 @@ use name_map::NameMap;
 
 /// Adds records to the table and brings its levels to those of the table with them. The levels come first, since they are
 /// brought on from the table as it was. Want of memory changes neither.
-fn extend_table(
+pub(crate) fn extend_table(
     flat: &mut FlatTable,
     levels: &mut Levels,
     bytes: &[u8],

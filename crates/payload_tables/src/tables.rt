@@ -30,7 +30,7 @@ use std::alloc::{AllocError, Global};
 use std::marker::Model;
 
 /// The kind of a clone's payload.
-const CLONE: u8 = 2;
+pub(crate) const CLONE: u8 = 2;
 
 /// What is kept of the payloads of a log: the segments of all master ids with their levels, their names, and the other ids of
 /// the newest payload. Contracts see what is kept; of which payloads, `AreTablesOf` says.
@@ -54,7 +54,7 @@ impl Model for Tables {
 }
 
 /// Keeps what a clone brings: its heads, and how many commits came.
-fn keep_clone(
+pub(crate) fn keep_clone(
     heads: &mut Vec<Name>,
     cloned: &mut u64,
     kind: u8,

@@ -1,0 +1,42 @@
+-- What is kept of payloads that are added before their names are looked at.
+use Rattle.std.specs.Prelude.{◌≡◌, ℕ, List, [], ◌∷◌, ◌++◌, ⊤}
+use Rattle.id_groups.specs.Name.{Name}
+use Rattle.batch_codec.specs.Payload.{Payload}
+use Rattle.batch_codec.specs.Grammar.{head_names}
+use Rattle.change_rules.specs.Tables.{remote_heads, cloned_count}
+use Rattle.flat_segments.specs.Kept.{Kept, IsTableOf}
+use Rattle.segment_levels.specs.Kept.{Kept as KeptLevels, AreLevelsOf}
+use Rattle.segment_levels.specs.Flats.{flats_of}
+use Rattle.name_map.specs.Added.{Placed, payloads_of}
+use Rattle.name_map.specs.Build.{PlainBuild as PlainNames, IsBuildOf as AreNamesOf}
+use Rattle.payload_tables.specs.Kept.{PlainOthers, AreOthersIn, last_added, master_records}
+
+-- what is kept
+pub record PlainBuild : Type 0 where
+  pub flat : Kept
+  pub levels : KeptLevels
+  pub names : PlainNames
+  -- the other ids of the newest payload
+  pub others : PlainOthers
+  -- the heads of the remote that was cloned, and how many commits came
+  pub heads : List Name
+  pub cloned : ℕ
+
+-- of each payload behind those before it: a clone comes first, and its heads are those by its segments
+abbrev pub ClonesFit : List Payload → List Payload → Type 0
+ClonesFit before [] = ⊤
+ClonesFit before (p ∷ more) = (p.kind ≡ 2 → (before ≡ []) × (p.heads ≡ head_names p)) × ClonesFit (before ++ p ∷ []) more
+
+-- the table, its levels and the names are those of the payloads
+pub record ArePartsOf (table : Kept) (levels : KeptLevels) (names : PlainNames) (added : List Placed) : Type 0 where
+  pub flat : IsTableOf table (master_records added)
+  pub levels_of : AreLevelsOf levels (flats_of table (master_records added))
+  pub names_of : AreNamesOf names added
+
+-- It is kept of the payloads that were added, in this order, which are lawful but for what their names are.
+pub record IsBuildOf (build : PlainBuild) (added : List Placed) : Type 0 where
+  pub clones : ClonesFit [] (payloads_of added)
+  pub parts : ArePartsOf build.flat build.levels build.names added
+  pub others : AreOthersIn build.others (last_added added)
+  pub heads : build.heads ≡ remote_heads (payloads_of added)
+  pub cloned : build.cloned ≡ cloned_count (payloads_of added)
