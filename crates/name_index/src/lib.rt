@@ -9,6 +9,7 @@ mod entry;
 mod index;
 mod laws;
 mod run;
+mod search;
 
 pub use index::{IndexFault, NameIndex};
 pub use laws::{any_order, keys_spelled_out, names_are_distinct};
