@@ -8,6 +8,7 @@
 mod entry;
 mod index;
 mod laws;
+mod merge;
 mod run;
 mod search;
 
