@@ -118,14 +118,14 @@ module _ (began s : ℕ) (added : List Placed) (x : PlainSession) (st : Stored) 
   stand : StandFor (payloads_of added) w
   stand = subst (λ l. StandFor l w) (sym o.payloads) o.hold.stand
 
-  history : IsHistory (names_of (rows_of (base_of st s))) rows
+  pub history : IsHistory (names_of (rows_of (base_of st s))) rows
   history = pending-history (base_of st s) rows (o.state.sessions s).view.world
 
   -- no row loses a parent
   pub never-lost : first_lost same_name w rows ≡ None
   never-lost = none-missing w (names_of (rows_of (base_of st s))) (names_of (rows_of w)) rows history (names-kept (base_of st s) w o.keeps) (λ y i. i)
 
-  on-newest : is_on_newest st s ≡ true → base_of st s ≡ w
+  pub on-newest : is_on_newest st s ≡ true → base_of st s ≡ w
   on-newest e = ap (world_at st) (eqb-true (session st s).base (length st.past) e) ∙ newest-now st
 
   by-stored : (name : Name) (b c : Bool) → is_in same_name name (stored_names st.payloads w) ≡ b → has w name ≡ c → b ≡ c → stored_as st name ≡ stored_id w name

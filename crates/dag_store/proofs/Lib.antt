@@ -32,3 +32,4 @@ pub mod FlushStored
 pub mod FlushSteps
 pub mod FlushDisk
 pub mod AddingSteps
+pub mod Unmoved

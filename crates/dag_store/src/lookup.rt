@@ -31,7 +31,7 @@ pub(crate) fn has_unnamed(tables: &Tables, below: u64) -> bool
 }
 
 /// The id of a name that a base has or that is pending, where `unnamed` says whether the base has an id without a stored name.
-/// `NoRemote` where the name has to be asked.
+/// `NoRemote` where the name has to be asked. The pending rows are tried first: there are few, and most parents are among them.
 pub(crate) fn find(
     base: &BaseRef<'_>,
     unnamed: bool,
@@ -43,11 +43,11 @@ pub(crate) fn find(
     ensures { (added : List Placed) (w : World NameBytes) (rows : List (Row NameBytes)) → Sees base.now pending.now added w rows
         → unnamed ≡ has_lazy (payloads_of added) w → FindsName (payloads_of added) w rows name.now result }
 {
-    if let Some(id) = base.id(name.lend()) {
-        return Ok(Some(id));
-    }
     if let Some(k) = pending.find(name.lend()) {
         return Ok(Some(Id::other(pending.first() + u64::from(k))));
+    }
+    if let Some(id) = base.id(name.lend()) {
+        return Ok(Some(id));
     }
     if unnamed {
         return Err(Refusal::NoRemote);

@@ -8,6 +8,7 @@ ghost use Rattle.change_rules.specs.Standard.{AreLimits};
 ghost use Rattle.flush_rebuild.specs.Asked.{MayStore};
 ghost use Rattle.flush_rebuild.specs.Plans.{MayBeStored};
 ghost use Rattle.step_rules.specs.State.{Stored};
+ghost use Rattle.step_rules.specs.declared.Refusal.TheVariants as why;
 ghost use Rattle.dag_store.specs.Kept.{IsSessionOf};
 ghost use Rattle.dag_store.specs.Changes.{AreOver, IsOn, Rebases, PlansFlush, refusal_of};
 
@@ -16,7 +17,7 @@ use crate::session::Session;
 use flush_rebuild::{Change, Limits, PendingRows, PlanFault, Tables, plan_change, rebase};
 use gated_log::Log;
 use id_groups::Name;
-use std::alloc::Global;
+use std::alloc::{AllocError, Global};
 use step_rules::Refusal;
 
 /// A plan's fault, as a command is refused for it.
@@ -39,9 +40,8 @@ fn asks(log: &Log, session: &Session, unnamed: bool) -> bool
     session.payloads != log.batch_count() && unnamed
 }
 
-/// The rows of a session that the newest world doesn't have, with their parents by their ids in it. `unnamed` says whether that
-/// world has an id without a stored name.
-pub(crate) fn rebased(
+/// The rows of a session that the newest world doesn't have, each of them looked up in it.
+fn rebased_anew(
     alloc: Global,
     log: &Log,
     tables: &Tables,
@@ -61,6 +61,36 @@ pub(crate) fn rebased(
         Ok(left) => Ok(left),
         Err(fault) => Err(refusal_of(fault)),
     }
+}
+
+/// The rows once more.
+fn copied(alloc: Global, pending: &PendingRows) -> Result<PendingRows, Refusal>
+    ensures { MatchResult result (λ copy. copy ≡ pending.now) (λ refusal. refusal ≡ why.Memory) }
+{
+    match pending.copy(alloc) {
+        Ok(copy) => Ok(copy),
+        Err(AllocError) => Err(Refusal::Memory),
+    }
+}
+
+/// The rows of a session that the newest world doesn't have, with their parents by their ids in it. `unnamed` says whether that
+/// world has an id without a stored name. Those of a session that is on the newest world stay as they are.
+pub(crate) fn rebased(
+    alloc: Global,
+    log: &Log,
+    tables: &Tables,
+    session: &Session,
+    unnamed: bool,
+) -> Result<PendingRows, Refusal>
+    requires { (added : List Placed) × AreOver log.now tables.now added × IsSessionOf added session.now }
+    ensures left { (added : List Placed) → AreOver log.now tables.now added → IsSessionOf added session.now → IfOk result (λ left. MayStore left added) }
+    ensures step { (began s : ℕ) (added : List Placed) (st : Stored) (limits : _) → AreOver log.now tables.now added → IsSessionOf added session.now
+        → IsOn began added session.now st s → unnamed ≡ has_lazy st.payloads st.stored → Rebases limits st s result }
+{
+    if session.payloads == log.batch_count() {
+        return copied(alloc, &session.pending);
+    }
+    rebased_anew(alloc, log, tables, session, unnamed)
 }
 
 /// What a flush of these heads changes.

@@ -1,5 +1,5 @@
 -- What an insert makes of an index.
-use Rattle.std.proofs.Common.{◌≡◌, ◌∙◌, refl, sym, ap, subst, ℕ, zero, suc, List, [], ◌∷◌, ◌++◌, take, drop, inl, inr, ⊎_elim, append_assoc, append-nil, take-append-drop}
+use Rattle.std.proofs.Common.{◌≡◌, ◌∙◌, refl, sym, ap, subst, ℕ, zero, suc, List, [], ◌∷◌, ◌++◌, take, drop, Result, Err, inl, inr, ⊎_elim, append_assoc, append-nil, take-append-drop}
 use Rattle.std.specs.List.{AllByRecursion}
 use Rattle.std.specs.List.Sorted.{IsPermutation}
 use Rattle.std.proofs.lemmas.List.Sorted.{IsPermutation-sym, IsPermutation-map, IsPermutation-trans, IsPermutation-append, IsPermutation-refl}
@@ -115,28 +115,45 @@ merged-all at bytes run others later merged rest both (h ∷ hs) r s =
       same = IsPermutation-trans _ _ _ (IsPermutation-append h h (joined hs) behind.held (IsPermutation-refl h) behind.same) whole.same;
     }
 
+-- the runs behind some, and a new one, that are merged to one
+module _ (at : ℕ) (bytes : List ℕ) (at' : ℕ) (bytes' : List ℕ) (due run merged : List Entry) (held : List (List NamedPlace)) (named : List NamedPlace) where
+  pub merged-last : Holds due (joined held) → Holds run named → AllByRecursion (StandFrom at bytes) held → StandFrom at' bytes' named
+      → ((c d : List NamedPlace) → IsRun due c → IsRun run d → StandFrom at bytes c → StandFrom at' bytes' d → Holds merged (c ++ d)) → Holds merged (joined held ++ named)
+  merged-last old holds stand stands both =
+      let last = both old.held holds.held old.run holds.run (stands-held at bytes due (joined held) old (joined-stands at bytes held stand)) (stands-held at' bytes' run named holds stands) in
+      record {
+        held = last.held;
+        run = last.run;
+        same = IsPermutation-trans _ _ _ (IsPermutation-append (joined held) old.held named holds.held old.same holds.same) last.same;
+      }
+
 -- the index behind an insert
-module _ (bytes : List ℕ) (at : ℕ) (added : List ℕ) (runs : List (List Entry)) (kept : ℕ) (due run merged : List Entry) (all new : List NamedPlace) where
-  pub inserted : IsIndexOf runs all → Stand bytes all → StandFrom at added new → (holds : Holds run new) → AreDistinct (names_in (all ++ new))
-      → ((held : List (List NamedPlace)) → AreRuns (drop kept runs) held → AllByRecursion (StandFrom 0 bytes) held → Holds due (joined held))
-      → ((c d : List NamedPlace) → IsRun due c → IsRun run d → StandFrom 0 bytes c → StandFrom at added d → Holds merged (c ++ d))
+module _ (bytes : List ℕ) (at : ℕ) (added : List ℕ) (runs : List (List Entry)) (kept : ℕ) (run merged : List Entry) (all new : List NamedPlace) where
+  pub inserted : (is : IsIndexOf runs all) → Stand bytes all → StandFrom at added new → Holds run new → (AreDistinct (names_in (joined is.held)) → AreDistinct (names_in (joined is.held ++ new)))
+      → ((held : List (List NamedPlace)) (named : List NamedPlace) → AreRuns (drop kept runs) held → AllByRecursion (StandFrom 0 bytes) held → Holds run named → StandFrom at added named → Holds merged (joined held ++ named))
       → IsIndexOf (take kept runs ++ merged ∷ []) (all ++ new)
-  inserted is stand stands holds distinct dues both =
+  inserted is stand stands holds distinct both =
       let front = take kept is.held in
       let back = drop kept is.held in
       let held = runs-stand bytes all is.held is.same stand in
       let stand_back = all-right (StandFrom 0 bytes) front back (subst (AllByRecursion (StandFrom 0 bytes)) (sym (take-append-drop kept is.held)) held) in
-      let old = dues back (runs-drop kept runs is.held is.in_order) stand_back in
-      let old_stand = stands-held 0 bytes due (joined back) old (joined-stands 0 bytes back stand_back) in
-      let last = both old.held holds.held old.run holds.run old_stand (stands-held at added run new holds stands) in
+      let last = both back new (runs-drop kept runs is.held is.in_order) stand_back holds stands in
       let split : joined is.held ≡ joined front ++ joined back = ap joined (sym (take-append-drop kept is.held)) ∙ joined-append front back in
-      let one = IsPermutation-append all (joined is.held) new holds.held is.same holds.same in
-      let two = subst (λ l. IsPermutation (all ++ new) l) (ap (λ l. l ++ holds.held) split ∙ append_assoc (joined front) (joined back) holds.held) one in
-      let tail = IsPermutation-trans _ _ _ (IsPermutation-append (joined back) old.held holds.held holds.held old.same (IsPermutation-refl holds.held)) last.same in
-      let three = IsPermutation-trans _ _ _ two (IsPermutation-append (joined front) (joined front) (joined back ++ holds.held) last.held (IsPermutation-refl (joined front)) tail) in
+      let one = IsPermutation-append all (joined is.held) new new is.same (IsPermutation-refl new) in
+      let two = subst (λ l. IsPermutation (all ++ new) l) (ap (λ l. l ++ new) split ∙ append_assoc (joined front) (joined back) new) one in
+      let three = IsPermutation-trans _ _ _ two (IsPermutation-append (joined front) (joined front) (joined back ++ new) last.held (IsPermutation-refl (joined front)) last.same) in
+      let once = distinct (distinct-moved _ _ (IsPermutation-map (λ n. n.name) all (joined is.held) is.same) is.distinct) in
       record {
         held = front ++ last.held ∷ [];
         in_order = runs-push (take kept runs) front merged last.held (runs-take kept runs is.held is.in_order) last.run;
         same = subst (λ l. IsPermutation (all ++ new) l) (sym (joined-append front (last.held ∷ []) ∙ ap (λ l. joined front ++ l) (append-nil last.held))) three;
-        distinct = distinct;
+        distinct = distinct-moved _ _ (IsPermutation-sym _ _ (IsPermutation-map (λ n. n.name) (all ++ new) (joined is.held ++ new) one)) once;
       }
+
+-- names of an index and new ones that aren't distinct
+pub double-all : (all new : List NamedPlace) (held : List NamedPlace) → IsPermutation all held → (AreDistinct (names_in (held ++ new)) → ⊥) → AreDistinct (names_in (all ++ new)) → ⊥
+double-all all new held same double distinct =
+    double (distinct-moved _ _ (IsPermutation-map (λ n. n.name) (all ++ new) (held ++ new) (IsPermutation-append all held new new same (IsPermutation-refl new))) distinct)
+
+pub same-fault : {T E : Type 0} (r : Result T E) (x y z : E) → r ≡ Err x → x ≡ y → r ≡ Err z → y ≡ z
+same-fault r x y z is same goal = let e : x ≡ z = cc (sym is ∙ goal) in sym same ∙ e

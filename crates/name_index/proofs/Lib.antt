@@ -4,3 +4,4 @@ mod Reading
 mod Indexes
 mod Merging
 mod Inserting
+mod Searching

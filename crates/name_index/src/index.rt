@@ -1,6 +1,6 @@
 //! The index: its runs, look-ups and inserts.
 
-ghost use Rattle.std.specs.Prelude.{◌≡◌, ◌≤◌, ◌↔◌, ◌++◌, List, [], ◌∷◌, length, take, drop, map, IfOk, OnOk, OnErr, Err, IsTrue};
+ghost use Rattle.std.specs.Prelude.{◌≡◌, ◌≤◌, ◌↔◌, ◌++◌, List, [], ◌∷◌, length, take, drop, map, IfOk, OnOk, OnErr, Err, IsTrue, true, false};
 ghost use Rattle.std.specs.List.{AllByRecursion};
 ghost use Rattle.id_groups.specs.Lists.{AreDistinct};
 ghost use Rattle.name_index.specs.Index.{IsIndexOf, Finds};
@@ -119,19 +119,54 @@ fn merge_all(alloc: Global, stretch: &Stretch<'_>, runs: &[Run]) -> Result<Run, 
     }
 }
 
-/// The runs behind the first `kept` ones as one.
+/// The runs behind the first `kept` ones and the new run as one.
 fn merge_last(
     alloc: Global,
-    stretch: &Stretch<'_>,
+    old: &Stretch<'_>,
     runs: &[Run],
     kept: usize,
+    new: &Stretch<'_>,
+    run: Run,
 ) -> Result<Run, AllocError>
     requires { kept ≤ length runs.now }
-    ensures { IfOk result (λ run. (held : List (List NamedPlace)) → AreRuns (drop kept runs.now) held → AllByRecursion (StandFrom stretch.now.at stretch.now.bytes.now) held → Holds run (joined held)) }
+    ensures { IfOk result (λ merged. (held : List (List NamedPlace)) (named : List NamedPlace) → AreRuns (drop kept runs.now) held → AllByRecursion (StandFrom old.now.at old.now.bytes.now) held → Holds run named → StandFrom new.now.at new.now.bytes.now named → Holds merged (joined held ++ named)) }
 {
     let (_front, last) = runs.split_at(kept);
-    let merged = merge_all(alloc, stretch, last)?;
+    if last.is_empty() {
+        return Ok(run);
+    }
+    let due = merge_all(alloc, old, last)?;
+    let merged = Run::merge(alloc, old, &due, new, &run)?;
     Ok(merged)
+}
+
+/// Whether a name of the run stands twice in it, or is held.
+fn are_double(runs: &[Run], old: &Stretch<'_>, run: &Run, new: &Stretch<'_>) -> bool
+    ensures double { result ≡ true → (held : List (List NamedPlace)) (named : List NamedPlace) → AreRuns runs.now held → AllByRecursion (StandFrom old.now.at old.now.bytes.now) held → Holds run.now named → StandFrom new.now.at new.now.bytes.now named → ¬ AreDistinct (names_in (joined held ++ named)) }
+    ensures once { result ≡ false → (held : List (List NamedPlace)) (named : List NamedPlace) → AreRuns runs.now held → AllByRecursion (StandFrom old.now.at old.now.bytes.now) held → Holds run.now named → StandFrom new.now.at new.now.bytes.now named → AreDistinct (names_in (joined held)) → AreDistinct (names_in (joined held ++ named)) }
+{
+    if run.has_double(new) {
+        return true;
+    }
+    has_held(runs, old, run.entries(), new)
+}
+
+/// The names at these places as a run, where none of them stands twice or is held.
+fn run_of_new(
+    alloc: Global,
+    runs: &[Run],
+    old: &Stretch<'_>,
+    new: &Stretch<'_>,
+    places: &[u64],
+) -> Result<Run, IndexFault>
+    ensures ok { IfOk result (λ run. (held : List (List NamedPlace)) (named : List NamedPlace) → AreRuns runs.now held → AllByRecursion (StandFrom old.now.at old.now.bytes.now) held → StandFrom new.now.at new.now.bytes.now named → places_in named ≡ places.now → Holds run named × (AreDistinct (names_in (joined held)) → AreDistinct (names_in (joined held ++ named)))) }
+    ensures double { (held : List (List NamedPlace)) (named : List NamedPlace) → AreRuns runs.now held → AllByRecursion (StandFrom old.now.at old.now.bytes.now) held → StandFrom new.now.at new.now.bytes.now named → places_in named ≡ places.now → result ≡ Err Fault.Double → ¬ AreDistinct (names_in (joined held ++ named)) }
+{
+    let run = Run::of_places(alloc, new, places)?;
+    if are_double(runs, old, &run, new) {
+        return Err(IndexFault::Double);
+    }
+    Ok(run)
 }
 
 impl NameIndex {
@@ -223,16 +258,9 @@ impl NameIndex {
     {
         let old = Stretch { bytes, at: 0 };
         let new = Stretch { bytes: added, at };
-        let run = Run::of_places(self.alloc, &new, &places)?;
-        if run.has_double(&new) {
-            return Err(IndexFault::Double);
-        }
-        if has_held(&self.runs, &old, run.entries(), &new) {
-            return Err(IndexFault::Double);
-        }
+        let run = run_of_new(self.alloc, &self.runs, &old, &new, &places)?;
         let kept = count_kept(&self.runs, run.len());
-        let due = merge_last(self.alloc, &old, &self.runs, kept)?;
-        let merged = Run::merge(self.alloc, &old, &due, &new, &run)?;
+        let merged = merge_last(self.alloc, &old, &self.runs, kept, &new, run)?;
         self.replace(kept, merged)?;
         Ok(())
     }

@@ -8,7 +8,9 @@
 mod entry;
 mod index;
 mod laws;
+mod merge;
 mod run;
+mod search;
 
 pub use index::{IndexFault, NameIndex};
 pub use laws::{any_order, keys_spelled_out, names_are_distinct};
