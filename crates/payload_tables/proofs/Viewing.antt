@@ -1,5 +1,5 @@
 -- Flat segments are made again of the parents that they list; and where the levels of segments that are cut end.
-use Rattle.std.proofs.Common.{◌≡◌, ◌≢◌, ◌<◌, ◌≤◌, ℕ, zero, suc, ◌+◌, ◌-◌, Bool, true, false, cond, ◌&&◌, List, [], ◌∷◌, ◌++◌, length, take, min, Option, Some, None, refl, sym, ap, ap₂, subst, ◌∙◌, if◌then◌else◌, nat_lt, nat_le, arith, le_refl, zero-le}
+use Rattle.std.proofs.Common.{◌≡◌, ◌≢◌, ◌<◌, ◌≤◌, ℕ, zero, suc, ◌+◌, ◌-◌, Bool, true, false, cond, ◌&&◌, List, [], ◌∷◌, ◌++◌, length, take, min, Some, None, refl, sym, ap, ap₂, subst, ◌∙◌, if◌then◌else◌, nat_lt, arith, le_refl}
 use Rattle.std.specs.List.{AllByRecursion}
 use Rattle.std.proofs.lemmas.Bool.{ltb-true, ltb-false, lt-ltb, le-ltb, le-leb, false_from_ne_true}
 use Rattle.id_groups.specs.Lists.{IsIn}
