@@ -20,6 +20,7 @@ pub mod QueryNames
 pub mod QueryGraph
 pub mod QueryWorld
 pub mod QueryAnswers
+pub mod Bounding
 pub mod QueryLazy
 pub mod QuerySteps
 pub mod AddingSeek

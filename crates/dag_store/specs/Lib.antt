@@ -4,6 +4,7 @@ pub mod Looking
 pub mod Adding
 pub mod Names
 pub mod Querying
+pub mod Bounds
 pub mod Steps
 pub mod Loading
 pub mod Flushes

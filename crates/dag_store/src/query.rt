@@ -1,6 +1,6 @@
 //! The answers of expressions in a session's view.
 
-ghost use Rattle.std.specs.Prelude.{◌≡◌, ◌<◌, ℕ, List, None, Some, length, map, not, MatchResult};
+ghost use Rattle.std.specs.Prelude.{◌≡◌, ◌<◌, ◌≤◌, ℕ, List, None, Some, length, map, not, IfOk, MatchResult};
 ghost use Rattle.std.specs.List.{list_all, list_any};
 ghost use Rattle.id_groups.specs.Lists.{AreAllIn};
 ghost use Rattle.id_groups.specs.Name.{Name as NameBytes, same_name};
@@ -14,12 +14,13 @@ ghost use Rattle.change_rules.specs.Lazy.{has_lazy};
 ghost use Rattle.payload_tables.specs.Kept.{AreTablesOf};
 ghost use Rattle.payload_tables.specs.Bases.{IsBaseOf};
 ghost use Rattle.payload_tables.specs.Pending.{IdRow, HoldsRows};
-ghost use Rattle.step_rules.specs.State.{Stored};
+ghost use Rattle.step_rules.specs.State.{Stored, base_of, pending_of, view_of};
 ghost use Rattle.step_rules.specs.Tests.{first_some};
 ghost use Rattle.dag_store.specs.Kept.{IsSessionOf, base_added};
 ghost use Rattle.dag_store.specs.Stands.{Stands};
 ghost use Rattle.dag_store.specs.Looking.{Sees};
 ghost use Rattle.dag_store.specs.Adding.{IsSeen, IsWhy};
+ghost use Rattle.dag_store.specs.Bounds.{EndsWithoutParents, ancestors_of, most_looks};
 ghost use Rattle.dag_store.specs.Names.{names_left, stored_at};
 ghost use Rattle.dag_store.specs.Querying.{Evaluates, answer_refusals, is_lazy_name, is_named_id, name_refusals};
 ghost use Rattle.dag_store.specs.Steps.{AreIdsOf, CountStep, QueryStep};
@@ -86,9 +87,15 @@ fn members(
     expr: &Expr,
 ) -> Result<Answer, Refusal>
     requires { (added : List Placed) × AreTablesOf tables.now added × AllStand bytes.now added × IsSessionOf added session.now }
-    ensures { (added : List Placed) (w : World NameBytes) (rows : List (Row NameBytes)) → AreTablesOf tables.now added → AllStand bytes.now added
+    ensures answer { (added : List Placed) (w : World NameBytes) (rows : List (Row NameBytes)) → AreTablesOf tables.now added → AllStand bytes.now added
         → IsSessionOf added session.now → IsSeen added session.now w rows
         → Evaluates (payloads_of (base_added added session.now)) w rows (tree_of expr.now) result }
+    ensures few { (added : List Placed) (w : World NameBytes) (rows : List (Row NameBytes)) (name : NameBytes) → AreTablesOf tables.now added → AllStand bytes.now added
+        → IsSessionOf added session.now → IsSeen added session.now w rows → tree_of expr.now ≡ ancestors_of name
+        → IfOk result (λ answer. answer.steps ≤ most_looks w rows answer.set) }
+    ensures one { (added : List Placed) (w : World NameBytes) (rows : List (Row NameBytes)) (name : NameBytes) → AreTablesOf tables.now added → AllStand bytes.now added
+        → IsSessionOf added session.now → IsSeen added session.now w rows → tree_of expr.now ≡ ancestors_of name
+        → EndsWithoutParents w (id_in same_name (with_pending w rows) name) → IfOk result (λ answer. answer.steps ≤ 8) }
 {
     let base = session.base(bytes, tables);
     let unnamed = has_unnamed(tables, session.below);
@@ -166,9 +173,17 @@ impl Store {
     /// `NoRemote` for the first name of the expression that would have to be asked of a mirror, or `Unknown` for one that the
     /// session doesn't see; `Answer` where there are more members than an answer may have; and `NoRemote` where the name of one
     /// isn't stored.
+    ///
+    /// For `ancestors` of one name the answer takes at most eight look-ups more than eight for each flat segment of the session's
+    /// base and each pending row that it has, and at most eight where a segment of master without parents, of any level, ends at
+    /// the name's id.
     pub fn query(&self, s: u8, expr: &Expr) -> Result<Found, Refusal>
         requires { s < 16 }
-        ensures { (began : ℕ) (st : Stored) → Stands began self.now st → QueryStep self.now st s (tree_of expr.now) result }
+        ensures step { (began : ℕ) (st : Stored) → Stands began self.now st → QueryStep self.now st s (tree_of expr.now) result }
+        ensures few { (began : ℕ) (st : Stored) (name : NameBytes) → Stands began self.now st → tree_of expr.now ≡ ancestors_of name
+            → IfOk result (λ found. found.answer.steps ≤ most_looks (base_of st s) (pending_of st s) found.answer.set) }
+        ensures one { (began : ℕ) (st : Stored) (name : NameBytes) → Stands began self.now st → tree_of expr.now ≡ ancestors_of name
+            → EndsWithoutParents (base_of st s) (id_in same_name (view_of st s) name) → IfOk result (λ found. found.answer.steps ≤ 8) }
     {
         let session = &self.sessions[usize::from(s)];
         let bytes = self.log.bytes();
@@ -177,10 +192,14 @@ impl Store {
         Ok(Found { answer })
     }
 
-    /// How many members an expression has in a session's view. `NoRemote` and `Unknown` as for a query.
+    /// How many members an expression has in a session's view. `NoRemote` and `Unknown` as for a query, and as few look-ups.
     pub fn count(&self, s: u8, expr: &Expr) -> Result<Answer, Refusal>
         requires { s < 16 }
-        ensures { (began : ℕ) (st : Stored) → Stands began self.now st → CountStep self.now st s (tree_of expr.now) result }
+        ensures step { (began : ℕ) (st : Stored) → Stands began self.now st → CountStep self.now st s (tree_of expr.now) result }
+        ensures few { (began : ℕ) (st : Stored) (name : NameBytes) → Stands began self.now st → tree_of expr.now ≡ ancestors_of name
+            → IfOk result (λ answer. answer.steps ≤ most_looks (base_of st s) (pending_of st s) answer.set) }
+        ensures one { (began : ℕ) (st : Stored) (name : NameBytes) → Stands began self.now st → tree_of expr.now ≡ ancestors_of name
+            → EndsWithoutParents (base_of st s) (id_in same_name (view_of st s) name) → IfOk result (λ answer. answer.steps ≤ 8) }
     {
         let session = &self.sessions[usize::from(s)];
         members(self.alloc, self.log.bytes(), &self.tables, session, expr)

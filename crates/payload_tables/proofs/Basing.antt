@@ -1,14 +1,15 @@
 -- What holds of a base: where its records stand, and that pending rows may be joined to it.
-use Rattle.std.proofs.Common.{◌≡◌, ◌<◌, ◌≤◌, ℕ, ◌+◌, ◌*◌, ◌^◌, ◌⊎◌, inl, inr, List, [], ◌∷◌, ◌++◌, map, length, take, drop, flat_map, slice_get, Option, Some, None, refl, sym, ap, ap₂, ◌∙◌, subst, ⊎_elim, arith, append-nil, append_assoc, lit≤, zero-le}
-use Rattle.std.specs.List.{AllByRecursion, last_or}
+use Rattle.std.proofs.Common.{◌≡◌, ◌<◌, ◌≤◌, ℕ, suc, ◌+◌, ◌*◌, ◌^◌, ◌⊎◌, inl, inr, List, [], ◌∷◌, ◌++◌, map, length, take, drop, flat_map, slice_get, Option, Some, None, refl, sym, ap, ap₂, ◌∙◌, subst, ⊎_elim, arith, append-nil, append_assoc, lit≤, zero-le}
+use Rattle.std.specs.List.{AllByRecursion, last_or, range_with_len}
 use Rattle.std.proofs.lemmas.List.{map-append, length-map}
+use Rattle.id_groups.specs.Lists.{IsIn}
 use Rattle.id_groups.specs.Name.{Name, IsName, same_name}
 use Rattle.id_groups.specs.Id.{other_id}
 use Rattle.segment_codec.specs.Record.{Segment, segment_bytes}
 use Rattle.segment_codec.specs.Table.{Follow, parents_at}
 use Rattle.segment_codec.specs.Flat.{IsFlat}
 use Rattle.commit_graph.specs.World.{Row, World, IsWorld, IsHistory, names_of, rows_of, with_pending}
-use Rattle.commit_graph.specs.Ids.{id_in}
+use Rattle.commit_graph.specs.Ids.{id_in, parent_ids}
 use Rattle.commit_graph.proofs.Histories.{history-front, in-all}
 use Rattle.std.proofs.lemmas.Grind.{flat_map-append}
 use Rattle.flat_segments.specs.Maximal.{maximal, cut}
@@ -22,13 +23,21 @@ use Rattle.flat_segments.specs.Joined.{MayJoin}
 use Rattle.flat_segments.specs.declared.view.FlatView.{FlatView}
 use Rattle.flat_segments.specs.Views.{master_count}
 use Rattle.flat_segments.proofs.Callers.{placed-stand, follow-few, few-flats}
+use Rattle.segment_rules.specs.Flat.{flat_segments_of, parents_listed}
+use Rattle.segment_rules.specs.Levels.{level_segments}
+use Rattle.segment_levels.specs.Flats.{flats_of}
+use Rattle.segment_levels.specs.Endings.{level_ending}
+use Rattle.segment_levels.proofs.ByGraph.{cut-of}
+use Rattle.high_segments.proofs.Batch.{table-whole}
 use Rattle.name_map.specs.Added.{Placed, StandsAt, AllStand, payloads_of, Follow as Following}
 use Rattle.change_rules.specs.Tables.{StandFor, newest, others_in, other_names_in}
 use Rattle.payload_tables.specs.Kept.{PlainTables, PlainOthers, AreTablesOf, AreOthersIn, master_records, other_records}
 use Rattle.payload_tables.specs.Pending.{IdRow, PlainPending, HoldsRows, segments_from}
-use Rattle.payload_tables.specs.Bases.{MayBase, id_row, AreSegmentsOf}
+use Rattle.payload_tables.specs.Bases.{MayBase, id_row, AreSegmentsOf, flat_segments_in}
 use Rattle.payload_tables.proofs.Lists.{all-append, names-length, parents-known, get-below}
-use Rattle.payload_tables.proofs.Joined.{follow-join, follow-once, rows-follow, front-parents, row-parents, view-segments}
+use Rattle.payload_tables.proofs.Joined.{follow-join, follow-once, rows-follow, front-parents, row-parents, listed-parents, view-segments}
+use Rattle.payload_tables.proofs.Leveling.{listed, listed-long}
+use Rattle.payload_tables.proofs.Viewing.{made-again, level-ends}
 use Rattle.payload_tables.proofs.Standing.{masters-segments, placed-segments, lawful-follow, others-stand, names-stand, names-within}
 
 -- the other ids of a base
@@ -45,6 +54,7 @@ pub record OthersFacts (bytes : List ℕ) (others : PlainOthers) (below : ℕ) (
   pub room : others.names + 20 * others.count ≤ length bytes
   pub names : take (20 * others.count) (drop others.names bytes) ≡ names_bytes (other_names_in last)
   pub whole : AllByRecursion IsName (other_names_in last)
+  pub again : flat_segments_of (2 ^ 56) (parents_listed (others_in last)) ≡ others_in last
 
 all-weaker : {X : Type 0} (P Q : X → Type 0) → ((x : X) → P x → Q x) → (xs : List X) → AllByRecursion P xs → AllByRecursion Q xs
 all-weaker P Q f [] h = tt
@@ -67,10 +77,11 @@ facts-of bytes others a h stand are =
       room = (let w = names-within bytes a h stand in let x = are.names in let y = are.count in omega (arith, w, x, y));
       names = ap₂ (λ n m. take (20 * n) (drop m bytes)) are.count are.names ∙ names-stand bytes a h stand;
       whole = h.other_names;
+      again = made-again (2 ^ 56) (2 ^ 56 + length a.payload.other_names) a.payload.others h.cover.others (all-weaker _ _ (λ s k. k.1) a.payload.others h.cover.flat_others) h.maximal.others;
     }
 
 no-facts : (bytes : List ℕ) (others : PlainOthers) → AreOthersIn others None → OthersFacts bytes others 0 None
-no-facts bytes others are = record { records = []; section = are.section; stand = tt; segments = refl; ids = refl; parents = tt; few = zero-le; small = zero-le; count = are.count; room = (let x = are.names in let y = are.count in omega (arith, x, y)); names = ap (λ n. take (20 * n) (drop others.names bytes)) are.count; whole = tt }
+no-facts bytes others are = record { records = []; section = are.section; stand = tt; segments = refl; ids = refl; parents = tt; few = zero-le; small = zero-le; count = are.count; room = (let x = are.names in let y = are.count in omega (arith, x, y)); names = ap (λ n. take (20 * n) (drop others.names bytes)) are.count; whole = tt; again = refl }
 
 abbrev payload_of : Option Placed → Option Payload
 payload_of None = None
@@ -152,13 +163,7 @@ may-join view bytes others below last facts pending rows records held first pare
     }
 
 module _ (bytes : List ℕ) (tables : PlainTables) (others : PlainOthers) (below : ℕ) (added : List Placed) (b : MayBase bytes tables others below added)
-    (w : World Name) (rows : List (Row Name)) (stand : StandFor (payloads_of added) w) (whole : IsWorld (with_pending w rows)) where
-  all : List Placed
-  all = added ++ b.behind
-
-  segments : List Segment
-  segments = segments_of (master_records (added ++ b.behind))
-
+    (w : World Name) (stand : StandFor (payloads_of added) w) where
   abbrev pub masters : List Segment
   masters = cut below (maximal tables.flat.end (segments_of (master_records (added ++ b.behind))))
 
@@ -198,17 +203,46 @@ module _ (bytes : List ℕ) (tables : PlainTables) (others : PlainOthers) (below
       ∙ ap (parents_at (flat_map (λ p. p.master) (payloads_of added))) (let z : k ≡ 0 + k = omega arith in z)
       ∙ row-parents w w.master 0 (length w.master) (flat_map (λ p. p.master) (payloads_of added)) first-follow (omega arith) stand.master k r e
 
-  world : IsWorld w
-  world = history-front [] (w.master ++ w.others) rows (subst (IsHistory []) (sym (append_assoc w.master w.others rows)) whole)
-
   other-names : length (other_names_in (newest (payloads_of added))) ≡ length w.others
   other-names = ap (length {A = Name}) stand.names ∙ names-length w.others
 
-  pub base-view : AreSegmentsOf (with_pending w rows) (masters ++ (others_in (newest (payloads_of added)) ++ segments_from (other_id (length w.others)) (map (id_row (with_pending w rows)) rows)))
-  base-view = view-segments w rows whole masters (others_in (newest (payloads_of added)))
-      (subst (λ n. Follow 0 n masters) count (cut-ids below 0 tables.flat.end (maximal tables.flat.end (segments_of (master_records (added ++ b.behind)))) maximal-follow (omega arith) end-over))
-      master-parents
-      (subst (λ n. Follow (2 ^ 56) (other_id n) (others_in (newest (payloads_of added)))) other-names (subst (Follow (2 ^ 56) (other_id (length (other_names_in (newest (payloads_of added)))))) facts.segments facts.ids))
-      stand.others
-      (λ r i p j. in-all p r.parents (names_of (rows_of w)) j (parents-known [] (rows_of w) world r i))
-      (let s = facts.small in let c = count in let k : 16777216 ≤ 2 ^ 56 = lit≤ tt in omega (arith, s, c, k))
+  -- the segments kept of the master ids are the flat segments of the world's
+  pub masters-are : masters ≡ flat_segments_of 0 (parent_ids same_name w w.master)
+  masters-are =
+      let parents : map (parents_at (segments_of (master_records (added ++ b.behind)))) (range_with_len 0 below) ≡ parent_ids same_name w w.master =
+      sym (listed (parents_at (segments_of (master_records (added ++ b.behind)))) 0 below (parents_listed (flat_map (λ p. p.master) (payloads_of added)))
+      (let l = listed-long 0 (length w.master) (flat_map (λ p. p.master) (payloads_of added)) first-follow in let c = count in omega (arith, l, c))
+      (λ k lt. let c = count in
+      listed-parents 0 (length w.master) (flat_map (λ p. p.master) (payloads_of added)) k first-follow (omega (arith, lt, c))
+      ∙ ap Some (sym (ap (λ l. parents_at l (0 + k)) first-parts
+      ∙ front-parents 0 (length w.master) (flat_map (λ p. p.master) (payloads_of added)) (flat_map (λ p. p.master) (payloads_of b.behind)) (0 + k) first-follow (omega arith) (omega (arith, lt, c))))))
+      ∙ stand.master in
+      cut-of below tables.flat.end (segments_of (master_records (added ++ b.behind))) flats flat.in_turn end-over ∙ ap (flat_segments_of 0) parents
+
+  -- those kept of the others are the world's too
+  pub others-are : others_in (newest (payloads_of added)) ≡ flat_segments_of (2 ^ 56) (parent_ids same_name w w.others)
+  others-are = sym facts.again ∙ ap (flat_segments_of (2 ^ 56)) stand.others
+
+  -- each segment of a level of the world ends in the levels of the whole table
+  pub base-levels : (level : ℕ) (s : Segment) → suc level ≤ 7 → IsIn s (level_segments (flat_segments_of 0 (parent_ids same_name w w.master)) (suc level))
+      → level_ending (flats_of tables.flat (master_records (added ++ b.behind))) below (suc level) s.high ≡ Some s
+  base-levels level s known i =
+      level-ends (flats_of tables.flat (master_records (added ++ b.behind))) tables.flat.end below (table-whole tables.flat (master_records (added ++ b.behind)) flat)
+      (cut-ids below 0 tables.flat.end (maximal tables.flat.end (segments_of (master_records (added ++ b.behind)))) maximal-follow (omega arith) end-over) level s known
+      (subst (λ l. IsIn s (level_segments l (suc level))) (sym masters-are) i)
+
+  module _ (rows : List (Row Name)) (whole : IsWorld (with_pending w rows)) where
+    world : IsWorld w
+    world = history-front [] (w.master ++ w.others) rows (subst (IsHistory []) (sym (append_assoc w.master w.others rows)) whole)
+
+    pub base-view : AreSegmentsOf (with_pending w rows) (flat_segments_in w ++ segments_from (other_id (length w.others)) (map (id_row (with_pending w rows)) rows))
+    base-view = subst (AreSegmentsOf (with_pending w rows))
+        (ap₂ (λ x y. x ++ (y ++ segments_from (other_id (length w.others)) (map (id_row (with_pending w rows)) rows))) masters-are others-are
+        ∙ sym (append_assoc (flat_segments_of 0 (parent_ids same_name w w.master)) (flat_segments_of (2 ^ 56) (parent_ids same_name w w.others)) (segments_from (other_id (length w.others)) (map (id_row (with_pending w rows)) rows))))
+        (view-segments w rows whole masters (others_in (newest (payloads_of added)))
+        (subst (λ n. Follow 0 n masters) count (cut-ids below 0 tables.flat.end (maximal tables.flat.end (segments_of (master_records (added ++ b.behind)))) maximal-follow (omega arith) end-over))
+        master-parents
+        (subst (λ n. Follow (2 ^ 56) (other_id n) (others_in (newest (payloads_of added)))) other-names (subst (Follow (2 ^ 56) (other_id (length (other_names_in (newest (payloads_of added)))))) facts.segments facts.ids))
+        stand.others
+        (λ r i p j. in-all p r.parents (names_of (rows_of w)) j (parents-known [] (rows_of w) world r i))
+        (let s = facts.small in let c = count in let k : 16777216 ≤ 2 ^ 56 = lit≤ tt in omega (arith, s, c, k)))

@@ -62,7 +62,7 @@ extended-are old new before at segments is next =
 
 -- ---- of a world
 
-listed : {X : Type 0} (f : ℕ → X) (first n : ℕ) (xs : List X) → length xs ≡ n → ((k : ℕ) → k < n → slice_get xs k ≡ Some (f (first + k))) → xs ≡ map f (range_with_len first n)
+pub listed : {X : Type 0} (f : ℕ → X) (first n : ℕ) (xs : List X) → length xs ≡ n → ((k : ℕ) → k < n → slice_get xs k ≡ Some (f (first + k))) → xs ≡ map f (range_with_len first n)
 listed f first zero [] e h = refl
 listed f first zero (x ∷ xs) e h = absurd (omega (arith, e))
 listed f first (suc n) [] e h = absurd (omega (arith, e))
@@ -77,7 +77,7 @@ listed {X} f first (suc n) (x ∷ xs) e h =
     some-same : (a b : X) → ◌≡◌ {A = Option X} (Some a) (Some b) → a ≡ b
     some-same a b e = ap (some_or a) e
 
-listed-long : (first end : ℕ) (xs : List Segment) → Follow first end xs → length (parents_listed xs) + first ≡ end
+pub listed-long : (first end : ℕ) (xs : List Segment) → Follow first end xs → length (parents_listed xs) + first ≡ end
 listed-long first end [] h = omega (arith, h)
 listed-long first end (s ∷ more) h =
     let r = listed-long (s.high + 1) end more h.2 in

@@ -2,6 +2,7 @@ pub mod Lists
 pub mod Naming
 pub mod Joined
 pub mod Standing
+pub mod Viewing
 pub mod Basing
 pub mod Sectioning
 pub mod Rows

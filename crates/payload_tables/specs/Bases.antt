@@ -4,9 +4,10 @@ use Rattle.std.specs.List.{AllByRecursion}
 use Rattle.id_groups.specs.Name.{Name, same_name}
 use Rattle.id_groups.specs.Id.{other_id}
 use Rattle.commit_graph.specs.World.{Row, World, IsWorld, with_pending}
-use Rattle.commit_graph.specs.Ids.{id_in, row_at}
+use Rattle.commit_graph.specs.Ids.{id_in, row_at, parent_ids}
 use Rattle.segment_codec.specs.Record.{Segment}
 use Rattle.segment_codec.specs.Table.{parents_at, Follow}
+use Rattle.segment_rules.specs.Flat.{flat_segments_of}
 use Rattle.batch_codec.specs.Payload.{Known}
 use Rattle.batch_codec.specs.Grammar.{count_after}
 use Rattle.name_map.specs.Added.{Placed, payloads_of, known_of, AllStand}
@@ -51,6 +52,10 @@ pub record AreSegmentsOf (w : World Name) (flats : List Segment) : Type 0 where
   pub master_ids : Follow 0 (length w.master) masters
   pub other_ids : Follow (2 ^ 56) (other_id (length w.others)) others
   pub parents : (id : ℕ) (row : Row Name) → row_at w id ≡ Some row → parents_at flats id ≡ map (id_in same_name w) row.parents
+
+-- the flat segments of a world: those of its master ids, and those of the others
+abbrev pub flat_segments_in : World Name → List Segment
+flat_segments_in w = flat_segments_of 0 (parent_ids same_name w w.master) ++ flat_segments_of (2 ^ 56) (parent_ids same_name w w.others)
 
 -- the pending rows may stand behind the base: they begin where its other ids end, and their master parents are among its own
 pub record MayView (b : BaseRef) (added : List Placed) (pending : PlainPending) : Type 0 where

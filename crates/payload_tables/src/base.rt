@@ -1,13 +1,18 @@
 //! A base, lent with the log's bytes.
 
-ghost use Rattle.std.specs.Prelude.{◌≡◌, ◌<◌, ◌++◌, ◌^◌, List, ◌∷◌, []};
+ghost use Rattle.std.specs.Prelude.{◌≡◌, ◌<◌, ◌++◌, ◌^◌, ℕ, suc, List, ◌∷◌, [], length, map};
+ghost use Rattle.id_groups.specs.Id.{other_id};
 ghost use Rattle.id_groups.specs.Name.{Name};
 ghost use Rattle.commit_graph.specs.World.{Row, World, with_pending};
-ghost use Rattle.high_segments.specs.Views.{flats_in};
+ghost use Rattle.segment_levels.specs.Endings.{level_ending};
+ghost use Rattle.segment_levels.specs.Flats.{flats_of};
+ghost use Rattle.high_segments.specs.Views.{flats_in, ending_of};
 ghost use Rattle.name_map.specs.Map.{IsIdOf, NamesAs};
-ghost use Rattle.name_map.specs.Added.{Placed, payloads_of};
+ghost use Rattle.name_map.specs.Added.{Placed, payloads_of, AllStand};
 ghost use Rattle.change_rules.specs.Tables.{StandFor};
-ghost use Rattle.payload_tables.specs.Bases.{MayBase, IsBaseOf, MayView, ArePending, AreSegmentsOf, stored_in};
+ghost use Rattle.payload_tables.specs.Kept.{AreTablesOf, master_records};
+ghost use Rattle.payload_tables.specs.Pending.{segments_from};
+ghost use Rattle.payload_tables.specs.Bases.{MayBase, IsBaseOf, MayView, ArePending, AreSegmentsOf, flat_segments_in, id_row, stored_in};
 
 use crate::others::OthersTable;
 use crate::pending::PendingRows;
@@ -46,8 +51,12 @@ impl<'a> BaseRef<'a> {
     /// The segments of the base with the levels of its master ids, and behind them those of the pending rows.
     pub fn view(&self, pending: &'a PendingRows) -> View<'a>
         requires { (added : List Placed) × IsBaseOf self.now added × MayView self.now added pending.now }
-        ensures { (added : List Placed) (w : World Name) (rows : List (Row Name)) → IsBaseOf self.now added → StandFor (payloads_of added) w → ArePending w pending.now rows
+        ensures graph { (added : List Placed) (w : World Name) (rows : List (Row Name)) → IsBaseOf self.now added → StandFor (payloads_of added) w → ArePending w pending.now rows
             → AreSegmentsOf (with_pending w rows) (flats_in result) }
+        ensures flats { (added : List Placed) (w : World Name) (rows : List (Row Name)) → IsBaseOf self.now added → StandFor (payloads_of added) w → ArePending w pending.now rows
+            → flats_in result ≡ flat_segments_in w ++ segments_from (other_id (length w.others)) (map (id_row (with_pending w rows)) rows) }
+        ensures endings { (added all : List Placed) → IsBaseOf self.now added → AreTablesOf self.now.tables.now all → AllStand self.now.bytes.now all → (level id : ℕ)
+            → ending_of result (suc level) id ≡ level_ending (flats_of self.now.tables.now.flat (master_records all)) self.now.below (suc level) id }
     {
         let tables = self.tables;
         let others = self.others;

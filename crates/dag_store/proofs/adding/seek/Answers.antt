@@ -28,7 +28,7 @@ returns-then-not-has_parents c = λ added w rows s u.
     let ids = c.in_ok-ids.ensures added w rows s u in
     let same = c.has_parents.ensures
     ∙ same-parents c.args.base.now c.args.pending.now added w rows s c.args.name.now c.args.parents.now c.in-Some.id c.deref.result.now (flats_in c.view.result)
-    (c.view.ensures added w rows s.base_of s.stand s.pending_rows) f ids.0 (c.deref.ensures.value ∙ ids.1) in
+    (c.view.ensures.graph added w rows s.base_of s.stand s.pending_rows) f ids.0 (c.deref.ensures.value ∙ ids.1) in
     differs-refused (payloads_of added) w rows c.args.parents.now c.args.name.now c.in-Some.id f ids.0 (sym same ∙ c.if-not-has_parents.true)
 
 pub returns : goal.returns
@@ -37,5 +37,5 @@ returns c = λ added w rows s u.
     let ids = c.in_ok-ids.ensures added w rows s u in
     let same = c.has_parents.ensures
     ∙ same-parents c.args.base.now c.args.pending.now added w rows s c.args.name.now c.args.parents.now c.in-Some.id c.deref.result.now (flats_in c.view.result)
-    (c.view.ensures added w rows s.base_of s.stand s.pending_rows) f ids.0 (c.deref.ensures.value ∙ ids.1) in
+    (c.view.ensures.graph added w rows s.base_of s.stand s.pending_rows) f ids.0 (c.deref.ensures.value ∙ ids.1) in
     (old-passes (payloads_of added) w rows c.args.parents.now c.args.name.now c.in-Some.id f ids.0 (sym same ∙ c.if-not-has_parents.false), f.1, f.2)

@@ -1,4 +1,5 @@
-use Rattle.std.proofs.Common.{sym, ap, subst, ◌∙◌}
+use Rattle.std.proofs.Common.{sym, ap, subst, ◌∙◌, ◌++◌, length, map}
+use Rattle.id_groups.specs.Id.{other_id}
 use Rattle.id_groups.specs.Name.{same_name}
 use Rattle.commit_graph.specs.Ids.{id_in}
 use Rattle.commit_graph.specs.World.{with_pending}
@@ -7,15 +8,17 @@ use Rattle.set_expr.specs.Whole.{tree_of}
 use Rattle.span_set.specs.Members.{IsCanonical}
 use Rattle.high_segments.specs.Views.{flats_in, lawful_flats}
 use Rattle.name_map.specs.Added.{payloads_of}
-use Rattle.payload_tables.specs.Bases.{ArePending, MayView}
+use Rattle.payload_tables.specs.Bases.{ArePending, MayView, id_row}
+use Rattle.payload_tables.specs.Pending.{segments_from}
 use Rattle.dag_store.specs.Kept.{PlainSession, base_added}
 use Rattle.dag_store.specs.Looking.{Sees}
 use Rattle.dag_store.proofs.QueryWorld.{some-seen, may-view, seen-by}
 use Rattle.dag_store.proofs.QueryAnswers.{found-held, evaluated, count-found, err-evaluates}
+use Rattle.dag_store.proofs.Bounding.{few-looks, ends-whole}
 use Rattle.dag_store.proofs.query.members.Goals as goal
 
-pub returns-in_err-ids : goal.returns-in_err-ids
-returns-in_err-ids c = λ added w rows t stand of h.
+pub returns-in_err-ids-clause-answer : goal.returns-in_err-ids-clause-answer
+returns-in_err-ids-clause-answer c = λ added w rows t stand of h.
     let x = c.args.session.now in
     let base = c.base-base.result in
     let b = c.base-base.ensures added of t stand in
@@ -58,11 +61,11 @@ eval-requires-clause-held c =
     let sees = subst (λ p. Sees base p (base_added added x) w rows) (sym pending) seen in
     let unnamed = c.has_unnamed-unnamed.ensures added x w t of (ap (λ (q : PlainSession). q.below) c.session.view_is) h.stand in
     let ids = c.in_ok-ids.ensures (base_added added x) w rows sees unnamed in
-    let segments = c.view.ensures (base_added added x) w rows b h.stand (subst (λ p. ArePending w p rows) (sym pending) h.pending_rows) in
+    let segments = c.view.ensures.graph (base_added added x) w rows b h.stand (subst (λ p. ArePending w p rows) (sym pending) h.pending_rows) in
     found-held base x.pending (base_added added x) w rows seen (flats_in c.view.result) segments (commits_in (tree_of c.args.expr.now)) ids.0 c.deref.result.now (c.deref.ensures.value ∙ ids.1)
 
-pub returns : goal.returns
-returns c = λ added w rows t stand of h.
+pub returns-clause-answer : goal.returns-clause-answer
+returns-clause-answer c = λ added w rows t stand of h.
     let x = c.args.session.now in
     let base = c.base-base.result in
     let b = c.base-base.ensures added of t stand in
@@ -71,8 +74,33 @@ returns c = λ added w rows t stand of h.
     let sees = subst (λ p. Sees base p (base_added added x) w rows) (sym pending) seen in
     let unnamed = c.has_unnamed-unnamed.ensures added x w t of (ap (λ (q : PlainSession). q.below) c.session.view_is) h.stand in
     let ids = c.in_ok-ids.ensures (base_added added x) w rows sees unnamed in
-    let segments = c.view.ensures (base_added added x) w rows b h.stand (subst (λ p. ArePending w p rows) (sym pending) h.pending_rows) in
+    let segments = c.view.ensures.graph (base_added added x) w rows b h.stand (subst (λ p. ArePending w p rows) (sym pending) h.pending_rows) in
     let same = c.set.ensures in
     let r = evaluated base x.pending (base_added added x) w rows seen (flats_in c.view.result) segments (lawful_flats c.view.result) (tree_of c.args.expr.now) ids.0
     c.deref.result.now (c.deref.ensures.value ∙ ids.1) c.in-Ok.answer.set (subst IsCanonical same c.spans-spans.ensures.canonical) c.in-Ok.ensures.members in
     (ids.0, r.0, r.1, r.2, r.3)
+
+pub returns-clause-few : goal.returns-clause-few
+returns-clause-few c = λ added w rows name t stand of h tree.
+    let x = c.args.session.now in
+    let base = c.base-base.result in
+    let b = c.base-base.ensures added of t stand in
+    let pending = ap (λ (q : PlainSession). q.pending) c.session.view_is in
+    let flats = c.view.ensures.flats (base_added added x) w rows b h.stand (subst (λ p. ArePending w p rows) (sym pending) h.pending_rows) in
+    few-looks w rows h.pending_rows.view c.in-Ok.answer.set (flats_in c.view.result) flats c.in-Ok.answer.steps (c.in-Ok.ensures.few name tree)
+
+pub returns-clause-one : goal.returns-clause-one
+returns-clause-one c = λ added w rows name t stand of h tree ends.
+    let x = c.args.session.now in
+    let base = c.base-base.result in
+    let b = c.base-base.ensures added of t stand in
+    let pending = ap (λ (q : PlainSession). q.pending) c.session.view_is in
+    let v = with_pending w rows in
+    let sees = subst (λ p. Sees base p (base_added added x) w rows) (sym pending) (seen-by c.args.tables.now added x t of base b w rows h) in
+    let unnamed = c.has_unnamed-unnamed.ensures added x w t of (ap (λ (q : PlainSession). q.below) c.session.view_is) h.stand in
+    let ids = c.in_ok-ids.ensures (base_added added x) w rows sees unnamed in
+    let flats = c.view.ensures.flats (base_added added x) w rows b h.stand (subst (λ p. ArePending w p rows) (sym pending) h.pending_rows) in
+    c.in-Ok.ensures.one name (id_in same_name v name) tree (c.deref.ensures.value ∙ ids.1 ∙ ap (λ e. map (id_in same_name v) (commits_in e)) tree)
+    (ends-whole base (base_added added x) b w h.stand c.view.result (segments_from (other_id (length w.others)) (map (id_row v) rows)) flats
+    (λ level id. c.view.ensures.endings (base_added added x) (base_added added x ++ b.behind) b b.tables_of b.stand level id)
+    (id_in same_name v name) ends)

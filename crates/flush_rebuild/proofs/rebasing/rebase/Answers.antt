@@ -123,7 +123,7 @@ returns-in_err-id-clause-worlds c = λ w old rows f.
     let name = c.to_name-name.ensures ∙ c.name.ensures (map (id_row (with_pending old rows)) rows) (id_row (with_pending old rows) r.0) f.pending_rows.held r.2 in
     let some = get-is c.args.found.now c.rows.i c.index-found-i.result (found-in c.args.tables.now c.args.bytes.now c.args.base c.args.pending.now c.args.found.now w old rows f c.rows.i (omega (arith, lt, long))) c.index-found-i.is in
     let none = c.empty-none.ensures.first ∙ c.from-others.ensures ∙ c.count.ensures ∙ ap (λ (o : PlainOthers). o.count) c.others.ensures ∙ tables-count c.args.tables.now c.args.bytes.now f.added f.tables_of f.stand in
-    let segs = segments-in c.args.tables.now c.args.bytes.now c.args.base c.args.pending.now c.args.found.now w old rows f (flats_in c.view-view.result) (c.view-view.ensures f.added w [] n f.stand_for (none-pending c.args.tables.now c.args.bytes.now c.args.base c.args.pending.now c.args.found.now w old rows f c.empty-none.result none c.empty-none.ensures.rows)) in
+    let segs = segments-in c.args.tables.now c.args.bytes.now c.args.base c.args.pending.now c.args.found.now w old rows f (flats_in c.view-view.result) (c.view-view.ensures.graph f.added w [] n f.stand_for (none-pending c.args.tables.now c.args.bytes.now c.args.base c.args.pending.now c.args.found.now w old rows f c.empty-none.result none c.empty-none.ensures.rows)) in
     err-match c.from_residual-in_err-id.result c.in_err-id.field-0.0 _ _ c.from_residual-in_err-id.ensures.1
     (world-fault c.args.tables.now c.args.bytes.now c.args.base c.args.pending.now c.args.found.now w old rows f c.rows.i r.0 r.1 c.rows.ids.items c.rows.left l c.in_ok-moved.moved.items z c.index-found-i.result some (flats_in c.view-view.result) segs c.in_err-id.field-0.0 c.to_name-name.result name
     (⊎_elim (λ e. inl e) (λ d. inr (d.0, subst (Disagrees c.index-found-i.result (flats_in c.view-view.result)) c.deref-in-rows.ensures.value d.1)) c.in_err-id.ensures))
@@ -153,7 +153,7 @@ rows-preserved c = (
       let name = c.to_name-name.ensures ∙ c.name.ensures (map (id_row (with_pending old rows)) rows) (id_row (with_pending old rows) r.0) f.pending_rows.held r.2 in
       let some = get-is c.args.found.now c.rows.i c.index-found-i.result (found-in c.args.tables.now c.args.bytes.now c.args.base c.args.pending.now c.args.found.now w old rows f c.rows.i (omega (arith, lt, long))) c.index-found-i.is in
       let none = c.empty-none.ensures.first ∙ c.from-others.ensures ∙ c.count.ensures ∙ ap (λ (o : PlainOthers). o.count) c.others.ensures ∙ tables-count c.args.tables.now c.args.bytes.now f.added f.tables_of f.stand in
-      let segs = segments-in c.args.tables.now c.args.bytes.now c.args.base c.args.pending.now c.args.found.now w old rows f (flats_in c.view-view.result) (c.view-view.ensures f.added w [] n f.stand_for (none-pending c.args.tables.now c.args.bytes.now c.args.base c.args.pending.now c.args.found.now w old rows f c.empty-none.result none c.empty-none.ensures.rows)) in
+      let segs = segments-in c.args.tables.now c.args.bytes.now c.args.base c.args.pending.now c.args.found.now w old rows f (flats_in c.view-view.result) (c.view-view.ensures.graph f.added w [] n f.stand_for (none-pending c.args.tables.now c.args.bytes.now c.args.base c.args.pending.now c.args.found.now w old rows f c.empty-none.result none c.empty-none.ensures.rows)) in
       let h = rebased-as c.index-found-i.result (flats_in c.view-view.result) c.rows.left c.rebase_row.new.left _ _ _ _ c.in_ok-id.id name c.deref-in-rows.ensures.value c.in_ok-id.ensures.1 in
       subst (λ q. LeftIn w rows (take (c.rows.i + 1) rows) q c.rebase_row.new.left) (sym c.in_ok-add_id.ensures)
       (world-more c.args.tables.now c.args.bytes.now c.args.base c.args.pending.now c.args.found.now w old rows f c.rows.i r.0 r.1 c.rows.ids.items c.rows.left l c.in_ok-moved.moved.items z c.index-found-i.result some (flats_in c.view-view.result) segs c.rebase_row.new.left c.in_ok-id.id h),

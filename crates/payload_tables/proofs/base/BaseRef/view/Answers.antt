@@ -1,6 +1,8 @@
-use Rattle.std.proofs.Common.{◌≡◌, ◌∙◌, ◌++◌, [], map, flat_map, append-nil, ap, ap₂, sym, subst, ◌≤◌, zero-le, arith}
+use Rattle.std.proofs.Common.{◌≡◌, ◌∙◌, suc, ◌^◌, ◌++◌, [], map, length, flat_map, append-nil, append_assoc, ap, ap₂, sym, subst, ◌≤◌, zero-le, arith}
 use Rattle.id_groups.specs.Id.{other_id}
+use Rattle.id_groups.specs.Name.{same_name}
 use Rattle.commit_graph.specs.World.{with_pending}
+use Rattle.commit_graph.specs.Ids.{parent_ids}
 use Rattle.segment_codec.specs.Record.{segment_bytes}
 use Rattle.flat_segments.specs.Maximal.{maximal, cut}
 use Rattle.flat_segments.specs.Placed.{placed, segments_of}
@@ -16,8 +18,10 @@ use Rattle.payload_tables.proofs.Standing.{masters-stand, placed-segments}
 use Rattle.flat_segments.specs.Views.{master_count}
 use Rattle.segment_levels.specs.Kept.{AreLevelsOf}
 use Rattle.segment_levels.specs.Flats.{flats_of}
+use Rattle.segment_levels.specs.Endings.{level_ending}
+use Rattle.segment_rules.specs.Flat.{flat_segments_of}
 use Rattle.payload_tables.proofs.Leveling.{counts-small}
-use Rattle.payload_tables.proofs.Basing.{table-end, base-others, base-below, may-join, base-view}
+use Rattle.payload_tables.proofs.Basing.{table-end, base-others, base-below, may-join, base-view, masters-are, others-are}
 use Rattle.payload_tables.proofs.base.BaseRef.view.Goals as goal
 
 pub view-masters-requires-clause-records : goal.view-masters-requires-clause-records
@@ -38,8 +42,8 @@ join-flat-requires c =
     (may-join c.view-masters.result s.bytes.now s.others.now s.below (newest (payloads_of r.0)) (base-others s.bytes.now s.tables.now s.others.now s.below r.0 r.1) p r.2.rows c.deref.result.now r.2.held r.2.first r.2.parents
     c.view-masters.ensures.count (c.deref.ensures.value ∙ ap (λ (q : PlainPending). q.records) c.pending.view_is)))
 
-pub returns : goal.returns
-returns c = λ added w rows b stand pend.
+pub returns-clause-flats : goal.returns-clause-flats
+returns-clause-flats c = λ added w rows b stand pend.
     let s = c.args.self.now in
     let p = c.args.pending.now in
     let v = with_pending w rows in
@@ -49,13 +53,39 @@ returns c = λ added w rows b stand pend.
     let bytes = c.deref.ensures.value ∙ ap (λ (q : PlainPending). q.records) c.pending.view_is in
     let table = subst (λ (t : PlainTables). IsTableOf t.flat all) (sym c.tables.view_is) b.tables_of.flat in
     let master = c.join-flat.ensures.master ∙ c.view-masters.ensures.master ∙ c.view-masters.ensures.flats all table (masters-stand s.bytes.now (added ++ b.behind) b.stand)
-    ∙ ap (λ (t : PlainTables). cut s.below (maximal t.flat.end (segments_of all))) c.tables.view_is in
+    ∙ ap (λ (t : PlainTables). cut s.below (maximal t.flat.end (segments_of all))) c.tables.view_is
+    ∙ masters-are s.bytes.now s.tables.now s.others.now s.below added b w stand in
     let first = subst (λ (o : PlainOthers). StandAs o.section s.bytes.now facts.records) (sym c.others.view_is) (record { section_of = facts.section; stand = facts.stand }) in
     let second = subst (λ (q : PlainPending). StandAs q.section c.deref.result.now (placed 0 segs)) (sym c.pending.view_is)
     (record { section_of = pend.held.section; stand = placed-stand c.deref.result.now [] 0 segs (bytes ∙ pend.held.records ∙ sym (append-nil (flat_map segment_bytes segs))) }) in
     let others = c.join-flat.ensures.others facts.records (placed 0 segs) first second
-    ∙ ap₂ (λ x y. x ++ y) facts.segments (placed-segments 0 segs ∙ ap (λ n. segments_from (other_id n) (map (id_row v) rows)) pend.first) in
-    subst (AreSegmentsOf v) (sym (c.new.ensures.flats ∙ ap₂ (λ x y. x ++ y) master others)) (base-view s.bytes.now s.tables.now s.others.now s.below added b w rows stand pend.view)
+    ∙ ap₂ (λ x y. x ++ y) (facts.segments ∙ others-are s.bytes.now s.tables.now s.others.now s.below added b w stand)
+    (placed-segments 0 segs ∙ ap (λ n. segments_from (other_id n) (map (id_row v) rows)) pend.first) in
+    c.new.ensures.flats ∙ ap₂ (λ x y. x ++ y) master others
+    ∙ sym (append_assoc (flat_segments_of 0 (parent_ids same_name w w.master)) (flat_segments_of (2 ^ 56) (parent_ids same_name w w.others)) (segments_from (other_id (length w.others)) (map (id_row v) rows)))
+
+pub returns-clause-graph : goal.returns-clause-graph
+returns-clause-graph c = λ added w rows b stand pend.
+    let s = c.args.self.now in
+    subst (AreSegmentsOf (with_pending w rows)) (sym (returns-clause-flats c added w rows b stand pend)) (base-view s.bytes.now s.tables.now s.others.now s.below added b w stand rows pend.view)
+
+pub returns-clause-endings : goal.returns-clause-endings
+returns-clause-endings c = λ added all b tables stand level id.
+    let s = c.args.self.now in
+    let records = master_records all in
+    let table = subst (λ (t : PlainTables). IsTableOf t.flat records) (sym c.tables.view_is) tables.flat in
+    let count : master_count c.join-flat.result ≡ s.below = c.join-flat.ensures.count ∙ c.view-masters.ensures.count in
+    c.new.ensures.endings s.tables.now.flat records
+    (record {
+      table_of = tables.flat;
+      small = (let e = table-end s.tables.now all tables in let n = counts-small 0 all tables.names.follow zero-le in omega (arith, e, n));
+      levels_of = subst (λ (t : PlainTables). AreLevelsOf t.levels (flats_of s.tables.now.flat records)) (sym c.tables.view_is) tables.levels;
+      flats = c.join-flat.ensures.master ∙ c.view-masters.ensures.master ∙ c.view-masters.ensures.flats records table (masters-stand s.bytes.now all stand)
+          ∙ ap (λ (t : PlainTables). cut s.below (maximal t.flat.end (segments_of records))) c.tables.view_is ∙ ap (λ n. cut n (flats_of s.tables.now.flat records)) (sym count);
+      below = subst (λ n. n ≤ s.tables.now.flat.end) (sym count) (base-below s.bytes.now s.tables.now s.others.now s.below added b);
+    })
+    level id
+    ∙ ap (λ n. level_ending (flats_of s.tables.now.flat records) n (suc level) id) count
 
 pub new-requires : goal.new-requires
 new-requires c =
