@@ -71,7 +71,7 @@ module _ {N : Type 0} where
   adds-all old new names i le = subst (λ (l : List N). Adds old l new) (take_all i names le)
 
   -- a name among the first rows is one among more of them
-  names-below : (x : N) (rows : List (Row N)) (i k : ℕ) → i ≤ k → IsIn x (names_of (take i rows)) → IsIn x (names_of (take k rows))
+  pub names-below : (x : N) (rows : List (Row N)) (i k : ℕ) → i ≤ k → IsIn x (names_of (take i rows)) → IsIn x (names_of (take k rows))
   names-below x rows zero k le h = absurd h
   names-below x [] (suc i) k le h = absurd h
   names-below x (r ∷ rows) (suc i) zero le h = absurd (omega (arith, le))
@@ -127,16 +127,16 @@ module _ {N : Type 0} where
     pub whole : (k : ℕ) (row : Row N) → i ≤ k → slice_get rows k ≡ Some row → IsIn row.name found → (p : N) → IsIn p row.parents → IsIn p found
 
   -- no row gone over yet
-  pub reached-none : (g : Graph N) (rows : List (Row N)) (set : List N) (i : ℕ) → length rows ≤ i → (found : List N) → found ≡ set → AreReached g rows set i found
+  pub reached-none : (g : Graph N) (rows : List (Row N)) (set : List N) (i : ℕ) → length rows ≤ i → (found : List N) → ((x : N) → IsIn x found ↔ IsIn x set) → AreReached g rows set i found
   reached-none g rows set i le found e = record {
-    sound = λ x j. (x, subst (IsIn x) e j, reaches-self g x);
-    base = λ x s. subst (IsIn x) (sym e) s;
+    sound = λ x j. (x, (e x).0 j, reaches-self g x);
+    base = λ x s. (e x).1 s;
     whole = λ k row from at s p j. let lt = slice_get_within rows k row at in absurd (omega (arith, lt, le, from));
   }
 
 module _ {N : Type 0} (same : N → N → Bool) (exact : (x y : N) → same x y ≡ true → x ≡ y) (self : (x : N) → same x x ≡ true) where
   -- a commit with a parent has a row that has it
-  row-with : (rows : List (Row N)) (c p : N) → IsIn p (parents_of (row_named same rows c)) → (k : ℕ) × (row : Row N) × (slice_get rows k ≡ Some row) × (row.name ≡ c) × IsIn p row.parents
+  pub row-with : (rows : List (Row N)) (c p : N) → IsIn p (parents_of (row_named same rows c)) → (k : ℕ) × (row : Row N) × (slice_get rows k ≡ Some row) × (row.name ≡ c) × IsIn p row.parents
   row-with [] c p i = absurd i
   row-with (r ∷ rows) c p i = by_test r rows c p (same r.name c) refl i (row-with rows c p)
     where

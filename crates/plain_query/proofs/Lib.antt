@@ -1,2 +1,4 @@
+pub mod Alike
+pub mod Collecting
 pub mod Filtering
 pub mod Gathering

@@ -1,3 +1,1 @@
 pub mod Members
-pub mod Built
-pub mod Plain

@@ -4,12 +4,11 @@
 //! them, and so what faster ways are compared with.
 
 mod evaluation;
+mod forms;
 mod members;
 mod places;
-mod plain;
+mod walks;
+mod words;
 
 pub use evaluation::answer;
-pub use plain::PlainExpr;
-
-#[cfg(test)]
-mod tests;
+pub use set_expr::{Expr, ExprFault};

@@ -1,6 +1,6 @@
 //! Sets of commits, as lists of their names.
 
-ghost use Rattle.std.specs.Prelude.{◌≡◌, ◌⊎◌, ◌↔◌, [], IsTrue, OnOk};
+ghost use Rattle.std.specs.Prelude.{◌≡◌, ◌⊎◌, ◌↔◌, [], IsTrue, IfOk, OnOk};
 ghost use Rattle.id_groups.specs.Lists.{IsIn};
 ghost use Rattle.id_groups.specs.Name.{Name as NameBytes};
 
@@ -67,5 +67,68 @@ impl Members {
             self.add(name)?;
         }
         Ok(())
+    }
+
+    /// The names, each once.
+    pub(crate) fn names(&self) -> &[Name]
+        ensures { result.now ≡ self.now }
+    {
+        self.names.as_slice()
+    }
+
+    /// Whether one of the names is that of a member.
+    pub(crate) fn has_any(&self, names: &[Name]) -> bool
+        ensures { IsTrue result ↔ ((x : NameBytes) × IsIn x names.now × IsIn x self.now) }
+    {
+        for name in names {
+            if self.has(name) {
+                return true;
+            }
+        }
+        false
+    }
+
+    /// The same set once more. `AllocError` only for want of memory.
+    pub(crate) fn copy(&self, alloc: Global) -> Result<Members, AllocError>
+        ensures { IfOk result (λ members. (x : NameBytes) → IsIn x members ↔ IsIn x self.now) }
+    {
+        let mut members = Members::none(alloc);
+        members.add_all(self.names.as_slice())?;
+        Ok(members)
+    }
+
+    /// The members of either set. `AllocError` only for want of memory.
+    pub(crate) fn union(&self, alloc: Global, other: &Members) -> Result<Members, AllocError>
+        ensures { IfOk result (λ members. (x : NameBytes) → IsIn x members ↔ (IsIn x self.now ⊎ IsIn x other.now)) }
+    {
+        let mut members = self.copy(alloc)?;
+        members.add_all(other.names.as_slice())?;
+        Ok(members)
+    }
+
+    /// The members of both sets. `AllocError` only for want of memory.
+    pub(crate) fn inter(&self, alloc: Global, other: &Members) -> Result<Members, AllocError>
+        ensures { IfOk result (λ members. (x : NameBytes) → IsIn x members ↔ (IsIn x self.now × IsIn x other.now)) }
+    {
+        let mut members = Members::none(alloc);
+        for name in &self.names {
+            if other.has(name) {
+                members.add(name)?;
+            }
+        }
+        Ok(members)
+    }
+
+    /// The members that the other set hasn't. `AllocError` only for want of memory.
+    pub(crate) fn minus(&self, alloc: Global, other: &Members) -> Result<Members, AllocError>
+        ensures { IfOk result (λ members. (x : NameBytes) → IsIn x members ↔ (IsIn x self.now × ¬ (IsIn x other.now))) }
+    {
+        let mut members = Members::none(alloc);
+        for name in &self.names {
+            if !other.has(name) {
+                members.add(name)?;
+            }
+        }
+        Ok(members)
     }
 }

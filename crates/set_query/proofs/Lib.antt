@@ -1,2 +1,3 @@
-pub mod Ids
 pub mod Alike
+pub mod Ids
+pub mod PairLemmas

@@ -14,7 +14,8 @@ ghost use Rattle.set_expr.specs.Meaning.{IsMember as IsMeant};
 ghost use Rattle.set_expr.specs.Tree.{tree_in};
 ghost use Rattle.set_expr.specs.Whole.{tree_of};
 
-use crate::forms::{made_of, made_of_two, named_set, single, up};
+use crate::forms::{made_of, named_set, single, up};
+use crate::pairs::{made_of_pair, paired};
 use id_groups::Id;
 use segment_codec::{SegmentTable, Steps};
 use set_expr::{Expr, Tree};
@@ -123,10 +124,11 @@ fn members_of<T: SegmentTable>(
             made_of(alloc, table, *call, &members, steps)
         }
         Tree::OfTwo(call, first, second) => {
-            let (here, behind) = ids.split_at(first.name_count());
-            let one = members_of(alloc, table, first, here, steps)?;
-            let other = members_of(alloc, table, second, behind, steps)?;
-            made_of_two(alloc, table, *call, &one, &other, steps)
+            let (pairing, front, back) = paired(*call, first, second);
+            let (here, behind) = ids.split_at(front.name_count());
+            let one = members_of(alloc, table, front, here, steps)?;
+            let other = members_of(alloc, table, back, behind, steps)?;
+            made_of_pair(alloc, table, pairing, &one, &other, steps)
         }
         Tree::Up(_, n) => up(alloc, table, ids[0], *n, steps),
         Tree::Top(set, n) => {
