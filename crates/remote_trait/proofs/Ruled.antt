@@ -1,28 +1,26 @@
 -- What calls leave and answer, in the words of the rules of remotes.
-use Rattle.std.proofs.Common.{◌≡◌, ℕ, zero, suc, ◌+◌, ◌-◌, ◌<◌, ◌≤◌, Bool, true, false, inl, inr, List, [], ◌∷◌, ◌++◌, Option, Some, None, length, take, refl, sym, ap, subst, ◌∙◌, arith, ⊎_elim, append-nil, is_some, true≢false, if◌then◌else◌}
-use Rattle.std.specs.Prelude.{slice_get, min, reverse}
+use Rattle.std.proofs.Common.{◌≡◌, ℕ, zero, suc, ◌+◌, ◌<◌, ◌≤◌, Bool, true, false, inl, inr, List, [], ◌∷◌, Option, Some, None, length, take, refl, sym, ap, subst, ◌∙◌, arith, ⊎_elim, append-nil, is_some, true≢false, if◌then◌else◌}
+use Rattle.std.specs.Prelude.{slice_get, reverse}
 use Rattle.std.specs.List.{filter_map, cons_option}
-use Rattle.std.specs.Bool.{MatchBool}
 use Rattle.std.specs.List.{range_with_len}
 use Rattle.std.proofs.lemmas.List.{reverse-reverse}
-use Rattle.outside.specs.Counts.{last_count}
 use Rattle.id_groups.specs.Lists.{IsIn, is_in}
 use Rattle.id_groups.specs.Name.{Name, same_name}
 use Rattle.id_groups.proofs.Names.{same_name-exact, same_name-self}
 use Rattle.id_groups.proofs.Listing.{found, there}
-use Rattle.commit_graph.specs.World.{Row, World, names_of, rows_of}
-use Rattle.commit_graph.specs.Graph.{Graph, graph_of, first_ancestor}
+use Rattle.commit_graph.specs.World.{Row, World, names_of}
+use Rattle.commit_graph.specs.Graph.{Graph, first_ancestor}
 use Rattle.commit_graph.proofs.Leading.{none-after}
 use Rattle.commit_graph.proofs.Histories.{in-append}
 use Rattle.commit_graph.proofs.Down.{in-reverse, in-down}
 use Rattle.remote_rules.specs.Mirror.{Mirror}
 use Rattle.remote_rules.specs.Honest.{IsSound}
 use Rattle.remote_rules.specs.CloneData.{CloneData}
-use Rattle.remote_rules.specs.Calls.{Keeps, IsAskedFor, IsCloned, Fails as Failing, WhereBoth, MasterGoesOn}
+use Rattle.remote_rules.specs.Calls.{IsAskedFor, IsCloned, Fails as Failing, WhereBoth, MasterGoesOn}
 use Rattle.remote_rules.specs.Known.{master_world, line_from}
 use Rattle.remote_rules.specs.Serving.{Serves as IsServing}
 use Rattle.remote_trait.specs.Calls.{Leaves, Refreshes, Fails, ToldSo, AreGrown, raised}
-use Rattle.remote_trait.specs.Honest.{AreNamesIn, AreNamesOf, rows_graph}
+use Rattle.remote_trait.specs.Honest.{AreNamesOf, rows_graph}
 use Rattle.remote_trait.specs.Serving.{Serves}
 
 tells : {X : Type 0} (P : X → X → Type 0) (a b : Option X) → ToldSo a b P → is_some b ≡ is_some a
