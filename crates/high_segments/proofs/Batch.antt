@@ -10,7 +10,7 @@ use Rattle.segment_codec.specs.Table.{Follow, IsLawful}
 use Rattle.segment_codec.specs.Flat.{IsFlat}
 use Rattle.segment_codec.specs.Turns.{goes_on, StandInTurn, place_behind}
 use Rattle.segment_codec.proofs.Flats.{parts-lawful, follow-append}
-use Rattle.segment_codec.proofs.Tables.{all-pass, follow-within}
+use Rattle.segment_codec.proofs.Tables.{all-pass, follow-ends, follow-within}
 use Rattle.segment_codec.proofs.Turns.{begins-there, turn-follow}
 use Rattle.flat_segments.specs.Kept.{Kept as FlatKept, IsTableOf}
 use Rattle.flat_segments.specs.Maximal.{begin_of, up_to, maximal}
@@ -22,9 +22,9 @@ use Rattle.flat_segments.proofs.Graphs.{maximal-ids}
 use Rattle.flat_segments.proofs.Rising.{follow-rise}
 use Rattle.flat_segments.proofs.Standing.{all-segments}
 use Rattle.segment_rules.specs.Levels.{complete, level_segments, count_grouped}
-use Rattle.segment_levels.specs.Kept.{Kept, PlainLevel, segments_in, AreLevelsAbove}
+use Rattle.segment_levels.specs.Kept.{Kept, PlainLevel, PlainGroups, segments_in, AreLevelsAbove}
 use Rattle.segment_levels.specs.Whole.{IsWhole, Grows}
-use Rattle.high_segments.specs.Growing.{MayGrow}
+use Rattle.high_segments.specs.Growing.{MayGrow, MayBecome}
 use Rattle.high_segments.specs.Extending.{MayFollow, MayExtend, begun, begins_in, firsts}
 use Rattle.segment_levels.specs.Flats.{flats_of, extended}
 use Rattle.high_segments.proofs.Groups.{up_to-append}
@@ -183,7 +183,7 @@ take-drop (suc from) n (x ∷ xs) = take-drop from n xs ∙ ap (λ k. drop (suc 
 
 -- ---- the first level
 
-module _ (levels : Kept) (table : FlatKept) (bytes records : List ℕ) (h : MayExtend levels table bytes records) (from : ℕ) (first : PlainLevel) (others : List PlainLevel) (are : levels.levels ≡ first ∷ others) (from-is : from ≡ first.grouped)
+module _ (levels : Kept) (table : FlatKept) (bytes records : List ℕ) (h : MayExtend levels table bytes records) (from : ℕ) (first : PlainGroups) (others : List PlainGroups) (are : levels.levels ≡ first ∷ others) (from-is : from ≡ first.grouped)
     (l : PlainLevel) (begins : begins_in l ≡ map begun (drop from (flats_of table h.before)) ++ map begun (firsts h.segments)) (end : l.end ≡ place_behind table.end h.segments) where
   old : List Segment
   old = flats_of table h.before
@@ -260,39 +260,46 @@ module _ (levels : Kept) (table : FlatKept) (bytes records : List ℕ) (h : MayE
         subst (Grows (flats_of table h.before)) (sym (new-parts table bytes records h.before h.segments h.follow))
         (grows-of table.end (place_behind table.end h.segments) (firsts (segments_of h.before)) (firsts h.segments))
 
-    pub may-grow-first : MayGrow (flats_of table h.before) (extended table h.before h.segments) now from (first ∷ others)
+    pub may-become : MayBecome (flats_of table h.before) (extended table h.before h.segments)
+    may-become = record {
+      old_end = table.end;
+      new_end = place_behind table.end h.segments;
+      old_whole = table-whole table h.before h.follow.table_of;
+      new_whole = new-whole table bytes records h.before h.segments h.follow;
+      grows = grown;
+      order = follow-ends table.end (place_behind table.end h.segments) h.segments
+          (turn-follow (MasterMayStandAt table.end) (λ place s may. begins-there table.end place s may.0) table.end h.segments h.follow.in_turn);
+      small = h.follow.small;
+      few = few-new;
+    }
+
+    pub may-grow-first : MayGrow (flats_of table h.before) (extended table h.before h.segments) now 0 levels.levels
     may-grow-first =
         let whole = new-whole table bytes records h.before h.segments h.follow in
         let le : length (extended table h.before h.segments) - 1 ≤ length (extended table h.before h.segments) = omega arith in
         let f = follow-take 0 (place_behind table.end h.segments) (length (extended table h.before h.segments) - 1) (extended table h.before h.segments) le whole.follow in
         record {
-          old_end = table.end;
-          new_end = place_behind table.end h.segments;
-          old_whole = table-whole table h.before h.follow.table_of;
-          new_whole = whole;
-          grows = grown;
-          small = h.follow.small;
-          above = subst (λ (n : ℕ). AreLevelsAbove (flats_of table h.before) n (first ∷ others)) (sym level) above;
-          segments = left ∙ ap (λ n. drop from (level_segments (extended table h.before h.segments) n)) (sym level);
-          follow = subst (λ (n : ℕ). Follow 0 now.end (level_segments (extended table h.before h.segments) n)) (sym level)
-              (subst (λ (n : ℕ). Follow 0 n (complete (extended table h.before h.segments))) (sym end-is) f);
-          read = read;
-          skip = subst (λ (n : ℕ). from ≤ count_grouped 0 (level_segments (flats_of table h.before) n)) (sym level) (let g = grouped-is in omega (arith, g));
-          few = subst (λ (n : ℕ). length (level_segments (extended table h.before h.segments) n) < 2 ^ 64) (sym level)
-              (let t = length-take (length (extended table h.before h.segments) - 1) (extended table h.before h.segments) in let few = few-new in omega (arith, t, few));
+          may = may-become;
+          levels_are = h.levels_of.levels;
+          left = λ _. record {
+            number = level;
+            segments = left ∙ ap (λ n. drop n (complete (extended table h.before h.segments))) grouped-is;
+            follow = subst (λ (n : ℕ). Follow 0 n (complete (extended table h.before h.segments))) (sym end-is) f;
+            read = read;
+          };
         }
 
 -- ---- what is kept of all levels
 
-pub record First (levels : List PlainLevel) (first : PlainLevel) : Type 0 where
-  pub others : List PlainLevel
+pub record First (levels : List PlainGroups) (first : PlainGroups) : Type 0 where
+  pub others : List PlainGroups
   pub are : levels ≡ first ∷ others
 
-pub first-is : (flats : List Segment) (levels : List PlainLevel) (at : PlainLevel) → AreLevelsAbove flats 0 levels → at ≡ get_or levels 0 at → First levels at
+pub first-is : (flats : List Segment) (levels : List PlainGroups) (at : PlainGroups) → AreLevelsAbove flats 0 levels → at ≡ get_or levels 0 at → First levels at
 first-is flats [] at h e = absurd (omega (arith, h))
 first-is flats (x ∷ xs) at h e = record { others = xs; are = ap (λ z. z ∷ xs) (sym e) }
 
-pub from-within : (levels : Kept) (table : FlatKept) (bytes records : List ℕ) (h : MayExtend levels table bytes records) (from : ℕ) (first : PlainLevel) → First levels.levels first → from ≡ first.grouped
+pub from-within : (levels : Kept) (table : FlatKept) (bytes records : List ℕ) (h : MayExtend levels table bytes records) (from : ℕ) (first : PlainGroups) → First levels.levels first → from ≡ first.grouped
     → from ≤ length (flats_of table h.before)
 from-within levels table bytes records h from first f e =
     let above = subst (AreLevelsAbove (flats_of table h.before) 0) f.are h.levels_of.levels in

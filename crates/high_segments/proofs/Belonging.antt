@@ -1,9 +1,10 @@
 -- A view and the levels of its table.
-use Rattle.std.proofs.Common.{◌≡◌, ℕ, zero, suc, ◌+◌, ◌-◌, ◌<◌, ◌≤◌, ◌^◌, ◌⊎◌, inl, inr, Bool, true, false, cond, ◌&&◌, List, [], ◌∷◌, ◌++◌, length, Option, Some, None, refl, sym, subst, ap, ◌∙◌, arith, lit≤, ⊎_elim}
-use Rattle.std.specs.Prelude.{nat_lt, nat_le, slice_get}
-use Rattle.std.proofs.lemmas.Bool.{lt-ltb, le-ltb, le-leb, lt-leb}
+use Rattle.std.proofs.Common.{◌≡◌, ℕ, zero, suc, ◌+◌, ◌-◌, ◌<◌, ◌≤◌, ◌^◌, ◌⊎◌, inl, inr, Bool, true, false, cond, ◌&&◌, List, [], ◌∷◌, ◌++◌, length, take, Option, Some, None, refl, sym, subst, ap, ◌∙◌, arith, lit≤, ⊎_elim}
+use Rattle.std.specs.Prelude.{nat_eq, nat_lt, nat_le}
+use Rattle.std.specs.List.{list_all, range_with_len}
+use Rattle.std.proofs.lemmas.Bool.{lt-ltb, le-ltb, le-leb, lt-leb, ltb-true, leb-true}
 use Rattle.id_groups.specs.Lists.{IsIn}
-use Rattle.id_groups.proofs.Listing.{both_true}
+use Rattle.id_groups.proofs.Listing.{and_true, both_true, in-all-true}
 use Rattle.segment_codec.specs.Record.{Segment}
 use Rattle.segment_codec.specs.Table.{segment_at, parents_in, parents_at, IsHeld, IsHeaded, Follow}
 use Rattle.segment_codec.specs.Flat.{if_ends}
@@ -15,15 +16,18 @@ use Rattle.flat_segments.specs.declared.view.FlatView.{FlatView}
 use Rattle.flat_segments.proofs.Graphs.{cut-ids, cut-parents}
 use Rattle.flat_segments.proofs.Looking.{at-front}
 use Rattle.segment_rules.specs.Levels.{level_segments, top_level}
-use Rattle.segment_levels.specs.Kept.{Kept, PlainLevel, segments_in, IsLevelOf, AreLevelsAbove}
+use Rattle.segment_levels.specs.Kept.{Kept, PlainGroups, AreLevelsAbove}
 use Rattle.segment_levels.specs.Whole.{IsWhole}
 use Rattle.segment_levels.specs.Flats.{flats_of}
-use Rattle.segment_levels.specs.Tests.{is_level, are_levels}
-use Rattle.segment_levels.specs.Endings.{segments_at, high_ending, ending_in, level_ending, BelongTogether}
+use Rattle.segment_levels.specs.Tests.{is_kept, is_ending, are_levels}
+use Rattle.segment_levels.specs.Endings.{at_level, held_from, high_ending, ending_in, level_ending, BelongTogether}
 use Rattle.segment_levels.proofs.Ascending.{all-from-in, ascend-few, ascend-decided}
-use Rattle.segment_levels.proofs.Deciding.{LevelFacts, level-decided}
-use Rattle.segment_levels.proofs.Leveled.{one-end, leveled, level-high}
+use Rattle.segment_levels.proofs.Deciding.{EndingFacts, ending-decided, ending-none, all-kept-means, all-kept-decided}
+use Rattle.segment_levels.proofs.Leveled.{level-high}
+use Rattle.segment_levels.proofs.Viewing.{ends-in}
+use Rattle.high_segments.specs.Growing.{AreReadable, MayBecome}
 use Rattle.high_segments.proofs.Batch.{table-whole}
+use Rattle.high_segments.proofs.Holding.{grows-self, held-mixed, whole-mixed, whole-readable}
 
 -- ---- what is headed in the whole group is headed in a part that has its ids
 
@@ -40,44 +44,88 @@ headed-part whole flats count s same held order high h =
 
 -- ---- levels
 
-pub above-count : (whole : List Segment) (k : ℕ) (levels : List PlainLevel) → AreLevelsAbove whole k levels → k + length levels ≡ 7
+pub above-count : (whole : List Segment) (k : ℕ) (levels : List PlainGroups) → AreLevelsAbove whole k levels → k + length levels ≡ 7
 above-count whole k [] h = omega (arith, h)
 above-count whole k (l ∷ more) h = let r = above-count whole (suc k) more h.1 in omega (arith, r)
 
-module _ (whole flats : List Segment) (end count : ℕ) (w : IsWhole whole end) (small : end ≤ 16777216) (same : (x : ℕ) → x < count → parents_at flats x ≡ parents_at whole x) (held : (x : ℕ) → x < count → IsHeld flats x) where
-  level-facts : (k : ℕ) (l : PlainLevel) → suc k ≤ 7 → IsLevelOf whole k l → LevelFacts flats count (suc k) l
-  level-facts k l few is =
-      let at = leveled whole end w (suc k) in
-      let ends = one-end 0 l.end at.last (level_segments whole (suc k)) (subst (λ (z : List Segment). Follow 0 l.end z) is.segments is.follow) at.follow in
-      let within = at.within in
+at-ends : (n id : ℕ) (o : Option Segment) → at_level n (if_ends id o) ≡ if_ends id (at_level n o)
+at-ends n id None = refl
+at-ends n id (Some s) = go (nat_eq s.high id)
+  where
+    go : (b : Bool) → at_level n (cond b (Some s) None) ≡ cond b (at_level n (Some s)) None
+    go true = refl
+    go false = refl
+
+-- what ends in the levels that are kept is what ends in those of the flat segments
+pub same-endings : (whole : List Segment) (end count : ℕ) (levels : List PlainGroups) (j id : ℕ) → IsWhole whole end → end ≤ 16777216 → length whole < 2 ^ 32 → AreLevelsAbove whole 0 levels
+    → high_ending count levels (suc j) id ≡ level_ending whole count (suc j) id
+same-endings whole end count levels j id w small few h =
+    let n = above-count whole 0 levels h in
+    let seven : length levels ≡ 7 = omega (arith, n) in
+    ⊎_elim
+    (λ (le : suc j ≤ 7).
+    let m : MayBecome whole whole = record { old_end = end; new_end = end; old_whole = w; new_whole = w; grows = grows-self whole; order = omega arith; small = small; few = few } in
+    let held = held-mixed whole whole m 0 j levels (whole-mixed whole 0 j levels h (omega (arith, le, seven))) (omega (arith, le, seven)) id None (λ some. absurd (omega (arith, some))) in
+    let plus : 0 + j ≡ j = omega arith in
+    let is : at_level (suc j) (held_from None (take (suc j) levels) id) ≡ segment_at (level_segments whole (suc j)) id =
+    subst (λ k. at_level (suc k) (held_from None (take (suc j) levels) id) ≡ segment_at (level_segments whole (suc k)) id) plus held in
+    ap (λ k. cond (nat_lt id count && nat_le (suc j) k) (at_level (suc j) (if_ends id (held_from None (take (suc j) levels) id))) None) seven
+    ∙ ap (λ o. cond (nat_lt id count && nat_le (suc j) 7) o None) (at-ends (suc j) id (held_from None (take (suc j) levels) id) ∙ ap (if_ends id) is))
+    (λ (out : 7 < suc j).
+    let no = lt-leb (suc j) 7 out in
+    ap (λ k. cond (nat_lt id count && nat_le (suc j) k) (at_level (suc j) (if_ends id (held_from None (take (suc j) levels) id))) None) seven
+    ∙ ap (λ b. cond b (at_level (suc j) (if_ends id (held_from None (take (suc j) levels) id))) None) (and-false (nat_lt id count) (nat_le (suc j) 7) no)
+    ∙ ap (λ b. cond b (if_ends id (segment_at (level_segments whole (suc j)) id)) None) (sym (and-false (nat_lt id count) (nat_le (suc j) 7) no)))
+    (Rattle.segment_codec.proofs.Tables.le_or_lt (suc j) 7)
+  where
+    and-false : (a b : Bool) → b ≡ false → (a && b) ≡ false
+    and-false true b e = e
+    and-false false b e = refl
+
+module _ (whole flats : List Segment) (end count : ℕ) (w : IsWhole whole end) (small : end ≤ 16777216) (few : length whole < 2 ^ 32) (same : (x : ℕ) → x < count → parents_at flats x ≡ parents_at whole x) (held : (x : ℕ) → x < count → IsHeld flats x) where
+  -- a segment of a level that ends below the count
+  ending-facts : (j : ℕ) (s : Segment) → suc j ≤ 7 → IsIn s (level_segments whole (suc j)) → s.high < count → EndingFacts flats (suc j) s.high s
+  ending-facts j s le i lt =
+      let h = level-high whole end w j s i in
+      let order = h.good.order in let high = h.high in let number = h.number in
       let wide : 16777216 ≤ 2 ^ 56 = lit≤ tt in
+      let below = all-from-in (λ p. p < s.low) s.parents h.good.below in
+      let many = ascend-few 0 s.low s.parents h.ascend below (omega arith) in
       record {
-        level = is.number;
-        read = is.read;
-        follow = is.follow;
-        small = omega (arith, ends, within, small, wide);
-        each = λ s i.
-            let h = level-high whole end w k s (subst (λ (z : List Segment). IsIn s z) is.segments i) in
-            let order = h.good.order in let high = h.high in let number = h.number in
-            let below = all-from-in (λ p. p < s.low) s.parents h.good.below in
-            let many = ascend-few 0 s.low s.parents h.ascend below (omega arith) in (
-              record {
-                order = order;
-                high = omega (arith, high, small, wide);
-                level = omega (arith, number, few);
-                below = below;
-                ascend = ascend-decided 0 s.parents h.ascend;
-                few = omega (arith, many, order, high, small);
-              },
-              λ lt. headed-part whole flats count s same held order lt h.good.headed,
-            );
+        high = record {
+          order = order;
+          high = omega (arith, high, small, wide);
+          level = omega (arith, number, le);
+          below = below;
+          ascend = ascend-decided 0 s.parents h.ascend;
+          few = omega (arith, many, order, high, small);
+        };
+        level_is = number;
+        ends = refl;
+        headed = headed-part whole flats count s same held order lt h.good.headed;
       }
 
-  pub are-lawful : (k : ℕ) (levels : List PlainLevel) → AreLevelsAbove whole k levels → are_levels flats count (suc k) levels ≡ true
-  are-lawful k [] h = refl
-  are-lawful k (l ∷ more) h =
-      let n = above-count whole k (l ∷ more) h in
-      both_true (is_level flats count (suc k) l) (are_levels flats count (suc (suc k)) more) (level-decided flats count (suc k) l (level-facts k l (omega (arith, n)) h.0)) (are-lawful (suc k) more h.1)
+  ending-lawful : (j id : ℕ) → is_ending flats (suc j) id (level_ending whole count (suc j) id) ≡ true
+  ending-lawful j id = go (nat_lt id count) refl (nat_le (suc j) top_level) refl (if_ends id (segment_at (level_segments whole (suc j)) id)) refl
+    where
+      go : (a : Bool) → nat_lt id count ≡ a → (b : Bool) → nat_le (suc j) top_level ≡ b → (o : Option Segment) → if_ends id (segment_at (level_segments whole (suc j)) id) ≡ o
+          → is_ending flats (suc j) id (cond (a && b) o None) ≡ true
+      go false e b f o g = ending-none flats (suc j) id
+      go true e false f o g = ending-none flats (suc j) id
+      go true e true f None g = ending-none flats (suc j) id
+      go true e true f (Some s) g =
+          let at = ends-in (level_segments whole (suc j)) id s g in
+          let lt = ltb-true id count e in let high = at.high in
+          ending-decided flats (suc j) id s
+          (subst (λ n. EndingFacts flats (suc j) n s) at.high (ending-facts j s (leb-true (suc j) 7 f) at.in_it (omega (arith, lt, high))))
+
+  pub are-lawful : (levels : List PlainGroups) → AreLevelsAbove whole 0 levels → are_levels flats count levels ≡ true
+  are-lawful levels h =
+      both_true (list_all is_kept levels) _
+      (all-kept-decided levels (whole-readable whole end w small 0 levels h))
+      (in-all-true (λ k. list_all (λ id. is_ending flats (suc k) id (high_ending count levels (suc k) id)) (range_with_len 0 count)) (range_with_len 0 (length levels))
+      (λ k i. in-all-true (λ id. is_ending flats (suc k) id (high_ending count levels (suc k) id)) (range_with_len 0 count)
+      (λ id j. ap (is_ending flats (suc k) id) (same-endings whole end count levels k id w small few h) ∙ ending-lawful k id)))
 
 -- ---- a view
 
@@ -98,87 +146,52 @@ module _ (v : FlatView) (levels : Kept) (table : FlatKept) (records : List Place
       ∙ ap (λ z. parents_at z x) b.flats
       ∙ cut-parents (master_count v) 0 table.end x (flats_of table records) whole-is.follow lt
 
-  pub together-lawful : are_levels (view_flats v) (master_count v) 1 levels.levels ≡ true
-  together-lawful = are-lawful (flats_of table records) (view_flats v) table.end (master_count v) whole-is b.small part-parents part-held 0 levels.levels b.levels_of.levels
+  few-flats : length (flats_of table records) < 2 ^ 32
+  few-flats = let n = follow-few 0 table.end (flats_of table records) whole-is.follow in let small = b.small in let wide : 16777216 < 2 ^ 32 = lit≤ tt in omega (arith, n, small, wide)
+    where
+      follow-few : (first end : ℕ) (xs : List Segment) → Follow first end xs → length xs + first ≤ end
+      follow-few first end [] h = omega (arith, h)
+      follow-few first end (s ∷ more) h = let r = follow-few (s.high + 1) end more h.2 in let o = h.1 in omega (arith, r, o)
 
-segments-in : (whole : List Segment) (k j : ℕ) (levels : List PlainLevel) → AreLevelsAbove whole k levels → j < length levels → segments_at levels j ≡ level_segments whole (suc (k + j))
-segments-in whole k j [] h lt = absurd (omega (arith, lt))
-segments-in whole k zero (l ∷ more) h lt = h.0.segments ∙ ap (λ n. level_segments whole (suc n)) (let z : k ≡ k + 0 = omega arith in z)
-segments-in whole k (suc j) (l ∷ more) h lt = segments-in whole (suc k) j more h.1 (Rattle.std.proofs.Common.le_of_suc-le-suc lt) ∙ ap (λ n. level_segments whole (suc n)) (let z : suc k + j ≡ k + suc j = omega arith in z)
+  pub together-lawful : are_levels (view_flats v) (master_count v) levels.levels ≡ true
+  together-lawful = are-lawful (flats_of table records) (view_flats v) table.end (master_count v) whole-is b.small few-flats part-parents part-held levels.levels b.levels_of.levels
 
-segments-out : (levels : List PlainLevel) (j : ℕ) → length levels ≤ j → segments_at levels j ≡ []
-segments-out [] j le = refl
-segments-out (l ∷ more) zero le = absurd (omega (arith, le))
-segments-out (l ∷ more) (suc j) le = segments-out more j (Rattle.std.proofs.Common.le_of_suc-le-suc le)
+  pub together-endings : (j id : ℕ) → high_ending (master_count v) levels.levels (suc j) id ≡ level_ending (flats_of table records) (master_count v) (suc j) id
+  together-endings j id = same-endings (flats_of table records) table.end (master_count v) levels.levels j id whole-is b.small few-flats b.levels_of.levels
 
--- what ends in the levels that are kept is what ends in those of the flat segments
-pub same-endings : (whole : List Segment) (count : ℕ) (levels : List PlainLevel) (j id : ℕ) → AreLevelsAbove whole 0 levels → high_ending count levels j id ≡ level_ending whole count (suc j) id
-same-endings whole count levels j id h =
-    let n = above-count whole 0 levels h in
-    ⊎_elim
-    (λ (few : suc j ≤ 7).
-    let segs = segments-in whole 0 j levels h (omega (arith, few, n)) ∙ ap (λ k. level_segments whole (suc k)) (let z : 0 + j ≡ j = omega arith in z) in
-    ap (λ z. cond (nat_lt id count) (if_ends id (segment_at z id)) None) segs
-    ∙ ap (λ b. cond b (if_ends id (segment_at (level_segments whole (suc j)) id)) None) (sym (and-true (nat_lt id count) (nat_le (suc j) top_level) (le-leb (suc j) 7 few))))
-    (λ (out : 7 < suc j).
-    ap (λ z. cond (nat_lt id count) (if_ends id (segment_at z id)) None) (segments-out levels j (omega (arith, out, n)))
-    ∙ none (nat_lt id count)
-    ∙ ap (λ b. cond b (if_ends id (segment_at (level_segments whole (suc j)) id)) None) (sym (and-false (nat_lt id count) (nat_le (suc j) top_level) (lt-leb (suc j) 7 out))))
-    (Rattle.segment_codec.proofs.Tables.le_or_lt (suc j) 7)
+-- ---- a look-up
+
+pub ending-number : (flats : List Segment) (count : ℕ) (levels : List PlainGroups) (level id : ℕ) → 1 ≤ level → ending_in flats count levels level id ≡ high_ending count levels level id
+ending-number flats count levels zero id le = absurd (omega (arith, le))
+ending-number flats count levels (suc k) id le = refl
+
+-- past the count, or above the last level
+pub no-ending : (flats : List Segment) (count : ℕ) (levels : List PlainGroups) (level id : ℕ) → 1 ≤ level → (count ≤ id) ⊎ (length levels < level) → ending_in flats count levels level id ≡ None
+no-ending flats count levels level id some out =
+    ending-number flats count levels level id some
+    ∙ ⊎_elim
+    (λ (le : count ≤ id). ap (λ b. cond (b && nat_le level (length levels)) (at_level level (if_ends id (held_from None (take level levels) id))) None) (le-ltb id count le))
+    (λ (lt : length levels < level).
+    ap (λ b. cond b (at_level level (if_ends id (held_from None (take level levels) id))) None) (and-false (nat_lt id count) (nat_le level (length levels)) (lt-leb level (length levels) lt)))
+    out
   where
-    and-true : (a b : Bool) → b ≡ true → (a && b) ≡ a
-    and-true true b e = e
-    and-true false b e = refl
-
     and-false : (a b : Bool) → b ≡ false → (a && b) ≡ false
     and-false true b e = e
     and-false false b e = refl
 
-    none : (b : Bool) → cond b (if_ends id (segment_at [] id)) None ≡ None
-    none true = refl
-    none false = refl
+pub some-ending : (flats : List Segment) (count : ℕ) (levels : List PlainGroups) (level id : ℕ) → 1 ≤ level → id < count → level ≤ length levels
+    → ending_in flats count levels level id ≡ at_level level (if_ends id (held_from None (take level levels) id))
+some-ending flats count levels level id some lt le =
+    ending-number flats count levels level id some
+    ∙ ap (λ b. cond (b && nat_le level (length levels)) (at_level level (if_ends id (held_from None (take level levels) id))) None) (lt-ltb id count lt)
+    ∙ ap (λ b. cond b (at_level level (if_ends id (held_from None (take level levels) id))) None) (le-leb level (length levels) le)
 
--- ---- a look-up
+-- so many of the levels can be read
+pub front-readable : (n : ℕ) (levels : List PlainGroups) → AreReadable levels → AreReadable (take n levels)
+front-readable zero [] h = tt
+front-readable zero (l ∷ more) h = tt
+front-readable (suc n) [] h = tt
+front-readable (suc n) (l ∷ more) h = (h.0, front-readable n more h.1)
 
-high-is : (flats : List Segment) (count : ℕ) (levels : List PlainLevel) (level id : ℕ) → 1 ≤ level → ending_in flats count levels level id ≡ high_ending count levels (level - 1) id
-high-is flats count levels zero id le = absurd (omega (arith, le))
-high-is flats count levels (suc k) id le = ap (λ n. high_ending count levels n id) (let z : k ≡ suc k - 1 = omega arith in z)
-
-pub past-count : (flats : List Segment) (count : ℕ) (levels : List PlainLevel) (level id : ℕ) → 1 ≤ level → count ≤ id → ending_in flats count levels level id ≡ None
-past-count flats count levels level id some le =
-    high-is flats count levels level id some ∙ ap (λ b. cond b (if_ends id (segment_at (segments_at levels (level - 1)) id)) None) (le-ltb id count le)
-
-pub no-level : (flats : List Segment) (count : ℕ) (levels : List PlainLevel) (level id : ℕ) → 1 ≤ level → slice_get levels (level - 1) ≡ None → ending_in flats count levels level id ≡ None
-no-level flats count levels level id some none =
-    high-is flats count levels level id some ∙ ap (λ z. cond (nat_lt id count) (if_ends id (segment_at z id)) None) (out levels (level - 1) none) ∙ nothing (nat_lt id count)
-  where
-    out : (ls : List PlainLevel) (k : ℕ) → slice_get ls k ≡ None → segments_at ls k ≡ []
-    out [] k e = refl
-    out (l ∷ ls) zero e = absurd cc
-    out (l ∷ ls) (suc k) e = out ls k e
-
-    nothing : (b : Bool) → cond b (if_ends id (segment_at [] id)) None ≡ None
-    nothing true = refl
-    nothing false = refl
-
-pub at-level : (flats : List Segment) (count : ℕ) (levels : List PlainLevel) (level id : ℕ) (l : PlainLevel) → 1 ≤ level → id < count → slice_get levels (level - 1) ≡ Some l
-    → ending_in flats count levels level id ≡ if_ends id (segment_at (segments_in l) id)
-at-level flats count levels level id l some lt get =
-    high-is flats count levels level id some
-    ∙ ap (λ b. cond b (if_ends id (segment_at (segments_at levels (level - 1)) id)) None) (lt-ltb id count lt)
-    ∙ ap (λ z. if_ends id (segment_at z id)) (here levels (level - 1) get)
-  where
-    here : (ls : List PlainLevel) (k : ℕ) → slice_get ls k ≡ Some l → segments_at ls k ≡ segments_in l
-    here [] k e = absurd cc
-    here (x ∷ ls) zero e = ap segments_in (Rattle.segment_codec.proofs.Numbers.some_is x l e)
-    here (x ∷ ls) (suc k) e = here ls k e
-
-pub get-some : (ls : List PlainLevel) (k : ℕ) (l : PlainLevel) → k < length ls → l ≡ Rattle.std.proofs.Common.get_or ls k l → slice_get ls k ≡ Some l
-get-some [] k l lt e = absurd (omega (arith, lt))
-get-some (x ∷ ls) zero l lt e = ap (λ (z : PlainLevel). Some z) (sym e)
-get-some (x ∷ ls) (suc k) l lt e = get-some ls k l (Rattle.std.proofs.Common.le_of_suc-le-suc lt) e
-
-pub get-none : (ls : List PlainLevel) (k : ℕ) → (k < length ls → ⊥) → slice_get ls k ≡ None
-get-none [] k out = refl
-get-none (x ∷ ls) zero out = absurd (out (omega arith))
-get-none (x ∷ ls) (suc k) out = get-none ls k (λ lt. out (Rattle.std.proofs.Common.suc-le-suc lt))
+pub levels-readable : (flats : List Segment) (count : ℕ) (levels : List PlainGroups) → are_levels flats count levels ≡ true → AreReadable levels
+levels-readable flats count levels h = all-kept-means levels (and_true (list_all is_kept levels) _ h).0

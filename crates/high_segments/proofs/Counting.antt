@@ -2,38 +2,33 @@
 use Rattle.std.proofs.Common.{◌≡◌, ℕ, zero, suc, ◌+◌, ◌-◌, ◌<◌, ◌≤◌, ◌^◌, cond, List, [], ◌∷◌, ◌++◌, length, map, refl, sym, subst, ap, ◌∙◌, arith, append_assoc}
 use Rattle.std.specs.List.{range_with_len, AllByRecursion}
 use Rattle.std.proofs.lemmas.Bool.{lt-ltb, le-ltb}
-use Rattle.std.proofs.lemmas.List.{append-nil, length-append, length-take}
+use Rattle.std.proofs.lemmas.List.{append-nil, length-append}
 use Rattle.segment_codec.specs.Record.{Segment}
 use Rattle.segment_rules.specs.Levels.{level_segments}
-use Rattle.segment_levels.specs.Kept.{Kept, PlainLevel, AreLevelsAbove, AreLevelsOf}
+use Rattle.segment_levels.specs.Kept.{Kept, PlainGroups, AreLevelsAbove, AreLevelsOf}
 use Rattle.segment_rules.specs.Levels.{before_none, level_counts}
 use Rattle.segment_levels.specs.Counts.{kept_counts}
-use Rattle.segment_levels.proofs.Leveled.{groups-fewer}
-use Rattle.high_segments.proofs.Places.{segments-length}
+use Rattle.high_segments.proofs.Growth.{level-fewer}
 use Rattle.high_segments.proofs.Belonging.{above-count}
 
-abbrev pub lens : List PlainLevel → List ℕ
-lens levels = before_none (map (λ l. length l.entries) levels)
+abbrev pub lens : List PlainGroups → List ℕ
+lens levels = before_none (map (λ l. l.count) levels)
 
-level-fewer : (flats : List Segment) (k : ℕ) → length (level_segments flats k) ≤ length flats
-level-fewer flats zero = let t = length-take (length flats - 1) flats in omega (arith, t)
-level-fewer flats (suc k) = let a = groups-fewer (suc k) 0 (level_segments flats k) (omega arith) in let b = level-fewer flats k in omega (arith, a, b)
+abbrev pub AreFew : List PlainGroups → Type 0
+AreFew levels = AllByRecursion (λ l. l.count < 2 ^ 32) levels
 
-abbrev pub AreFew : List PlainLevel → Type 0
-AreFew levels = AllByRecursion (λ l. length l.entries < 2 ^ 32) levels
-
-all-few : (flats : List Segment) (k : ℕ) (levels : List PlainLevel) → length flats < 2 ^ 32 → AreLevelsAbove flats k levels → AreFew levels
+all-few : (flats : List Segment) (k : ℕ) (levels : List PlainGroups) → length flats < 2 ^ 32 → AreLevelsAbove flats k levels → AreFew levels
 all-few flats k [] lt h = tt
 all-few flats k (l ∷ more) lt h =
-    let a = segments-length l in let b = ap length h.0.segments in let c = level-fewer flats (suc k) in
-    (omega (arith, a, b, c, lt), all-few flats (suc k) more lt h.1)
+    let b = h.0.count in let c = level-fewer flats (suc k) in
+    (omega (arith, b, c, lt), all-few flats (suc k) more lt h.1)
 
-all-lengths : (flats : List Segment) (k : ℕ) (levels : List PlainLevel) → AreLevelsAbove flats k levels
-    → map (λ (l : PlainLevel). length l.entries) levels ≡ map (λ j. length (level_segments flats j)) (range_with_len (suc k) (length levels))
+all-lengths : (flats : List Segment) (k : ℕ) (levels : List PlainGroups) → AreLevelsAbove flats k levels
+    → map (λ (l : PlainGroups). l.count) levels ≡ map (λ j. length (level_segments flats j)) (range_with_len (suc k) (length levels))
 all-lengths flats k [] h = refl
 all-lengths flats k (l ∷ more) h =
     let one : suc k + 1 ≡ suc (suc k) = omega arith in
-    ap (λ n. n ∷ map (λ (l : PlainLevel). length l.entries) more) (sym (segments-length l) ∙ ap length h.0.segments)
+    ap (λ n. n ∷ map (λ (l : PlainGroups). l.count) more) h.0.count
     ∙ ap (λ z. length (level_segments flats (suc k)) ∷ z) (all-lengths flats (suc k) more h.1 ∙ ap (λ n. map (λ j. length (level_segments flats j)) (range_with_len n (length more))) (sym one))
 
 pub counts-are : (kept : Kept) (flats : List Segment) → AreLevelsOf kept flats → kept_counts kept ≡ level_counts flats
@@ -43,10 +38,10 @@ counts-are kept flats h =
     ap (λ k. k ∷ lens kept.levels) h.count
     ∙ ap (λ z. length flats ∷ before_none z) (all-lengths flats 0 kept.levels h.levels ∙ ap (λ k. map (λ j. length (level_segments flats j)) (range_with_len 1 k)) seven)
 
-pub record Counting (kept : Kept) (counts : List ℕ) (rest : List PlainLevel) : Type 0 where
+pub record Counting (kept : Kept) (counts : List ℕ) (rest : List PlainGroups) : Type 0 where
   pub goes : (flats : List Segment) → AreLevelsOf kept flats → (counts ++ lens rest ≡ kept_counts kept) × (length counts + length rest ≡ 8) × AreFew rest
 
-pub counting-none : (kept : Kept) (counts : List ℕ) (rest : List PlainLevel) → kept.flat_count < 2 ^ 32 → counts ≡ kept.flat_count ∷ [] → rest ≡ kept.levels → Counting kept counts rest
+pub counting-none : (kept : Kept) (counts : List ℕ) (rest : List PlainGroups) → kept.flat_count < 2 ^ 32 → counts ≡ kept.flat_count ∷ [] → rest ≡ kept.levels → Counting kept counts rest
 counting-none kept counts rest small c e = record {
   goes = λ flats h.
       let n = above-count flats 0 kept.levels h.levels in let len = ap length c in let more = ap length e in let is = h.count in (
@@ -56,16 +51,16 @@ counting-none kept counts rest small c e = record {
       );
 }
 
-module _ (kept : Kept) (counts : List ℕ) (rest : List PlainLevel) (l : PlainLevel) (others : List PlainLevel) (e : rest ≡ l ∷ others) (g : Counting kept counts rest) (count : ℕ) (is : length l.entries < 2 ^ 32 → count ≡ length l.entries) where
-  count-is : (flats : List Segment) → AreLevelsOf kept flats → count ≡ length l.entries
+module _ (kept : Kept) (counts : List ℕ) (rest : List PlainGroups) (l : PlainGroups) (others : List PlainGroups) (e : rest ≡ l ∷ others) (g : Counting kept counts rest) (count : ℕ) (is : l.count < 2 ^ 32 → count ≡ l.count) where
+  count-is : (flats : List Segment) → AreLevelsOf kept flats → count ≡ l.count
   count-is flats h = is (subst AreFew e (g.goes flats h).2).0
 
   -- a level without segments is the end
   pub counting-end : count ≡ 0 → (flats : List Segment) → AreLevelsOf kept flats → counts ≡ level_counts flats
   counting-end none flats h =
       let c = count-is flats h in
-      let zero-len : length l.entries ≤ 0 = omega (arith, c, none) in
-      sym (append-nil counts) ∙ ap (λ z. counts ++ z) (sym (ap lens e ∙ ap (λ b. cond b (length l.entries ∷ lens others) []) (le-ltb 0 (length l.entries) zero-len)))
+      let zero-len : l.count ≤ 0 = omega (arith, c, none) in
+      sym (append-nil counts) ∙ ap (λ z. counts ++ z) (sym (ap lens e ∙ ap (λ b. cond b (l.count ∷ lens others) []) (le-ltb 0 (l.count) zero-len)))
       ∙ (g.goes flats h).0 ∙ counts-are kept flats h
 
   pub counting-more : (new : List ℕ) → (count ≡ 0 → ⊥) → (length counts < 8 → new ≡ counts ++ count ∷ []) → Counting kept new others
@@ -75,10 +70,10 @@ module _ (kept : Kept) (counts : List ℕ) (rest : List PlainLevel) (l : PlainLe
         let room = (g.goes flats h).1 in let len = ap length e in
         let p = pushed (omega (arith, room, len)) in
         let plen = ap length p ∙ length-append counts (count ∷ []) in
-        let lt : 0 < length l.entries = not-zero (length l.entries) (λ z. some (c ∙ z)) in (
+        let lt : 0 < l.count = not-zero (l.count) (λ z. some (c ∙ z)) in (
           ap (λ z. z ++ lens others) p ∙ append_assoc counts (count ∷ []) (lens others)
               ∙ ap (λ n. counts ++ n ∷ lens others) c
-              ∙ ap (λ z. counts ++ z) (sym (ap lens e ∙ ap (λ b. cond b (length l.entries ∷ lens others) []) (lt-ltb 0 (length l.entries) lt)))
+              ∙ ap (λ z. counts ++ z) (sym (ap lens e ∙ ap (λ b. cond b (l.count ∷ lens others) []) (lt-ltb 0 (l.count) lt)))
               ∙ (g.goes flats h).0,
           omega (arith, room, len, plen),
           (subst AreFew e (g.goes flats h).2).1,
@@ -89,5 +84,5 @@ module _ (kept : Kept) (counts : List ℕ) (rest : List PlainLevel) (l : PlainLe
       not-zero zero h = absurd (h refl)
       not-zero (suc n) h = omega arith
 
-pub counting-all : (kept : Kept) (counts : List ℕ) (rest : List PlainLevel) → rest ≡ [] → Counting kept counts rest → (flats : List Segment) → AreLevelsOf kept flats → counts ≡ level_counts flats
+pub counting-all : (kept : Kept) (counts : List ℕ) (rest : List PlainGroups) → rest ≡ [] → Counting kept counts rest → (flats : List Segment) → AreLevelsOf kept flats → counts ≡ level_counts flats
 counting-all kept counts rest e g flats h = sym (append-nil counts) ∙ ap (λ z. counts ++ lens z) (sym e) ∙ (g.goes flats h).0 ∙ counts-are kept flats h

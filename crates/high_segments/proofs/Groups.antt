@@ -19,7 +19,7 @@ use Rattle.flat_segments.specs.Runs.{slice_in, is_read}
 use Rattle.flat_segments.proofs.Searching.{IsRead, read-means}
 use Rattle.segment_rules.specs.Levels.{merged, last_id, parents_below, ascending, groups, count_grouped, group_size, group_limit}
 use Rattle.segment_levels.specs.Kept.{PlainLevel, begun_in, segments_in}
-use Rattle.segment_levels.specs.Sound.{IsSound, HasFront}
+use Rattle.segment_levels.specs.Sound.{IsSound}
 use Rattle.high_segments.specs.Growing.{with_entry, with_group, AddsGroup, AddsGroups}
 use Rattle.segment_levels.proofs.Ascending.{all-from-in, ascending-in, kept-passes}
 use Rattle.segment_levels.proofs.Grouping.{first-group, groups-few, groups-many, groups-skip, count-few, count-many, count-skip, size-some, size-most}
@@ -41,7 +41,7 @@ slice-stays bytes more e le =
     let left = length-drop e.place bytes in
     ap (take e.len) (drop-append-le e.place bytes more (omega (arith, le))) ∙ take-append-le e.len (drop e.place bytes) more (omega (arith, left, le))
 
-read-stays : (bytes more : List ℕ) (e : PlainEntry) → IsRead bytes e → IsRead (bytes ++ more) e
+pub read-stays : (bytes more : List ℕ) (e : PlainEntry) → IsRead bytes e → IsRead (bytes ++ more) e
 read-stays bytes more e h =
     let le = h.within in let len = length-append bytes more in
     let same = slice-stays bytes more e le in
@@ -112,7 +112,7 @@ module _ (l : PlainLevel) (low end grouped : ℕ) (parents spelled : List ℕ) (
 
 -- ---- one group
 
-in-first : {X : Type 0} (xs : List X) (x : X) (more : List X) → xs ≡ x ∷ more → IsIn x xs
+pub in-first : {X : Type 0} (xs : List X) (x : X) (more : List X) → xs ≡ x ∷ more → IsIn x xs
 in-first xs x more e = subst (λ z. IsIn x z) (sym e) (Rattle.std.proofs.Common.inl refl)
 
 some-drop : (at : ℕ) (xs : List Segment) → at < length xs → (s : Segment) × (more : List Segment) × (drop at xs ≡ s ∷ more)
@@ -161,7 +161,7 @@ group-at below at room =
 pub add-group : (below : PlainLevel) (at size low last : ℕ) (parents : List ℕ) (q : Segment) (old new : PlainLevel) → at + 16 ≤ length below.entries
     → size ≡ group_size group_limit (drop at (segments_in below)) → low ≡ begin_of below.end (drop at (segments_in below))
     → parents ≡ ascending (parents_below low (take size (drop at (segments_in below)))) → slice_get (segments_in below) (at + size - 1) ≡ Some q → last ≡ q.high
-    → new ≡ with_group old parents (last + 1) size → AddsGroup below at old new size
+    → new ≡ with_group old parents (last + 1) size → AddsGroup below at old new size parents
 add-group below at size low last parents q old new room size-is low-is parents-is get last-is new-is =
     let g = group-at below at room in
     let some = g.some in
@@ -176,6 +176,7 @@ add-group below at size low last parents q old new room size-is low-is parents-i
       others = g.others;
       are = g.are;
       size_is = size-is ∙ ap (group_size group_limit) g.are;
+      parents_are = same;
       new_is = new-is ∙ ap (λ z. with_group old z (last + 1) size) same
           ∙ ap (λ n. with_group old (ascending (parents_below g.first.low (g.first ∷ take (size - 1) g.others))) (n + 1) size) (last-is ∙ high);
     }
@@ -191,7 +192,6 @@ pub record AddsSoFar (below : PlainLevel) (from at : ℕ) (old now : PlainLevel)
   pub grouped : now.grouped ≡ old.grouped + (at - from)
   pub counted : (at - from) + count_grouped 0 (drop at (segments_in below)) ≡ count_grouped 0 (drop from (segments_in below))
   pub read : list_all (is_read now.bytes) now.entries ≡ true
-  pub front : HasFront old now
 
 pub adds-none : (below : PlainLevel) (from : ℕ) (old : PlainLevel) → from ≤ length below.entries → old.end ≡ begin_of below.end (drop from (segments_in below))
     → list_all (is_read old.bytes) old.entries ≡ true → AddsSoFar below from from old old
@@ -206,7 +206,6 @@ adds-none below from old le end read =
       grouped = omega arith;
       counted = omega arith;
       read = read;
-      front = record { level = refl; entries = []; bytes = []; entries_are = sym (append-nil old.entries); bytes_are = sym (append-nil old.bytes) };
     }
 
 number-has : (low : ℕ) (ns : List ℕ) → low ≤ 2 ^ 56 → ((p : ℕ) → IsIn p ns → p < low) → AllByRecursion HasNumber ns
@@ -215,43 +214,43 @@ number-has low ns le h = let wide : 2 ^ 56 ≤ 2 ^ 64 = lit≤ tt in all-from-in
 drop-more : (at n : ℕ) (xs : List Segment) (s : Segment) (more : List Segment) → drop at xs ≡ s ∷ more → drop n more ≡ drop (at + suc n) xs
 drop-more at n xs s more e = ap (drop (suc n)) (sym e) ∙ drop-drop (suc n) at xs
 
-in-drop : {X : Type 0} (n : ℕ) (xs : List X) (x : X) → IsIn x (drop n xs) → IsIn x xs
+pub in-drop : {X : Type 0} (n : ℕ) (xs : List X) (x : X) → IsIn x (drop n xs) → IsIn x xs
 in-drop zero xs x i = i
 in-drop (suc n) [] x i = absurd i
 in-drop (suc n) (y ∷ ys) x i = Rattle.std.proofs.Common.inr (in-drop n ys x i)
 
-module _ (below : PlainLevel) (sound : IsSound below) (from at size : ℕ) (old now new : PlainLevel) (h : AddsSoFar below from at old now) (room : at + 16 ≤ length below.entries) (g : AddsGroup below at now new size) where
+module _ (below : PlainLevel) (sound : IsSound below) (from at size : ℕ) (old now new : PlainLevel) (h : AddsSoFar below from at old now) (room : at + 16 ≤ length below.entries) (parents : List ℕ) (g : AddsGroup below at now new size parents) where
   segs : List Segment
   segs = segments_in below
 
   len-is : length (segments_in below) ≡ length below.entries
   len-is = segments-length below
 
-  many : 15 ≤ length g.others
+  pub many : 15 ≤ length g.others
   many = let e = ap length g.are in let left = length-drop at (segments_in below) in let len = len-is in omega (arith, e, left, len, room)
 
   abbrev n : ℕ
   n = (first-group g.first g.others).others
 
-  few : (first-group g.first g.others).others ≤ 15
+  pub few : (first-group g.first g.others).others ≤ 15
   few = (first-group g.first g.others).few
 
-  size-suc : size ≡ suc (first-group g.first g.others).others
+  pub size-suc : size ≡ suc (first-group g.first g.others).others
   size-suc = g.size_is ∙ (first-group g.first g.others).size
 
-  size-less : size - 1 ≡ (first-group g.first g.others).others
+  pub size-less : size - 1 ≡ (first-group g.first g.others).others
   size-less = let e = size-suc in omega (arith, e)
 
-  next-drop : drop (first-group g.first g.others).others g.others ≡ drop (at + size) (segments_in below)
+  pub next-drop : drop (first-group g.first g.others).others g.others ≡ drop (at + size) (segments_in below)
   next-drop = drop-more at n (segments_in below) g.first g.others g.are ∙ ap (λ k. drop (at + k) (segments_in below)) (sym size-suc)
 
-  follow-here : Follow g.first.low below.end (g.first ∷ g.others)
+  pub follow-here : Follow g.first.low below.end (g.first ∷ g.others)
   follow-here =
       let le : at ≤ length (segments_in below) = (let len = len-is in omega (arith, len, room)) in
       let f = follow-drop sound.first below.end at (segments_in below) le sound.follow in
       subst (λ k. Follow k below.end (g.first ∷ g.others)) (ap (begin_of below.end) g.are) (subst (λ (z : List Segment). Follow (begin_of below.end (drop at (segments_in below))) below.end z) g.are f)
 
-  high-is : last_id g.first.high (take (first-group g.first g.others).others g.others) + 1 ≡ begin_of below.end (drop (at + size) (segments_in below))
+  pub high-is : last_id g.first.high (take (first-group g.first g.others).others g.others) + 1 ≡ begin_of below.end (drop (at + size) (segments_in below))
   high-is =
       let f = follow-here in
       let m = many in let few = few in
@@ -259,7 +258,7 @@ module _ (below : PlainLevel) (sound : IsSound below) (from at size : ℕ) (old 
       (f.0, f.1, follow-take (g.first.high + 1) below.end n g.others (omega (arith, m, few)) f.2)
       ∙ ap (begin_of below.end) next-drop
 
-  low-is : now.end ≡ g.first.low
+  pub low-is : now.end ≡ g.first.low
   low-is = h.end ∙ ap (begin_of below.end) g.are
 
   low-small : g.first.low ≤ 2 ^ 56
@@ -268,12 +267,12 @@ module _ (below : PlainLevel) (sound : IsSound below) (from at size : ℕ) (old 
       let w = follow-within sound.first below.end (segments_in below) sound.follow g.first i in
       let a = w.1 in let b = w.2 in let c = sound.small in omega (arith, a, b, c)
 
-  have : AllByRecursion HasNumber (merged now.level g.first (take (size - 1) g.others)).parents
+  pub have : AllByRecursion HasNumber (merged now.level g.first (take (size - 1) g.others)).parents
   have =
       number-has g.first.low (ascending (parents_below g.first.low (g.first ∷ take (size - 1) g.others))) low-small
       (λ p i. ltb-true p g.first.low (kept-passes (λ q. nat_lt q g.first.low) (flat_map (λ (s : Segment). s.parents) (g.first ∷ take (size - 1) g.others)) p (ascending-in (parents_below g.first.low (g.first ∷ take (size - 1) g.others)) p i)))
 
-  new-segments : segments_in new ≡ segments_in now ++ merged old.level g.first (take (first-group g.first g.others).others g.others) ∷ []
+  pub new-segments : segments_in new ≡ segments_in now ++ merged old.level g.first (take (first-group g.first g.others).others g.others) ∷ []
   new-segments =
       let m = merged now.level g.first (take (size - 1) g.others) in
       let one : m.high + 1 - 1 ≡ m.high = omega arith in
@@ -316,15 +315,6 @@ module _ (below : PlainLevel) (sound : IsSound below) (from at size : ℕ) (old 
         counted = (let a = counted-here in let b = h.counted in omega (arith, a, b, order));
         read = ap (λ (l : PlainLevel). list_all (is_read l.bytes) l.entries) g.new_is
             ∙ entry-read now now.end (m.high + 1) (now.grouped + size) m.parents (flat_map number_bytes m.parents) refl have h.read;
-        front = record {
-          level = ap (λ (l : PlainLevel). l.level) g.new_is ∙ h.level;
-          entries = h.front.entries ++ record { place = length now.bytes; len = length (flat_map number_bytes m.parents); low = now.end } ∷ [];
-          bytes = h.front.bytes ++ flat_map number_bytes m.parents;
-          entries_are = ap (λ (l : PlainLevel). l.entries) g.new_is ∙ ap (λ z. z ++ record { place = length now.bytes; len = length (flat_map number_bytes m.parents); low = now.end } ∷ []) h.front.entries_are
-              ∙ append_assoc old.entries h.front.entries (record { place = length now.bytes; len = length (flat_map number_bytes m.parents); low = now.end } ∷ []);
-          bytes_are = ap (λ (l : PlainLevel). l.bytes) g.new_is ∙ ap (λ z. z ++ flat_map number_bytes m.parents) h.front.bytes_are
-              ∙ append_assoc old.bytes h.front.bytes (flat_map number_bytes m.parents);
-        };
       }
 
 groups-end-few : (level : ℕ) (xs : List Segment) → length xs < 16 → (groups level 0 xs ≡ []) × (count_grouped 0 xs ≡ 0)
@@ -346,7 +336,7 @@ adds-all below from at old now h lt =
       read = h.read;
     }
 
-pub adds-size : (below : PlainLevel) (at size : ℕ) (old new : PlainLevel) → AddsGroup below at old new size → (1 ≤ size) × (size ≤ 16)
-adds-size below at size old new g =
+pub adds-size : (below : PlainLevel) (at size : ℕ) (old new : PlainLevel) (parents : List ℕ) → AddsGroup below at old new size parents → (1 ≤ size) × (size ≤ 16)
+adds-size below at size old new parents g =
     let is = g.size_is in let suc-is = (first-group g.first g.others).size in let few = (first-group g.first g.others).few in
     (omega (arith, is, suc-is), omega (arith, is, suc-is, few))

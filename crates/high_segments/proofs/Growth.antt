@@ -1,137 +1,195 @@
 -- Levels that are brought from those of some flat segments to those of more.
-use Rattle.std.proofs.Common.{◌≡◌, ℕ, suc, ◌+◌, ◌-◌, ◌<◌, ◌≤◌, ◌^◌, true, List, ◌∷◌, ◌++◌, length, drop, sym, subst, ap, ◌∙◌, arith, lit≤}
+use Rattle.std.proofs.Common.{◌≡◌, ℕ, zero, suc, ◌+◌, ◌-◌, ◌<◌, ◌≤◌, ◌^◌, ◌⊎◌, inl, inr, true, List, [], ◌∷◌, ◌++◌, length, take, drop, Option, Some, None, refl, sym, subst, ap, ◌∙◌, arith, lit≤, ⊎_elim}
+use Rattle.std.specs.Prelude.{filter, flat_map, nat_lt}
 use Rattle.std.specs.List.{list_all, AllByRecursion}
-use Rattle.std.proofs.lemmas.List.{length-append, length-drop, drop-drop}
+use Rattle.std.proofs.lemmas.Bool.{lt-ltb}
+use Rattle.std.proofs.lemmas.List.{length-append, length-drop, length-take, take-append-le, drop-append-le, take-append-drop, append-nil}
+use Rattle.id_groups.specs.Lists.{IsIn}
 use Rattle.segment_codec.specs.Record.{Segment}
-use Rattle.segment_codec.specs.Table.{Follow}
+use Rattle.segment_codec.specs.Table.{Follow, segment_at}
+use Rattle.segment_codec.proofs.Tables.{follow-within}
 use Rattle.flat_segments.specs.Maximal.{begin_of}
 use Rattle.flat_segments.specs.Runs.{is_read}
-use Rattle.segment_rules.specs.Levels.{groups, count_grouped, level_segments}
-use Rattle.segment_levels.specs.Kept.{PlainLevel, segments_in, IsLevelOf, AreLevelsAbove}
+use Rattle.segment_rules.specs.Levels.{merged, groups, count_grouped, level_segments, parents_below, ascending}
+use Rattle.segment_levels.specs.Kept.{PlainLevel, PlainGroups, segments_in, groups_in, IsAlone, IsLevelOf}
 use Rattle.segment_levels.specs.Sound.{IsSound}
-use Rattle.high_segments.specs.Growing.{AddsGroups, MayGrow}
-use Rattle.segment_levels.proofs.Ascending.{all-from-in}
+use Rattle.high_segments.specs.Growing.{AddsGroups, AreBelow, KeepsRun, IsLeft, MayBecome}
+use Rattle.segment_levels.proofs.Ascending.{Ascend, all-from-in, ascend-same, ascending-ascends, ascending-in, in-ascending, in-kept, kept-in, in-either, in-left}
 use Rattle.segment_levels.proofs.Grouping.{count-most}
 use Rattle.segment_levels.proofs.Heading.{follow-drop, in-drop}
-use Rattle.segment_levels.proofs.Leveled.{one-end, leveled, level-more, count-more, next-begin, level-grows, groups-fewer, groups-end}
+use Rattle.segment_levels.proofs.Leveled.{IsHigh, one-end, leveled, level-high, level-more, count-more, next-begin, level-grows, groups-fewer, groups-end}
 use Rattle.high_segments.proofs.Places.{segments-length}
+use Rattle.high_segments.proofs.Holding.{each-stays}
 
-module _ (old new : List Segment) (below : PlainLevel) (skipped : ℕ) (level : PlainLevel) (others : List PlainLevel) (h : MayGrow old new below skipped (level ∷ others)) where
-  j : ℕ
-  j = below.level
+pub level-fewer : (flats : List Segment) (k : ℕ) → length (level_segments flats k) ≤ length flats
+level-fewer flats zero = let t = length-take (length flats - 1) flats in omega (arith, t)
+level-fewer flats (suc k) = let a = groups-fewer (suc k) 0 (level_segments flats k) (omega arith) in let b = level-fewer flats k in omega (arith, a, b)
 
-  is : IsLevelOf old below.level level
-  is = h.above.0
+-- a segment of a level above 0 is its own group of one
+merged-alone : (flats : List Segment) (end level n : ℕ) (s : Segment) → IsHigh flats end level s → merged n s [] ≡ record s { level = n }
+merged-alone flats end level n s h =
+    let below = parents_below s.low (s ∷ []) in
+    let same : ascending below ≡ s.parents =
+    ascend-same 0 (ascending below) s.parents (ascending-ascends below) h.ascend
+    (λ p i. from p (kept-in (λ q. nat_lt q s.low) (s.parents ++ []) p (ascending-in below p i)))
+    (λ p i. in-ascending below p (in-kept (λ q. nat_lt q s.low) (s.parents ++ []) p (lt-ltb p s.low (h.good.below p i)) (in-left p s.parents [] i))) in
+    ap (λ z. (let q : Segment = record { low = s.low; high = s.high; level = n; parents = z } in q)) same
+  where
+    from : (p : ℕ) → IsIn p (s.parents ++ []) → IsIn p s.parents
+    from p i = subst (λ z. IsIn p z) (append-nil s.parents) i
 
-  xs-length : count_grouped 0 (level_segments old below.level) ≤ length (level_segments new below.level)
-  xs-length =
-      let g = level-grows old new h.grows below.level in
-      let a = (count-most 0 (level_segments old below.level) (omega arith)).1 in
-      let e = ap length g.1 ∙ length-append (level_segments old below.level) g.0 in omega (arith, a, e)
+module _ (old new : List Segment) (m : MayBecome old new) (j : ℕ) (below : PlainLevel) (left : IsLeft old new j below) (l : PlainGroups) (is : IsLevelOf old j l) where
+  -- how many segments below are in groups already
+  abbrev c : ℕ
+  c = count_grouped 0 (level_segments old j)
 
-  -- the level begins to grow behind what is skipped
-  pub from-is : skipped ≤ level.grouped
-  from-is = let e = (h.above.0).grouped in let s = h.skip in omega (arith, e, s)
+  c-most : count_grouped 0 (level_segments old j) ≤ length (level_segments new j)
+  c-most =
+      let g = level-grows old new m.grows j in
+      let a = (count-most 0 (level_segments old j) (omega arith)).1 in
+      let e = ap length g.1 ∙ length-append (level_segments old j) g.0 in omega (arith, a, e)
 
-  drops : drop (level.grouped - skipped) (segments_in below) ≡ drop (count_grouped 0 (level_segments old below.level)) (level_segments new below.level)
-  drops =
-      let e = (h.above.0).grouped in let s = h.skip in
-      let sum : skipped + (level.grouped - skipped) ≡ count_grouped 0 (level_segments old below.level) = omega (arith, e, s) in
-      ap (drop (level.grouped - skipped)) h.segments ∙ drop-drop (level.grouped - skipped) skipped (level_segments new below.level) ∙ ap (λ n. drop n (level_segments new below.level)) sum
-
-  below-length : length below.entries + skipped ≡ length (level_segments new below.level)
+  below-length : length below.entries + count_grouped 0 (level_segments old j) ≡ length (level_segments new j)
   below-length =
-      let a = segments-length below in let b = ap length h.segments in let c = length-drop skipped (level_segments new below.level) in
-      let s = h.skip in let x = xs-length in omega (arith, a, b, c, s, x)
+      let a = segments-length below in let b = ap length left.segments in let d = length-drop c (level_segments new j) in
+      let x = c-most in omega (arith, a, b, d, x)
 
   pub sound : IsSound below
   sound =
-      let le : skipped ≤ length (level_segments new below.level) = (let s = h.skip in let x = xs-length in omega (arith, s, x)) in
-      let at = leveled new h.new_end h.new_whole below.level in
-      let within = at.within in let small = h.small in let wide : 16777216 ≤ 2 ^ 56 = lit≤ tt in
-      let same = one-end 0 below.end at.last (level_segments new below.level) h.follow at.follow in
+      let le = c-most in
+      let at = leveled new m.new_end m.new_whole j in
+      let within = at.within in let small = m.small in let wide : 16777216 ≤ 2 ^ 56 = lit≤ tt in
+      let same = one-end 0 below.end at.last (level_segments new j) left.follow at.follow in
       record {
-        read = h.read;
-        first = begin_of below.end (drop skipped (level_segments new below.level));
-        follow = subst (λ (z : List Segment). Follow (begin_of below.end (drop skipped (level_segments new below.level))) below.end z) (sym h.segments) (follow-drop 0 below.end skipped (level_segments new below.level) le h.follow);
-        below = subst (AllByRecursion (λ s. AllByRecursion (λ p. p < s.low) s.parents)) (sym h.segments)
-            (all-from-in (λ s. AllByRecursion (λ p. p < s.low) s.parents) (drop skipped (level_segments new below.level))
-            (λ s i. all-from-in (λ p. p < s.low) s.parents (at.good s (in-drop skipped (level_segments new below.level) s i)).below));
+        read = left.read;
+        first = begin_of below.end (drop c (level_segments new j));
+        follow = subst (λ (z : List Segment). Follow (begin_of below.end (drop c (level_segments new j))) below.end z) (sym left.segments) (follow-drop 0 below.end c (level_segments new j) le left.follow);
+        below = subst (AllByRecursion (λ s. AllByRecursion (λ p. p < s.low) s.parents)) (sym left.segments)
+            (all-from-in (λ s. AllByRecursion (λ p. p < s.low) s.parents) (drop c (level_segments new j))
+            (λ s i. all-from-in (λ p. p < s.low) s.parents (at.good s (in-drop c (level_segments new j) s i)).below));
         small = omega (arith, same, within, small, wide);
       }
 
-  pub room : level.grouped - skipped ≤ length below.entries
-  room = let e = (h.above.0).grouped in let x = xs-length in let l = below-length in omega (arith, e, x, l)
-
-  pub begins : level.end ≡ begin_of below.end (drop (level.grouped - skipped) (segments_in below))
+  pub begins : l.end ≡ begin_of below.end (segments_in below)
   begins =
-      next-begin old new h.new_end h.grows h.old_end h.old_whole h.new_whole below.level level.end
-      (subst (λ (z : List Segment). Follow 0 level.end z) (h.above.0).segments (h.above.0).follow) below.end h.follow
-      ∙ ap (begin_of below.end) (sym drops)
+      next-begin old new m.new_end m.grows m.old_end m.old_whole m.new_whole j l.end is.follow below.end left.follow
+      ∙ ap (begin_of below.end) (sym left.segments)
 
-  pub counted : level.grouped + length below.entries < 2 ^ 64 + (level.grouped - skipped)
-  counted = let f = h.few in let l = below-length in let s = from-is in omega (arith, f, l, s)
+  pub counted : l.grouped + length below.entries < 2 ^ 64
+  counted =
+      let f = m.few in let a = level-fewer new j in let b = below-length in let d = is.grouped in
+      let wide : 2 ^ 32 ≤ 2 ^ 64 = lit≤ tt in omega (arith, f, a, b, d, wide)
 
-  pub level-read : list_all (is_read level.bytes) level.entries ≡ true
-  level-read = (h.above.0).read
+  pub are-below : AreBelow (suc j) (segments_in below) (level_segments new j)
+  are-below = record { each = λ high s i. go j high s (in-drop c (level_segments new j) s (subst (λ z. IsIn s z) left.segments i)) }
+    where
+      go : (k : ℕ) → 2 ≤ suc k → (s : Segment) → IsIn s (level_segments new k) → IsIn s (level_segments new k) × (merged (suc k) s [] ≡ record s { level = suc k })
+      go zero high s i = absurd (omega (arith, high))
+      go (suc k) high s i = (i, merged-alone new m.new_end (suc k) (suc (suc k)) s (level-high new m.new_end m.new_whole k s i))
 
-  module _ (now : PlainLevel) (adds : AddsGroups below (level.grouped - skipped) level now) where
-    number : now.level ≡ suc below.level
-    number = adds.level ∙ (h.above.0).number
+  -- the row that begins with what is left of the level as it was
+  module _ (first : PlainLevel) (from : ℕ) (within : from ≤ length (level_segments old (suc j))) (segments : segments_in first ≡ drop from (level_segments old (suc j)))
+      (level : first.level ≡ l.level) (end : first.end ≡ l.end) (grouped : first.grouped ≡ l.grouped) where
+    number : first.level ≡ suc j
+    number = level ∙ is.number
 
-    segments-are : segments_in now ≡ level_segments new (suc below.level)
-    segments-are =
-        adds.segments ∙ ap (λ z. z ++ groups level.level 0 (drop (level.grouped - skipped) (segments_in below))) (h.above.0).segments
-        ∙ ap (λ n. level_segments old (suc below.level) ++ groups n 0 (drop (level.grouped - skipped) (segments_in below))) (h.above.0).number
-        ∙ ap (λ z. level_segments old (suc below.level) ++ groups (suc below.level) 0 z) drops
-        ∙ sym (level-more old new h.grows below.level)
+    parts : take from (level_segments old (suc j)) ++ segments_in first ≡ level_segments old (suc j)
+    parts = ap (λ z. take from (level_segments old (suc j)) ++ z) segments ∙ take-append-drop from (level_segments old (suc j))
 
-    counted-now : now.grouped ≡ count_grouped 0 (level_segments new below.level)
-    counted-now =
-        let a = adds.grouped in let b = ap (count_grouped 0) drops in let c = count-more old new h.grows below.level in let d = (h.above.0).grouped in
-        omega (arith, a, b, c, d)
+    pub keeps-first : KeepsRun (take from (level_segments old (suc j))) (level_segments new j) first l
+    keeps-first =
+        let n = is.number in
+        record {
+          level = sym level;
+          some = omega (arith, n);
+          end = sym end;
+          grouped = sym grouped;
+          read = is.read;
+          rise = is.rise;
+          kept = λ s i. subst (λ z. IsIn s z) (sym parts) (is.kept s i);
+          each = λ s i. each-stays old new m.grows j l is s (subst (λ z. IsIn s z) parts i);
+        }
 
-    end-is : now.end ≡ begin_of below.end (drop (count_grouped 0 (level_segments new below.level)) (level_segments new below.level))
-    end-is =
-        let a = ap (count_grouped 0) drops in let c = count-more old new h.grows below.level in let d = (h.above.0).grouped in let s = from-is in
-        let n = level.grouped - skipped + count_grouped 0 (drop (level.grouped - skipped) (segments_in below)) in
-        let sum : skipped + (level.grouped - skipped + count_grouped 0 (drop (level.grouped - skipped) (segments_in below))) ≡ count_grouped 0 (level_segments new below.level) = omega (arith, a, c, d, s) in
-        adds.end
-        ∙ ap (λ z. begin_of below.end (drop n z)) h.segments
-        ∙ ap (begin_of below.end) (drop-drop n skipped (level_segments new below.level) ∙ ap (λ k. drop k (level_segments new below.level)) sum)
+    module _ (run : PlainLevel) (adds : AddsGroups below 0 first run) where
+      run-number : run.level ≡ suc j
+      run-number = adds.level ∙ number
 
-    pub follow-now : Follow 0 now.end (level_segments new (suc below.level))
-    follow-now =
-        let at = leveled new h.new_end h.new_whole below.level in
-        let g = groups-end new 0 below.end (suc below.level) (level_segments new below.level) h.follow at.good in
-        subst (λ (n : ℕ). Follow 0 n (level_segments new (suc below.level))) (sym end-is) g.follow
+      added : groups first.level 0 (segments_in below) ≡ groups (suc j) 0 (drop c (level_segments new j))
+      added = ap (λ n. groups n 0 (segments_in below)) number ∙ ap (groups (suc j) 0) left.segments
 
-    pub is-level : IsLevelOf new below.level now
-    is-level = record {
-      number = number;
-      segments = segments-are;
-      follow = subst (λ (z : List Segment). Follow 0 now.end z) (sym segments-are) follow-now;
-      grouped = counted-now;
-      read = adds.read;
-    }
+      new-is : level_segments new (suc j) ≡ level_segments old (suc j) ++ groups (suc j) 0 (drop c (level_segments new j))
+      new-is = level-more old new m.grows j
 
-    -- the levels above it may grow
-    pub may-grow : MayGrow old new now 0 others
-    may-grow = record {
-      old_end = h.old_end;
-      new_end = h.new_end;
-      old_whole = h.old_whole;
-      new_whole = h.new_whole;
-      grows = h.grows;
-      small = h.small;
-      above = subst (λ (n : ℕ). AreLevelsAbove old n others) (sym number) h.above.1;
-      segments = segments-are ∙ ap (level_segments new) (sym number);
-      follow = subst (λ (n : ℕ). Follow 0 now.end (level_segments new n)) (sym number) follow-now;
-      read = adds.read;
-      skip = omega arith;
-      few = subst (λ (n : ℕ). length (level_segments new n) < 2 ^ 64) (sym number)
-          (let a = groups-fewer (suc below.level) 0 (level_segments new below.level) (omega arith) in let b = h.few in omega (arith, a, b));
-    }
+      pub run-segments : segments_in run ≡ drop from (level_segments new (suc j))
+      run-segments =
+          adds.segments ∙ ap (λ z. z ++ groups first.level 0 (segments_in below)) segments ∙ ap (λ z. drop from (level_segments old (suc j)) ++ z) added
+          ∙ sym (ap (drop from) new-is ∙ drop-append-le from (level_segments old (suc j)) (groups (suc j) 0 (drop c (level_segments new j))) within)
 
-    pub all-levels : (others' : List PlainLevel) → AreLevelsAbove new now.level others' → AreLevelsAbove new below.level (now ∷ others')
-    all-levels others' a = (is-level, subst (λ (n : ℕ). AreLevelsAbove new n others') number a)
+      counted-now : run.grouped ≡ count_grouped 0 (level_segments new j)
+      counted-now =
+          let a = adds.grouped in let b = ap (count_grouped 0) left.segments in let d = count-more old new m.grows j in let e = is.grouped in
+          let f = grouped in omega (arith, a, b, d, e, f)
+
+      end-is : run.end ≡ begin_of below.end (drop (count_grouped 0 (level_segments new j)) (level_segments new j))
+      end-is =
+          let b = ap (count_grouped 0) left.segments in let d = count-more old new m.grows j in
+          let sum : c + (0 + count_grouped 0 (segments_in below)) ≡ count_grouped 0 (level_segments new j) = omega (arith, b, d) in
+          let n = 0 + count_grouped 0 (segments_in below) in
+          adds.end ∙ ap (λ z. begin_of below.end (drop n z)) left.segments
+          ∙ ap (begin_of below.end) (Rattle.std.proofs.lemmas.List.drop-drop n c (level_segments new j) ∙ ap (λ k. drop k (level_segments new j)) sum)
+
+      pub follow-now : Follow 0 run.end (level_segments new (suc j))
+      follow-now =
+          let at = leveled new m.new_end m.new_whole j in
+          let g = groups-end new 0 below.end (suc j) (level_segments new j) left.follow at.good in
+          subst (λ (n : ℕ). Follow 0 n (level_segments new (suc j))) (sym end-is) g.follow
+
+      new-parts : take from (level_segments old (suc j)) ++ segments_in run ≡ level_segments new (suc j)
+      new-parts =
+          ap (λ z. take from (level_segments old (suc j)) ++ z) run-segments
+          ∙ ap (λ z. z ++ drop from (level_segments new (suc j)))
+          (sym (ap (take from) new-is ∙ take-append-le from (level_segments old (suc j)) (groups (suc j) 0 (drop c (level_segments new j))) within))
+          ∙ take-append-drop from (level_segments new (suc j))
+
+      -- how many segments the level has more
+      pub more-are : l.count + (length run.entries - length first.entries) ≡ length (level_segments new (suc j))
+      more-are =
+          let a = segments-length run in let b = segments-length first in let d = ap length segments in let e = ap length run-segments in
+          let f = length-drop from (level_segments old (suc j)) in let g = length-drop from (level_segments new (suc j)) in
+          let h = ap length new-is ∙ length-append (level_segments old (suc j)) (groups (suc j) 0 (drop c (level_segments new j))) in
+          let n = is.count in let w = within in omega (arith, a, b, d, e, f, g, h, n, w)
+
+      pub longer : length first.entries ≤ length run.entries
+      longer =
+          let a = segments-length run in let b = segments-length first in
+          let e = ap length adds.segments ∙ length-append (segments_in first) (groups first.level 0 (segments_in below)) in omega (arith, a, b, e)
+
+      pub few-more : l.count + (length run.entries - length first.entries) < 2 ^ 64
+      few-more =
+          let a = more-are in let b = level-fewer new (suc j) in let f = m.few in let wide : 2 ^ 32 ≤ 2 ^ 64 = lit≤ tt in omega (arith, a, b, f, wide)
+
+      -- the level as it is now
+      pub level-now : (kept : PlainGroups) → KeepsRun (take from (level_segments old (suc j))) (level_segments new j) run kept → kept.count ≡ l.count
+          → IsLevelOf new j (record kept { count = kept.count + (length run.entries - length first.entries) })
+      level-now kept k count =
+          let n = k.level ∙ run-number in
+          let same : kept.level - 1 ≡ j = omega (arith, n) in
+          record {
+            number = n;
+            follow = subst (λ (e : ℕ). Follow 0 e (level_segments new (suc j))) (sym k.end) follow-now;
+            count = ap (λ n. n + (length run.entries - length first.entries)) count ∙ more-are;
+            grouped = k.grouped ∙ counted-now;
+            read = k.read;
+            rise = k.rise;
+            kept = λ s i. subst (λ z. IsIn s z) new-parts (k.kept s i);
+            each = λ s i. subst (λ n. IsIn s (groups_in kept) ⊎ IsAlone (level_segments new j) n s) same (k.each s (subst (λ z. IsIn s z) (sym new-parts) i));
+          }
+
+      -- what is left of it for the next one
+      pub left-now : from ≡ count_grouped 0 (level_segments old (suc j)) → IsLeft old new (suc j) run
+      left-now e = record {
+        number = run-number;
+        segments = run-segments ∙ ap (λ n. drop n (level_segments new (suc j))) e;
+        follow = follow-now;
+        read = adds.read;
+      }

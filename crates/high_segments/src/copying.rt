@@ -2,14 +2,14 @@
 
 ghost use Rattle.std.specs.Prelude.{◌≡◌, length, OnOk};
 
-use crate::level::Level;
+use crate::kept::KeptLevel;
 use std::alloc::{AllocError, Global};
 
 /// Copies each level over the one at its place. There are as many.
 pub(crate) fn copy_all(
     alloc: Global,
-    levels: &[Level],
-    copies: &mut [Level],
+    levels: &[KeptLevel],
+    copies: &mut [KeptLevel],
 ) -> Result<(), AllocError>
     requires { length copies.old ≡ length levels.now }
     ensures { OnOk result (copies.new ≡ levels.now) }

@@ -5,7 +5,7 @@ ghost use Rattle.segment_codec.specs.Record.{Segment};
 ghost use Rattle.segment_levels.specs.Kept.{AreLevelsOf};
 ghost use Rattle.segment_rules.specs.Levels.{level_counts};
 
-use crate::level::Level;
+use crate::kept::KeptLevel;
 use crate::levels::Levels;
 use std::marker::Model;
 
@@ -63,12 +63,12 @@ impl LevelCounts {
 }
 
 /// How many segments the level has, where so many can be counted.
-fn count_of(level: &Level) -> u32
-    ensures { length level.now.entries < 2 ^ 32 → result ≡ length level.now.entries }
+fn count_of(level: &KeptLevel) -> u32
+    ensures { level.now.count < 2 ^ 32 → result ≡ level.now.count }
 {
-    let len = level.len();
-    if len < 1 << 32 {
-        return len as u32;
+    let count = level.count();
+    if count < 1 << 32 {
+        return count as u32;
     }
     0
 }

@@ -1,5 +1,5 @@
 -- The segments that end at an id, in a table with levels.
-use Rattle.std.specs.Prelude.{◌≡◌, ◌≤◌, ℕ, zero, suc, List, [], ◌∷◌, Option, None, nat_lt, nat_le, if◌then◌else◌, ◌&&◌}
+use Rattle.std.specs.Prelude.{◌≡◌, ◌≤◌, ℕ, zero, suc, List, [], ◌∷◌, length, take, Option, Some, None, nat_lt, nat_le, if◌then◌else◌, ◌&&◌}
 use Rattle.segment_codec.specs.Record.{Segment}
 use Rattle.segment_codec.specs.Table.{segment_at}
 use Rattle.segment_codec.specs.Flat.{if_ends, flat_ending}
@@ -9,23 +9,38 @@ use Rattle.flat_segments.specs.Placed.{Placed}
 use Rattle.flat_segments.specs.Views.{master_flats, master_count}
 use Rattle.flat_segments.specs.declared.view.FlatView.{FlatView}
 use Rattle.segment_rules.specs.Levels.{level_segments, top_level}
-use Rattle.segment_levels.specs.Kept.{Kept, PlainLevel, segments_in, AreLevelsOf}
+use Rattle.segment_levels.specs.Kept.{Kept, PlainGroups, groups_in, AreLevelsOf}
 use Rattle.segment_levels.specs.Flats.{flats_of}
 
--- the segments of the level at a place of the list
-abbrev pub segments_at : List PlainLevel → ℕ → List Segment
-segments_at [] k = []
-segments_at (l ∷ more) zero = segments_in l
-segments_at (l ∷ more) (suc k) = segments_at more k
+-- the segment that is found first
+abbrev pub or_else : Option Segment → Option Segment → Option Segment
+or_else None other = other
+or_else (Some s) other = Some s
 
--- the segment of the level at a place that ends at an id below a count of master ids
-abbrev pub high_ending : ℕ → List PlainLevel → ℕ → ℕ → Option Segment
-high_ending count levels k id = if nat_lt id count then if_ends id (segment_at (segments_at levels k) id) else None
+-- the same segment under the number of a level
+abbrev pub at_level : ℕ → Option Segment → Option Segment
+at_level level None = None
+at_level level (Some s) = Some (record s { level = level })
+
+-- The segment of a level that has an id: the group that has it, or the segment that has it on the level below, but none from
+-- the level's end on.
+abbrev pub held_on : PlainGroups → ℕ → Option Segment → Option Segment
+held_on l id below = if nat_lt id l.end then or_else (segment_at (groups_in l) id) below else None
+
+-- the segment that has an id on the last of these levels, under the number of the level that keeps it
+abbrev pub held_from : Option Segment → List PlainGroups → ℕ → Option Segment
+held_from below [] id = below
+held_from below (l ∷ more) id = held_from (held_on l id below) more id
+
+-- the segment of a level above the flat one that ends at an id below a count of master ids
+abbrev pub high_ending : ℕ → List PlainGroups → ℕ → ℕ → Option Segment
+high_ending count levels level id =
+    if nat_lt id count && nat_le level (length levels) then at_level level (if_ends id (held_from None (take level levels) id)) else None
 
 -- the segment of a level that ends at an id
-abbrev pub ending_in : List Segment → ℕ → List PlainLevel → ℕ → ℕ → Option Segment
+abbrev pub ending_in : List Segment → ℕ → List PlainGroups → ℕ → ℕ → Option Segment
 ending_in flats count levels zero id = flat_ending flats 0 id
-ending_in flats count levels (suc k) id = high_ending count levels k id
+ending_in flats count levels (suc k) id = high_ending count levels (suc k) id
 
 -- of whole flat segments: the segment of one of their levels above the flat one that ends at an id below a count
 abbrev pub level_ending : List Segment → ℕ → ℕ → ℕ → Option Segment
