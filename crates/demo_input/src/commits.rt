@@ -1,6 +1,6 @@
 //! The lines, one behind the other.
 
-ghost use Rattle.std.specs.Prelude.{◌≡◌, ◌<◌, ◌≤◌, [], ◌∷◌, map, IfOk, OnErr, MatchOption};
+ghost use Rattle.std.specs.Prelude.{◌≡◌, ◌<◌, ◌≤◌, [], ◌∷◌, length, map, IfOk, IfSome, OnErr, MatchOption};
 ghost use Rattle.demo_input.specs.Lines.{is_flushed, commit_lines, last_lines};
 
 use crate::drawing::number_for;
@@ -59,6 +59,7 @@ impl CommitLines {
     /// Makes the next line, if there is one; where memory is wanting it is still the next one.
     pub fn next_line(&mut self, alloc: Global) -> Result<Option<Vec<u8>>, AllocError>
         ensures ok { IfOk result (λ next. MatchOption next ((self.old ≡ []) × (self.new ≡ [])) (λ line. self.old ≡ line.items ∷ self.new)) }
+        ensures short { IfOk result (λ next. IfSome next (λ line. length line.items ≤ 128)) }
         ensures err { OnErr result (self.new ≡ self.old) }
     {
         if self.is_flush_due {
