@@ -1,6 +1,6 @@
 //! What some ids reach along parents.
 
-ghost use Rattle.std.specs.Prelude.{◌≡◌, ℕ, ◌+◌, ◌-◌, ◌*◌, ◌≤◌, ◌^◌, ◌↔◌, IfOk, IsTrue, min};
+ghost use Rattle.std.specs.Prelude.{◌≡◌, ℕ, [], ◌+◌, ◌-◌, ◌*◌, ◌≤◌, ◌^◌, ◌↔◌, IfOk, IsTrue, min};
 ghost use Rattle.commit_graph.specs.Graph.{Reaches, first_ancestor as after_steps};
 ghost use Rattle.commit_graph.specs.Sets as sets;
 ghost use Rattle.segment_codec.specs.Table.{IsHeld};
@@ -51,8 +51,25 @@ pub fn is_ancestor<T: SegmentTable>(
     ensures reached { IfOk result (λ r. IsTrue r ↔ Reaches (table_graph (T.flats table.now)) y x) }
     ensures counted { min steps.old.taken (2 ^ 64 - 1) ≤ steps.new.taken }
 {
-    let target = x.number();
     let mut work = WorkList::empty(alloc);
+    leads_to(&mut work, table, y, x, steps)
+}
+
+/// The walk from `y` down to `x`. What waits is on the list, which is empty before.
+fn leads_to<T: SegmentTable>(
+    work: &mut WorkList,
+    table: &T,
+    y: Id,
+    x: Id,
+    steps: &mut Steps,
+) -> Result<bool, AllocError>
+    requires x { IsHeld (T.flats table.now) x }
+    requires y { IsHeld (T.flats table.now) y }
+    requires work { work.old ≡ [] }
+    ensures reached { IfOk result (λ r. IsTrue r ↔ Reaches (table_graph (T.flats table.now)) y x) }
+    ensures counted { min steps.old.taken (2 ^ 64 - 1) ≤ steps.new.taken }
+{
+    let target = x.number();
     work.push(y)?;
     let mut frontier = ID_END;
     'visit: while let Some(id) = work.next_below(frontier) {

@@ -1,6 +1,6 @@
 //! What some ids reach along parents, from a lowest id on.
 
-ghost use Rattle.std.specs.Prelude.{ℕ, ◌+◌, ◌-◌, ◌*◌, ◌≤◌, ◌^◌, ◌↔◌, IfOk, min};
+ghost use Rattle.std.specs.Prelude.{◌≡◌, ℕ, [], ◌+◌, ◌-◌, ◌*◌, ◌≤◌, ◌^◌, ◌↔◌, IfOk, OnOk, min};
 ghost use Rattle.commit_graph.specs.Sets as sets;
 ghost use Rattle.segment_codec.specs.Table.{IsHeld};
 ghost use Rattle.span_set.specs.Members.{IsMember, IsCanonical};
@@ -33,13 +33,36 @@ pub fn ancestors_above<T: SegmentTable>(
     ensures looked { IfOk result (λ r. (x : ℕ) → IsMember r x → min (steps.old.taken + 8) (2 ^ 64 - 1) ≤ steps.new.taken) }
     ensures counted { min steps.old.taken (2 ^ 64 - 1) ≤ steps.new.taken }
 {
-    let least = floor.number();
     let mut answer = IdSet::empty(alloc);
     let mut work = WorkList::empty(alloc);
+    add_ancestors(&mut answer, &mut work, table, set, floor, steps)?;
+    Ok(answer)
+}
+
+/// The walk: the answer gets the ids, and has none before. What waits is on the list, which is empty before.
+fn add_ancestors<T: SegmentTable>(
+    answer: &mut IdSet,
+    work: &mut WorkList,
+    table: &T,
+    set: &IdSet,
+    floor: Id,
+    steps: &mut Steps,
+) -> Result<(), AllocError>
+    requires held { (x : ℕ) → IsMember set.now x → IsHeld (T.flats table.now) x }
+    requires answer { answer.old ≡ [] }
+    requires work { work.old ≡ [] }
+    ensures members { OnOk result ((x : ℕ) → IsMember answer.new x ↔ (sets.ancestors (table_graph (T.flats table.now)) (IsMember set.now) x × (floor ≤ x))) }
+    ensures canonical { OnOk result (IsCanonical answer.new) }
+    ensures few { OnOk result (steps.new.taken ≤ steps.old.taken + 8 * (1 + count_met answer.new (T.flats table.now))) }
+    ensures one { OnOk result ((x : ℕ) → IsOnly x set.now → EndsWhole (T.ending_at table.now) x → steps.new.taken ≤ steps.old.taken + 8) }
+    ensures looked { OnOk result ((x : ℕ) → IsMember answer.new x → min (steps.old.taken + 8) (2 ^ 64 - 1) ≤ steps.new.taken) }
+    ensures counted { min steps.old.taken (2 ^ 64 - 1) ≤ steps.new.taken }
+{
+    let least = floor.number();
     let mut frontier = ID_END;
     'visit: while let Some(id) = work.next_id(set, frontier) {
         if id.number() < least {
-            return Ok(answer);
+            return Ok(());
         }
         let segment = best_jump(table, id, steps);
         let low = segment.low().number();
@@ -51,5 +74,5 @@ pub fn ancestors_above<T: SegmentTable>(
         work.push_all(segment.parents())?;
         frontier = low;
     }
-    Ok(answer)
+    Ok(())
 }

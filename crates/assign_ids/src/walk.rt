@@ -1,6 +1,6 @@
 //! Placing without recursion: an explicit stack of the commits that wait for their parents.
 
-ghost use Rattle.std.specs.Prelude.{◌≡◌, ℕ, ◌<◌, ◌≤◌, ◌^◌, List, drop, false, IfOk, OnOk, MatchOption, nat_eq};
+ghost use Rattle.std.specs.Prelude.{◌≡◌, ℕ, ◌<◌, ◌≤◌, ◌^◌, List, [], drop, false, IfOk, OnOk, MatchOption, nat_eq};
 ghost use Rattle.id_groups.specs.Lists.{IsIn, is_in};
 ghost use Rattle.commit_graph.specs.World.{Row as PlainRow};
 ghost use Rattle.assign_ids.specs.Placing.{place as placed, place_all};
@@ -72,6 +72,25 @@ fn place_head<G: ParentsOf>(
         return Ok(());
     }
     let mut frames = Vec::new(alloc);
+    place_missing(&mut frames, graph, order, head)
+}
+
+/// Places a head that isn't placed. The frames are none before.
+fn place_missing<G: ParentsOf>(
+    frames: &mut Vec<Frame>,
+    graph: &G,
+    order: &mut Order,
+    head: u32,
+) -> Result<(), AllocError>
+    requires parents { HaveOlderParents (G.parents graph.now) }
+    requires size { order.old.size ≤ 2 ^ 32 }
+    requires head { head < order.old.size }
+    requires missing { is_in nat_eq head order.old.numbers ≡ false }
+    requires frames { frames.old.items ≡ [] }
+    ensures size { OnOk result (order.new.size ≡ order.old.size) }
+    ensures placed { OnOk result (order.new.numbers
+        ≡ placed nat_eq (rows_below (G.parents graph.now) order.old.size) order.old.numbers head) }
+{
     frames.push(Frame {
         number: head,
         done: 0,

@@ -5,7 +5,7 @@ use Rattle.std.specs.Int.{w16, w32, w64, to_be_bytes}
 use Rattle.segment_codec.specs.Record.{Segment, segment_bytes}
 use Rattle.batch_codec.specs.Payload.{Payload, known_bytes, names_bytes, payload_bytes}
 use Rattle.batch_codec.specs.Grammar.{IsPayload}
-use Rattle.batch_codec.specs.Building.{Building, IsBuilt}
+use Rattle.batch_codec.specs.Building.{Building, IsBuilt, masters_behind, others_behind}
 use Rattle.batch_codec.proofs.Entries.{names-size, knowns-size}
 use Rattle.batch_codec.proofs.Meanings.{follow-length}
 use Rattle.batch_codec.proofs.Payloads.{known-length, known-fits}
@@ -74,20 +74,13 @@ parts-joined b p h g oc =
     ∙ ap (λ (z : List ℕ). all-parts front (length p.master) m (length p.known) k (length p.heads) hs (length p.other_names) (length p.others) z b.other_names) g.others
     ∙ ap (λ (z : List ℕ). all-parts front (length p.master) m (length p.known) k (length p.heads) hs (length p.other_names) (length p.others) os z) g.other_names
 
-joined : (o1 o2 o3 o4 o5 o6 front cm m ck k ch h co cs s n : List ℕ)
-    → o1 ≡ front ++ (cm ++ m) → o2 ≡ o1 ++ (ck ++ k) → o3 ≡ o2 ++ (ch ++ h) → o4 ≡ o3 ++ co → o5 ≡ o4 ++ (cs ++ s) → o6 ≡ o5 ++ n
-    → o6 ≡ front ++ (cm ++ (m ++ (ck ++ (k ++ (ch ++ (h ++ (co ++ (cs ++ (s ++ n)))))))))
-joined o1 o2 o3 o4 o5 o6 front cm m ck k ch h co cs s n e1 e2 e3 e4 e5 e6 =
-    let all : o6 ≡ (((((front ++ (cm ++ m)) ++ (ck ++ k)) ++ (ch ++ h)) ++ co) ++ (cs ++ s)) ++ n =
-    e6 ∙ ap (λ (z : List ℕ). z ++ n) (e5 ∙ ap (λ (z : List ℕ). z ++ (cs ++ s)) (e4 ∙ ap (λ (z : List ℕ). z ++ co) (e3 ∙ ap (λ (z : List ℕ). z ++ (ch ++ h)) (e2 ∙ ap (λ (z : List ℕ). z ++ (ck ++ k)) e1)))) in
-    all ∙ simp append_assoc
+joined : (front cm m ck k ch h co cs s n : List ℕ)
+    → front ++ (cm ++ m) ++ (ck ++ k) ++ (ch ++ h) ++ co ++ (cs ++ s) ++ n ≡ front ++ (cm ++ (m ++ (ck ++ (k ++ (ch ++ (h ++ (co ++ (cs ++ (s ++ n)))))))))
+joined front cm m ck k ch h co cs s n = simp append_assoc
 
 -- the sections written one after another are the payload's bytes
-pub finished : (b : Building) (p : Payload) (o1 o2 o3 o4 o5 o6 : List ℕ) → IsPayload p → IsBuilt b p → b.other_count ≡ length p.other_names
-    → o1 ≡ b.front ++ (to_be_bytes w32 b.master_count ++ b.master) → o2 ≡ o1 ++ (to_be_bytes w32 (length b.known / 28) ++ b.known)
-    → o3 ≡ o2 ++ (to_be_bytes w16 (length b.heads / 20) ++ b.heads) → o4 ≡ o3 ++ to_be_bytes w32 b.other_count
-    → o5 ≡ o4 ++ (to_be_bytes w32 b.others_count ++ b.others) → o6 ≡ o5 ++ b.other_names → o6 ≡ payload_bytes 1 p
-finished b p o1 o2 o3 o4 o5 o6 h g oc e1 e2 e3 e4 e5 e6 =
-    joined o1 o2 o3 o4 o5 o6 b.front (to_be_bytes w32 b.master_count) b.master (to_be_bytes w32 (length b.known / 28)) b.known (to_be_bytes w16 (length b.heads / 20)) b.heads
-    (to_be_bytes w32 b.other_count) (to_be_bytes w32 b.others_count) b.others b.other_names e1 e2 e3 e4 e5 e6
+pub finished : (b : Building) (p : Payload) → IsPayload p → IsBuilt b p → b.other_count ≡ length p.other_names → others_behind b (masters_behind b b.front) ≡ payload_bytes 1 p
+finished b p h g oc =
+    joined b.front (to_be_bytes w32 b.master_count) b.master (to_be_bytes w32 (length b.known / 28)) b.known (to_be_bytes w16 (length b.heads / 20)) b.heads
+    (to_be_bytes w32 b.other_count) (to_be_bytes w32 b.others_count) b.others b.other_names
     ∙ parts-joined b p h g oc

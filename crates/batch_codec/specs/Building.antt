@@ -1,6 +1,6 @@
 -- A payload that is being built: the bytes of its parts so far.
-use Rattle.std.specs.Prelude.{◌≡◌, ℕ, List, [], ◌∷◌, ◌++◌, length, flat_map}
-use Rattle.std.specs.Int.{w64, to_be_bytes}
+use Rattle.std.specs.Prelude.{◌≡◌, ℕ, List, [], ◌∷◌, ◌++◌, ◌/◌, length, flat_map}
+use Rattle.std.specs.Int.{w16, w32, w64, to_be_bytes}
 use Rattle.id_groups.specs.Name.{Name}
 use Rattle.segment_codec.specs.Record.{Segment, segment_bytes}
 use Rattle.batch_codec.specs.Payload.{Known, Payload, known_bytes, names_bytes}
@@ -47,3 +47,16 @@ with_other_segment p s = record p { others = p.others ++ s ∷ [] }
 
 abbrev pub with_other_name : Payload → Name → Payload
 with_other_name p name = record p { other_names = p.other_names ++ name ∷ [] }
+
+-- the sections are put behind the front while a payload is finished
+abbrev pub with_front : Building → List ℕ → Building
+with_front b bytes = record b { front = bytes }
+
+-- the sections up to the heads behind these bytes
+abbrev pub masters_behind : Building → List ℕ → List ℕ
+masters_behind b bytes = bytes ++ (to_be_bytes w32 b.master_count ++ b.master) ++ (to_be_bytes w32 (length b.known / 28) ++ b.known)
+    ++ (to_be_bytes w16 (length b.heads / 20) ++ b.heads)
+
+-- the sections of the other ids behind these bytes
+abbrev pub others_behind : Building → List ℕ → List ℕ
+others_behind b bytes = bytes ++ to_be_bytes w32 b.other_count ++ (to_be_bytes w32 b.others_count ++ b.others) ++ b.other_names

@@ -1,11 +1,11 @@
 //! A payload that is being built, section by section.
 
-ghost use Rattle.std.specs.Prelude.{◌≡◌, ◌≤◌, ◌+◌, ◌++◌, Ok, ◌∷◌, length, OnOk, OnErr, IfOk};
+ghost use Rattle.std.specs.Prelude.{◌≡◌, ◌<◌, ◌≤◌, ◌+◌, ◌/◌, ◌^◌, ◌++◌, Ok, ◌∷◌, length, OnOk, OnErr, IfOk};
 ghost use Rattle.std.specs.Int.{w16, w32, w64, to_be_bytes};
 ghost use Rattle.segment_codec.specs.Record.{IsSegment, HasFront, segment_bytes};
 ghost use Rattle.batch_codec.specs.Payload.{Payload, known_bytes, payload_bytes};
 ghost use Rattle.batch_codec.specs.Grammar.{IsPayload};
-ghost use Rattle.batch_codec.specs.Building.{IsBuilt, empty_payload, with_segment, with_known, with_head, with_other_segment, with_other_name};
+ghost use Rattle.batch_codec.specs.Building.{IsBuilt, empty_payload, with_segment, with_known, with_head, with_other_segment, with_other_name, with_front, masters_behind, others_behind};
 
 use crate::counts::VERSION;
 use id_groups::{Id, Name};
@@ -191,25 +191,35 @@ impl BatchBuild {
         requires { (p : Payload) × IsPayload p × IsBuilt self p × (self.other_count ≡ length p.other_names) }
         ensures { (p : Payload) → IsPayload p → IsBuilt self p → self.other_count ≡ length p.other_names → IfOk result (λ v. v.items ≡ payload_bytes 1 p) }
     {
-        let BatchBuild {
-            front,
-            master,
-            master_count,
-            known,
-            heads,
-            other_count,
-            others,
-            others_count,
-            other_names,
-        } = self;
-        let mut out = front;
-        append_counted(&mut out, master_count as u32, &master)?;
-        append_counted(&mut out, (known.len() / 28) as u32, &known)?;
-        append_heads(&mut out, (heads.len() / 20) as u16, &heads)?;
-        out.extend_from_slice(&other_count.to_be_bytes())?;
-        append_counted(&mut out, others_count as u32, &others)?;
-        out.extend_from_slice(&other_names)?;
-        Ok(out)
+        let mut build = self;
+        build.append_masters()?;
+        build.append_others()?;
+        Ok(build.front)
+    }
+
+    /// Appends the sections up to the heads to what stands before them.
+    fn append_masters(&mut self) -> Result<(), AllocError>
+        requires records { self.old.master_count < 2 ^ 32 }
+        requires known { length self.old.known / 28 < 2 ^ 32 }
+        requires heads { length self.old.heads / 20 < 2 ^ 16 }
+        ensures { OnOk result (self.new ≡ with_front self.old (masters_behind self.old self.old.front)) }
+    {
+        append_counted(&mut self.front, self.master_count as u32, &self.master)?;
+        append_counted(&mut self.front, (self.known.len() / 28) as u32, &self.known)?;
+        append_heads(&mut self.front, (self.heads.len() / 20) as u16, &self.heads)?;
+        Ok(())
+    }
+
+    /// Appends the sections of the other ids to the sections before them.
+    fn append_others(&mut self) -> Result<(), AllocError>
+        requires { self.old.others_count < 2 ^ 32 }
+        ensures { OnOk result (self.new ≡ with_front self.old (others_behind self.old self.old.front)) }
+    {
+        self.front
+            .extend_from_slice(&self.other_count.to_be_bytes())?;
+        append_counted(&mut self.front, self.others_count as u32, &self.others)?;
+        self.front.extend_from_slice(&self.other_names)?;
+        Ok(())
     }
 }
 

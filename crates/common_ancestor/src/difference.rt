@@ -1,6 +1,6 @@
 //! What some ids reach and others don't.
 
-ghost use Rattle.std.specs.Prelude.{◌≡◌, ℕ, ◌+◌, ◌-◌, ◌<◌, ◌≤◌, ◌^◌, ◌↔◌, IfOk, OnOk, min};
+ghost use Rattle.std.specs.Prelude.{◌≡◌, ℕ, [], ◌+◌, ◌-◌, ◌<◌, ◌≤◌, ◌^◌, ◌↔◌, IfOk, OnOk, min};
 ghost use Rattle.commit_graph.specs.Sets as sets;
 ghost use Rattle.segment_codec.specs.Lent.{parents_left};
 ghost use Rattle.segment_codec.specs.Table.{IsHeld};
@@ -73,6 +73,37 @@ pub fn only<T: SegmentTable>(
     let mut answer = IdSet::empty(alloc);
     let mut mine = WorkList::empty(alloc);
     let mut theirs = WorkList::empty(alloc);
+    add_only(
+        &mut answer,
+        &mut mine,
+        &mut theirs,
+        table,
+        from,
+        minus,
+        steps,
+    )?;
+    Ok(answer)
+}
+
+/// The walk: the answer gets the ids, and has none before. What either side reaches waits on its list; both are empty before.
+fn add_only<T: SegmentTable>(
+    answer: &mut IdSet,
+    mine: &mut WorkList,
+    theirs: &mut WorkList,
+    table: &T,
+    from: &IdSet,
+    minus: &IdSet,
+    steps: &mut Steps,
+) -> Result<(), AllocError>
+    requires from { (x : ℕ) → IsMember from.now x → IsHeld (T.flats table.now) x }
+    requires minus { (x : ℕ) → IsMember minus.now x → IsHeld (T.flats table.now) x }
+    requires answer { answer.old ≡ [] }
+    requires mine { mine.old ≡ [] }
+    requires theirs { theirs.old ≡ [] }
+    ensures members { OnOk result ((x : ℕ) → IsMember answer.new x ↔ sets.only (table_graph (T.flats table.now)) (IsMember from.now) (IsMember minus.now) x) }
+    ensures canonical { OnOk result (IsCanonical answer.new) }
+    ensures counted { min steps.old.taken (2 ^ 64 - 1) ≤ steps.new.taken }
+{
     let mut frontier = ID_END;
     'visit: while let Some(next) = mine.next_id(from, frontier) {
         let reached = theirs.next_id(minus, frontier);
@@ -81,8 +112,8 @@ pub fn only<T: SegmentTable>(
         let low = segment.low();
         let start = first_above(low, &reached);
         answer.insert_between(start, id.number() + 1)?;
-        push_either(low, start, &mut mine, &mut theirs, segment.parents())?;
+        push_either(low, start, mine, theirs, segment.parents())?;
         frontier = low.number();
     }
-    Ok(answer)
+    Ok(())
 }

@@ -139,13 +139,36 @@ pub(crate) fn meet<T: SegmentTable>(
 {
     let mut last = IdSet::empty(alloc);
     let mut waiting = Waiting::empty(alloc);
+    add_last(&mut last, &mut waiting, table, left, right, steps)?;
+    Ok(last)
+}
+
+/// The walk: `last` gets the ids, and has none before. Nothing waits before.
+fn add_last<T: SegmentTable>(
+    last: &mut IdSet,
+    waiting: &mut Waiting,
+    table: &T,
+    left: &IdSet,
+    right: &IdSet,
+    steps: &mut Steps,
+) -> Result<(), AllocError>
+    requires left { (x : ℕ) → IsMember left.now x → IsHeld (T.flats table.now) x }
+    requires right { (x : ℕ) → IsMember right.now x → IsHeld (T.flats table.now) x }
+    requires last { last.old ≡ [] }
+    requires waiting { (waiting.old.left ≡ []) × (waiting.old.right ≡ []) × (waiting.old.both ≡ []) }
+    ensures reached { OnOk result ((x : ℕ) → sets.ancestors (table_graph (T.flats table.now)) (IsMember last.new) x
+        ↔ (sets.ancestors (table_graph (T.flats table.now)) (IsMember left.now) x × sets.ancestors (table_graph (T.flats table.now)) (IsMember right.now) x)) }
+    ensures last { OnOk result (AreLast (table_graph (T.flats table.now)) (IsMember last.new)) }
+    ensures canonical { OnOk result (IsCanonical last.new) }
+    ensures counted { min steps.old.taken (2 ^ 64 - 1) ≤ steps.new.taken }
+{
     let mut frontier = ID_END;
     'visit: while let Some(next) = waiting.next(left, right, frontier) {
         let segment = table.flat(next.greatest(), steps).unwrap();
         let low = segment.low();
-        add_shared(&mut last, low, &next)?;
+        add_shared(last, low, &next)?;
         waiting.push_parents(low, &next, segment.parents())?;
         frontier = low.number();
     }
-    Ok(last)
+    Ok(())
 }

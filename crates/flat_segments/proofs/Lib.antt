@@ -11,3 +11,4 @@ pub mod Graphs
 pub mod Callers
 pub mod Singles
 pub mod ByParentsLemmas
+pub mod Viewing

@@ -1,10 +1,7 @@
 -- The segments of a view.
-use Rattle.std.specs.Prelude.{◌≡◌, ◌^◌, ◌-◌, ℕ, List, ◌++◌, Option, Some}
+use Rattle.std.specs.Prelude.{ℕ, List, ◌++◌, Option}
 use Rattle.segment_codec.specs.Record.{Segment}
-use Rattle.segment_codec.specs.Table.{IsLawful, IsEnding}
 use Rattle.segment_codec.specs.Flat.{flat_ending}
-use Rattle.segment_codec.proofs.Flats.{lawful-means, flat_ending-is, flat_ending-all}
-use Rattle.id_groups.specs.Lists.{IsIn}
 use Rattle.flat_segments.specs.declared.run.Run.{Run}
 use Rattle.flat_segments.specs.declared.view.FlatView.{FlatView}
 use Rattle.flat_segments.specs.Runs.{flats_in}
@@ -30,12 +27,3 @@ view_flats v = master_flats v ++ other_flats v
 -- the segment that ends at an id; there is none above level 0
 abbrev pub view_ending : FlatView → ℕ → ℕ → Option Segment
 view_ending v level id = flat_ending (view_flats v) level id
-
-pub view_lawful : (v : FlatView) → IsLawful (view_flats v)
-view_lawful v = lawful-means v.master.end (v.pending.end - 2 ^ 56) (master_flats v) (other_flats v) v.lawful
-
-pub view_endings : (v : FlatView) (level id : ℕ) (s : Segment) → view_ending v level id ≡ Some s → IsEnding (view_flats v) level id s
-view_endings v level id s e = flat_ending-is (view_flats v) level id s e
-
-pub view_flat_endings : (v : FlatView) (s : Segment) → IsIn s (view_flats v) → view_ending v 0 s.high ≡ Some s
-view_flat_endings v s i = flat_ending-all (view_flats v) (view_lawful v) s i

@@ -58,17 +58,19 @@ impl<'a> FlatView<'a> {
 }
 
 impl<'a> SegmentTable for FlatView<'a> {
-    ghost use Rattle.flat_segments.specs.Views.{view_flats, view_ending, view_lawful, view_endings, view_flat_endings};
+    ghost use Rattle.std.specs.Prelude.{◌^◌, ◌-◌};
+    ghost use Rattle.segment_codec.proofs.Flats.{lawful-means, flat_ending-is, flat_ending-all};
+    ghost use Rattle.flat_segments.specs.Views.{master_flats, other_flats, view_flats, view_ending};
 
     ghost flats = { λ v. view_flats v };
 
     ghost ending_at = { λ v level id. view_ending v level id };
 
-    ghost lawful = { λ v. view_lawful v };
+    ghost lawful = { λ v. lawful-means v.master.end (v.pending.end - 2 ^ 56) (master_flats v) (other_flats v) v.lawful };
 
-    ghost endings = { λ v level id s e. view_endings v level id s e };
+    ghost endings = { λ v level id s e. flat_ending-is (view_flats v) level id s e };
 
-    ghost flat_endings = { λ v s i. view_flat_endings v s i };
+    ghost flat_endings = { λ v s i. flat_ending-all (view_flats v) (lawful-means v.master.end (v.pending.end - 2 ^ 56) (master_flats v) (other_flats v) v.lawful) s i };
 
     fn bounds(&self) -> Bounds {
         Bounds {

@@ -1,6 +1,6 @@
 //! What lies on the ways from one set down to another.
 
-ghost use Rattle.std.specs.Prelude.{ℕ, ◌+◌, ◌-◌, ◌<◌, ◌≤◌, ◌^◌, ◌⊎◌, ◌↔◌, length, take, drop, slice_index_or, IfOk, OnOk, IsTrue, min};
+ghost use Rattle.std.specs.Prelude.{◌≡◌, ℕ, [], ◌+◌, ◌-◌, ◌<◌, ◌≤◌, ◌^◌, ◌⊎◌, ◌↔◌, length, take, drop, slice_index_or, IfOk, OnOk, IsTrue, min};
 ghost use Rattle.id_groups.specs.Lists.{IsIn};
 ghost use Rattle.commit_graph.specs.Sets as sets;
 ghost use Rattle.segment_codec.specs.Lent.{segment_of};
@@ -183,8 +183,31 @@ fn walk_up<T: SegmentTable>(
     ensures counted { min steps.old.taken (2 ^ 64 - 1) ≤ steps.new.taken }
 {
     let mut missed = Rising::empty(alloc);
+    add_all_missed(&mut missed, table, from, lowest, below, steps)?;
+    Ok(missed)
+}
+
+/// The walk: `missed` gets the ids, and has none before.
+fn add_all_missed<T: SegmentTable>(
+    missed: &mut Rising,
+    table: &T,
+    from: &IdSet,
+    lowest: Id,
+    below: &Descent,
+    steps: &mut Steps,
+) -> Result<(), AllocError>
+    requires least { StandFrom lowest from.now }
+    requires over { StandFrom lowest below.now.ids }
+    requires inside { (x : ℕ) → IsMember below.now.ids x → IsHeld (T.flats table.now) x }
+    requires closed { IsClosedFrom (table_graph (T.flats table.now)) lowest below.now.ids }
+    requires cuts { (c : PlainCut) → IsIn c below.now.cuts.items → IsCut (table_graph (T.flats table.now)) (IsMember below.now.ids) c }
+    requires missed { missed.old ≡ [] }
+    ensures sound { OnOk result ((x : ℕ) → IsMember missed.new x → sets.descendants (table_graph (T.flats table.now)) (IsMember from.now) x → ⊥) }
+    ensures whole { OnOk result ((x : ℕ) → IsMember below.now.ids x → sets.descendants (table_graph (T.flats table.now)) (IsMember from.now) x ⊎ IsMember missed.new x) }
+    ensures counted { min steps.old.taken (2 ^ 64 - 1) ≤ steps.new.taken }
+{
     let Some(greatest) = below.ids.greatest() else {
-        return Ok(missed);
+        return Ok(());
     };
     let first = count_below(table, lowest, steps);
     let mut passed = Passed {
@@ -196,15 +219,24 @@ fn walk_up<T: SegmentTable>(
         let segment = table.flat_at(k, steps);
         let low = segment.low();
         if low.number() > greatest.number() {
-            return Ok(missed);
+            return Ok(());
         }
-        if is_settled(&missed, lowest, &below.cuts, left, low) {
-            return Ok(missed);
+        if is_settled(missed, lowest, &below.cuts, left, low) {
+            return Ok(());
         }
         left = skip_cuts(&below.cuts, left, low);
-        passed = add_missed(&mut missed, from, lowest, &below.ids, passed, segment)?;
+        passed = add_missed(missed, from, lowest, &below.ids, passed, segment)?;
     }
-    Ok(missed)
+    Ok(())
+}
+
+/// The ids of the set that weren't missed.
+fn without(alloc: Global, ids: &IdSet, missed: &Rising) -> Result<IdSet, AllocError>
+    ensures members { IfOk result (λ r. (x : ℕ) → IsMember r x ↔ (IsMember ids.now x × (IsMember missed.now x → ⊥))) }
+    ensures canonical { IfOk result IsCanonical }
+{
+    let found = ids.minus(alloc, &missed.to_set(alloc)?)?;
+    Ok(found)
 }
 
 /// The ids that reach some member of `from` and that some member of `to` reaches, both ends among them. Each member is an
@@ -228,6 +260,6 @@ pub fn range<T: SegmentTable>(
     };
     let below = walk_down(alloc, table, to, lowest, steps)?;
     let missed = walk_up(alloc, table, from, lowest, &below, steps)?;
-    let found = below.ids.minus(alloc, &missed.to_set(alloc)?)?;
+    let found = without(alloc, &below.ids, &missed)?;
     Ok(found)
 }

@@ -1,6 +1,6 @@
 //! What a set reaches, with cuts of the ways down.
 
-ghost use Rattle.std.specs.Prelude.{◌≡◌, ℕ, ◌-◌, ◌<◌, ◌≤◌, ◌^◌, ◌⊎◌, ◌↔◌, length, drop, IfOk, OnOk, min};
+ghost use Rattle.std.specs.Prelude.{◌≡◌, ℕ, [], ◌-◌, ◌<◌, ◌≤◌, ◌^◌, ◌⊎◌, ◌↔◌, length, drop, IfOk, OnOk, min};
 ghost use Rattle.id_groups.specs.Lists.{IsIn};
 ghost use Rattle.commit_graph.specs.Sets as sets;
 ghost use Rattle.segment_codec.specs.Lent.{segment_of};
@@ -162,14 +162,37 @@ pub(crate) fn walk_down<T: SegmentTable>(
     ensures counted { min steps.old.taken (2 ^ 64 - 1) ≤ steps.new.taken }
 {
     let mut ids = IdSet::empty(alloc);
-    let mut tail = Tail::empty();
     let mut cuts = Vec::new(alloc);
-    let mut near = Window::empty();
     let mut far = WorkList::empty(alloc);
+    go_down(&mut ids, &mut cuts, &mut far, table, to, lowest, steps)?;
+    Ok(Descent { ids, cuts })
+}
+
+/// The walk: the ids and the cuts get what it finds, and are none before. What waits outside the window is on the list,
+/// which is empty before.
+fn go_down<T: SegmentTable>(
+    ids: &mut IdSet,
+    cuts: &mut Vec<Cut>,
+    far: &mut WorkList,
+    table: &T,
+    to: &IdSet,
+    lowest: Id,
+    steps: &mut Steps,
+) -> Result<(), AllocError>
+    requires held { (x : ℕ) → IsMember to.now x → IsHeld (T.flats table.now) x }
+    requires ids { ids.old ≡ [] }
+    requires cuts { cuts.old.items ≡ [] }
+    requires far { far.old ≡ [] }
+    ensures members { OnOk result ((x : ℕ) → IsMember ids.new x ↔ (sets.ancestors (table_graph (T.flats table.now)) (IsMember to.now) x × (lowest ≤ x))) }
+    ensures cuts { OnOk result ((c : PlainCut) → IsIn c cuts.new.items → IsCut (table_graph (T.flats table.now)) (IsMember ids.new) c) }
+    ensures counted { min steps.old.taken (2 ^ 64 - 1) ≤ steps.new.taken }
+{
+    let mut tail = Tail::empty();
+    let mut near = Window::empty();
     let mut place = end_of(table, to, steps);
     let mut ways = Ways {
         least: ID_END,
-        end: end_below(&mut far, to, ID_END),
+        end: end_below(far, to, ID_END),
     };
     let mut reached = ways.end;
     'down: while lowest.number() < reached {
@@ -179,12 +202,12 @@ pub(crate) fn walk_down<T: SegmentTable>(
         if reached <= low {
             continue;
         }
-        tail.add(&mut ids, low.max(lowest.number()), reached)?;
+        tail.add(ids, low.max(lowest.number()), reached)?;
         near.slide(low);
-        ways.end = end_from(&mut far, to, ways.end, low);
-        ways = push_parents(&mut near, &mut far, ways, segment)?;
+        ways.end = end_from(far, to, ways.end, low);
+        ways = push_parents(&mut near, far, ways, segment)?;
         keep_cut(
-            &mut cuts,
+            cuts,
             place,
             Cut {
                 at: low,
@@ -193,6 +216,6 @@ pub(crate) fn walk_down<T: SegmentTable>(
         )?;
         reached = after(near.greatest()).max(ways.end);
     }
-    tail.put_into(&mut ids)?;
-    Ok(Descent { ids, cuts })
+    tail.put_into(ids)?;
+    Ok(())
 }

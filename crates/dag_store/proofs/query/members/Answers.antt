@@ -6,7 +6,8 @@ use Rattle.commit_graph.specs.World.{with_pending}
 use Rattle.set_expr.specs.Expr.{commits_in}
 use Rattle.set_expr.specs.Whole.{tree_of}
 use Rattle.span_set.specs.Members.{IsCanonical}
-use Rattle.high_segments.specs.Views.{flats_in, lawful_flats}
+use Rattle.high_segments.specs.Views.{flats_in}
+use Rattle.high_segments.proofs.Viewing.{lawful_flats}
 use Rattle.name_map.specs.Added.{payloads_of}
 use Rattle.payload_tables.specs.Bases.{ArePending, MayView, id_row}
 use Rattle.payload_tables.specs.Pending.{segments_from}

@@ -23,7 +23,4 @@ returns-clause-members g c =
     range-exact flats lawful c.args.from.now c.args.to.now c.in-Some.lowest c.in_ok-below.below.ids c.in_ok-missed.missed c.in_ok-found.found
     (subst (λ l. (x : ℕ) → IsMember l x → c.in-Some.lowest ≤ x) c.spans.ensures.same c.in-Some.ensures.1)
     c.in_ok-below.ensures.members c.in_ok-missed.ensures.sound c.in_ok-missed.ensures.whole
-    (λ x. let same = c.in_ok-to_set.ensures.members x in let rest = c.in_ok-found.ensures.members x in (
-      λ m. let h = rest.0 m in (h.0, λ n. h.1 (same.1 n)),
-      λ h. rest.1 (h.0, λ n. h.1 (same.0 n)),
-    ))
+    c.in_ok-found.ensures.members

@@ -1,7 +1,7 @@
 use Rattle.std.proofs.Common.{◌≤◌, ◌^◌, ◌-◌, min}
 use Rattle.span_set.specs.Members.{IsMember, IsCanonical}
 use Rattle.common_ancestor.proofs.MeetTurns.{Visiting}
-use Rattle.common_ancestor.proofs.meeting.meet.Given as goal
+use Rattle.common_ancestor.proofs.meeting.add_last.Given as goal
 
 abbrev pub invariant-visit : goal.invariant-visit
 invariant-visit g l = record {

@@ -8,46 +8,46 @@ use Rattle.range_query.specs.Falls.{IsEndOf}
 use Rattle.range_query.specs.declared.cut.Cut.{Cut}
 use Rattle.range_query.proofs.ChildLemmas.{group-at}
 use Rattle.range_query.proofs.FallTurns.{Falls, falls-none, falls-place, falls-past, falls-in, falls-turn, falls-cuts}
-use Rattle.range_query.proofs.downward.walk_down.Goals as goal
+use Rattle.range_query.proofs.downward.go_down.Goals as goal
 
 pub down-init : goal.down-init
 down-init g c = record {
   falls = subst (λ near. Falls (g.T.SegmentTable.flats c.args.table.now) (IsMember c.args.to.now) c.args.lowest c.end_of-place.result c.end_below.result near c.end_below.new.far (2 ^ 57) c.end_below.result
-      (HasFallen c.empty-ids.result c.empty-tail.result.low c.empty-tail.result.end) c.new-cuts.result.items) (sym c.empty-near.ensures)
-      (falls-none (g.T.SegmentTable.flats c.args.table.now) (IsMember c.args.to.now) c.args.lowest (g.met.T.SegmentTable.lawful c.args.table.now) c.requires
-      c.end_of-place.result c.end_below.new.far (2 ^ 57) c.end_below.result (HasFallen c.empty-ids.result c.empty-tail.result.low c.empty-tail.result.end) c.new-cuts.result.items
-      (subst (λ l. Keeps l c.end_below.new.far (2 ^ 57)) c.empty-far.ensures c.end_below.ensures.keeps) c.end_below.ensures.end
-      (λ x h. ⊎_elim (λ m. absurd (subst (λ l. IsMember l x) c.empty-ids.ensures m)) (λ i. let lt = i.1 in absurd (omega (arith, c.empty-tail.ensures.end))) h)
-      c.new-cuts.ensures.items c.end_of-place.ensures.within c.end_of-place.ensures.above);
+      (HasFallen c.args.ids.now c.empty-tail.result.low c.empty-tail.result.end) c.args.cuts.now.items) (sym c.empty-near.ensures)
+      (falls-none (g.T.SegmentTable.flats c.args.table.now) (IsMember c.args.to.now) c.args.lowest (g.met.T.SegmentTable.lawful c.args.table.now) c.requires.held
+      c.end_of-place.result c.end_below.new.far (2 ^ 57) c.end_below.result (HasFallen c.args.ids.now c.empty-tail.result.low c.empty-tail.result.end) c.args.cuts.now.items
+      (subst (λ l. Keeps l c.end_below.new.far (2 ^ 57)) c.requires.far c.end_below.ensures.keeps) c.end_below.ensures.end
+      (λ x h. ⊎_elim (λ m. absurd (subst (λ l. IsMember l x) c.requires.ids m)) (λ i. let lt = i.1 in absurd (omega (arith, c.empty-tail.ensures.end))) h)
+      c.requires.cuts c.end_of-place.ensures.within c.end_of-place.ensures.above);
   counted = c.end_of-place.ensures.counted;
 }
 
 pub overflow_sub-place : goal.overflow_sub-place
 overflow_sub-place g c =
-    falls-place (g.T.SegmentTable.flats c.args.table.now) (IsMember c.args.to.now) c.args.lowest (g.met.T.SegmentTable.lawful c.args.table.now) c.requires
+    falls-place (g.T.SegmentTable.flats c.args.table.now) (IsMember c.args.to.now) c.args.lowest (g.met.T.SegmentTable.lawful c.args.table.now) c.requires.held
     c.down.place c.down.reached c.down.near c.down.far c.down.ways.least c.down.ways.end (HasFallen c.down.ids c.down.tail.low c.down.tail.end) c.down.cuts.items c.down.invariant.falls
     (omega (arith, c.down-test.true, c.number.ensures.number))
 
 pub flat_at-segment-requires : goal.flat_at-segment-requires
 flat_at-segment-requires g c =
-    let some : 0 < c.down.place = falls-place (g.T.SegmentTable.flats c.args.table.now) (IsMember c.args.to.now) c.args.lowest (g.met.T.SegmentTable.lawful c.args.table.now) c.requires
+    let some : 0 < c.down.place = falls-place (g.T.SegmentTable.flats c.args.table.now) (IsMember c.args.to.now) c.args.lowest (g.met.T.SegmentTable.lawful c.args.table.now) c.requires.held
     c.down.place c.down.reached c.down.near c.down.far c.down.ways.least c.down.ways.end (HasFallen c.down.ids c.down.tail.low c.down.tail.end) c.down.cuts.items c.down.invariant.falls
     (omega (arith, c.down-test.true, c.number.ensures.number)) in
     let le = c.down.invariant.falls.within in omega arith
 
 pub down-smaller-then-reached-low : goal.down-smaller-then-reached-low
 down-smaller-then-reached-low g c =
-    let some : 0 < c.down.place = falls-place (g.T.SegmentTable.flats c.args.table.now) (IsMember c.args.to.now) c.args.lowest (g.met.T.SegmentTable.lawful c.args.table.now) c.requires
+    let some : 0 < c.down.place = falls-place (g.T.SegmentTable.flats c.args.table.now) (IsMember c.args.to.now) c.args.lowest (g.met.T.SegmentTable.lawful c.args.table.now) c.requires.held
     c.down.place c.down.reached c.down.near c.down.far c.down.ways.least c.down.ways.end (HasFallen c.down.ids c.down.tail.low c.down.tail.end) c.down.cuts.items c.down.invariant.falls
     (omega (arith, c.down-test.true, c.number.ensures.number)) in omega arith
 
 pub down-preserved-then-reached-low : goal.down-preserved-then-reached-low
 down-preserved-then-reached-low g c =
-    let some : 0 < c.down.place = falls-place (g.T.SegmentTable.flats c.args.table.now) (IsMember c.args.to.now) c.args.lowest (g.met.T.SegmentTable.lawful c.args.table.now) c.requires
+    let some : 0 < c.down.place = falls-place (g.T.SegmentTable.flats c.args.table.now) (IsMember c.args.to.now) c.args.lowest (g.met.T.SegmentTable.lawful c.args.table.now) c.requires.held
     c.down.place c.down.reached c.down.near c.down.far c.down.ways.least c.down.ways.end (HasFallen c.down.ids c.down.tail.low c.down.tail.end) c.down.cuts.items c.down.invariant.falls
     (omega (arith, c.down-test.true, c.number.ensures.number)) in
     record {
-      falls = falls-past (g.T.SegmentTable.flats c.args.table.now) (IsMember c.args.to.now) c.args.lowest (g.met.T.SegmentTable.lawful c.args.table.now) c.requires
+      falls = falls-past (g.T.SegmentTable.flats c.args.table.now) (IsMember c.args.to.now) c.args.lowest (g.met.T.SegmentTable.lawful c.args.table.now) c.requires.held
           c.down.place c.down.reached c.down.near c.down.far c.down.ways.least c.down.ways.end (HasFallen c.down.ids c.down.tail.low c.down.tail.end) c.down.cuts.items c.down.invariant.falls
           (omega (arith, c.down-test.true, c.number.ensures.number))
           (c.down.place - 1) (segment_of c.flat_at-segment.result) (omega arith) c.flat_at-segment.ensures.found
@@ -59,10 +59,10 @@ pub add-requires-clause-group : goal.add-requires-clause-group
 add-requires-clause-group g c = λ lt.
     let flats = g.T.SegmentTable.flats c.args.table.now in
     let s = segment_of c.flat_at-segment.result in
-    let some : 0 < c.down.place = falls-place flats (IsMember c.args.to.now) c.args.lowest (g.met.T.SegmentTable.lawful c.args.table.now) c.requires
+    let some : 0 < c.down.place = falls-place flats (IsMember c.args.to.now) c.args.lowest (g.met.T.SegmentTable.lawful c.args.table.now) c.requires.held
     c.down.place c.down.reached c.down.near c.down.far c.down.ways.least c.down.ways.end (HasFallen c.down.ids c.down.tail.low c.down.tail.end) c.down.cuts.items c.down.invariant.falls
     (omega (arith, c.down-test.true, c.number.ensures.number)) in
-    let inside = falls-in flats (IsMember c.args.to.now) c.args.lowest (g.met.T.SegmentTable.lawful c.args.table.now) c.requires
+    let inside = falls-in flats (IsMember c.args.to.now) c.args.lowest (g.met.T.SegmentTable.lawful c.args.table.now) c.requires.held
     c.down.place c.down.reached c.down.near c.down.far c.down.ways.least c.down.ways.end (HasFallen c.down.ids c.down.tail.low c.down.tail.end) c.down.cuts.items c.down.invariant.falls
     (omega (arith, c.down-test.true, c.number.ensures.number))
     (c.down.place - 1) s (omega arith) c.flat_at-segment.ensures.found (omega (arith, c.if-reached-low.false, c.number-low.ensures.number, c.low.ensures)) in
@@ -72,7 +72,7 @@ add-requires-clause-group g c = λ lt.
 
 pub down-smaller : goal.down-smaller
 down-smaller g c =
-    let some : 0 < c.down.place = falls-place (g.T.SegmentTable.flats c.args.table.now) (IsMember c.args.to.now) c.args.lowest (g.met.T.SegmentTable.lawful c.args.table.now) c.requires
+    let some : 0 < c.down.place = falls-place (g.T.SegmentTable.flats c.args.table.now) (IsMember c.args.to.now) c.args.lowest (g.met.T.SegmentTable.lawful c.args.table.now) c.requires.held
     c.down.place c.down.reached c.down.near c.down.far c.down.ways.least c.down.ways.end (HasFallen c.down.ids c.down.tail.low c.down.tail.end) c.down.cuts.items c.down.invariant.falls
     (omega (arith, c.down-test.true, c.number.ensures.number)) in omega arith
 
@@ -82,12 +82,12 @@ down-preserved g c =
     let lawful = g.met.T.SegmentTable.lawful c.args.table.now in
     let s = segment_of c.flat_at-segment.result in
     let low : c.number-low.result ≡ s.low = c.number-low.ensures.number ∙ c.low.ensures in
-    let some : 0 < c.down.place = falls-place flats (IsMember c.args.to.now) c.args.lowest lawful c.requires
+    let some : 0 < c.down.place = falls-place flats (IsMember c.args.to.now) c.args.lowest lawful c.requires.held
     c.down.place c.down.reached c.down.near c.down.far c.down.ways.least c.down.ways.end (HasFallen c.down.ids c.down.tail.low c.down.tail.end) c.down.cuts.items c.down.invariant.falls
     (omega (arith, c.down-test.true, c.number.ensures.number)) in
     let from : c.max.result ≡ max s.low c.args.lowest = omega (arith, c.max.ensures, low, c.number-in-down.ensures.number) in
     record {
-      falls = falls-turn flats (IsMember c.args.to.now) c.args.lowest lawful c.requires
+      falls = falls-turn flats (IsMember c.args.to.now) c.args.lowest lawful c.requires.held
           c.down.place c.down.reached c.down.near c.down.far c.down.ways.least c.down.ways.end (HasFallen c.down.ids c.down.tail.low c.down.tail.end) c.down.cuts.items c.down.invariant.falls
           (omega (arith, c.down-test.true, c.number.ensures.number))
           (c.down.place - 1) s (omega arith) c.flat_at-segment.ensures.found (omega (arith, c.if-reached-low.false, low))
@@ -107,6 +107,6 @@ down-preserved g c =
 
 pub returns-clause-cuts : goal.returns-clause-cuts
 returns-clause-cuts g c =
-    falls-cuts (g.T.SegmentTable.flats c.args.table.now) (IsMember c.args.to.now) c.args.lowest (g.met.T.SegmentTable.lawful c.args.table.now) c.requires
+    falls-cuts (g.T.SegmentTable.flats c.args.table.now) (IsMember c.args.to.now) c.args.lowest (g.met.T.SegmentTable.lawful c.args.table.now) c.requires.held
     c.down.place c.down.reached c.down.near c.down.far c.down.ways.least c.down.ways.end (HasFallen c.down.ids c.down.tail.low c.down.tail.end) c.down.cuts.items c.down.invariant.falls
     (IsMember c.put_into.new.ids) c.in_ok-put_into.ensures

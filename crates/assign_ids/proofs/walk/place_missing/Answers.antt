@@ -6,13 +6,13 @@ use Rattle.assign_ids.specs.Progress.{Progress}
 use Rattle.assign_ids.specs.declared.graph.Node.{Node}
 use Rattle.assign_ids.proofs.NumberLemmas.{below-more}
 use Rattle.assign_ids.proofs.Frames.{start-turn, place-turn, wait-turn, top-within}
-use Rattle.assign_ids.proofs.walk.place_head.Goals as goal
+use Rattle.assign_ids.proofs.walk.place_missing.Goals as goal
 
 pub frames-init : goal.frames-init
 frames-init g c = record {
   size = refl;
-  leads = start-turn (g.G.ParentsOf.parents c.args.graph.now) c.args.order.now.size c.requires.parents c.new-frames.result.items c.push.new.self.items c.args.head c.args.order.now.numbers
-      c.new-frames.ensures.items c.in_ok-push.ensures.items c.requires.head (sym c.contains.ensures ∙ c.if-contains.false);
+  leads = start-turn (g.G.ParentsOf.parents c.args.graph.now) c.args.order.now.size c.requires.parents c.args.frames.now.items c.push.new.self.items c.args.head c.args.order.now.numbers
+      c.requires.frames c.in_ok-push.ensures.items c.requires.head c.requires.missing;
 }
 
 pub next_missing-requires : goal.next_missing-requires

@@ -4,7 +4,7 @@ use Rattle.segment_codec.specs.Record.{Segment}
 use Rattle.span_set.specs.Places.{BeginWithin}
 use Rattle.range_query.specs.Parts.{StandBelow}
 use Rattle.range_query.proofs.RangeLemmas.{Misses}
-use Rattle.range_query.proofs.between.walk_up.Given as goal
+use Rattle.range_query.proofs.between.add_all_missed.Given as goal
 
 abbrev pub invariant-up : goal.invariant-up
 invariant-up g l = record {

@@ -3,7 +3,7 @@ use Rattle.std.specs.Prelude.{nat_eq}
 use Rattle.assign_ids.specs.Placing.{place}
 use Rattle.assign_ids.specs.Numbers.{rows_below}
 use Rattle.assign_ids.proofs.Frames.{Leads, turns_left}
-use Rattle.assign_ids.proofs.walk.place_head.Given as goal
+use Rattle.assign_ids.proofs.walk.place_missing.Given as goal
 
 abbrev pub invariant-frames : goal.invariant-frames
 invariant-frames g l = record {

@@ -4,13 +4,13 @@ use Rattle.span_set.specs.Members.{IsMember, IsCanonical}
 use Rattle.ancestor_query.proofs.Best.{looked-up, found-at}
 use Rattle.common_ancestor.proofs.MeetVisits.{meet-done, meet-last}
 use Rattle.common_ancestor.proofs.MeetTurns.{Visiting, visiting-none, visiting-kept, turn-held, turn-falls, turn-visits}
-use Rattle.common_ancestor.proofs.meeting.meet.Goals as goal
+use Rattle.common_ancestor.proofs.meeting.add_last.Goals as goal
 
 pub visit-init : goal.visit-init
 visit-init g c = record {
   visits = visiting-none (g.T.SegmentTable.flats c.args.table.now) (g.met.T.SegmentTable.lawful c.args.table.now) (IsMember c.args.left.now) (IsMember c.args.right.now)
-      c.requires.left c.requires.right c.empty-waiting.result c.empty-last.result c.empty-waiting.ensures.left c.empty-waiting.ensures.right c.empty-waiting.ensures.both c.empty-last.ensures;
-  canonical = subst IsCanonical (sym c.empty-last.ensures) tt;
+      c.requires.left c.requires.right c.args.waiting.now c.args.last.now c.requires.waiting.0 c.requires.waiting.1 c.requires.waiting.2 c.requires.last;
+  canonical = subst IsCanonical (sym c.requires.last) tt;
   counted = omega arith;
   bound = omega arith;
 }

@@ -1,7 +1,7 @@
 use Rattle.std.proofs.Common.{ℕ, ◌≤◌, ◌+◌, ◌-◌, ◌^◌, min}
 use Rattle.span_set.specs.Members.{IsMember, IsCanonical}
 use Rattle.ancestor_query.proofs.Turns.{Going}
-use Rattle.ancestor_query.proofs.floor.ancestors_above.Given as goal
+use Rattle.ancestor_query.proofs.floor.add_ancestors.Given as goal
 
 abbrev pub invariant-visit : goal.invariant-visit
 invariant-visit g l = record {

@@ -5,7 +5,7 @@ use Rattle.range_query.proofs.Rows.{at-drop}
 use Rattle.range_query.proofs.ChildLemmas.{group-at}
 use Rattle.range_query.proofs.DescendantLemmas.{below-on, within-on, stand-none, within-none}
 use Rattle.range_query.proofs.RangeLemmas.{misses-none, misses-over, misses-more, misses-stop, misses-settled, misses-whole}
-use Rattle.range_query.proofs.between.walk_up.Goals as goal
+use Rattle.range_query.proofs.between.add_all_missed.Goals as goal
 
 pub up-init : goal.up-init
 up-init g c =
@@ -19,8 +19,8 @@ up-init g c =
       counted = c.count_below-first.ensures.counted;
       passed = λ s i. stand-none s.low (length c.spans.result.now) c.spans.result.now c.args.from.now c.spans.ensures.same (omega arith);
       begun = λ s i. within-none s.high (length c.spans-2.result.now) c.spans-2.result.now c.args.below.now.ids c.spans-2.ensures.same (omega arith);
-      misses = misses-none flats lawful c.args.from.now c.args.lowest c.args.below.now.ids r.least r.over r.inside r.closed c.count_below-first.result c.empty-missed.result
-          c.empty-missed.ensures c.count_below-first.ensures.place;
+      misses = misses-none flats lawful c.args.from.now c.args.lowest c.args.below.now.ids r.least r.over r.inside r.closed c.count_below-first.result c.args.missed.now
+          c.requires.missed c.count_below-first.ensures.place;
     }
 
 pub returns-then-number-clause-whole : goal.returns-then-number-clause-whole

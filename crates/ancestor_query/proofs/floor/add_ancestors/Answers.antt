@@ -2,29 +2,29 @@ use Rattle.std.proofs.Common.{arith, ◌≡◌, ◌∙◌, max, subst, sym}
 use Rattle.segment_codec.specs.Lent.{segment_of, parents_left}
 use Rattle.span_set.specs.Members.{IsMember, IsCanonical}
 use Rattle.ancestor_query.proofs.Turns.{going-none, going-held, going-stop, going-turn, going-done, going-few, going-one}
-use Rattle.ancestor_query.proofs.floor.ancestors_above.Goals as goal
+use Rattle.ancestor_query.proofs.floor.add_ancestors.Goals as goal
 
 pub visit-init : goal.visit-init
 visit-init g c = record {
   going = going-none (g.T.SegmentTable.flats c.args.table.now) (g.T.SegmentTable.ending_at c.args.table.now) (IsMember c.args.set.now) c.args.floor c.args.steps.now.taken
-      (g.met.T.SegmentTable.lawful c.args.table.now) (λ level id s e. g.met.T.SegmentTable.endings c.args.table.now level id s e) c.requires
-      c.empty-work.result c.empty-answer.result c.empty-work.ensures c.empty-answer.ensures;
+      (g.met.T.SegmentTable.lawful c.args.table.now) (λ level id s e. g.met.T.SegmentTable.endings c.args.table.now level id s e) c.requires.held
+      c.args.work.now c.args.answer.now c.requires.work c.requires.answer;
   counted = omega arith;
-  looked = λ x m. absurd (subst (λ spans. IsMember spans x) c.empty-answer.ensures m);
-  canonical = subst IsCanonical (sym c.empty-answer.ensures) tt;
+  looked = λ x m. absurd (subst (λ spans. IsMember spans x) c.requires.answer m);
+  canonical = subst IsCanonical (sym c.requires.answer) tt;
 }
 
 pub best_jump-segment-requires : goal.best_jump-segment-requires
 best_jump-segment-requires g c =
     going-held (g.T.SegmentTable.flats c.args.table.now) (g.T.SegmentTable.ending_at c.args.table.now) (IsMember c.args.set.now) c.args.floor c.args.steps.now.taken
-    (g.met.T.SegmentTable.lawful c.args.table.now) (λ level id s e. g.met.T.SegmentTable.endings c.args.table.now level id s e) c.requires
+    (g.met.T.SegmentTable.lawful c.args.table.now) (λ level id s e. g.met.T.SegmentTable.endings c.args.table.now level id s e) c.requires.held
     c.visit.frontier c.visit.work c.next_id.new.self c.visit.answer c.visit.steps.taken c.visit.invariant.going c.in-Some.id c.in-Some.ensures
 
 pub visit-preserved : goal.visit-preserved
 visit-preserved g c = record {
   going =
       going-turn (g.T.SegmentTable.flats c.args.table.now) (g.T.SegmentTable.ending_at c.args.table.now) (IsMember c.args.set.now) c.args.floor c.args.steps.now.taken
-      (g.met.T.SegmentTable.lawful c.args.table.now) (λ level id s e. g.met.T.SegmentTable.endings c.args.table.now level id s e) c.requires
+      (g.met.T.SegmentTable.lawful c.args.table.now) (λ level id s e. g.met.T.SegmentTable.endings c.args.table.now level id s e) c.requires.held
       c.visit.frontier c.visit.work c.next_id.new.self c.visit.answer c.visit.steps.taken c.visit.invariant.going c.in-Some.id c.in-Some.ensures
       (segment_of c.best_jump-segment.result) c.best_jump-segment.ensures.best
       c.from_number-from.result (let m : c.max.result ≡ max (segment_of c.best_jump-segment.result).low c.args.floor = omega (arith, c.max.ensures, c.number-low.ensures.number, c.low.ensures, c.number-least.ensures.number) in c.from_number-from.ensures ∙ m)
@@ -40,36 +40,36 @@ visit-preserved g c = record {
 pub returns-clause-members : goal.returns-clause-members
 returns-clause-members g c =
     going-done (g.T.SegmentTable.flats c.args.table.now) (g.T.SegmentTable.ending_at c.args.table.now) (IsMember c.args.set.now) c.args.floor c.args.steps.now.taken
-    (g.met.T.SegmentTable.lawful c.args.table.now) (λ level id s e. g.met.T.SegmentTable.endings c.args.table.now level id s e) c.requires
+    (g.met.T.SegmentTable.lawful c.args.table.now) (λ level id s e. g.met.T.SegmentTable.endings c.args.table.now level id s e) c.requires.held
     c.visit.frontier c.visit.work c.next_id.new.self c.visit.answer c.visit.steps.taken c.visit.invariant.going c.in_default.ensures
 
 pub returns-clause-few : goal.returns-clause-few
 returns-clause-few g c =
     going-few (g.T.SegmentTable.flats c.args.table.now) (g.T.SegmentTable.ending_at c.args.table.now) (IsMember c.args.set.now) c.args.floor c.args.steps.now.taken
-    (g.met.T.SegmentTable.lawful c.args.table.now) (λ level id s e. g.met.T.SegmentTable.endings c.args.table.now level id s e) c.requires
+    (g.met.T.SegmentTable.lawful c.args.table.now) (λ level id s e. g.met.T.SegmentTable.endings c.args.table.now level id s e) c.requires.held
     c.visit.frontier c.visit.work c.next_id.new.self c.visit.answer c.visit.steps.taken c.visit.invariant.going
 
 pub returns-clause-one : goal.returns-clause-one
 returns-clause-one g c = λ x only whole.
     going-one (g.T.SegmentTable.flats c.args.table.now) (g.T.SegmentTable.ending_at c.args.table.now) (IsMember c.args.set.now) c.args.floor c.args.steps.now.taken
-    (g.met.T.SegmentTable.lawful c.args.table.now) (λ level id s e. g.met.T.SegmentTable.endings c.args.table.now level id s e) c.requires
+    (g.met.T.SegmentTable.lawful c.args.table.now) (λ level id s e. g.met.T.SegmentTable.endings c.args.table.now level id s e) c.requires.held
     c.visit.frontier c.visit.work c.next_id.new.self c.visit.answer c.visit.steps.taken c.visit.invariant.going x (λ z m. (only z).0 m) whole
 
 pub returns-then-number-least-clause-members : goal.returns-then-number-least-clause-members
 returns-then-number-least-clause-members g c =
     going-stop (g.T.SegmentTable.flats c.args.table.now) (g.T.SegmentTable.ending_at c.args.table.now) (IsMember c.args.set.now) c.args.floor c.args.steps.now.taken
-    (g.met.T.SegmentTable.lawful c.args.table.now) (λ level id s e. g.met.T.SegmentTable.endings c.args.table.now level id s e) c.requires
+    (g.met.T.SegmentTable.lawful c.args.table.now) (λ level id s e. g.met.T.SegmentTable.endings c.args.table.now level id s e) c.requires.held
     c.visit.frontier c.visit.work c.next_id.new.self c.visit.answer c.visit.steps.taken c.visit.invariant.going c.in-Some.id c.in-Some.ensures
     (omega (arith, c.if-number-least.true, c.number.ensures.number, c.number-least.ensures.number))
 
 pub returns-then-number-least-clause-few : goal.returns-then-number-least-clause-few
 returns-then-number-least-clause-few g c =
     going-few (g.T.SegmentTable.flats c.args.table.now) (g.T.SegmentTable.ending_at c.args.table.now) (IsMember c.args.set.now) c.args.floor c.args.steps.now.taken
-    (g.met.T.SegmentTable.lawful c.args.table.now) (λ level id s e. g.met.T.SegmentTable.endings c.args.table.now level id s e) c.requires
+    (g.met.T.SegmentTable.lawful c.args.table.now) (λ level id s e. g.met.T.SegmentTable.endings c.args.table.now level id s e) c.requires.held
     c.visit.frontier c.visit.work c.next_id.new.self c.visit.answer c.visit.steps.taken c.visit.invariant.going
 
 pub returns-then-number-least-clause-one : goal.returns-then-number-least-clause-one
 returns-then-number-least-clause-one g c = λ x only whole.
     going-one (g.T.SegmentTable.flats c.args.table.now) (g.T.SegmentTable.ending_at c.args.table.now) (IsMember c.args.set.now) c.args.floor c.args.steps.now.taken
-    (g.met.T.SegmentTable.lawful c.args.table.now) (λ level id s e. g.met.T.SegmentTable.endings c.args.table.now level id s e) c.requires
+    (g.met.T.SegmentTable.lawful c.args.table.now) (λ level id s e. g.met.T.SegmentTable.endings c.args.table.now level id s e) c.requires.held
     c.visit.frontier c.visit.work c.next_id.new.self c.visit.answer c.visit.steps.taken c.visit.invariant.going x (λ z m. (only z).0 m) whole

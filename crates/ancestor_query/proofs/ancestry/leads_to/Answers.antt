@@ -4,7 +4,7 @@ use Rattle.segment_codec.specs.Lent.{segment_of}
 use Rattle.ancestor_query.specs.Visits.{Pending}
 use Rattle.ancestor_query.proofs.Graphs.{held-bound}
 use Rattle.ancestor_query.proofs.Single.{pending-start, reaches-none, reaches-at_most, id-held, reaches-in, pending-turn}
-use Rattle.ancestor_query.proofs.ancestry.is_ancestor.Goals as goal
+use Rattle.ancestor_query.proofs.ancestry.leads_to.Goals as goal
 
 pub visit-init : goal.visit-init
 visit-init g c =
@@ -13,7 +13,7 @@ visit-init g c =
     let pushed = c.in_ok-push.ensures.all in
     record {
       pending = pending-start flats lawful c.args.y c.requires.y c.push.new.self
-          (λ w i. ⊎_elim (λ n. absurd (subst (IsIn w) c.empty-work.ensures n)) (λ e. e) ((pushed w).0 i))
+          (λ w i. ⊎_elim (λ n. absurd (subst (IsIn w) c.requires.work n)) (λ e. e) ((pushed w).0 i))
           ((pushed c.args.y).1 (inr refl));
       counted = omega arith;
       above = held-bound flats lawful c.args.x c.requires.x;

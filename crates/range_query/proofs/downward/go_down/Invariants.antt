@@ -2,7 +2,7 @@ use Rattle.std.proofs.Common.{◌≤◌, ◌-◌, ◌^◌, min}
 use Rattle.span_set.specs.Members.{IsMember}
 use Rattle.range_query.specs.Tails.{HasFallen}
 use Rattle.range_query.proofs.FallTurns.{Falls}
-use Rattle.range_query.proofs.downward.walk_down.Given as goal
+use Rattle.range_query.proofs.downward.go_down.Given as goal
 
 abbrev pub invariant-down : goal.invariant-down
 invariant-down g l = record {

@@ -1,6 +1,6 @@
 use Rattle.std.proofs.Common.{◌<◌, ◌≤◌, ◌-◌, ◌^◌, min}
 use Rattle.ancestor_query.specs.Visits.{Pending}
-use Rattle.ancestor_query.proofs.ancestry.is_ancestor.Given as goal
+use Rattle.ancestor_query.proofs.ancestry.leads_to.Given as goal
 
 abbrev pub invariant-visit : goal.invariant-visit
 invariant-visit g l = record {

@@ -4,18 +4,18 @@ use Rattle.segment_codec.specs.Lent.{segment_of, parents_left}
 use Rattle.span_set.specs.Members.{IsMember, IsCanonical}
 use Rattle.ancestor_query.proofs.Best.{looked-up, found-at}
 use Rattle.common_ancestor.proofs.OnlyVisits.{OnlyVisits, only-none, only-kept, only-done, turn-held, turn-falls, turn-group, turn-visits}
-use Rattle.common_ancestor.proofs.difference.only.Goals as goal
+use Rattle.common_ancestor.proofs.difference.add_only.Goals as goal
 
 pub visit-init : goal.visit-init
 visit-init g c =
     let flats = g.T.SegmentTable.flats c.args.table.now in
     let A = IsMember c.args.from.now in let B = IsMember c.args.minus.now in
     record {
-      visits = subst (λ t. OnlyVisits flats A B (2 ^ 57) c.empty-mine.result t c.empty-answer.result) (sym c.empty-theirs.ensures)
-          (subst (λ m. OnlyVisits flats A B (2 ^ 57) m [] c.empty-answer.result) (sym c.empty-mine.ensures)
-          (subst (λ z. OnlyVisits flats A B (2 ^ 57) [] [] z) (sym c.empty-answer.ensures)
+      visits = subst (λ t. OnlyVisits flats A B (2 ^ 57) c.args.mine.now t c.args.answer.now) (sym c.requires.theirs)
+          (subst (λ m. OnlyVisits flats A B (2 ^ 57) m [] c.args.answer.now) (sym c.requires.mine)
+          (subst (λ z. OnlyVisits flats A B (2 ^ 57) [] [] z) (sym c.requires.answer)
           (only-none flats (g.met.T.SegmentTable.lawful c.args.table.now) A B c.requires.from c.requires.minus)));
-      canonical = subst IsCanonical (sym c.empty-answer.ensures) tt;
+      canonical = subst IsCanonical (sym c.requires.answer) tt;
       counted = omega arith;
       bound = omega arith;
     }
