@@ -5,6 +5,7 @@ ghost use Rattle.set_expr.specs.Spelling.{SpellsNumber};
 ghost use Rattle.command_lines.specs.Parts.{word_text};
 
 use itoa::Buffer;
+use memchr::memchr;
 use std::str;
 
 /// The word that a command's text begins with.
@@ -38,7 +39,7 @@ pub enum Word {
 pub(crate) fn blank(text: &[u8]) -> Option<usize>
     ensures { result ≡ position (λ b. b == 32) text.now }
 {
-    text.iter().position(|byte| *byte == b' ')
+    memchr(b' ', text)
 }
 
 /// The number whose decimal the text is: the one that is printed so.

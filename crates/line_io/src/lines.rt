@@ -12,6 +12,7 @@ ghost use Rattle.line_io.specs.Steps.{EndsAt, LendsLine, LendsRest, Fills, Makes
 ghost use Rattle.line_io.specs.declared.lines.Line.{Line};
 
 use crate::{Source, SourceFault};
+use memchr::memchr;
 use std::alloc::{AllocError, Global};
 use std::marker::Model;
 
@@ -109,7 +110,7 @@ fn make_free(buffer: &mut [u8], start: usize, end: usize) -> usize
 fn first_line_feed(bytes: &[u8]) -> Option<usize>
     ensures { result ≡ position (λ b. b == 10) bytes.now }
 {
-    bytes.iter().position(|byte| *byte == b'\n')
+    memchr(b'\n', bytes)
 }
 
 impl Lines {

@@ -1,5 +1,5 @@
 -- What an insert makes of an index.
-use Rattle.std.proofs.Common.{◌≡◌, ◌∙◌, refl, sym, ap, subst, ℕ, zero, suc, List, [], ◌∷◌, ◌++◌, take, drop, Result, Err, inl, inr, ⊎_elim, append_assoc, append-nil, take-append-drop}
+use Rattle.std.proofs.Common.{◌≡◌, ◌∙◌, ◌<◌, ◌≤◌, length, get_or, arith, refl, sym, ap, subst, ℕ, zero, suc, List, [], ◌∷◌, ◌++◌, take, drop, Result, Err, inl, inr, ⊎_elim, append_assoc, append-nil, take-append-drop}
 use Rattle.std.specs.List.{AllByRecursion}
 use Rattle.std.specs.List.Sorted.{IsPermutation}
 use Rattle.std.proofs.lemmas.List.Sorted.{IsPermutation-sym, IsPermutation-map, IsPermutation-trans, IsPermutation-append, IsPermutation-refl}
@@ -114,6 +114,17 @@ merged-all at bytes run others later merged rest both (h ∷ hs) r s =
       run = whole.run;
       same = IsPermutation-trans _ _ _ (IsPermutation-append h h (joined hs) behind.held (IsPermutation-refl h) behind.same) whole.same;
     }
+
+-- one run holds what the runs hold that it is all of
+pub only-holds : (run : List Entry) (held : List (List NamedPlace)) → AreRuns (run ∷ []) held → Holds run (joined held)
+only-holds run [] r = absurd r
+only-holds run (h ∷ []) r = record { held = h; run = r.0; same = subst (λ l. IsPermutation l h) (sym (append-nil h)) (IsPermutation-refl h) }
+only-holds run (h ∷ g ∷ gs) r = absurd r.1
+
+pub only-of : (runs : List (List Entry)) (only : List Entry) → 1 ≤ length runs → length runs < 2 → only ≡ get_or runs 0 only → runs ≡ only ∷ []
+only-of [] only some few e = absurd (omega (arith, some))
+only-of (run ∷ []) only some few e = ap (λ r. r ∷ []) (sym e)
+only-of (run ∷ next ∷ rest) only some few e = absurd (omega (arith, few))
 
 -- the runs behind some, and a new one, that are merged to one
 module _ (at : ℕ) (bytes : List ℕ) (at' : ℕ) (bytes' : List ℕ) (due run merged : List Entry) (held : List (List NamedPlace)) (named : List NamedPlace) where

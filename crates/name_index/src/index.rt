@@ -119,6 +119,25 @@ fn merge_all(alloc: Global, stretch: &Stretch<'_>, runs: &[Run]) -> Result<Run, 
     }
 }
 
+/// These runs and the new run as one.
+fn merge_new(
+    alloc: Global,
+    old: &Stretch<'_>,
+    runs: &[Run],
+    new: &Stretch<'_>,
+    run: &Run,
+) -> Result<Run, AllocError>
+    ensures { IfOk result (λ merged. (held : List (List NamedPlace)) (named : List NamedPlace) → AreRuns runs.now held → AllByRecursion (StandFrom old.now.at old.now.bytes.now) held → Holds run.now named → StandFrom new.now.at new.now.bytes.now named → Holds merged (joined held ++ named)) }
+{
+    if let [only] = runs {
+        let merged = Run::merge(alloc, old, only, new, run)?;
+        return Ok(merged);
+    }
+    let due = merge_all(alloc, old, runs)?;
+    let merged = Run::merge(alloc, old, &due, new, run)?;
+    Ok(merged)
+}
+
 /// The runs behind the first `kept` ones and the new run as one.
 fn merge_last(
     alloc: Global,
@@ -135,8 +154,7 @@ fn merge_last(
     if last.is_empty() {
         return Ok(run);
     }
-    let due = merge_all(alloc, old, last)?;
-    let merged = Run::merge(alloc, old, &due, new, &run)?;
+    let merged = merge_new(alloc, old, last, new, &run)?;
     Ok(merged)
 }
 
