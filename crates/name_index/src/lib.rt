@@ -12,6 +12,3 @@ mod run;
 
 pub use index::{IndexFault, NameIndex};
 pub use laws::{any_order, keys_spelled_out, names_are_distinct};
-
-#[cfg(test)]
-mod tests;

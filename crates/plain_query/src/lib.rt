@@ -10,6 +10,3 @@ mod plain;
 
 pub use evaluation::answer;
 pub use plain::PlainExpr;
-
-#[cfg(test)]
-mod tests;
