@@ -15,6 +15,3 @@ pub use jump::best_jump;
 pub use laws::counts_spelled_out;
 pub use parent_set::parents;
 pub use work_list::{Window, WorkList};
-
-#[cfg(test)]
-mod tests;

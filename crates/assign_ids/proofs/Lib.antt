@@ -3,5 +3,4 @@ pub mod Reached
 pub mod NumberLemmas
 pub mod Orders
 pub mod Frames
-pub mod Drawn
 pub mod ByNames

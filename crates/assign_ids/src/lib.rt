@@ -14,6 +14,3 @@ pub use laws::{
     rows_placed_behind_parents,
 };
 pub use walk::place;
-
-#[cfg(test)]
-mod tests;

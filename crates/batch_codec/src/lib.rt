@@ -17,6 +17,3 @@ pub use building::BatchBuild;
 pub use laws::{lawful_payloads, payloads_are_spelled, sections_by_records};
 pub use lent::{KnownRef, KnownSlice, NameSlice, SegmentSlice};
 pub use whole::BatchRef;
-
-#[cfg(test)]
-mod tests;

@@ -62,10 +62,9 @@ module _ (flats : List Segment) (lawful : IsLawful flats) where
         reached-held flats lawful a.0 a.2.0 x (held a.0 a.1) a.2.1
 
     -- one more piece: the ids of a segment from its lowest that counts up to the end
-    pub pieces-next : (x : ℕ) (s : Segment) (lowest : ℕ) (one next : List IdSpan) → x + 1 ≡ end → segment_at flats x ≡ Some s → s.low ≤ lowest → lowest ≤ x → end ≤ high + 1
-        → ((z : ℕ) → IsMember one z ↔ (z ≡ lowest)) → ((z : ℕ) → Anc (IsMember next) z ↔ (Anc (IsMember rest) z × Anc (IsMember one) z))
-        → AreLast (table_graph flats) (IsMember next) → IsCanonical next → Pieces start lowest high next
-    pieces-next x s lowest one next ends at low lx within only meets last canonical =
+    pub pieces-next : (x : ℕ) (s : Segment) (lowest : ℕ) (next : List IdSpan) → x + 1 ≡ end → segment_at flats x ≡ Some s → s.low ≤ lowest → lowest ≤ x → end ≤ high + 1
+        → ((z : ℕ) → Anc (IsMember next) z ↔ (Anc (IsMember rest) z × Reaches (table_graph flats) lowest z)) → AreLast (table_graph flats) (IsMember next) → IsCanonical next → Pieces start lowest high next
+    pieces-next x s lowest next ends at low lx within meets last canonical =
         let f = segment-in flats x s at in let top = f.1.1 in
         record {
           reached = λ z. (
@@ -74,10 +73,10 @@ module _ (flats : List Segment) (lawful : IsLawful flats) where
               λ m h. ⊎_elim
                   (λ (ge : end ≤ m). r.1 m (ge, h.1))
                   (λ (lt : m < end). let ml = h.0 in
-                  reaches-trans (table_graph flats) m lowest z (reach-down flats lawful s f.0 (m - lowest) m lowest (omega arith) low (omega arith)) ((anc-one (IsMember one) lowest only z).0 b.1))
+                  reaches-trans (table_graph flats) m lowest z (reach-down flats lawful s f.0 (m - lowest) m lowest (omega arith) low (omega arith)) b.1)
                   (le_or_lt end m),
             ),
-            λ h. (meets z).1 ((p.reached z).1 (h.0, λ m i. let ge = i.0 in h.1 m (omega arith, i.1)), (anc-one (IsMember one) lowest only z).1 (h.1 lowest (omega arith, omega arith))),
+            λ h. (meets z).1 ((p.reached z).1 (h.0, λ m i. let ge = i.0 in h.1 m (omega arith, i.1)), h.1 lowest (omega arith, omega arith)),
           );
           last = last;
           canonical = canonical;

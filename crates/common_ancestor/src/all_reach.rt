@@ -2,6 +2,7 @@
 
 ghost use Rattle.std.specs.Prelude.{◌≡◌, ℕ, ◌-◌, ◌≤◌, ◌^◌, ◌↔◌, IfOk, min};
 ghost use Rattle.id_groups.specs.Span.{IsSpan, IsInSpan};
+ghost use Rattle.commit_graph.specs.Graph.{Reaches};
 ghost use Rattle.commit_graph.specs.Sets as sets;
 ghost use Rattle.segment_codec.specs.Table.{IsHeld};
 ghost use Rattle.span_set.specs.Members.{IsMember, IsCanonical};
@@ -23,6 +24,27 @@ fn single(alloc: Global, id: Id) -> Result<IdSet, AllocError>
     let mut set = IdSet::empty(alloc);
     set.insert_span(IdSpan::single(id))?;
     Ok(set)
+}
+
+/// The last of what the set and the id reach.
+fn meet_one<T: SegmentTable>(
+    alloc: Global,
+    table: &T,
+    id: Id,
+    set: &IdSet,
+    steps: &mut Steps,
+) -> Result<IdSet, AllocError>
+    requires id_held { IsHeld (T.flats table.now) id }
+    requires held { (x : ℕ) → IsMember set.now x → IsHeld (T.flats table.now) x }
+    ensures reached { IfOk result (λ r. (x : ℕ) → sets.ancestors (table_graph (T.flats table.now)) (IsMember r) x
+        ↔ (sets.ancestors (table_graph (T.flats table.now)) (IsMember set.now) x × Reaches (table_graph (T.flats table.now)) id x)) }
+    ensures last { IfOk result (λ r. AreLast (table_graph (T.flats table.now)) (IsMember r)) }
+    ensures canonical { IfOk result IsCanonical }
+    ensures counted { min steps.old.taken (2 ^ 64 - 1) ≤ steps.new.taken }
+{
+    let lowest = single(alloc, id)?;
+    let last = meet(alloc, table, set, &lowest, steps)?;
+    Ok(last)
 }
 
 /// The last of what the set and each id of the span reach. Of the span's ids in one segment only the lowest counts, since
@@ -55,8 +77,7 @@ fn meet_span<T: SegmentTable>(
         let high = Id::from_number(end - 1);
         let segment = table.flat(high, steps).unwrap();
         end = segment.low().number().max(low);
-        let lowest = single(alloc, Id::from_number(end))?;
-        last = meet(alloc, table, &last, &lowest, steps)?;
+        last = meet_one(alloc, table, Id::from_number(end), &last, steps)?;
     }
     Ok(last)
 }

@@ -9,6 +9,5 @@ pub mod Looking
 pub mod Sections
 pub mod Graphs
 pub mod Callers
-pub mod Singles
 pub mod ByParentsLemmas
 pub mod Viewing

@@ -5,5 +5,4 @@ pub mod Kept
 pub mod Runs
 pub mod Views
 pub mod Joined
-pub mod Single
 pub mod ByParents

@@ -19,6 +19,3 @@ pub use laws::{cut_segments, maximal_segments, segments_by_parents, segments_spe
 pub use section::Section;
 pub use table::FlatTable;
 pub use view::FlatView;
-
-#[cfg(test)]
-mod tests;

@@ -11,6 +11,3 @@ pub use id::{FIRST_OTHER, Group, ID_END, Id};
 pub use laws::{names_decided, names_spelled, one_filtering, printed};
 pub use name::{Name, NameRef};
 pub use span::IdSpan;
-
-#[cfg(test)]
-mod tests;

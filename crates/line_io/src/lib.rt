@@ -9,8 +9,6 @@ mod memory_source;
 mod sink;
 mod source;
 mod std_io;
-#[cfg(test)]
-mod tests;
 
 pub use laws::examples;
 pub use lines::{Line, LineFault, Lines};

@@ -14,6 +14,3 @@ mod search;
 
 pub use index::{IndexFault, NameIndex};
 pub use laws::{any_order, keys_spelled_out, names_are_distinct};
-
-#[cfg(test)]
-mod tests;

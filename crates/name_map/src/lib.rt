@@ -16,6 +16,3 @@ pub use build::MapBuild;
 pub use fault::MapFault;
 pub use laws::{known_names_are_distinct, names_spelled_out, payloads_stay};
 pub use map::NameMap;
-
-#[cfg(test)]
-mod tests;

@@ -16,6 +16,3 @@ pub use laws::{
 pub use parse::ExprFault;
 pub use tree::Tree;
 pub use words::{Call, PairCall, Word};
-
-#[cfg(test)]
-mod tests;

@@ -11,6 +11,3 @@ mod set;
 pub use ids_down::IdsDown;
 pub use laws::{each_once, one_form, spans_spelled_out};
 pub use set::IdSet;
-
-#[cfg(test)]
-mod tests;

@@ -1,0 +1,18 @@
+#![tactic(auto)]
+
+//! Each call of the codecs, the sets, the names and the flat tables, against bytes, lists and graphs that are written out.
+
+#[cfg(test)]
+mod ids;
+#[cfg(test)]
+mod index;
+#[cfg(test)]
+mod lines;
+#[cfg(test)]
+mod names;
+#[cfg(test)]
+mod payloads;
+#[cfg(test)]
+mod spans;
+#[cfg(test)]
+mod tables;

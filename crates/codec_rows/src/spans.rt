@@ -1,0 +1,163 @@
+//! Sets against lists of ids, and spans that meet.
+
+use id_groups::{Id, IdSpan};
+use span_set::IdSet;
+use std::alloc::{AllocError, Global};
+use std::test::Fail;
+
+/// Of small numbers 0 to 9 stand for master ids, and 10 to 13 for N0 to N3.
+fn id(k: u8) -> Id {
+    if k < 10 {
+        Id::master(u64::from(k))
+    } else {
+        Id::other(u64::from(k - 10))
+    }
+}
+
+fn set_of(alloc: Global, ids: &[u8]) -> Result<IdSet, AllocError> {
+    let mut set = IdSet::empty(alloc);
+    for k in ids {
+        set.insert_span(IdSpan::single(id(*k)))?;
+    }
+    Ok(set)
+}
+
+/// Whether the set has these ids, from the greatest down, and no others.
+fn has_only(set: &IdSet, ids: &[u8]) -> bool {
+    let mut down = set.ids_down();
+    for k in ids {
+        if down.next() != Some(id(*k)) {
+            return false;
+        }
+    }
+    down.next().is_none()
+}
+
+/// Two sets, and what is in either, in both, and in the first alone, from the greatest id down.
+type Pair<'a> = [&'a [u8]; 5];
+
+const PAIRS: [Pair; 7] = [
+    [&[], &[], &[], &[], &[]],
+    [&[0], &[], &[0], &[], &[0]],
+    [&[9], &[10], &[10, 9], &[], &[9]],
+    [
+        &[4, 3, 2, 1],
+        &[0, 1, 2],
+        &[4, 3, 2, 1, 0],
+        &[2, 1],
+        &[4, 3],
+    ],
+    [
+        &[0, 2, 4, 6, 8, 10, 12],
+        &[1, 3, 5, 7, 9, 11, 13],
+        &[13, 12, 11, 10, 9, 8, 7, 6, 5, 4, 3, 2, 1, 0],
+        &[],
+        &[12, 10, 8, 6, 4, 2, 0],
+    ],
+    [
+        &[0, 1, 2, 3, 4, 5, 6, 7, 8, 9, 10, 11, 12, 13],
+        &[8, 9, 10, 11, 5, 6],
+        &[13, 12, 11, 10, 9, 8, 7, 6, 5, 4, 3, 2, 1, 0],
+        &[11, 10, 9, 8, 6, 5],
+        &[13, 12, 7, 4, 3, 2, 1, 0],
+    ],
+    [&[13, 0], &[0, 13], &[13, 0], &[13, 0], &[]],
+];
+
+/// Whether the sets have the pair's answers.
+fn agree(
+    alloc: Global,
+    left: &IdSet,
+    right: &IdSet,
+    either: &[u8],
+    both: &[u8],
+    rest: &[u8],
+) -> Result<bool, AllocError> {
+    let are_either = has_only(&left.union(alloc, right)?, either);
+    let are_both = has_only(&left.inter(alloc, right)?, both);
+    let are_rest = has_only(&left.minus(alloc, right)?, rest);
+    Ok(are_either && are_both && are_rest)
+}
+
+#[test]
+fn algebra_agrees_with_lists(rt: HostRuntime) -> Result<(), Fail> {
+    let alloc = rt.alloc();
+    for [a, b, either, both, rest] in PAIRS {
+        let left = set_of(alloc, a)?;
+        let right = set_of(alloc, b)?;
+        assert_eq!(rt; agree(alloc, &left, &right, either, both, rest), Ok(true));
+    }
+    Ok(())
+}
+
+#[test]
+fn the_greatest_come_first(rt: HostRuntime) -> Result<(), Fail> {
+    let alloc = rt.alloc();
+    let set = set_of(alloc, &[1, 2, 3, 7, 10, 11])?;
+    for (n, taken) in [
+        (0, [].as_slice()),
+        (1, &[11]),
+        (4, &[11, 10, 7, 3]),
+        (6, &[11, 10, 7, 3, 2, 1]),
+        (u64::MAX, &[11, 10, 7, 3, 2, 1]),
+    ] {
+        assert!(rt; has_only(&set.take_greatest(alloc, n)?, taken));
+    }
+    Ok(())
+}
+
+#[test]
+fn spans_meet_within_their_group(rt: HostRuntime) -> Result<(), Fail> {
+    let alloc = rt.alloc();
+    let last = Id::master((1 << 56) - 1);
+    let first = Id::other(0);
+    let end = Id::other((1 << 56) - 1);
+    let mut set = IdSet::empty(alloc);
+    set.insert_span(IdSpan::single(last))?;
+    set.insert_span(IdSpan {
+        low: first,
+        high: end,
+    })?;
+    assert_eq!(rt;
+        set.spans(),
+        [
+            IdSpan {
+                low: first,
+                high: end
+            },
+            IdSpan::single(last)
+        ]
+        .as_slice()
+    );
+    Ok(())
+}
+
+#[test]
+fn a_span_joins_those_that_it_meets(rt: HostRuntime) -> Result<(), Fail> {
+    let alloc = rt.alloc();
+    let mut low = IdSet::empty(alloc);
+    for (from, to) in [
+        (20, 29),
+        (10, 15),
+        (16, 17),
+        (40, 49),
+        (45, 60),
+        (12, 13),
+        (31, 38),
+        (18, 39),
+    ] {
+        low.insert_span(IdSpan {
+            low: Id::master(from),
+            high: Id::master(to),
+        })?;
+    }
+    assert_eq!(rt;
+        low.spans(),
+        [IdSpan {
+            low: Id::master(10),
+            high: Id::master(60)
+        }]
+        .as_slice()
+    );
+    Ok(())
+}
