@@ -26,17 +26,17 @@ before end size [] lt h = tt
 before end size (a ∷ added) lt h = (let x = h.0 in omega (arith, lt, x), before end size added lt h.1)
 
 -- The first of the payloads were added, and the next one stands behind the place.
-pub record ReadSoFar (tables : PlainTables) (payloads : List (List ℕ)) (bytes : List ℕ) (k end : ℕ) : Type 0 where
+pub record ReadSoFar (Are : List Placed → Type 0) (payloads : List (List ℕ)) (bytes : List ℕ) (k end : ℕ) : Type 0 where
   pub added : List Placed
-  pub tables_of : AreTablesOf tables added
+  pub are : Are added
   pub stand : AllStand bytes added
   pub texts : map text_of (payloads_of added) ≡ take k payloads
   pub behind : StandBehind end (drop k payloads) bytes
   pub room : end + log_length (drop k payloads) ≤ length bytes
   pub within : AllByRecursion (λ (a : Placed). a.at + length (text_of a.payload) ≤ end) added
 
-pub read-start : (tables : PlainTables) (payloads : List (List ℕ)) (bytes : List ℕ) → AreTablesOf tables [] → StandBehind 0 payloads bytes → length bytes ≡ log_length payloads → ReadSoFar tables payloads bytes 0 0
-read-start tables payloads bytes t places size = record { added = []; tables_of = t; stand = tt; texts = take-none payloads; behind = places; room = omega (arith, size); within = tt }
+pub read-start : (Are : List Placed → Type 0) (payloads : List (List ℕ)) (bytes : List ℕ) → Are [] → StandBehind 0 payloads bytes → length bytes ≡ log_length payloads → ReadSoFar Are payloads bytes 0 0
+read-start Are payloads bytes t places size = record { added = []; are = t; stand = tt; texts = take-none payloads; behind = places; room = omega (arith, size); within = tt }
   where
     take-none : (payloads : List (List ℕ)) → [] ≡ take 0 payloads
     take-none [] = refl
@@ -48,22 +48,22 @@ next-parts payloads k text lt is =
     drop-cons payloads k [] lt ∙ ap (λ t. t ∷ drop (suc k) payloads) (sym is) ∙ ap (λ n. text ∷ drop n payloads) (let e : suc k ≡ k + 1 = omega arith in e)
 
 -- there is room for it
-pub read-room : (tables : PlainTables) (payloads : List (List ℕ)) (bytes : List ℕ) (k end : ℕ) → ReadSoFar tables payloads bytes k end → (text : List ℕ) → k < length payloads → text ≡ get_or payloads k []
+pub read-room : (Are : List Placed → Type 0) (payloads : List (List ℕ)) (bytes : List ℕ) (k end : ℕ) → ReadSoFar Are payloads bytes k end → (text : List ℕ) → k < length payloads → text ≡ get_or payloads k []
     → end + 9 + length text ≤ length bytes
-read-room tables payloads bytes k end r text lt is =
+read-room Are payloads bytes k end r text lt is =
     let room : end + (9 + length text + log_length (drop (k + 1) payloads)) ≤ length bytes = subst (λ l. end + log_length l ≤ length bytes) (next-parts payloads k text lt is) r.room in
     omega (arith, room)
 
-pub read-next : (tables new : PlainTables) (payloads : List (List ℕ)) (bytes : List ℕ) (k end at next : ℕ) (r : ReadSoFar tables payloads bytes k end) (text : List ℕ) (p : Payload)
-    → k < length payloads → text ≡ get_or payloads k [] → at ≡ end + 9 → next ≡ end + (9 + length text) → IsSpelled text p → AreTablesOf new (r.added ++ record { at = at; payload = p } ∷ []) → ReadSoFar new payloads bytes (k + 1) next
-read-next tables new payloads bytes k end at next r text p lt is here there spelled t =
+pub read-next : (Are New : List Placed → Type 0) (payloads : List (List ℕ)) (bytes : List ℕ) (k end at next : ℕ) (r : ReadSoFar Are payloads bytes k end) (text : List ℕ) (p : Payload)
+    → k < length payloads → text ≡ get_or payloads k [] → at ≡ end + 9 → next ≡ end + (9 + length text) → IsSpelled text p → New (r.added ++ record { at = at; payload = p } ∷ []) → ReadSoFar New payloads bytes (k + 1) next
+read-next Are New payloads bytes k end at next r text p lt is here there spelled t =
     let parts = next-parts payloads k text lt is in
     let behind = subst (λ l. StandBehind end l bytes) parts r.behind in
     let a : Placed = record { at = at; payload = p } in
     let room : end + (9 + length text + log_length (drop (k + 1) payloads)) ≤ length bytes = subst (λ l. end + log_length l ≤ length bytes) parts r.room in
     record {
       added = r.added ++ a ∷ [];
-      tables_of = t;
+      are = t;
       stand = stand-more bytes r.added a r.stand
           (subst (λ (l : List ℕ). take (length l) (drop at bytes) ≡ l) spelled (subst (λ n. take (length text) (drop n bytes) ≡ text) (sym here) behind.0), tt);
       texts = ap (map text_of) (map-append (λ (b : Placed). b.payload) r.added (a ∷ [])) ∙ map-append text_of (payloads_of r.added) (p ∷ []) ∙ ap (λ l. l ++ text_of p ∷ []) r.texts
@@ -89,16 +89,16 @@ first-unlawful before (p ∷ ps) (t ∷ texts) (suc k) h e lt none =
       first-unlawful (before ++ p ∷ []) ps texts k h.1 rest (omega (arith, lt)) (λ q may. none q (subst (λ l. MayStand l (get_or texts k []) q) (append_assoc before (p ∷ []) ps) may)),
     )
 
-pub read-unlawful : (tables : PlainTables) (payloads : List (List ℕ)) (bytes : List ℕ) (k end : ℕ) (r : ReadSoFar tables payloads bytes k end) (text : List ℕ) → k < length payloads → text ≡ get_or payloads k []
+pub read-unlawful : (tables : PlainTables) (payloads : List (List ℕ)) (bytes : List ℕ) (k end : ℕ) (r : ReadSoFar (AreTablesOf tables) payloads bytes k end) (text : List ℕ) → k < length payloads → text ≡ get_or payloads k []
     → ((p : Payload) → MayStand (payloads_of r.added) text p → ⊥) → IsFirstUnlawful [] payloads k
 read-unlawful tables payloads bytes k end r text lt is none =
-    first-unlawful [] (payloads_of r.added) payloads k r.tables_of.lawful r.texts lt (λ p may. none p (subst (λ t. MayStand (payloads_of r.added) t p) (sym is) may))
+    first-unlawful [] (payloads_of r.added) payloads k r.are.lawful r.texts lt (λ p may. none p (subst (λ t. MayStand (payloads_of r.added) t p) (sym is) may))
 
 -- all were read
-pub read-all : (tables : PlainTables) (payloads : List (List ℕ)) (bytes : List ℕ) (k end : ℕ) → ReadSoFar tables payloads bytes k end → length payloads ≤ k
-    → (added : List Placed) × AreTablesOf tables added × AllStand bytes added × (payloads ≡ map text_of (payloads_of added))
+pub read-all : (Are : List Placed → Type 0) (payloads : List (List ℕ)) (bytes : List ℕ) (k end : ℕ) → ReadSoFar Are payloads bytes k end → length payloads ≤ k
+    → (added : List Placed) × Are added × AllStand bytes added × (payloads ≡ map text_of (payloads_of added))
     × AllByRecursion (λ (a : Placed). a.at + length (text_of a.payload) < length bytes) added
-read-all tables payloads bytes k end r le =
+read-all Are payloads bytes k end r le =
     let one : log_length (drop k payloads) ≡ 1 = ap log_length (drop_all k payloads le) in
     let room = r.room in
-    (r.added, r.tables_of, r.stand, sym (r.texts ∙ take_all k payloads le), before end (length bytes) r.added (omega (arith, room, one)) r.within)
+    (r.added, r.are, r.stand, sym (r.texts ∙ take_all k payloads le), before end (length bytes) r.added (omega (arith, room, one)) r.within)

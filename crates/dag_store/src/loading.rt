@@ -7,6 +7,7 @@ ghost use Rattle.name_map.specs.Added.{Placed, payloads_of, AllStand};
 ghost use Rattle.change_rules.specs.Change.{text_of};
 ghost use Rattle.change_rules.specs.Holding.{IsSpelled};
 ghost use Rattle.change_rules.specs.Unlawful.{IsFirstUnlawful, MayStand};
+ghost use Rattle.payload_tables.specs.Build.{IsBuildOf};
 ghost use Rattle.payload_tables.specs.Kept.{AreTablesOf};
 ghost use Rattle.std.specs.List.{AllByRecursion};
 ghost use Rattle.dag_store.specs.Kept.{EndsWithin, session_at};
@@ -17,6 +18,7 @@ use crate::session::Session;
 use batch_codec::BatchRef;
 use flush_rebuild::{TableFault, Tables};
 use gated_log::{LoadLog, Log};
+use payload_tables::TablesBuild;
 use std::alloc::{AllocError, AllocFailed, Global};
 
 impl From<LoadLog> for LoadFault {
@@ -82,8 +84,46 @@ fn read_batch(
     }
 }
 
-/// The tables of a log's payloads.
-pub(crate) fn read_tables(alloc: Global, log: &Log) -> Result<Tables, LoadFault>
+/// Adds the log's payload whose bytes these are, at its place `at`.
+fn build_batch(
+    build: &mut TablesBuild,
+    bytes: &[u8],
+    payload: &[u8],
+    at: u64,
+) -> Result<(), TableFault>
+    requires build { (added : List Placed) × IsBuildOf build.old added × AllStand bytes.now added }
+    requires room { at + length payload.now < 2 ^ 63 }
+    ensures { (added : List Placed) → IsBuildOf build.old added → AllStand bytes.now added
+        → OnOk result ((p : Payload) × IsSpelled payload.now p × IsBuildOf build.new (added ++ record { at = at; payload = p } ∷ [])) }
+{
+    let Some(batch) = BatchRef::read(payload) else {
+        return Err(TableFault::Unlawful);
+    };
+    build.add_batch(bytes, &batch, at)?;
+    Ok(())
+}
+
+/// The tables of a log's payloads, whose names are looked at once, when all are read. It may refuse others than the first
+/// that is unlawful.
+fn build_tables(alloc: Global, log: &Log) -> Result<Tables, TableFault>
+    requires { log.now.limit ≤ 2 ^ 32 }
+    ensures { IfOk result (λ tables. (added : List Placed) × AreTablesOf tables added × AllStand (log_bytes log.now) added × (log.now.payloads ≡ map text_of (payloads_of added))
+        × AllByRecursion (EndsWithin log.now) added) }
+{
+    let bytes = log.bytes();
+    let mut build = TablesBuild::empty(alloc);
+    let mut end = 0;
+    'batches: for k in 0..log.batch_count() {
+        let payload = log.batch(k);
+        build_batch(&mut build, bytes, payload, end + 9)?;
+        end += 9 + payload.len() as u64;
+    }
+    let tables = build.finish(bytes)?;
+    Ok(tables)
+}
+
+/// The tables of a log's payloads, added one behind the other: what is told is the first that is unlawful.
+fn read_in_turn(alloc: Global, log: &Log) -> Result<Tables, LoadFault>
     requires { log.now.limit ≤ 2 ^ 32 }
     ensures ok { IfOk result (λ tables. (added : List Placed) × AreTablesOf tables added × AllStand (log_bytes log.now) added × (log.now.payloads ≡ map text_of (payloads_of added))
         × AllByRecursion (EndsWithin log.now) added) }
@@ -98,6 +138,20 @@ pub(crate) fn read_tables(alloc: Global, log: &Log) -> Result<Tables, LoadFault>
         end += 9 + payload.len() as u64;
     }
     Ok(tables)
+}
+
+/// The tables of a log's payloads. They are made at once, and one behind the other only to tell which payload is unlawful.
+pub(crate) fn read_tables(alloc: Global, log: &Log) -> Result<Tables, LoadFault>
+    requires { log.now.limit ≤ 2 ^ 32 }
+    ensures ok { IfOk result (λ tables. (added : List Placed) × AreTablesOf tables added × AllStand (log_bytes log.now) added × (log.now.payloads ≡ map text_of (payloads_of added))
+        × AllByRecursion (EndsWithin log.now) added) }
+    ensures err { IfErr result (λ fault. (fault ≡ LoadFault.Memory) ⊎ ((k : ℕ) × (fault ≡ LoadFault.Batch k) × IsFirstUnlawful [] log.now.payloads k)) }
+{
+    match build_tables(alloc, log) {
+        Ok(tables) => Ok(tables),
+        Err(TableFault::Memory) => Err(LoadFault::Memory),
+        Err(TableFault::Unlawful) => read_in_turn(alloc, log),
+    }
 }
 
 /// Sixteen sessions without rows on all payloads of the log.

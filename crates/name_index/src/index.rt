@@ -243,11 +243,7 @@ impl NameIndex {
 
     /// The index of the names that stand at these places in the bytes, made at once. `Double` comes only where they aren't
     /// distinct.
-    pub fn of_places(
-        alloc: Global,
-        bytes: &[u8],
-        places: &[u64],
-    ) -> Result<NameIndex, IndexFault>
+    pub fn of_places(alloc: Global, bytes: &[u8], places: &[u64]) -> Result<NameIndex, IndexFault>
         ensures made { IfOk result (λ index. (new : List NamedPlace) → Stand bytes.now new → places_in new ≡ places.now → IsIndexOf index new) }
         ensures double { (new : List NamedPlace) → Stand bytes.now new → places_in new ≡ places.now → result ≡ Err Fault.Double → ¬ AreDistinct (names_in new) }
     {
