@@ -63,7 +63,7 @@ returns-in-Count-clause-step g c =
     let s = c.args.command.now.session in
     let q = quiet-command (Rose (g.O.Sink.faults c.args.output.now) (g.O.Sink.faults c.tell-in-Count.new.output)) old old s (Count (tree_of c.in-Count.expr)) (meant c.args.command.now.verb) c.tell-in-Count.result (told c.reply_of_count.result) (g.D.Disk.told c.args.log.now) (g.O.Sink.taken c.args.output.now) (g.O.Sink.taken c.tell-in-Count.new.output)
     (ap meant c.in-Count.is) c.tell-in-Count.ensures.same c.tell-in-Count.ensures.stop refl
-    (count-does old s (tree_of c.in-Count.expr) c.count-answer.result (told c.reply_of_count.result) c.reply_of_count.ensures c.count-answer.ensures)
+    (count-does old s (tree_of c.in-Count.expr) c.count-answer.result (told c.reply_of_count.result) c.reply_of_count.ensures c.count-answer.ensures.step)
     c.tell-in-Count.ensures.bytes in
     ([], None, refl, q.0, q.1)
 

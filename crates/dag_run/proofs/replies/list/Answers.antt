@@ -26,7 +26,7 @@ returns-in-Ok-clause-told g c =
     (λ before now. (began : ℕ) (st : Stored) (names : List Name) → Stands began store st → AreIdsOf st s (ids_of c.in-Ok.found.answer.set) names → PutsReply store (Listed names) r before now)
     (CommandReplies failed store s verb [] None r)
     (λ before now put began st h.
-    let q = c.in-Ok.ensures began st h in
+    let q = c.in-Ok.ensures.step began st h in
     told-replies failed began st (CommandAlone store.limits st s verb) [] None r (Listed q.0) st store before now (put began st q.0 h q.2) (lone-alone store.limits st s verb (Listed q.0) st tt q.1) (refl, refl) h)
     c.list_names.ensures.bytes
 
@@ -35,4 +35,4 @@ returns-in-Err-clause-told g c =
     let store = c.args.store in
     let verb = Query (tree_of c.args.expr.now) in
     command-told (Rose (g.O.Sink.faults c.args.output.now) (g.O.Sink.faults c.tell.new.output)) store store c.args.s verb [] None c.tell.result (Refused c.in-Err.refusal) (g.O.Sink.taken c.args.output.now) (g.O.Sink.taken c.tell.new.output)
-    (λ began st h. (st, lone-alone store.limits st c.args.s verb (Refused c.in-Err.refusal) st tt (c.in-Err.ensures began st h), (refl, refl), h)) c.tell.ensures.bytes
+    (λ began st h. (st, lone-alone store.limits st c.args.s verb (Refused c.in-Err.refusal) st tt (c.in-Err.ensures.step began st h), (refl, refl), h)) c.tell.ensures.bytes
