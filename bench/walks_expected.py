@@ -77,6 +77,7 @@ def report(name, merges, branches, count):
         later, earlier = draws.pair(count, 'anywhere')
         pairs += reach[later] >> earlier & 1
     print('is_ancestor, 100 random pairs:', pairs)
+    print('inter(X,ancestors(Y)), 100 random pairs:', pairs)
     print('parents(all):', size(parents_of(2**count - 1)))
     for whose, place in (('a low id', 10), ('a middle id', count // 2)):
         above = begun[bisect.bisect_right(begun, place) - 1:]

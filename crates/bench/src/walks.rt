@@ -86,6 +86,10 @@ fn time_ancestors<T: SegmentTable>(rt: &HostRuntime, table: &Queries<'_, T>) -> 
             Query::FirstAncestor(tenth),
         ),
         ("is_ancestor, 100 random pairs", Query::IsAncestor(100)),
+        (
+            "inter(X,ancestors(Y)), 100 random pairs",
+            Query::InterAncestors(100),
+        ),
         ("parents(all)", Query::ParentsOfAll),
     ] {
         time(rt, table, what, query)?;

@@ -19,6 +19,7 @@ pub enum Query {
     Ancestors,
     FirstAncestor(u64),
     IsAncestor(u64),
+    InterAncestors(u64),
     ParentsOfAll,
     Children(u64),
     Descendants(u64),
@@ -35,6 +36,19 @@ pub enum Query {
 pub struct Queries<'a, T> {
     alloc: Global,
     table: &'a T,
+}
+
+/// The first commit, where the second reaches it.
+const MET: &[u8] =
+    b"inter(00000000000000000000000000000000000000a1,ancestors(00000000000000000000000000000000000000b1))";
+
+/// What was counted, and nothing for a text that spells no expression.
+fn without_syntax(counted: Result<u64, ExprFault>) -> Result<u64, AllocError> {
+    match counted {
+        Ok(count) => Ok(count),
+        Err(ExprFault::Syntax) => Ok(0),
+        Err(ExprFault::Memory) => Err(AllocError),
+    }
 }
 
 /// The master id at a place.
@@ -61,6 +75,7 @@ impl<'a, T: SegmentTable> Queries<'a, T> {
             Query::Ancestors => self.ancestors_of(self.head()),
             Query::FirstAncestor(n) => Ok(self.first_of(self.head(), n)),
             Query::IsAncestor(times) => self.reached(times),
+            Query::InterAncestors(times) => without_syntax(self.met(times)),
             Query::ParentsOfAll => self.parents_of_all(),
             Query::Children(place) => self.children_of(id_at(place)),
             Query::Descendants(place) => self.descendants_of(id_at(place)),
@@ -164,13 +179,37 @@ impl<'a, T: SegmentTable> Queries<'a, T> {
         Ok(reached)
     }
 
+    /// The same, asked as the members of an expression.
+    fn met(&self, times: u64) -> Result<u64, ExprFault> {
+        let expr = Expr::parse(self.alloc, MET)?;
+        let mut draws = Draws::new();
+        let count = self.count();
+        let mut met = 0u64;
+        for _pair in 0..times {
+            let (later, earlier) = draws.pair(count, Apart::Anywhere);
+            met = met.saturating_add(self.met_by(&expr, earlier, later)?);
+        }
+        Ok(met)
+    }
+
+    /// How many members an expression of two names has.
+    fn met_by(&self, expr: &Expr, one: Id, other: Id) -> Result<u64, ExprFault> {
+        let Some(x) = held_id(self.table, one) else {
+            return Ok(0);
+        };
+        let Some(y) = held_id(self.table, other) else {
+            return Ok(0);
+        };
+        if expr.name_count() != 2 {
+            return Ok(0);
+        }
+        let answer = eval(self.alloc, self.table, expr, &[x, y])?;
+        Ok(answer.count())
+    }
+
     /// How many members `parents(all)` has.
     fn parents_of_all(&self) -> Result<u64, AllocError> {
-        match self.evaluated(b"parents(all)") {
-            Ok(count) => Ok(count),
-            Err(ExprFault::Syntax) => Ok(0),
-            Err(ExprFault::Memory) => Err(AllocError),
-        }
+        without_syntax(self.evaluated(b"parents(all)"))
     }
 
     /// How many members an expression without names has.
