@@ -1,5 +1,5 @@
 -- Runs of neighbours, and how many there are.
-use Rattle.std.proofs.Common.{◌≡◌, ℕ, zero, suc, ◌+◌, ◌-◌, ◌<◌, ◌≤◌, ◌&&◌, not, Bool, true, false, ◌⊎◌, inl, inr, List, [], ◌∷◌, length, take, drop, Option, Some, None, Ok, Err, Vec, Global, refl, sym, ap, subst, ◌∙◌, arith, ⊎_elim, true≢false, nat_eq, nat_le, if◌then◌else◌}
+use Rattle.std.proofs.Common.{◌≡◌, ℕ, zero, suc, ◌+◌, ◌-◌, ◌<◌, ◌≤◌, ◌&&◌, not, Bool, true, false, inl, List, [], ◌∷◌, length, drop, Some, None, Ok, Err, Vec, Global, refl, sym, ap, subst, ◌∙◌, arith, ⊎_elim, true≢false, nat_eq, nat_le, if◌then◌else◌}
 use Rattle.std.specs.Prelude.{slice_get, filter, min, IfOk}
 use Rattle.std.specs.declared.result.Result.{Result}
 use Rattle.std.proofs.lemmas.Bool.{leb-true, le-leb, eq-eqb, false_from_ne_true}
@@ -8,7 +8,7 @@ use Rattle.id_groups.specs.Lists.{IsIn, is_in}
 use Rattle.id_groups.specs.Name.{Name}
 use Rattle.id_groups.proofs.Listing.{and_true, both_true, not_true}
 use Rattle.segment_codec.specs.Record.{Segment}
-use Rattle.segment_codec.specs.Table.{IsLawful, IsHeld, segment_at, IsInSegment}
+use Rattle.segment_codec.specs.Table.{IsLawful, IsHeld, IsInSegment}
 use Rattle.segment_codec.proofs.Tables.{lawful-at, segment-in, le_or_lt}
 use Rattle.lazy_names.specs.Cache.{Entry, ids_of}
 use Rattle.remote_rules.specs.Mirror.{Mirror}

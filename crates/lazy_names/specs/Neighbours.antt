@@ -1,5 +1,5 @@
 -- Ids that are asked for together: neighbours in one flat segment that have no name in the cache.
-use Rattle.std.specs.Prelude.{ℕ, ◌+◌, ◌-◌, ◌&&◌, Bool, false, not, List, [], ◌∷◌, Option, Some, None, nat_eq, nat_le, if◌then◌else◌}
+use Rattle.std.specs.Prelude.{ℕ, ◌+◌, ◌&&◌, Bool, false, not, List, [], ◌∷◌, Option, Some, None, nat_eq, nat_le, if◌then◌else◌}
 use Rattle.segment_codec.specs.Record.{Segment}
 use Rattle.segment_codec.specs.Table.{segment_at}
 use Rattle.lazy_names.specs.Cache.{Entry}
