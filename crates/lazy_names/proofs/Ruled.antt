@@ -1,5 +1,5 @@
 -- What is asked for, in the words of the rules of asks.
-use Rattle.std.proofs.Common.{◌≡◌, ◌≢◌, ℕ, zero, suc, ◌+◌, ◌<◌, ◌≤◌, ◌⊎◌, inl, inr, List, [], ◌∷◌, Option, Some, None, Ok, Err, refl, sym, ap, subst, ◌∙◌, arith}
+use Rattle.std.proofs.Common.{◌≡◌, ◌≢◌, ℕ, ◌+◌, ◌<◌, ◌≤◌, inl, inr, List, [], ◌∷◌, Option, Some, None, refl, ap, subst, arith}
 use Rattle.std.specs.Prelude.{IfSome}
 use Rattle.std.specs.List.{AllByRecursion}
 use Rattle.std.specs.declared.result.Result.{Result}
@@ -8,14 +8,13 @@ use Rattle.batch_codec.specs.Payload.{Known}
 use Rattle.segment_codec.specs.Record.{Segment}
 use Rattle.remote_rules.specs.Mirror.{Mirror}
 use Rattle.remote_rules.specs.Calls.{IsAskedFor}
-use Rattle.remote_rules.specs.Known.{Path}
 use Rattle.remote_rules.specs.Asking.{Asks as IsOneAsk, AsksInTurn, AsksForNames, total as sum-of}
 use Rattle.remote_rules.specs.declared.MirrorFault.{MirrorFault}
 use Rattle.remote_rules.specs.declared.MirrorFault.TheVariants as mirror
 use Rattle.remote_trait.specs.Calls.{Leaves, raised}
 use Rattle.remote_trait.specs.Honest.{IsPathOf}
 use Rattle.remote_trait.proofs.Ruled.{asked-for}
-use Rattle.mirror_set.specs.Asking.{Asks, AskInTurn, end_of}
+use Rattle.mirror_set.specs.Asking.{AskInTurn, end_of}
 use Rattle.mirror_set.specs.Round.{total}
 use Rattle.mirror_set.proofs.Ruled.{asks-ruled, turns-ruled}
 use Rattle.lazy_names.specs.declared.fault.LazyFault.{LazyFault}
