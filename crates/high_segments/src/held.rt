@@ -61,11 +61,7 @@ fn next_end(levels: &[KeptLevel], k: usize) -> u64
 }
 
 /// The segments of the level at place `k` that are in no group of the next one.
-pub(crate) fn left_over(
-    alloc: Global,
-    levels: &[KeptLevel],
-    k: usize,
-) -> Result<Level, AllocError>
+pub(crate) fn left_over(alloc: Global, levels: &[KeptLevel], k: usize) -> Result<Level, AllocError>
     requires within { k < length levels.now }
     requires held { (top : PlainGroups) × (segments : List Segment) × (from : ℕ) × (slice_get levels.now k ≡ Some top) × HasFrom (take (k + 1) levels.now) top segments from (next_end_of levels.now k) }
     ensures { IfOk result (λ run. (top : PlainGroups) (segments : List Segment) (from : ℕ) → slice_get levels.now k ≡ Some top

@@ -79,11 +79,7 @@ fn count_up_to(groups: &[Group], id: u64, near: usize) -> usize
     ensures front { AllWithin (λ (g : PlainGroup). nat_le g.low id ≡ true) groups.now 0 result }
     ensures back { AllWithin (λ (g : PlainGroup). nat_le g.low id ≡ false) groups.now result (length groups.now) }
 {
-    if 0 < near
-        && near < groups.len()
-        && groups[near].low() > id
-        && groups[near - 1].low() <= id
-    {
+    if 0 < near && near < groups.len() && groups[near].low() > id && groups[near - 1].low() <= id {
         return near;
     }
     count_by_halves(groups, id)

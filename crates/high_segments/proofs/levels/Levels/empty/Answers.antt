@@ -27,7 +27,17 @@ none level l e is =
 pub returns : goal.returns
 returns c = record {
   count = refl;
-  levels =
-      (none 0 c.empty.result refl c.empty.ensures, (none 1 c.empty-2.result refl c.empty-2.ensures, (none 2 c.empty-3.result refl c.empty-3.ensures, (none 3 c.empty-4.result refl c.empty-4.ensures,
-      (none 4 c.empty-5.result refl c.empty-5.ensures, (none 5 c.empty-6.result refl c.empty-6.ensures, (none 6 c.empty-7.result refl c.empty-7.ensures, refl)))))));
+  levels = (
+    none 0 c.empty.result refl c.empty.ensures,
+    (
+      none 1 c.empty-2.result refl c.empty-2.ensures,
+      (
+        none 2 c.empty-3.result refl c.empty-3.ensures,
+        (
+          none 3 c.empty-4.result refl c.empty-4.ensures,
+          (none 4 c.empty-5.result refl c.empty-5.ensures, (none 5 c.empty-6.result refl c.empty-6.ensures, (none 6 c.empty-7.result refl c.empty-7.ensures, refl))),
+        ),
+      ),
+    ),
+  );
 }
