@@ -4,6 +4,8 @@ import re
 import subprocess
 import sys
 
+import plain_store
+
 PROGRAM = os.path.abspath(sys.argv[1])
 LOG = os.path.join(sys.argv[2], "log")
 
@@ -113,4 +115,53 @@ fresh("a line that is too long", "0 " + "x" * 16383 + "; 0 status", "err line 16
 with open(LOG, "wb") as log:
     log.write(bytes([1, 0, 0, 0, 0, 0, 0, 0, 5, 170]))
 check("a damaged log", "0 status", "", status=4, size=10)
+
+
+# Demonstrations: commits whose parents are drawn, with a flush behind each thousand and the last, and four questions.
+
+
+def drawn(size, start):
+    """Each commit's name with its parents' names."""
+    x, rows = start, []
+    for i in range(size):
+        parents = [i - 1] if i else []
+        if i >= 2:
+            x = (x * 6364136223846793005 + 1442695040888963407) % (1 << 64)
+            r = x >> 33
+            far = i - 2 - r // 16 % (min(i, 65) - 1)
+            parents = {0: [i - 1, far], 1: [far]}.get(r % 16, parents)
+        rows.append((f"{i + 1:040x}", [f"{p + 1:040x}" for p in parents]))
+    return rows
+
+
+def plainly(rows, by_lines):
+    """What the plain store answers at last. Where its adds would take long they are put among its pending rows at once."""
+    store = plain_store.Store(b"", plain_store.LIMITS)
+    for i, (name, parents) in enumerate(rows, 1):
+        if by_lines:
+            store.line(" ".join(["0 add", name] + parents))
+        else:
+            store.sessions[0][1].append((name, parents))
+        if i % 1000 == 0 or i == len(rows):
+            store.line(f"0 flush {name}")
+    asked = ["0 status", f"0 count ancestors({rows[-1][0]})", "0 count merges(all)", "0 count heads(all)"]
+    return [reply for line in asked for reply in store.line(line)]
+
+
+def demonstrate(size, start, wanted):
+    words = [PROGRAM, LOG, "--", "demo", "--size", str(size), "--start", str(start)]
+    done = subprocess.run(words, input=b"0 status\n", stdout=subprocess.PIPE, timeout=60)
+    given = done.stdout.decode().splitlines()
+    if done.returncode != 0 or given != wanted:
+        sys.exit(f"whole_runs: a demonstration of {size} from {start}: status {done.returncode}, {given} for {wanted}")
+    if os.path.exists(LOG):
+        sys.exit(f"whole_runs: a demonstration of {size} from {start} made a log")
+
+
+os.remove(LOG)
+for size, start in [(1, 0), (2, 0), (3, 0), (3, 5), (3, 10), (64, 3), (999, 10), (1000, 0), (1001, (1 << 64) - 1)]:
+    demonstrate(size, start, plainly(drawn(size, start), by_lines=True))
+many = plainly(drawn(20_000, 5), by_lines=False)
+for _run in range(2):
+    demonstrate(20_000, 5, many)
 print("whole_runs: all are answered as they must")

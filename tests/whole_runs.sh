@@ -1,5 +1,6 @@
 #!/bin/sh
-# Whole runs of the built program over files: what each line is answered, and what is left for the next run.
+# Whole runs of the built program over files: what each line is answered, and what is left for the next run. Behind them
+# demonstrations, which touch no file.
 set -eu
 cd "$(dirname "$0")/.."
 program=${PROGRAM:-crates/segdag/out/segdag}
@@ -13,4 +14,4 @@ if ! command -v python3 > /dev/null; then
 fi
 folder=$(mktemp -d)
 trap 'rm -rf "$folder"' EXIT
-python3 tests/whole_runs.py "$program" "$folder"
+PYTHONDONTWRITEBYTECODE=1 python3 tests/whole_runs.py "$program" "$folder"

@@ -38,12 +38,18 @@ ends 2 1 log -- --help
 ends 2 1 log -- run run
 ends 2 1 log -- run --cache 0
 ends 2 1 log -- run --cache
-ends 2 1 log -- demo
+ends 2 1 log -- demo run
+ends 2 1 log -- demo --size 0
+ends 2 1 log -- demo --size 60001
 ends 2 1 log remote -- Run
 ends 2 1 -- log -- run
 ends 2 1 "$(printf '\377')" -- run
+if [ "$("$program" log -- demo --cache 7 | tr '\n' ' ')" != "ok 503 497 0 ok 503 ok 60 ok 54 " ]; then
+    echo "words: the demonstration's lines are others"
+    exit 1
+fi
 if [ -e log ]; then
-    echo "words: a log was made for words that are no usage"
+    echo "words: a log was made for words that are no usage of a run"
     exit 1
 fi
 ends 0 0 log -- run

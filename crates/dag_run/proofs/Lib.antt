@@ -8,3 +8,4 @@ pub mod Ending
 pub mod Doing
 pub mod Statuses
 pub mod Usages
+pub mod Leading

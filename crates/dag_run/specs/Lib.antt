@@ -1,8 +1,9 @@
 pub mod Words
-pub mod Modes
 pub mod Seen
 pub mod Alone
 pub mod Stops
 pub mod Replies
 pub mod Lines
 pub mod Ends
+pub mod Demo
+pub mod Modes

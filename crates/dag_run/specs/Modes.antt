@@ -2,22 +2,21 @@
 use Rattle.std.specs.Prelude.{ℕ, ◌≡◌, ◌⊎◌, List}
 use Rattle.program_words.specs.Usage.{IsUsage, IsNoUsage}
 use Rattle.program_words.specs.declared.usage.Mode.{Mode}
-use Rattle.program_words.specs.declared.usage.Mode.TheVariants.{Run, Demo}
+use Rattle.program_words.specs.declared.usage.Mode.TheVariants.{Demo}
 use Rattle.program_words.specs.declared.usage.Usage.{Usage}
 
 -- the words are a usage of this mode
 abbrev pub IsUsageOf : Mode → List (List ℕ) → Type 0
 IsUsageOf mode words = (usage : Usage) × IsUsage words usage × (usage.mode ≡ mode)
 
--- the words are a usage of no mode that is built: of none at all, or of the demonstration
-abbrev pub IsUnbuilt : List (List ℕ) → Type 0
-IsUnbuilt words = IsNoUsage words ⊎ IsUsageOf Demo words
-
--- Status 2 comes only where the words aren't a usage of a run, and over words of no mode that is built always, unless memory was
--- wanting to read them.
+-- Status 2 comes only where the words aren't a usage, and over such words always, unless memory was wanting to read them.
 abbrev pub RefusesWords : List (List ℕ) → ℕ → Type 0
-RefusesWords words status = (status ≡ 2 → IsUsageOf Run words → ⊥) × (IsUnbuilt words → (status ≡ 2) ⊎ (status ≡ 7))
+RefusesWords words status = (status ≡ 2 → IsNoUsage words) × (IsNoUsage words → (status ≡ 2) ⊎ (status ≡ 7))
 
 -- the status of a program that ends at once, by its words
 abbrev pub EndsAtOnce : List (List ℕ) → ℕ → Type 0
 EndsAtOnce words status = ((status ≡ 2) × IsNoUsage words) ⊎ (status ≡ 7)
+
+-- the words are a usage of the demonstration of so many commits, whose parents are drawn from that number on
+abbrev pub IsDemoOf : ℕ → ℕ → List (List ℕ) → Type 0
+IsDemoOf size start words = (usage : Usage) × IsUsage words usage × (usage.mode ≡ Demo) × (usage.size ≡ size) × (usage.start ≡ start)

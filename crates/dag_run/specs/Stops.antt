@@ -51,6 +51,10 @@ IsLoadStop _ = ⊥
 abbrev pub IsRunStatus : ℕ → Type 0
 IsRunStatus status = IsTrue (list_any (λ known. known == status) (0 ∷ 3 ∷ 4 ∷ 5 ∷ 6 ∷ 7 ∷ 8 ∷ []))
 
+-- those of a demonstration
+abbrev pub IsDemoStatus : ℕ → Type 0
+IsDemoStatus status = IsTrue (list_any (λ known. known == status) (0 ∷ 6 ∷ 7 ∷ []))
+
 -- the statuses of the program, with that of words that aren't a usage
 abbrev pub IsStatus : ℕ → Type 0
 IsStatus status = IsTrue (list_any (λ known. known == status) (0 ∷ 2 ∷ 3 ∷ 4 ∷ 5 ∷ 6 ∷ 7 ∷ 8 ∷ []))

@@ -14,12 +14,14 @@ ghost use Rattle.run_rules.specs.Means.{Means};
 ghost use Rattle.run_rules.specs.Ends.{status_of as end_status};
 ghost use Rattle.dag_store.specs.Loading.{KeepsHolding, IsLoadedStore, SameBytes};
 ghost use Rattle.program_words.specs.Usage.{IsUsage};
-ghost use Rattle.dag_run.specs.Modes.{EndsAtOnce, IsUsageOf, RefusesWords};
+ghost use Rattle.dag_run.specs.Modes.{EndsAtOnce, IsDemoOf, IsUsageOf, RefusesWords};
 ghost use Rattle.dag_run.specs.Seen.{seen, streams};
-ghost use Rattle.dag_run.specs.Stops.{end_of, IsLoadStop, IsRunStatus, IsStatus};
+ghost use Rattle.dag_run.specs.Stops.{end_of, IsDemoStatus, IsLoadStop, IsRunStatus, IsStatus};
 ghost use Rattle.dag_run.specs.Lines.{PutsFault};
+ghost use Rattle.dag_run.specs.Demo.{DemoMeans};
 ghost use Rattle.dag_run.specs.Ends.{Begins, OpensRun, LoadPuts, LoadRefuses, RunRefuses, EndRefuses, StatusMeans, StatusRefuses};
 
+use crate::demo::demo;
 use crate::execute::execute;
 use crate::replies::tell_fault;
 use crate::stops::Stop;
@@ -154,8 +156,9 @@ fn usage_of(alloc: Global, words: &[String]) -> Result<Usage, u8>
     }
 }
 
-/// Runs the program over the words behind the `--`: answers the lines of the input over the log, within the program's limits. The
-/// spare disk isn't touched, and the demonstration isn't built.
+/// Runs the program over the words behind the `--`: answers the lines of the input over the log, within the program's limits, or
+/// those of a demonstration in memory, of which the last four replies are put. The spare disk isn't touched, and no disk, nor the input,
+/// by a demonstration.
 pub fn top<D: Disk, I: Source, O: Sink>(
     alloc: Global,
     words: &[String],
@@ -173,6 +176,10 @@ pub fn top<D: Disk, I: Source, O: Sink>(
     ensures refuses { IsUsageOf Mode.Run (map string_bytes words.now) → IfSome (D.bytes log.old) (λ bytes. StatusRefuses standard.log bytes result.status) }
     ensures no_log { IsUsageOf Mode.Run (map string_bytes words.now)
         → WhereTold (seen (D.told log.old) (I.left input.old) (O.taken output.old)) (seen (D.told log.new) (I.left input.new) (O.taken output.new)) (EndRefuses standard result.status) }
+    ensures demo { (size start : ℕ) → IsDemoOf size start (map string_bytes words.now)
+        → WhereTold (O.taken output.old) (O.taken output.new) (DemoMeans size start result.status) }
+    ensures aside { IsUsageOf Mode.Demo (map string_bytes words.now)
+        → IsDemoStatus result.status × (log.new ≡ log.old) × (input.new ≡ input.old) × (result.changes ≡ []) }
     ensures unwritten { result.status ≡ 4 → Goes SameBytes (D.told log.old) (D.told log.new) × (output.new ≡ output.old) }
     ensures quiet { (result.status ≡ 2) ⊎ (result.status ≡ 7) → (input.new ≡ input.old) × (output.new ≡ output.old) }
     ensures untouched { result.status ≡ 2 → log.new ≡ log.old }
@@ -187,6 +194,6 @@ pub fn top<D: Disk, I: Source, O: Sink>(
     };
     match usage.mode {
         Mode::Run => run_lines(alloc, Limits::standard(), log, input, output),
-        Mode::Demo => Report::idle(alloc, 2),
+        Mode::Demo => Report::idle(alloc, demo(alloc, usage.size, usage.start, output)),
     }
 }

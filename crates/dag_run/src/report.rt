@@ -47,15 +47,15 @@ impl Moments {
 #[derive(Drop)]
 pub struct Report {
     /// 0: the input was read to its end and all replies were written. 2: the words aren't a usage. 3: the disk failed.
-    /// 4: the disk's bytes are no log. 5: the source failed. 6: the sink failed. 7: want of memory before the first line.
-    /// 8: the input is longer than its limit.
+    /// 4: the disk's bytes are no log. 5: the source failed. 6: the sink failed. 7: want of memory before the first line, or in
+    /// a demonstration. 8: the input is longer than its limit.
     pub status: u8,
     /// One moment for each stored change.
     pub changes: Moments,
 }
 
 impl Report {
-    /// A program that ended with this status, and did nothing.
+    /// A program that ended with this status, and stored nothing.
     pub(crate) fn idle(alloc: Global, status: u8) -> Report
         ensures status { result.status ≡ status }
         ensures changes { result.changes ≡ [] }

@@ -392,13 +392,37 @@ fn words_are_split_at_the_dashes(rt: HostRuntime) -> Result<(), Fail> {
 
 #[test]
 fn the_words_are_a_mode_and_its_options(rt: HostRuntime) -> Result<(), Fail> {
-    let rows: [(&[&str], u8, u64, &[u8]); 9] = [
+    let rows: [(&[&str], u8, u64, &[u8]); 13] = [
         (&[], 2, 9, b""),
         (&["log"], 2, 9, b""),
         (&["run", "run"], 2, 9, b""),
         (&["run", "--cache", "0"], 2, 9, b""),
         (&["--help"], 2, 9, b""),
-        (&["demo"], 2, 9, b""),
+        (&["demo", "--size", "0"], 2, 9, b""),
+        (
+            &["demo", "--size", "1"],
+            0,
+            9,
+            b"ok 1 0 0\nok 1\nok 0\nok 1\n",
+        ),
+        (
+            &["demo", "--size", "3"],
+            0,
+            9,
+            b"ok 3 0 0\nok 3\nok 0\nok 1\n",
+        ),
+        (
+            &["--start", "5", "demo", "--size=3"],
+            0,
+            9,
+            b"ok 3 0 0\nok 3\nok 1\nok 1\n",
+        ),
+        (
+            &["demo", "--size", "3", "--start", "10"],
+            0,
+            9,
+            b"ok 2 1 0\nok 2\nok 0\nok 2\n",
+        ),
         (&["run"], 0, 0, b"ok 0 0 0\n"),
         (&["run", "--cache", "5"], 0, 0, b"ok 0 0 0\n"),
         (&["--cache=5", "run"], 0, 0, b"ok 0 0 0\n"),
@@ -423,6 +447,30 @@ fn the_words_are_a_mode_and_its_options(rt: HostRuntime) -> Result<(), Fail> {
         );
         assert_eq!(rt; output.bytes(), replies);
     }
+    Ok(())
+}
+
+#[test]
+fn a_sink_that_fails_ends_a_demonstration(rt: HostRuntime) -> Result<(), Fail> {
+    let words = words_of(rt.alloc(), &["demo", "--size", "3"])?;
+    let mut log = MemoryDisk::new(rt.alloc(), &[], &[1], None)?;
+    let mut spare = MemoryDisk::new(rt.alloc(), &[], &[], None)?;
+    let mut input = MemorySource::new(rt.alloc(), b"0 status\n", 1, &[1])?;
+    // The four replies have 24 bytes, of which the sink takes half.
+    let mut output = MemorySink::new(rt.alloc(), &[1])?;
+    let report = top(
+        rt.alloc(),
+        &words,
+        &mut log,
+        &mut spare,
+        &mut input,
+        &mut output,
+    );
+    assert_eq!(rt;
+        (report.status, report.changes.len(), log.clock()),
+        (6, 0, 0)
+    );
+    assert_eq!(rt; output.bytes(), b"ok 3 0 0\nok ".as_slice());
     Ok(())
 }
 

@@ -12,8 +12,9 @@ ghost use Rattle.batch_codec.specs.Payload.{Payload};
 ghost use Rattle.change_rules.specs.Standard.{standard};
 ghost use Rattle.dag_run.specs.Seen.{seen};
 ghost use Rattle.dag_run.specs.Ends.{Begins, StatusMeans};
-ghost use Rattle.dag_run.specs.Stops.{IsStatus};
-ghost use Rattle.segdag.specs.Usage.{IsUsage, Refuses};
+ghost use Rattle.dag_run.specs.Demo.{DemoMeans};
+ghost use Rattle.dag_run.specs.Stops.{IsDemoStatus, IsStatus};
+ghost use Rattle.segdag.specs.Usage.{IsDemo, IsUsage, Refuses};
 
 mod words;
 
@@ -40,8 +41,8 @@ const NO_MEMORY: u8 = 7;
 /// The status where the log was never opened.
 const NOT_OPENED: u8 = 9;
 
-/// Answers the lines of the input over the log where the words, the program's own name in front, are a usage, and gives the
-/// status.
+/// Answers the lines of the input over the log, or those of a demonstration, where the words, the program's own name in front, are a
+/// usage, and gives the status.
 fn answer<D: Disk, I: Source, O: Sink>(
     alloc: Global,
     words: &[String],
@@ -57,6 +58,8 @@ fn answer<D: Disk, I: Source, O: Sink>(
         → WhereTold (seen (D.told log.old) (I.left input.old) (O.taken output.old)) (seen (D.told log.new) (I.left input.new) (O.taken output.new))
         (λ before after. Begins standard w payloads before → (changes : List ℕ) × StatusMeans standard w payloads room
         (Rose (D.faults log.old) (D.faults log.new)) (Rose (I.faults input.old) (I.faults input.new)) (Rose (O.faults output.old) (O.faults output.new)) result changes before after) }
+    ensures demo { (size start : ℕ) → IsDemo size start (map string_bytes words.now) → WhereTold (O.taken output.old) (O.taken output.new) (DemoMeans size start result) }
+    ensures aside { IsUsage Mode.Demo (map string_bytes words.now) → IsDemoStatus result × (log.new ≡ log.old) × (input.new ≡ input.old) }
     ensures quiet { (result ≡ 2) ⊎ (result ≡ 7) → (input.new ≡ input.old) × (output.new ≡ output.old) }
     ensures untouched { result ≡ 2 → log.new ≡ log.old }
     ensures disk { result ≡ 3 → Rose (D.faults log.old) (D.faults log.new) }

@@ -1,9 +1,9 @@
 use Rattle.std.proofs.Common.{◌≡◌, ℕ, List, Option, Some, None, sym, subst, map, string_bytes}
 use Rattle.std.specs.Prelude.{MatchOption}
 use Rattle.outside.proofs.ToldLemmas.{WhereTold-map}
-use Rattle.dag_run.specs.Modes.{IsUsageOf, RefusesWords}
+use Rattle.dag_run.specs.Modes.{IsUsageOf, IsDemoOf, RefusesWords}
 use Rattle.dag_run.specs.Seen.{seen}
-use Rattle.program_words.specs.declared.usage.Mode.TheVariants.{Run}
+use Rattle.program_words.specs.declared.usage.Mode.TheVariants.{Run, Demo}
 use Rattle.segdag.specs.Usage.{mode_words}
 use Rattle.segdag.proofs.answer.Goals as goal
 
@@ -17,3 +17,12 @@ returns-clause-means g c = λ w payloads room used.
     WhereTold-map (seen (g.D.Disk.told c.args.log.now) (g.I.Source.left c.args.input.now) (g.O.Sink.taken c.args.output.now))
     (seen (g.D.Disk.told c.top.new.log) (g.I.Source.left c.top.new.input) (g.O.Sink.taken c.top.new.output)) _ _
     (λ before after means begins. (c.top.result.changes, means begins)) (c.top.ensures.means w payloads room of)
+
+pub returns-clause-demo : goal.returns-clause-demo
+returns-clause-demo g c = λ size start used.
+    c.top.ensures.demo size start (subst (λ mode. MatchOption mode ⊥ (IsDemoOf size start)) c.in-Some.ensures used)
+
+pub returns-clause-aside : goal.returns-clause-aside
+returns-clause-aside g c = λ used.
+    let aside = c.top.ensures.aside (subst (λ mode. MatchOption mode ⊥ (IsUsageOf Demo)) c.in-Some.ensures used) in
+    (aside.0, aside.1, aside.2)

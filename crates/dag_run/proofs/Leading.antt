@@ -1,0 +1,184 @@
+-- What holds from line to line of a demonstration.
+use Rattle.std.proofs.Common.{ℕ, zero, suc, ◌≡◌, ◌≤◌, ◌<◌, ◌-◌, map, take, get_or, inl, inr, ⊎_elim, true, false, List, [], ◌∷◌, ◌++◌, length, codes, refl, sym, ◌∙◌, ap, subst, ap₂, subst₂, ◌+◌, zero-le, append_assoc, append-nil, length-append, Option, Some, None, Ok, Err, IfOk, IfSome, arith}
+use Rattle.std.specs.List.{AllByRecursion}
+use Rattle.std.proofs.lemmas.List.{take_more, map-append}
+use Rattle.std.specs.declared.result.Result.{Result}
+use Rattle.outside.specs.Told.{WhereTold, TookFront}
+use Rattle.outside.proofs.ToldLemmas.{WhereTold-map, WhereTold-same}
+use Rattle.commit_graph.specs.World.{empty_world}
+use Rattle.disk_trait.specs.Images.{Told, fresh_disk}
+use Rattle.disk_trait.specs.Calls.{Goes}
+use Rattle.disk_trait.proofs.Telling.{if_forth}
+use Rattle.gated_log.specs.Holding.{IsOnDisk}
+use Rattle.line_io.specs.Memory.{MemoryOutput}
+use Rattle.line_io.specs.Lines.{is_silent, is_empty_or_comment}
+use Rattle.change_rules.specs.Standard.{standard}
+use Rattle.change_rules.specs.Holding.{HoldAs}
+use Rattle.step_rules.specs.State.{Stored, at_start, start}
+use Rattle.step_rules.specs.Reply.{Reply, reply_text}
+use Rattle.run_rules.specs.Run.{Run, output_of}
+use Rattle.demo_input.specs.Lines.{ancestors_text, commit_lines, last_lines}
+use Rattle.demo_input.proofs.Lengths.{ancestors-short}
+use Rattle.dag_store.specs.Kept.{PlainStore}
+use Rattle.dag_store.specs.Stands.{Stands}
+use Rattle.dag_store.specs.Loading.{Opens}
+use Rattle.dag_run.specs.Alone.{alone, StepAlone}
+use Rattle.dag_run.specs.Demo.{RunsAfresh, IsReady, IsBehind, IsAnswered, LeadsOn, AllAnswered, AreLastReplies, DemoMeans}
+use Rattle.dag_run.specs.Lines.{IsPassed, Replies, LineReplies, LineLeaves}
+use Rattle.dag_run.specs.declared.stops.Stop.{Stop}
+use Rattle.dag_run.proofs.Doing.{text-short, short-silent, ready-line}
+use Rattle.dag_run.proofs.Runs.{run-silent, run-step, output-append}
+
+-- before the first line
+pub behind-nothing : (store : PlainStore) → Stands 0 store (start empty_world []) → IsBehind [] [] store
+behind-nothing store stands = record { last = start empty_world []; run = λ room. (refl, refl); stands = stands }
+
+-- one line
+pub leads-on : (SinkFailed : Type 0) (line : List ℕ) (store next : PlainStore) (payload : List ℕ) (clock : Option ℕ) (before now : List ℕ) → store.limits ≡ standard
+    → LineReplies SinkFailed store line payload clock (Ok next) before now → LeadsOn line store next before now
+leads-on SinkFailed line store next payload clock before now same told = λ lines replies h.
+    ⊎_elim
+    (λ passed. (
+      [],
+      λ heard. absurd (let no : true ≡ false = sym passed.0 ∙ heard in cc no),
+      record {
+        last = h.last;
+        run = λ room. subst (λ rs. Run standard (at_start empty_world [] room []) (lines ++ line ∷ []) rs (alone h.last room)) (sym (append-nil replies)) (run-silent standard (at_start empty_world [] room []) (alone h.last room) lines replies line (h.run room) passed.0);
+        stands = passed.2;
+      },
+      passed.3 ∙ sym (append-nil before),
+    ))
+    (λ replied. (
+      replied.1.0 ∷ [],
+      λ heard. refl,
+      record {
+        last = replied.1.1;
+        run = λ room. run-step standard (at_start empty_world [] room []) (alone h.last room) (alone replied.1.1 room) lines replies line replied.1.0 (h.run room) replied.0
+            (subst (λ m. StepAlone m h.last line replied.1.0 replied.1.1) same replied.1.2 room);
+        stands = replied.1.4;
+      },
+      replied.1.5 ∙ ap (λ t. before ++ t) (sym (append-nil (reply_text replied.1.0))),
+    ))
+    (told 0 h.last h.stands)
+
+-- the last lines get replies
+answered : (line : List ℕ) → length line ≤ 128 → is_empty_or_comment line ≡ false → IsAnswered line
+answered line le e = (omega (arith, le), short-silent line line false (text-short line line (refl, omega (arith, le))) e)
+
+pub last-answered : (size : ℕ) → AllByRecursion IsAnswered (last_lines size)
+last-answered size =
+    let status = answered (codes "0 status") (omega arith) refl in
+    let ancestors = answered (ancestors_text (size - 1)) (ancestors-short (size - 1)) refl in
+    let merges = answered (codes "0 count merges(all)") (omega arith) refl in
+    let tops = answered (codes "0 count heads(all)") (omega arith) refl in
+    (status, (ancestors, (merges, (tops, tt))))
+
+-- an empty file holds the empty world
+pub held : (limit : ℕ) → HoldAs limit [] [] empty_world
+held limit = record {
+  within = zero-le;
+  texts = [];
+  log = inl (zero-le, refl);
+  spelled = tt;
+  hold = record { lawful = tt; stand = record { count = refl; master = refl; known = tt; others = refl; names = refl }; world = record { world = tt; names = tt } };
+}
+
+-- the store of a new log
+pub opened : (store : PlainStore) (d : Option Told) → d ≡ Some (fresh_disk []) → IfSome d (λ t. HoldAs standard.log t.bytes [] empty_world → Opens standard [] empty_world (Ok store)) → IsBehind [] [] store
+opened store d e h = behind-nothing store (subst (λ o. IfSome o (λ t. HoldAs standard.log t.bytes [] empty_world → Opens standard [] empty_world (Ok store))) e h (held standard.log))
+
+-- what a line leaves
+pub ready-next : (store : PlainStore) (payload : List ℕ) (clock : Option ℕ) (r : Result PlainStore Stop) (d e : Option Told) → IsReady store d → IfOk r (λ next. next.limits ≡ store.limits)
+    → Goes (LineLeaves store payload clock r) d e → IfOk r (λ next. IsReady next e)
+ready-next store payload clock (Ok next) d e ready same goes =
+    (same ∙ ready.0, if_forth (LineLeaves store payload clock (Ok next)) (IsOnDisk store.log) (IsOnDisk next.log) d e (ready-line store next payload clock) goes ready.1)
+ready-next store payload clock (Err stop) d e ready same goes = tt
+
+pub leads-next : (SinkFailed : Type 0) (line : List ℕ) (store : PlainStore) (payload : List ℕ) (clock : Option ℕ) (r : Result PlainStore Stop) (before now : List ℕ) → store.limits ≡ standard
+    → LineReplies SinkFailed store line payload clock r before now → IfOk r (λ next. LeadsOn line store next before now)
+leads-next SinkFailed line store payload clock (Ok next) before now same told = leads-on SinkFailed line store next payload clock before now same told
+leads-next SinkFailed line store payload clock (Err stop) before now same told = tt
+
+-- ---- the lines of the commits
+-- of all lines some were executed, and those are left
+pub record AddsOn (all left : List (List ℕ)) (store : PlainStore) : Type 0 where
+  pub done : List (List ℕ)
+  pub earlier : List Reply
+  pub split : all ≡ done ++ left
+  pub behind : IsBehind done earlier store
+
+pub adds-start : (all : List (List ℕ)) (store : PlainStore) → IsBehind [] [] store → AddsOn all all store
+adds-start all store h = record { done = []; earlier = []; split = refl; behind = h }
+
+pub adds-next : (all left rest : List (List ℕ)) (line before now : List ℕ) (store next : PlainStore) → AddsOn all left store → left ≡ line ∷ rest → LeadsOn line store next before now → AddsOn all rest next
+adds-next all left rest line before now store next h e leads =
+    let f = leads h.done h.earlier h.behind in record {
+      done = h.done ++ line ∷ [];
+      earlier = h.earlier ++ f.0;
+      split = h.split ∙ ap (λ ls. h.done ++ ls) e ∙ sym (append_assoc h.done (line ∷ []) rest);
+      behind = f.2;
+    }
+
+pub adds-end : (all left : List (List ℕ)) (store : PlainStore) → AddsOn all left store → left ≡ [] → (earlier : List Reply) × IsBehind all earlier store
+adds-end all left store h none = (h.earlier, subst (λ ls. IsBehind ls h.earlier store) (sym (h.split ∙ ap (λ ls. h.done ++ ls) none ∙ append-nil h.done)) h.behind)
+
+-- ---- the last lines
+-- these lines were asked and answered, and led from the first store to this one
+abbrev pub AsksOn : PlainStore → List (List ℕ) → PlainStore → List ℕ → Type 0
+AsksOn first asked store bytes =
+    (lines : List (List ℕ)) (replies : List Reply) → IsBehind lines replies first
+    → (more : List Reply) × (length more ≡ length asked) × IsBehind (lines ++ asked) (replies ++ more) store × (bytes ≡ output_of more)
+
+pub asks-start : (store : PlainStore) → AsksOn store [] store []
+asks-start store = λ lines replies h. (
+  [],
+  refl,
+  subst₂ (λ ls rs. IsBehind ls rs store) (sym (append-nil lines)) (sym (append-nil replies)) h,
+  refl,
+)
+
+pub asks-next : (first store next : PlainStore) (asked : List (List ℕ)) (line bytes now : List ℕ) → AsksOn first asked store bytes → is_silent line ≡ false → LeadsOn line store next bytes now → AsksOn first (asked ++ line ∷ []) next now
+asks-next first store next asked line bytes now h heard leads = λ lines replies b.
+    let f = h lines replies b in
+    let l = leads (lines ++ asked) (replies ++ f.0) f.2 in (
+      f.0 ++ l.0,
+      length-append f.0 l.0 ∙ ap₂ (λ m n. m + n) f.1 (l.1 heard) ∙ sym (length-append asked (line ∷ [])),
+      subst₂ (λ ls rs. IsBehind ls rs next) (append_assoc lines asked (line ∷ [])) (append_assoc replies f.0 l.0) l.2,
+      l.3 ∙ ap (λ t. t ++ output_of l.0) f.3 ∙ sym (output-append f.0 l.0),
+    )
+
+pub asks-end : (first store : PlainStore) (asked : List (List ℕ)) (bytes : List ℕ) → AsksOn first asked store bytes → AllAnswered asked first bytes
+asks-end first store asked bytes h = λ lines replies b. let f = h lines replies b in (f.0, f.1, (f.2.last, f.2.run), f.3)
+
+-- the whole demonstration
+pub last-replies : (size from : ℕ) (asked : List (List ℕ)) (store : PlainStore) (r : Result MemoryOutput Stop) → asked ≡ last_lines size → (earlier : List Reply) × IsBehind (commit_lines size from) earlier store
+    → IfOk r (λ sink. AllAnswered asked store sink.taken) → IfOk r (λ sink. (replies : List Reply) × AreLastReplies size from replies × (sink.taken ≡ output_of replies))
+last-replies size from asked store (Err stop) is behind h = tt
+last-replies size from asked store (Ok sink) is behind h =
+    let all = subst (λ ls. AllAnswered ls store sink.taken) is h in
+    let f = all (commit_lines size from) behind.0 behind.1 in (
+      f.0,
+      record { earlier = behind.0; last = f.2.0; run = f.2.1; four = f.1 },
+      f.3,
+    )
+
+-- ---- what is put
+pub demo-unread : (size from : ℕ) (o : Option (List ℕ)) → WhereTold o o (DemoMeans size from 7)
+demo-unread size from o = WhereTold-same o _ (λ x. inl (refl, refl))
+
+pub demo-put : (size from : ℕ) (bytes : List ℕ) (o p : Option (List ℕ)) → (replies : List Reply) × AreLastReplies size from replies × (bytes ≡ output_of replies) → WhereTold o p (λ x y. y ≡ x ++ bytes) → WhereTold o p (DemoMeans size from 0)
+demo-put size from bytes o p are put =
+    WhereTold-map o p (λ x y. y ≡ x ++ bytes) _ (λ x y e. inr (are.0, are.1, inl (refl, e ∙ ap (λ bs. x ++ bs) are.2))) put
+
+pub demo-cut : (size from : ℕ) (bytes : List ℕ) (o p : Option (List ℕ)) → (replies : List Reply) × AreLastReplies size from replies × (bytes ≡ output_of replies) → WhereTold o p (TookFront bytes) → WhereTold o p (DemoMeans size from 6)
+demo-cut size from bytes o p are put =
+    WhereTold-map o p (TookFront bytes) _ (λ x y t. inr (are.0, are.1, inr (refl, subst (λ bs. TookFront bs x y) are.2 t))) put
+
+-- ---- items of a slice
+pub map-more : {X : Type 0} (f : X → List ℕ) (xs : List X) (i : ℕ) (x : X) → i < length xs → x ≡ get_or xs i x → map f (take (i + 1) xs) ≡ map f (take i xs) ++ f x ∷ []
+map-more f xs i x lt e = ap (map f) (take_more xs i x lt ∙ ap (λ z. take i xs ++ z ∷ []) (sym e)) ∙ map-append f (take i xs) (x ∷ [])
+
+pub all-at : {X : Type 0} (P : List ℕ → Type 0) (f : X → List ℕ) (xs : List X) (i : ℕ) (x : X) → AllByRecursion P (map f xs) → i < length xs → x ≡ get_or xs i x → P (f x)
+all-at P f [] i x all lt e = absurd (omega (arith, lt))
+all-at P f (y ∷ ys) zero x all lt e = subst (λ z. P (f z)) (sym e) all.0
+all-at P f (y ∷ ys) (suc i) x all lt e = all-at P f ys i x all.1 (omega (arith, lt)) e

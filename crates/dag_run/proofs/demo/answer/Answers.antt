@@ -1,0 +1,15 @@
+use Rattle.std.proofs.Common.{refl}
+use Rattle.outside.specs.Counts.{Rose}
+use Rattle.dag_run.proofs.Leading.{ready-next, leads-next}
+use Rattle.dag_run.proofs.demo.answer.Goals as goal
+
+pub returns-clause-ready : goal.returns-clause-ready
+returns-clause-ready g c =
+    let step = c.execute.ensures.step in
+    ready-next c.args.store step.0 step.1 c.execute.result (g.D.Disk.told c.args.log.now) (g.D.Disk.told c.execute.new.log) c.requires.ready c.execute.ensures.limits step.3
+
+pub returns-clause-leads : goal.returns-clause-leads
+returns-clause-leads g c =
+    let step = c.execute.ensures.step in
+    leads-next (Rose c.args.replies.now.faults c.execute.new.output.faults) c.args.line.now c.args.store step.0 step.1 c.execute.result c.args.replies.now.taken c.execute.new.output.taken
+    c.requires.ready.0 (step.4 c.args.line.now (refl, c.requires.short))

@@ -1,0 +1,115 @@
+//! The demonstration: command lines that the program makes itself, answered in memory.
+
+ghost use Rattle.std.specs.Prelude.{◌≡◌, ◌≤◌, ℕ, List, [], IfOk, Some, length, map};
+ghost use Rattle.std.specs.List.{AllByRecursion};
+ghost use Rattle.outside.specs.Counts.{Rose};
+ghost use Rattle.outside.specs.Told.{WhereTold};
+ghost use Rattle.disk_trait.specs.Images.{fresh_disk};
+ghost use Rattle.line_io.specs.Lines.{longest_line};
+ghost use Rattle.step_rules.specs.Reply.{Reply};
+ghost use Rattle.run_rules.specs.Run.{output_of};
+ghost use Rattle.demo_input.specs.Lines.{commit_lines};
+ghost use Rattle.dag_run.specs.Demo.{AllAnswered, AreLastReplies, DemoMeans, IsAnswered, IsBehind, IsReady, LeadsOn};
+ghost use Rattle.dag_run.specs.Stops.{IsDemoStatus};
+
+use crate::Limits;
+use crate::execute::execute;
+use crate::stops::Stop;
+use dag_store::Store;
+use demo_input::{CommitLines, last_lines};
+use disk_memory::MemoryDisk;
+use disk_trait::Disk;
+use line_io::{Line, MemorySink, Sink};
+use std::alloc::Global;
+
+/// The store of a new log.
+fn new_store<D: Disk>(alloc: Global, log: &mut D) -> Result<Store, Stop>
+    requires { D.told log.old ≡ Some (fresh_disk []) }
+    ensures ready { IfOk result (λ store. IsReady store (D.told log.new)) }
+    ensures begins { IfOk result (IsBehind [] []) }
+{
+    match Store::load(alloc, log, Limits::standard()) {
+        Ok(store) => Ok(store),
+        Err(_) => Err(Stop::Memory),
+    }
+}
+
+/// Executes a line, and keeps its reply.
+fn answer<D: Disk>(
+    alloc: Global,
+    store: Store,
+    log: &mut D,
+    line: &[u8],
+    replies: &mut MemorySink,
+) -> Result<Store, Stop>
+    requires ready { IsReady store (D.told log.old) }
+    requires short { length line.now ≤ longest_line }
+    ensures ready { IfOk result (λ next. IsReady next (D.told log.new)) }
+    ensures leads { IfOk result (λ next. LeadsOn line.now store next replies.old.taken replies.new.taken) }
+{
+    let mut changes = Vec::new(alloc);
+    execute(alloc, store, log, &mut changes, Line::Text, line, replies)
+}
+
+/// The store behind the lines that add and flush so many commits, over a new log. Nobody hears their replies.
+fn add_commits<D: Disk>(alloc: Global, log: &mut D, size: u32, start: u64) -> Result<Store, Stop>
+    requires { D.told log.old ≡ Some (fresh_disk []) }
+    ensures ready { IfOk result (λ store. IsReady store (D.told log.new)) }
+    ensures behind { IfOk result (λ store. (earlier : List Reply) × IsBehind (commit_lines size start) earlier store) }
+{
+    let mut unheard = MemorySink::new(alloc, &[])?;
+    let mut lines = CommitLines::new(size, start);
+    let mut store = new_store(alloc, log)?;
+    'commits: while let Some(line) = lines.next_line(alloc)? {
+        store = answer(alloc, store, log, &line, &mut unheard)?;
+    }
+    Ok(store)
+}
+
+/// Executes lines that each get a reply, and gives these.
+fn ask<D: Disk>(
+    alloc: Global,
+    store: Store,
+    log: &mut D,
+    lines: &[Vec<u8>],
+) -> Result<MemorySink, Stop>
+    requires ready { IsReady store (D.told log.old) }
+    requires answered { AllByRecursion IsAnswered (map (λ line. line.items) lines.now) }
+    ensures { IfOk result (λ sink. AllAnswered (map (λ line. line.items) lines.now) store sink.taken) }
+{
+    let mut replies = MemorySink::new(alloc, &[])?;
+    let mut store = store;
+    'lines: for line in lines {
+        store = answer(alloc, store, log, line, &mut replies)?;
+    }
+    Ok(replies)
+}
+
+/// The replies to the last four lines of a demonstration.
+fn last_replies(alloc: Global, size: u32, start: u64) -> Result<MemorySink, Stop>
+    requires { 1 ≤ size }
+    ensures { IfOk result (λ sink. (replies : List Reply) × AreLastReplies size start replies × (sink.taken ≡ output_of replies)) }
+{
+    let mut log = MemoryDisk::new(alloc, &[], &[], None)?;
+    let store = add_commits(alloc, &mut log, size, start)?;
+    let lines = last_lines(alloc, size)?;
+    ask(alloc, store, &mut log, &lines)
+}
+
+/// Answers the lines of so many commits, whose parents are drawn from this number on, in memory, and puts the replies to the last
+/// four. The status: 0 where they were put, 6 where the sink failed, and 7 where memory was wanting, with nothing put.
+pub(crate) fn demo<O: Sink>(alloc: Global, size: u32, start: u64, output: &mut O) -> u8
+    requires { 1 ≤ size }
+    ensures known { IsDemoStatus result }
+    ensures means { WhereTold (O.taken output.old) (O.taken output.new) (DemoMeans size start result) }
+    ensures quiet { result ≡ 7 → output.new ≡ output.old }
+    ensures sink { result ≡ 6 → Rose (O.faults output.old) (O.faults output.new) }
+{
+    let Ok(replies) = last_replies(alloc, size, start) else {
+        return 7;
+    };
+    match output.put(replies.bytes()) {
+        Ok(()) => 0,
+        Err(_) => 6,
+    }
+}
