@@ -91,13 +91,6 @@ next_end_of (l ∷ []) zero = l.end
 next_end_of (l ∷ next ∷ more) zero = next.end
 next_end_of (l ∷ more) (suc k) = next_end_of more k
 
--- of each segment an id above all of its parents
-abbrev pub AreNoted : List Segment → List ℕ → Type 0
-AreNoted [] [] = ⊤
-AreNoted [] (n ∷ notes) = ⊥
-AreNoted (s ∷ segments) [] = ⊥
-AreNoted (s ∷ segments) (n ∷ notes) = AllByRecursion (λ p. p < n) s.parents × AreNoted segments notes
-
 -- the group that begins at a place of the level below is added
 pub record AddsGroup (below : PlainLevel) (at : ℕ) (old new : PlainLevel) (size : ℕ) (parents : List ℕ) : Type 0 where
   pub first : Segment

@@ -1,17 +1,16 @@
 //! Which segments form the next group, and its parents.
 
-ghost use Rattle.std.specs.List.{list_any, AllByRecursion};
-ghost use Rattle.std.specs.Prelude.{◌≡◌, ◌<◌, ◌≤◌, ◌+◌, ◌++◌, ℕ, [], ◌∷◌, length, take, drop, filter, not, nat_eq, nat_lt, OnOk, IfOk};
+ghost use Rattle.std.specs.List.{list_any};
+ghost use Rattle.std.specs.Prelude.{◌≡◌, ◌≤◌, ◌+◌, ◌++◌, ℕ, [], ◌∷◌, length, take, drop, filter, not, nat_eq, nat_lt, OnOk, IfOk};
 ghost use Rattle.id_groups.specs.Lists.{is_in};
 ghost use Rattle.segment_codec.specs.Lent.{segment_of};
 ghost use Rattle.segment_rules.specs.Levels.{group_limit, group_size as size_of, parents_below as below_of, ascending};
 ghost use Rattle.segment_levels.specs.Kept.{segments_in};
 ghost use Rattle.segment_levels.specs.Sound.{IsSound};
-ghost use Rattle.high_segments.specs.Growing.{AreNoted};
 
 use crate::level::Level;
 use segment_codec::SegmentRef;
-use std::alloc::{AllocError, Global};
+use std::alloc::AllocError;
 
 /// A group is decided once there are so many segments, and has no more.
 pub(crate) const GROUP_LIMIT: usize = 16;
@@ -48,54 +47,15 @@ fn has_parent(segment: SegmentRef<'_>, id: u64) -> bool
     false
 }
 
-/// An id above all parents of the segment.
-fn parents_end(segment: SegmentRef<'_>) -> u64
-    ensures { AllByRecursion (λ p. p < result) (segment_of segment.entry).parents }
-{
-    let mut end = 0;
-    let mut rest = segment.parents();
-    'parents: while let Some(parent) = rest.next() {
-        end = end.max(parent.number() + 1);
-    }
-    end
-}
-
-/// Of each segment an id above all of its parents, so that most of them need be read once.
-pub(crate) fn note_parents(alloc: Global, below: &Level) -> Result<Vec<u64>, AllocError>
-    requires { IsSound below.now }
-    ensures noted { IfOk result (λ notes. AreNoted (segments_in below.now) notes.items) }
-    ensures len { IfOk result (λ notes. length notes.items ≡ length below.now.entries) }
-{
-    let len = below.len();
-    let mut notes = Vec::with_capacity(alloc, len)?;
-    for k in 0..len {
-        notes.push(parents_end(below.at(k)))?;
-    }
-    Ok(notes)
-}
-
-/// Whether the id is a parent of the segment, of which an id above all parents is known.
-fn has_noted_parent(segment: SegmentRef<'_>, end: u64, id: u64) -> bool
-    requires { AllByRecursion (λ p. p < end) (segment_of segment).parents }
-    ensures { result ≡ is_in nat_eq id (segment_of segment.entry).parents }
-{
-    if id >= end {
-        return false;
-    }
-    has_parent(segment, id)
-}
-
 /// Whether the id is a parent of one of so many segments from a place on.
-fn has_child(below: &Level, notes: &[u64], from: usize, count: usize, id: u64) -> bool
+fn has_child(below: &Level, from: usize, count: usize, id: u64) -> bool
     requires sound { IsSound below.now }
-    requires noted { AreNoted (segments_in below.now) notes.now }
-    requires len { length notes.now ≡ length below.now.entries }
     requires room { from + count ≤ length below.now.entries }
     ensures { result ≡ list_any (λ t. is_in nat_eq id t.parents) (take count (drop from (segments_in below.now))) }
 {
     let _count = below.len();
     for k in 0..count {
-        if has_noted_parent(below.at(from + k), notes[from + k], id) {
+        if has_parent(below.at(from + k), id) {
             return true;
         }
     }
@@ -124,18 +84,15 @@ fn scan_group(heads: &mut Vec<u64>, below: &Level, from: usize) -> Result<usize,
 pub(crate) fn group_size(
     heads: &mut Vec<u64>,
     below: &Level,
-    notes: &[u64],
     from: usize,
 ) -> Result<usize, AllocError>
     requires sound { IsSound below.now }
-    requires noted { AreNoted (segments_in below.now) notes.now }
-    requires len { length notes.now ≡ length below.now.entries }
     requires room { from + 16 ≤ length below.now.entries }
     ensures { IfOk result (λ n. n ≡ size_of group_limit (drop from (segments_in below.now))) }
 {
     let _count = below.len();
     let first = below.at(from).high().number();
-    if !has_child(below, notes, from + 1, GROUP_LIMIT - 1, first) {
+    if !has_child(below, from + 1, GROUP_LIMIT - 1, first) {
         return Ok(1);
     }
     scan_group(heads, below, from)

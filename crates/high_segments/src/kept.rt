@@ -61,7 +61,6 @@ impl Mark {
 }
 
 /// How many of the groups begin at the id or below it.
-#[inline]
 fn count_by_halves(groups: &[Group], id: u64) -> usize
     requires { DoRise groups.now }
     ensures within { result ≤ length groups.now }
@@ -72,7 +71,6 @@ fn count_by_halves(groups: &[Group], id: u64) -> usize
 }
 
 /// How many of the groups begin at the id or below it. The place `near` is tried first.
-#[inline(always)]
 fn count_up_to(groups: &[Group], id: u64, near: usize) -> usize
     requires { DoRise groups.now }
     ensures within { result ≤ length groups.now }
@@ -173,7 +171,6 @@ impl KeptLevel {
     }
 
     /// The kept group that has the id. The search begins at a place. No parent is read.
-    #[inline(always)]
     pub(crate) fn find(&self, id: u64, near: usize) -> Option<SegmentRef<'_>>
         requires { IsReadable self.now }
         ensures { MatchOption result (segment_at (groups_in self.now) id ≡ None) (λ r. segment_at (groups_in self.now) id ≡ Some (segment_of r)) }
