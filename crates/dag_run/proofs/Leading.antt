@@ -1,5 +1,5 @@
 -- What holds from line to line of a demonstration.
-use Rattle.std.proofs.Common.{ℕ, zero, suc, ◌≡◌, ◌≤◌, ◌<◌, ◌-◌, map, take, get_or, inl, inr, ⊎_elim, true, false, List, [], ◌∷◌, ◌++◌, length, codes, refl, sym, ◌∙◌, ap, subst, ap₂, subst₂, ◌+◌, zero-le, append_assoc, append-nil, length-append, Option, Some, None, Ok, Err, IfOk, IfSome, arith}
+use Rattle.std.proofs.Common.{ℕ, zero, suc, ◌≡◌, ◌≤◌, ◌<◌, ◌-◌, map, take, get_or, inl, inr, ⊎_elim, true, false, List, [], ◌∷◌, ◌++◌, length, codes, refl, sym, ◌∙◌, ap, subst, ap₂, subst₂, ◌+◌, zero-le, append_assoc, append-nil, length-append, Option, Some, Ok, Err, IfOk, IfSome, arith}
 use Rattle.std.specs.List.{AllByRecursion}
 use Rattle.std.proofs.lemmas.List.{take_more, map-append}
 use Rattle.std.specs.declared.result.Result.{Result}
@@ -14,7 +14,7 @@ use Rattle.line_io.specs.Memory.{MemoryOutput}
 use Rattle.line_io.specs.Lines.{is_silent, is_empty_or_comment}
 use Rattle.change_rules.specs.Standard.{standard}
 use Rattle.change_rules.specs.Holding.{HoldAs}
-use Rattle.step_rules.specs.State.{Stored, at_start, start}
+use Rattle.step_rules.specs.State.{at_start, start}
 use Rattle.step_rules.specs.Reply.{Reply, reply_text}
 use Rattle.run_rules.specs.Run.{Run, output_of}
 use Rattle.demo_input.specs.Lines.{ancestors_text, commit_lines, last_lines}
@@ -23,8 +23,8 @@ use Rattle.dag_store.specs.Kept.{PlainStore}
 use Rattle.dag_store.specs.Stands.{Stands}
 use Rattle.dag_store.specs.Loading.{Opens}
 use Rattle.dag_run.specs.Alone.{alone, StepAlone}
-use Rattle.dag_run.specs.Demo.{RunsAfresh, IsReady, IsBehind, IsAnswered, LeadsOn, AllAnswered, AreLastReplies, DemoMeans}
-use Rattle.dag_run.specs.Lines.{IsPassed, Replies, LineReplies, LineLeaves}
+use Rattle.dag_run.specs.Demo.{IsReady, IsBehind, IsAnswered, LeadsOn, AllAnswered, AreLastReplies, DemoMeans}
+use Rattle.dag_run.specs.Lines.{LineReplies, LineLeaves}
 use Rattle.dag_run.specs.declared.stops.Stop.{Stop}
 use Rattle.dag_run.proofs.Doing.{text-short, short-silent, ready-line}
 use Rattle.dag_run.proofs.Runs.{run-silent, run-step, output-append}

@@ -1,5 +1,5 @@
 -- How long lines are.
-use Rattle.std.proofs.Common.{ℕ, zero, suc, ◌≡◌, ◌∙◌, ◌+◌, ◌*◌, ◌%◌, ◌==◌, ◌≤◌, Bool, true, false, List, [], ◌∷◌, ◌++◌, if◌then◌else◌, length, length-append, codes, ap, refl, arith}
+use Rattle.std.proofs.Common.{ℕ, zero, suc, ◌≡◌, ◌*◌, ◌%◌, ◌==◌, ◌≤◌, Bool, true, false, List, [], ◌∷◌, ◌++◌, if◌then◌else◌, length, length-append, codes, refl, arith}
 use Rattle.hex.proofs.HexLemmas.{length-encode_with}
 use Rattle.id_groups.specs.Name.{hex_text}
 use Rattle.demo_input.specs.Drawing.{drawn, parents_at}

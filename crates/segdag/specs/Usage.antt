@@ -1,5 +1,5 @@
 -- When the words of the program, its own name in front, are a usage.
-use Rattle.std.specs.Prelude.{ℕ, ◌≡◌, List, [], ◌∷◌, drop, Option, Some, None, MatchOption}
+use Rattle.std.specs.Prelude.{ℕ, ◌≡◌, List, [], ◌∷◌, drop, Option, None, MatchOption}
 use Rattle.std.specs.Option.{option_map}
 use Rattle.dag_run.specs.Modes.{IsUsageOf, IsDemoOf, RefusesWords}
 use Rattle.dag_run.specs.Words.{dashes_at, split_of}

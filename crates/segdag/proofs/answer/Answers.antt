@@ -1,10 +1,9 @@
-use Rattle.std.proofs.Common.{◌≡◌, ℕ, List, Option, Some, None, sym, subst, map, string_bytes}
+use Rattle.std.proofs.Common.{◌≡◌, sym, subst}
 use Rattle.std.specs.Prelude.{MatchOption}
 use Rattle.outside.proofs.ToldLemmas.{WhereTold-map}
 use Rattle.dag_run.specs.Modes.{IsUsageOf, IsDemoOf, RefusesWords}
 use Rattle.dag_run.specs.Seen.{seen}
 use Rattle.program_words.specs.declared.usage.Mode.TheVariants.{Run, Demo}
-use Rattle.segdag.specs.Usage.{mode_words}
 use Rattle.segdag.proofs.answer.Goals as goal
 
 pub returns-clause-usage : goal.returns-clause-usage

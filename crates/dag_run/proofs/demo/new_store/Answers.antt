@@ -1,4 +1,4 @@
-use Rattle.std.proofs.Common.{◌≡◌, [], Ok, sym, subst}
+use Rattle.std.proofs.Common.{[], Ok}
 use Rattle.commit_graph.specs.World.{empty_world}
 use Rattle.disk_trait.proofs.Telling.{goes-new, of_told}
 use Rattle.gated_log.specs.Holding.{IsOnDisk}

@@ -1,4 +1,4 @@
-use Rattle.std.proofs.Common.{◌≡◌, ℕ, [], refl, sym, subst, inl, zero-le}
+use Rattle.std.proofs.Common.{◌≡◌, [], sym, subst, inl, zero-le}
 use Rattle.disk_trait.proofs.Loss.{image-stable}
 use Rattle.commit_graph.specs.World.{empty_world}
 use Rattle.change_rules.specs.Holding.{HoldBytes}

@@ -1,7 +1,7 @@
 use Rattle.std.proofs.Common.{rules, map, string_bytes, sym, subst}
 use Rattle.change_rules.specs.Standard.{AreLimits, standard}
 use Rattle.outside.specs.Told.{WhereTold}
-use Rattle.program_words.specs.declared.usage.Mode.TheVariants.{Run, Demo}
+use Rattle.program_words.specs.declared.usage.Mode.TheVariants.{Demo}
 use Rattle.dag_run.specs.Demo.{DemoMeans}
 use Rattle.dag_run.specs.Modes.{EndsAtOnce}
 use Rattle.dag_run.proofs.Usages.{once-means, once-refuses, once-demo, one-mode, run-or-demo, of-demo, size-least, demo-means}
