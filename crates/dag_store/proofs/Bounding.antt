@@ -13,11 +13,13 @@ use Rattle.commit_graph.specs.Ids.{id_in, parent_ids}
 use Rattle.commit_graph.proofs.Down.{in-left}
 use Rattle.commit_graph.proofs.Places.{place-right, id-in-others}
 use Rattle.segment_codec.specs.Record.{Segment}
+use Rattle.segment_codec.proofs.Flats.{flat_ending-all}
 use Rattle.segment_rules.specs.Flat.{flat_segments_of}
 use Rattle.segment_levels.specs.Flats.{flats_of}
 use Rattle.segment_levels.specs.Endings.{level_ending}
 use Rattle.high_segments.specs.declared.view.View.{View}
-use Rattle.high_segments.specs.Views.{flats_in, ending_of, whole_endings}
+use Rattle.high_segments.specs.Views.{flats_in, ending_of}
+use Rattle.high_segments.proofs.Viewing.{lawful_flats}
 use Rattle.span_set.specs.Members.{IsMember, ids_of}
 use Rattle.span_set.proofs.Counts.{member-ids}
 use Rattle.ancestor_query.specs.Counts.{meets, count_met, EndsWhole}
@@ -86,7 +88,7 @@ ends-whole base added b w stand view behind are endings id e = subst (EndsWhole 
       0,
       s,
       known,
-      whole_endings view s (subst (IsIn s) (sym are) (in-left s (flat_segments_in w) behind (in-left s (flat_segments_of 0 (parent_ids same_name w w.master)) (flat_segments_of (2 ^ 56) (parent_ids same_name w w.others)) i))),
+      flat_ending-all (flats_in view) (lawful_flats view) s (subst (IsIn s) (sym are) (in-left s (flat_segments_in w) behind (in-left s (flat_segments_of 0 (parent_ids same_name w w.master)) (flat_segments_of (2 ^ 56) (parent_ids same_name w w.others)) i))),
       none,
     )
     ends-at (suc level) s known i none = (
