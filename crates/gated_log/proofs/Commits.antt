@@ -1,11 +1,11 @@
 -- From the code of a commit to its stages.
-use Rattle.std.proofs.Common.{◌≡◌, ◌≢◌, inl, inr, ℕ, zero, suc, Bool, true, false, true≢false, ◌≤◌, ◌<◌, ◌+◌, ◌-◌, ◌^◌, List, [], ◌∷◌, ◌++◌, length, take, drop, Option, IfSome, refl, sym, ◌∙◌, ap, subst, arith, length-append, append_assoc, drop_at, lit<}
+use Rattle.std.proofs.Common.{◌≡◌, ◌≢◌, inl, inr, ℕ, zero, suc, Bool, true, false, true≢false, ◌≤◌, ◌<◌, ◌+◌, ◌-◌, ◌^◌, List, [], ◌∷◌, ◌++◌, length, take, drop, Option, IfSome, refl, sym, ◌∙◌, ap, subst, arith, length-append, append_assoc, drop_at, lit<, ⊎_elim}
 use Rattle.std.proofs.lemmas.List.{append-nil, take_rest}
 use Rattle.std.proofs.Math.ListN.{set}
 use Rattle.std.proofs.Math.Seq.{set-append_seam}
 use Rattle.std.specs.List.{AllByRecursion}
 use Rattle.disk_trait.proofs.Telling.{goes-then, goes-map}
-use Rattle.gated_log.specs.Commit.{CommitsInPart}
+use Rattle.gated_log.specs.Commit.{WritesSurely, WritesInPart, CommitsInPart}
 use Rattle.disk_trait.specs.Images.{IsSound, Told, moment_of}
 use Rattle.disk_trait.specs.Calls.{Passes, Writes, FailsToWrite, Syncs, Succeeds, OrRefuses, Goes}
 use Rattle.gated_log.specs.Log.{batches, HasLength, gates_of}
@@ -14,7 +14,7 @@ use Rattle.gated_log.proofs.Places.{gates_of-push}
 use Rattle.gated_log.specs.Holding.{IsOnDisk, IsOldOrNew, KeepsOldOrNew, HasNew}
 use Rattle.gated_log.specs.declared.Committed.TheVariants.{Done}
 use Rattle.gated_log.proofs.Shapes.{opened, lengths-push, is_whole, length-staged}
-use Rattle.gated_log.proofs.Stages.{Stage, Fits, Began, Staged, Guarded, Opened, Closed, at_start, to_staged, to_guarded, to_opened, to_closed, staged_fails, guarded_fails, opened_fails, closed_fails, kept_at_end, at_end, write_allowed, gate_allowed}
+use Rattle.gated_log.proofs.Stages.{Stage, Fits, Began, Guarded, Closed, at_start, to_guarded, to_closed, guarded_fails, closed_fails, kept_at_end, at_end, write_allowed, gate_allowed}
 
 -- what the fields say of the log that contracts see
 pub record Reads (gates bytes : List ℕ) (limit : ℕ) (log : Held) : Type 0 where
@@ -91,41 +91,29 @@ module _ (log : Held) (payload : List ℕ) (n : ℕ) (piece : List ℕ) (a : Opt
   pub allowed : IfSome a (λ t. n ≤ length t.bytes)
   allowed = subst (λ k. IfSome a (λ t. k ≤ length t.bytes)) (sym s.end) (write_allowed log payload s.fits a s.began)
 
-  pub fails_1 : (b : Option Told) → Goes (OrRefuses (FailsToWrite n piece)) a b → Goes (KeepsOldOrNew log payload) a b
-  fails_1 b w = staged_fails log payload s.fits a b s.began
-      (subst (λ k. Goes (OrRefuses (FailsToWrite k (staged payload))) a b) s.end (subst (λ l. Goes (OrRefuses (FailsToWrite n l)) a b) s.behind w))
+  pub fails_1 : (b : Option Told) → Goes (WritesInPart n piece) a b → Goes (KeepsOldOrNew log payload) a b
+  fails_1 b w = guarded_fails log payload s.fits a b s.began
+      (subst (λ k. Goes (WritesInPart k (staged payload)) a b) s.end (subst (λ l. Goes (WritesInPart n l) a b) s.behind w))
 
-  after_1 : (b : Option Told) → Goes (Succeeds (Writes n piece)) a b → Goes (Stage (IsOldOrNew log payload) 2 (Staged log payload s.fits)) a b
-  after_1 b w = to_staged log payload s.fits a b s.began
-      (subst (λ k. Goes (Succeeds (Writes k (staged payload))) a b) s.end (subst (λ l. Goes (Succeeds (Writes n l)) a b) s.behind w))
+  after_1 : (b : Option Told) → Goes (WritesSurely n piece) a b → Goes (Stage (IsOldOrNew log payload) 4 (Guarded log payload s.fits)) a b
+  after_1 b w = to_guarded log payload s.fits a b s.began
+      (subst (λ k. Goes (WritesSurely k (staged payload)) a b) s.end (subst (λ l. Goes (WritesSurely n l) a b) s.behind w))
 
-  pub fails_2 : (b c : Option Told) → Goes (Succeeds (Writes n piece)) a b → Goes (OrRefuses Passes) b c → Goes (KeepsOldOrNew log payload) a c
-  fails_2 b c w x = guarded_fails log payload s.fits a b c (after_1 b w) x
+  pub allowed_2 : (b : Option Told) → Goes (WritesSurely n piece) a b → IfSome b (λ t. n - 1 ≤ length t.bytes)
+  allowed_2 b w = subst (λ k. IfSome b (λ t. k ≤ length t.bytes)) (sym gate_place) (gate_allowed log payload s.fits a b (after_1 b w))
 
-  after_2 : (b c : Option Told) → Goes (Succeeds (Writes n piece)) a b → Goes (Succeeds Syncs) b c → Goes (Stage (IsOldOrNew log payload) 4 (Guarded log payload s.fits)) a c
-  after_2 b c w x = to_guarded log payload s.fits a b c (after_1 b w) x
+  pub fails_2 : (b c : Option Told) → Goes (WritesSurely n piece) a b → Goes (WritesInPart (n - 1) (1 ∷ [])) b c → Goes (KeepsOldOrNew log payload) a c
+  fails_2 b c w x = closed_fails log payload s.fits a b c (after_1 b w) (subst (λ k. Goes (WritesInPart k (1 ∷ [])) b c) gate_place x)
 
-  pub allowed_2 : (b c : Option Told) → Goes (Succeeds (Writes n piece)) a b → Goes (Succeeds Syncs) b c → IfSome c (λ t. n - 1 ≤ length t.bytes)
-  allowed_2 b c w x = subst (λ k. IfSome c (λ t. k ≤ length t.bytes)) (sym gate_place) (gate_allowed log payload s.fits a c (after_2 b c w x))
+  after_2 : (b c : Option Told) → Goes (WritesSurely n piece) a b → Goes (WritesSurely (n - 1) (1 ∷ [])) b c → Goes (Stage (IsOldOrNew log payload) 8 (Closed log payload s.fits)) a c
+  after_2 b c w x = to_closed log payload s.fits a b c (after_1 b w) (subst (λ k. Goes (WritesSurely k (1 ∷ [])) b c) gate_place x)
 
-  pub fails_3 : (b c d : Option Told) → Goes (Succeeds (Writes n piece)) a b → Goes (Succeeds Syncs) b c → Goes (OrRefuses (FailsToWrite (n - 1) (1 ∷ []))) c d → Goes (KeepsOldOrNew log payload) a d
-  fails_3 b c d w x y = opened_fails log payload s.fits a c d (after_2 b c w x) (subst (λ k. Goes (OrRefuses (FailsToWrite k (1 ∷ []))) c d) gate_place y)
+  pub kept : (b c : Option Told) → Goes (WritesSurely n piece) a b → Goes (WritesSurely (n - 1) (1 ∷ [])) b c → Goes (KeepsOldOrNew log payload) a c
+  kept b c w x = kept_at_end log payload s.fits a c (after_2 b c w x)
 
-  after_3 : (b c d : Option Told) → Goes (Succeeds (Writes n piece)) a b → Goes (Succeeds Syncs) b c → Goes (Succeeds (Writes (n - 1) (1 ∷ []))) c d → Goes (Stage (IsOldOrNew log payload) 6 (Opened log payload s.fits)) a d
-  after_3 b c d w x y = to_opened log payload s.fits a c d (after_2 b c w x) (subst (λ k. Goes (Succeeds (Writes k (1 ∷ []))) c d) gate_place y)
-
-  pub fails_4 : (b c d e : Option Told) → Goes (Succeeds (Writes n piece)) a b → Goes (Succeeds Syncs) b c → Goes (Succeeds (Writes (n - 1) (1 ∷ []))) c d → Goes (OrRefuses Passes) d e → Goes (KeepsOldOrNew log payload) a e
-  fails_4 b c d e w x y z = closed_fails log payload s.fits a d e (after_3 b c d w x y) z
-
-  after_4 : (b c d e : Option Told) → Goes (Succeeds (Writes n piece)) a b → Goes (Succeeds Syncs) b c → Goes (Succeeds (Writes (n - 1) (1 ∷ []))) c d → Goes (Succeeds Syncs) d e → Goes (Stage (IsOldOrNew log payload) 8 (Closed log payload s.fits)) a e
-  after_4 b c d e w x y z = to_closed log payload s.fits a d e (after_3 b c d w x y) z
-
-  pub kept : (b c d e : Option Told) → Goes (Succeeds (Writes n piece)) a b → Goes (Succeeds Syncs) b c → Goes (Succeeds (Writes (n - 1) (1 ∷ []))) c d → Goes (Succeeds Syncs) d e → Goes (KeepsOldOrNew log payload) a e
-  kept b c d e w x y z = kept_at_end log payload s.fits a e (after_4 b c d e w x y z)
-
-  pub done : (new : Held) (clock : ℕ) (b c d e : Option Told) → Goes (Succeeds (Writes n piece)) a b → Goes (Succeeds Syncs) b c → Goes (Succeeds (Writes (n - 1) (1 ∷ []))) c d → Goes (Succeeds Syncs) d e
-      → new.payloads ≡ log.payloads ++ payload ∷ [] → new.gate ≡ 0 → new.limit ≡ log.limit → IfSome e (λ t. clock ≡ moment_of t) → Goes (HasNew new clock) a e
-  done new clock b c d e w x y z ps gate limit ticks = at_end log payload s.fits new clock a e (after_4 b c d e w x y z) ps gate limit ticks
+  pub done : (new : Held) (clock : ℕ) (b c : Option Told) → Goes (WritesSurely n piece) a b → Goes (WritesSurely (n - 1) (1 ∷ [])) b c
+      → new.payloads ≡ log.payloads ++ payload ∷ [] → new.gate ≡ 0 → new.limit ≡ log.limit → IfSome c (λ t. clock ≡ moment_of t) → Goes (HasNew new clock) a c
+  done new clock b c w x ps gate limit ticks = at_end log payload s.fits new clock a c (after_2 b c w x) ps gate limit ticks
 
 module _ (log : Held) (payload : List ℕ) (n : ℕ) (piece : List ℕ) (a : Option Told) (s : Start log payload n piece a) where
   abbrev end : ℕ
@@ -134,33 +122,15 @@ module _ (log : Held) (payload : List ℕ) (n : ℕ) (piece : List ℕ) (a : Opt
   before-end : n - 1 ≡ end - 1
   before-end = ap (λ k. k - 1) s.end
 
-  writes : (b : Option Told) → Goes (Succeeds (Writes n piece)) a b → Goes (Succeeds (Writes end (staged payload))) a b
-  writes b w = subst (λ k. Goes (Succeeds (Writes k (staged payload))) a b) s.end (subst (λ l. Goes (Succeeds (Writes n l)) a b) s.behind w)
+  pub cut_1 : (b : Option Told) → Goes (WritesInPart n piece) a b → Goes (CommitsInPart log payload) a b
+  cut_1 b w = goes-map (WritesInPart end (staged payload)) (CommitsInPart log payload) a b (λ t u f. ⊎_elim (λ g. inl g) (λ g. inr (g.0, g.1, inl g.2)) f)
+      (subst (λ k. Goes (WritesInPart k (staged payload)) a b) s.end (subst (λ l. Goes (WritesInPart n l) a b) s.behind w))
 
-  abbrev IsSure : Told → Told → Type 0
-  IsSure x z = (y : Told) × Succeeds (Writes end (staged payload)) x y × Succeeds Syncs y z
-
-  sure-so : (b c : Option Told) → Goes (Succeeds (Writes n piece)) a b → Goes (Succeeds Syncs) b c → Goes IsSure a c
-  sure-so b c w x = goes-then (Succeeds (Writes end (staged payload))) (Succeeds Syncs) IsSure a b c (λ t u v f g. (u, f, g)) (writes b w) x
-
-  pub cut_1 : (b : Option Told) → Goes (OrRefuses (FailsToWrite n piece)) a b → Goes (CommitsInPart log payload) a b
-  cut_1 b w = goes-map (OrRefuses (FailsToWrite end (staged payload))) (CommitsInPart log payload) a b (λ t u f. inl f)
-      (subst (λ k. Goes (OrRefuses (FailsToWrite k (staged payload))) a b) s.end (subst (λ l. Goes (OrRefuses (FailsToWrite n l)) a b) s.behind w))
-
-  pub cut_2 : (b c : Option Told) → Goes (Succeeds (Writes n piece)) a b → Goes (OrRefuses Passes) b c → Goes (CommitsInPart log payload) a c
-  cut_2 b c w x = goes-then (Succeeds (Writes end (staged payload))) (OrRefuses Passes) (CommitsInPart log payload) a b c (λ t u v f g. inr (u, f, inl g)) (writes b w) x
-
-  pub cut_3 : (b c d : Option Told) → Goes (Succeeds (Writes n piece)) a b → Goes (Succeeds Syncs) b c → Goes (OrRefuses (FailsToWrite (n - 1) (1 ∷ []))) c d → Goes (CommitsInPart log payload) a d
-  cut_3 b c d w x y = goes-then IsSure (OrRefuses (FailsToWrite (end - 1) (1 ∷ []))) (CommitsInPart log payload) a c d
-      (λ t u v f g. inr (f.0, f.1, inr (u, f.2, inl g))) (sure-so b c w x) (subst (λ k. Goes (OrRefuses (FailsToWrite k (1 ∷ []))) c d) before-end y)
-
-  abbrev IsOpen : Told → Told → Type 0
-  IsOpen x z = (y : Told) × IsSure x y × Succeeds (Writes (end - 1) (1 ∷ [])) y z
-
-  pub cut_4 : (b c d e : Option Told) → Goes (Succeeds (Writes n piece)) a b → Goes (Succeeds Syncs) b c → Goes (Succeeds (Writes (n - 1) (1 ∷ []))) c d → Goes (OrRefuses Passes) d e → Goes (CommitsInPart log payload) a e
-  cut_4 b c d e w x y z = goes-then IsOpen (OrRefuses Passes) (CommitsInPart log payload) a d e
-      (λ t u v f g. inr (f.1.0, f.1.1, inr (f.0, f.1.2, inr (u, f.2, g))))
-      (goes-then IsSure (Succeeds (Writes (end - 1) (1 ∷ []))) IsOpen a c d (λ t u v f g. (u, f, g)) (sure-so b c w x) (subst (λ k. Goes (Succeeds (Writes k (1 ∷ []))) c d) before-end y)) z
+  pub cut_2 : (b c : Option Told) → Goes (WritesSurely n piece) a b → Goes (WritesInPart (n - 1) (1 ∷ [])) b c → Goes (CommitsInPart log payload) a c
+  cut_2 b c w x = goes-then (WritesSurely end (staged payload)) (WritesInPart (end - 1) (1 ∷ [])) (CommitsInPart log payload) a b c
+      (λ t u v f g. inr (f.0, f.1, inr (u, f.2, g)))
+      (subst (λ k. Goes (WritesSurely k (staged payload)) a b) s.end (subst (λ l. Goes (WritesSurely n l) a b) s.behind w))
+      (subst (λ k. Goes (WritesInPart k (1 ∷ [])) b c) before-end x)
 
 pub done_parts : (a b : Held) (m n : ℕ) → Done a m ≡ Done b n → (a ≡ b) × (m ≡ n)
 done_parts a b m n e = (cc, cc)

@@ -44,29 +44,15 @@ steps-fails at piece a b w = goes-map (OrRefuses (FailsToWrite at piece)) Step a
 pub steps-once : (a b : Option Told) → Goes ReadsOnce a b → Goes Step a b
 steps-once a b w = goes-map ReadsOnce Step a b (λ x y r. ⊎_elim (λ e. same-step x y e) (λ p. after-step x x.now x.now x.bytes y p) r) w
 
-abbrev Two : Told → Told → Type 0
-Two old new = moment_of new ≤ moment_of old + 4
-
-abbrev Three : Told → Told → Type 0
-Three old new = moment_of new ≤ moment_of old + 6
-
 pub none-made : (a : Option Told) → Goes (WithinCalls 4) a a
 none-made a = goes-same (WithinCalls 4) a (λ x. omega arith)
 
-pub one-made : (a b : Option Told) → Goes Step a b → Goes (WithinCalls 4) a b
-one-made a b w = goes-map Step (WithinCalls 4) a b (λ x y r. omega (arith, r)) w
+-- two writes that are made sure of, or the first alone
+pub first-pair : (a b : Option Told) → Goes (WithinCalls 2) a b → Goes (WithinCalls 4) a b
+first-pair a b v = goes-map (WithinCalls 2) (WithinCalls 4) a b (λ x y r. omega (arith, r)) v
 
-pub two-made : (a b c : Option Told) → Goes Step a b → Goes Step b c → Goes (WithinCalls 4) a c
-two-made a b c v w = goes-then Step Step (WithinCalls 4) a b c (λ x y z r s. omega (arith, r, s)) v w
-
-then-two : (a b c : Option Told) → Goes Step a b → Goes Step b c → Goes Two a c
-then-two a b c v w = goes-then Step Step Two a b c (λ x y z r s. omega (arith, r, s)) v w
-
-pub three-made : (a b c d : Option Told) → Goes Step a b → Goes Step b c → Goes Step c d → Goes (WithinCalls 4) a d
-three-made a b c d u v w = goes-then Two Step (WithinCalls 4) a c d (λ x y z r s. omega (arith, r, s)) (then-two a b c u v) w
-
-pub four-made : (a b c d e : Option Told) → Goes Step a b → Goes Step b c → Goes Step c d → Goes Step d e → Goes (WithinCalls 4) a e
-four-made a b c d e t u v w = goes-then Two Two (WithinCalls 4) a c e (λ x y z r s. omega (arith, r, s)) (then-two a b c t u) (then-two c d e v w)
+pub both-pairs : (a b c : Option Told) → Goes (WithinCalls 2) a b → Goes (WithinCalls 2) b c → Goes (WithinCalls 4) a c
+both-pairs a b c v w = goes-then (WithinCalls 2) (WithinCalls 2) (WithinCalls 4) a b c (λ x y z r s. omega (arith, r, s)) v w
 
 -- what load does behind sync and size
 pub sized-then : (a b c : Option Told) → Goes IsSized a b → Goes (WithinCalls 2) b c → Goes (WithinCalls 4) a c

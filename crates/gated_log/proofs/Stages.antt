@@ -1,5 +1,5 @@
 -- The four calls of a commit, and what a crash leaves at each moment of them.
-use Rattle.std.proofs.Common.{◌≡◌, ◌≢◌, ◌⊎◌, inl, inr, ℕ, suc, ◌≤◌, ◌+◌, List, [], ◌∷◌, ◌++◌, length, take, drop, Option, Some, None, IfSome, refl, sym, ◌∙◌, ap, subst, arith, length-append, append_assoc, take_at, drop_at, take-append-drop}
+use Rattle.std.proofs.Common.{◌≡◌, ◌≢◌, ◌⊎◌, inl, inr, ℕ, suc, ◌≤◌, ◌+◌, List, [], ◌∷◌, ◌++◌, length, take, drop, Option, Some, None, IfSome, refl, sym, ◌∙◌, ap, subst, arith, length-append, append_assoc, take_at, drop_at, take-append-drop, ⊎_elim}
 use Rattle.std.proofs.lemmas.List.{length-drop}
 use Rattle.std.proofs.lemmas.Bool.{cases_eq}
 use Rattle.std.specs.List.{AllByRecursion}
@@ -12,6 +12,7 @@ use Rattle.disk_trait.proofs.Telling.{goes-then, goes-map}
 use Rattle.disk_trait.proofs.Writes.{shortest, furthest, before_write, one_byte}
 use Rattle.gated_log.specs.Log.{batches, HasLength}
 use Rattle.gated_log.specs.Held.{Held, log_bytes, staged, longer}
+use Rattle.gated_log.specs.Commit.{WritesSurely, WritesInPart}
 use Rattle.gated_log.specs.Holding.{IsLogWithin, Begins, IsOnDisk, IsOldOrNew, KeepsOldOrNew, HasNew}
 use Rattle.gated_log.proofs.Shapes.{length-staged, opened, lengths-push, is_log}
 
@@ -221,29 +222,21 @@ module _ (log : Held) (payload : List ℕ) (fits : Fits log payload) where
         is = (i.image, here);
       }
 
-  pub to_staged : (a b : Option Told) → Goes (Stage Q 0 Began) a a → Goes (Succeeds (Writes (length (log_bytes log)) (staged payload))) a b → Goes (Stage Q 2 Staged) a b
-  to_staged a b s w = goes-then (Stage Q 0 Began) (Succeeds (Writes (length (log_bytes log)) (staged payload))) (Stage Q 2 Staged) a a b first_write s w
+  pub to_guarded : (a b : Option Told) → Goes (Stage Q 0 Began) a a → Goes (WritesSurely (length (log_bytes log)) (staged payload)) a b → Goes (Stage Q 4 Guarded) a b
+  to_guarded a b s w = goes-then (Stage Q 0 Began) (WritesSurely (length (log_bytes log)) (staged payload)) (Stage Q 4 Guarded) a a b
+      (λ x y z s w. first_sync x w.0 z (first_write x y w.0 s w.1) w.2) s w
 
-  pub to_guarded : (a b c : Option Told) → Goes (Stage Q 2 Staged) a b → Goes (Succeeds Syncs) b c → Goes (Stage Q 4 Guarded) a c
-  to_guarded a b c s w = goes-then (Stage Q 2 Staged) (Succeeds Syncs) (Stage Q 4 Guarded) a b c first_sync s w
+  pub to_closed : (a b c : Option Told) → Goes (Stage Q 4 Guarded) a b → Goes (WritesSurely (length front) (1 ∷ [])) b c → Goes (Stage Q 8 Closed) a c
+  to_closed a b c s w = goes-then (Stage Q 4 Guarded) (WritesSurely (length front) (1 ∷ [])) (Stage Q 8 Closed) a b c
+      (λ x y z s w. last_sync x w.0 z (gate_write x y w.0 s w.1) w.2) s w
 
-  pub to_opened : (a b c : Option Told) → Goes (Stage Q 4 Guarded) a b → Goes (Succeeds (Writes (length front) (1 ∷ []))) b c → Goes (Stage Q 6 Opened) a c
-  to_opened a b c s w = goes-then (Stage Q 4 Guarded) (Succeeds (Writes (length front) (1 ∷ []))) (Stage Q 6 Opened) a b c gate_write s w
+  pub guarded_fails : (a b : Option Told) → Goes (Stage Q 0 Began) a a → Goes (WritesInPart (length (log_bytes log)) (staged payload)) a b → Goes (KeepsOldOrNew log payload) a b
+  guarded_fails a b s w = goes-then (Stage Q 0 Began) (WritesInPart (length (log_bytes log)) (staged payload)) (KeepsOldOrNew log payload) a a b
+      (λ x y z s w. ⊎_elim (λ f. first_write_fails x y z s f) (λ f. first_sync_fails x f.0 z (first_write x y f.0 s f.1) f.2) w) s w
 
-  pub to_closed : (a b c : Option Told) → Goes (Stage Q 6 Opened) a b → Goes (Succeeds Syncs) b c → Goes (Stage Q 8 Closed) a c
-  to_closed a b c s w = goes-then (Stage Q 6 Opened) (Succeeds Syncs) (Stage Q 8 Closed) a b c last_sync s w
-
-  pub staged_fails : (a b : Option Told) → Goes (Stage Q 0 Began) a a → Goes (OrRefuses (FailsToWrite (length (log_bytes log)) (staged payload))) a b → Goes (KeepsOldOrNew log payload) a b
-  staged_fails a b s w = goes-then (Stage Q 0 Began) (OrRefuses (FailsToWrite (length (log_bytes log)) (staged payload))) (KeepsOldOrNew log payload) a a b first_write_fails s w
-
-  pub guarded_fails : (a b c : Option Told) → Goes (Stage Q 2 Staged) a b → Goes (OrRefuses Passes) b c → Goes (KeepsOldOrNew log payload) a c
-  guarded_fails a b c s w = goes-then (Stage Q 2 Staged) (OrRefuses Passes) (KeepsOldOrNew log payload) a b c first_sync_fails s w
-
-  pub opened_fails : (a b c : Option Told) → Goes (Stage Q 4 Guarded) a b → Goes (OrRefuses (FailsToWrite (length front) (1 ∷ []))) b c → Goes (KeepsOldOrNew log payload) a c
-  opened_fails a b c s w = goes-then (Stage Q 4 Guarded) (OrRefuses (FailsToWrite (length front) (1 ∷ []))) (KeepsOldOrNew log payload) a b c gate_write_fails s w
-
-  pub closed_fails : (a b c : Option Told) → Goes (Stage Q 6 Opened) a b → Goes (OrRefuses Passes) b c → Goes (KeepsOldOrNew log payload) a c
-  closed_fails a b c s w = goes-then (Stage Q 6 Opened) (OrRefuses Passes) (KeepsOldOrNew log payload) a b c last_sync_fails s w
+  pub closed_fails : (a b c : Option Told) → Goes (Stage Q 4 Guarded) a b → Goes (WritesInPart (length front) (1 ∷ [])) b c → Goes (KeepsOldOrNew log payload) a c
+  closed_fails a b c s w = goes-then (Stage Q 4 Guarded) (WritesInPart (length front) (1 ∷ [])) (KeepsOldOrNew log payload) a b c
+      (λ x y z s w. ⊎_elim (λ f. gate_write_fails x y z s f) (λ f. last_sync_fails x f.0 z (gate_write x y f.0 s f.1) f.2) w) s w
 
   -- ---- the end
   pub kept_at_end : (a b : Option Told) → Goes (Stage Q 8 Closed) a b → Goes (KeepsOldOrNew log payload) a b

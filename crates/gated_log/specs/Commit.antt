@@ -24,11 +24,15 @@ Reserves old size new (Ok done) =
 Reserves old size new (Err faults.Full) = (old.limit < length (log_bytes old) + size + 9) × (new ≡ old)
 Reserves old size new (Err faults.Memory) = (length (log_bytes old) + size + 9 ≤ old.limit) × (new ≡ old)
 
--- The gate is written open and made sure of, and one of the two calls failed, the last that was made.
-abbrev pub OpensInPart : ℕ → Told → Told → Type 0
-OpensInPart gate old new =
-    OrRefuses (FailsToWrite gate (1 ∷ [])) old new
-    ⊎ ((open_ : Told) × Succeeds (Writes gate (1 ∷ [])) old open_ × OrRefuses Passes open_ new)
+-- the piece is written there and made sure of
+abbrev pub WritesSurely : ℕ → List ℕ → Told → Told → Type 0
+WritesSurely at piece old new = (written : Told) × Succeeds (Writes at piece) old written × Succeeds Syncs written new
+
+-- The piece is written there and made sure of, and one of the two calls failed, the last that was made.
+abbrev pub WritesInPart : ℕ → List ℕ → Told → Told → Type 0
+WritesInPart at piece old new =
+    OrRefuses (FailsToWrite at piece) old new
+    ⊎ ((written : Told) × Succeeds (Writes at piece) old written × OrRefuses Passes written new)
 
 -- The calls of a commit up to one that failed, the last that was made: what is behind the gate is written and made sure of, and
 -- then the gate is.
@@ -37,4 +41,4 @@ CommitsInPart log payload old new =
     let end = length (log_bytes log) in
     OrRefuses (FailsToWrite end (staged payload)) old new
     ⊎ ((written : Told) × Succeeds (Writes end (staged payload)) old written
-    × (OrRefuses Passes written new ⊎ ((sure : Told) × Succeeds Syncs written sure × OpensInPart (end - 1) sure new)))
+    × (OrRefuses Passes written new ⊎ ((sure : Told) × Succeeds Syncs written sure × WritesInPart (end - 1) (1 ∷ []) sure new)))

@@ -9,11 +9,11 @@
 ghost use Rattle.std.specs.Prelude.{◌≡◌, ◌⊎◌, ◌++◌, ◌^◌, ◌<◌, ◌≤◌, ◌↔◌, ◌+◌, ◌-◌, ℕ, List, [], ◌∷◌, length, take, drop, slice_index, slice_index_or, IfSome, IfOk, IfErr, OnOk, OnErr, IsTrue, vec_capacity};
 ghost use Rattle.std.specs.List.{AllByRecursion};
 ghost use Rattle.disk_trait.specs.Calls.{Goes, Passes};
-ghost use Rattle.outside.specs.Counts.{Rose};
+ghost use Rattle.outside.specs.Counts.{HasCause, Rose};
 ghost use Rattle.gated_log.specs.Log.{IsLog, IsDamaged, batches, gates_of, log_length, StandsFrom, StandBehind};
 ghost use Rattle.gated_log.specs.Held.{Held, log_bytes, staged, room_of};
 ghost use Rattle.gated_log.specs.Holding.{IsOnDisk, IsLogWithin, KeepsOldOrNew, HasNew};
-ghost use Rattle.gated_log.specs.Commit.{Answers, Reserves, CommitsInPart};
+ghost use Rattle.gated_log.specs.Commit.{Answers, Reserves, WritesSurely, WritesInPart, CommitsInPart};
 ghost use Rattle.gated_log.specs.Load.{LoadCalls, KeepsBytes, Loads, LeavesOldOrFresh, LeavesFresh, KeepsImages, KeepsPayloads, IsSureOf, IsLoaded, IsLogOf, OnlyReads, after_reads, IsFresh, IsStarted, WithinCalls, IsUnwritten};
 
 mod errors;
@@ -118,6 +118,19 @@ fn is_full(used: usize, limit: u64, payload: u64) -> bool
 {
     let left = limit - used as u64;
     left < 9 || left - 9 < payload
+}
+
+// Writes the piece from a place on, which is at most the number of bytes, and makes sure of it.
+fn write_surely<D: Disk>(disk: &mut D, at: u64, piece: &[u8]) -> Result<(), DiskFault>
+    requires { IfSome (D.told disk.old) (λ t. at ≤ length t.bytes) }
+    ensures ok { OnOk result (Goes (WritesSurely at piece.now) (D.told disk.old) (D.told disk.new)) }
+    ensures err { OnErr result (Goes (WritesInPart at piece.now) (D.told disk.old) (D.told disk.new)) }
+    ensures calls { Goes (WithinCalls 2) (D.told disk.old) (D.told disk.new) }
+    ensures cause { HasCause (D.faults disk.old) (D.faults disk.new) result }
+{
+    disk.write(at, piece)?;
+    disk.sync()?;
+    Ok(())
 }
 
 impl Log {
@@ -319,16 +332,10 @@ impl Log {
                 limit,
             });
         }
-        if let Err(fault) = disk.write(end as u64, &bytes[end..]) {
+        if let Err(fault) = write_surely(disk, end as u64, &bytes[end..]) {
             return Committed::Disk(fault);
         }
-        if let Err(fault) = disk.sync() {
-            return Committed::Disk(fault);
-        }
-        if let Err(fault) = disk.write((end - 1) as u64, &[1]) {
-            return Committed::Disk(fault);
-        }
-        if let Err(last) = disk.sync() {
+        if let Err(last) = write_surely(disk, (end - 1) as u64, &[1]) {
             return Committed::Disk(last);
         }
         bytes[end - 1] = 1;
