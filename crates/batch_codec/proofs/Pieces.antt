@@ -12,7 +12,7 @@ use Rattle.segment_codec.proofs.Numbers.{IsBytes, bind_some, guard_some, some_is
 use Rattle.segment_codec.proofs.Lists.{bytes-take, bytes-drop}
 use Rattle.batch_codec.specs.declared.counts.Counts.{Counts}
 use Rattle.batch_codec.specs.Payload.{Known, Payload, known_bytes, names_bytes, payload_bytes}
-use Rattle.batch_codec.specs.Reading.{fixed_at, piece_at, names_in, knowns_in, ids_in, ids_ascend, segments_at, section_at, names_at, known_at, heads_at, counts_at, Others, others_at, parts_at}
+use Rattle.batch_codec.specs.Reading.{fixed_at, piece_at, names_in, knowns_in, ids_in, ids_ascend, segments_at, section_at, names_at, known_at, heads_at, counts_at, Others, others_at, Masters, masters_at, parts_at}
 use Rattle.batch_codec.proofs.Entries.{names-length, names-spelled, names-are, names-size, names-again, knowns-length, knowns-spelled, knowns-are, FitsKnown, knowns-size, knowns-again}
 use Rattle.batch_codec.proofs.Records.{AllStand, segments_take, segments_again}
 
@@ -323,28 +323,43 @@ parts-made bytes r1 r2 r3 r4 r5 counts master known heads others c m k h o none 
   fit = record { grows = c.grows; most = c.most; master = m.stand; ascend = k.ascend; names = k.are; few_heads = h.few; heads = h.are; others = o.stand; other_names = o.are };
 }
 
-pub parts_take : (bytes : List ℕ) (p : Payload) → IsBytes bytes → parts_at bytes ≡ Some p → PartsTaken bytes p
-unfolding parts_at
-parts_take bytes p fits e =
-    let last = λ (counts : Counts) (master : List Segment) (known : List Known) (heads : List Name) (others : Others × List ℕ). cond (eqb (length others.1) 0) (Some (joined counts master known heads others.0)) None in
-    let a = bind_some (counts_at bytes) (λ counts. section_at (2 ^ 56) counts.0.before counts.1 >>= λ master. known_at counts.0.before counts.0.after master.1 >>= λ known. heads_at known.1 >>= λ heads. others_at counts.0.after heads.1 >>= λ others. last counts.0 master.0 known.0 heads.0 others) p e in
-    let b = bind_some (section_at (2 ^ 56) a.0.0.before a.0.1) (λ master. known_at a.0.0.before a.0.0.after master.1 >>= λ known. heads_at known.1 >>= λ heads. others_at a.0.0.after heads.1 >>= λ others. last a.0.0 master.0 known.0 heads.0 others) p a.2 in
-    let c = bind_some (known_at a.0.0.before a.0.0.after b.0.1) (λ known. heads_at known.1 >>= λ heads. others_at a.0.0.after heads.1 >>= λ others. last a.0.0 b.0.0 known.0 heads.0 others) p b.2 in
-    let d = bind_some (heads_at c.0.1) (λ heads. others_at a.0.0.after heads.1 >>= λ others. last a.0.0 b.0.0 c.0.0 heads.0 others) p c.2 in
-    let f = bind_some (others_at a.0.0.after d.0.1) (λ others. last a.0.0 b.0.0 c.0.0 d.0.0 others) p d.2 in
-    let g = guard_some (eqb (length f.0.1) 0) (joined a.0.0 b.0.0 c.0.0 d.0.0 f.0.0) p f.2 in
+record MastersTaken (bytes : List ℕ) (x : Masters × List ℕ) : Type 0 where
+  pub behind-counts : List ℕ
+  pub behind-master : List ℕ
+  pub counts : CountsTaken bytes (x.0.counts, behind-counts)
+  pub master : SectionTaken (2 ^ 56) x.0.counts.before behind-counts (x.0.master, behind-master)
+  pub known : KnownTaken x.0.counts.before x.0.counts.after behind-master (x.0.known, x.1)
+
+masters_take : (bytes : List ℕ) (x : Masters × List ℕ) → IsBytes bytes → masters_at bytes ≡ Some x → MastersTaken bytes x
+unfolding masters_at
+masters_take bytes x fits e =
+    let made = λ (counts : Counts) (master : List Segment) (known : List Known × List ℕ). (let y : Masters × List ℕ = (record { counts = counts; master = master; known = known.0 }, known.1) in y) in
+    let a = bind_some (counts_at bytes) (λ counts. section_at (2 ^ 56) counts.0.before counts.1 >>= λ master. known_at counts.0.before counts.0.after master.1 >>= λ known. Some (made counts.0 master.0 known)) x e in
+    let b = bind_some (section_at (2 ^ 56) a.0.0.before a.0.1) (λ master. known_at a.0.0.before a.0.0.after master.1 >>= λ known. Some (made a.0.0 master.0 known)) x a.2 in
+    let c = bind_some (known_at a.0.0.before a.0.0.after b.0.1) (λ known. Some (made a.0.0 b.0.0 known)) x b.2 in
     let counts = counts_take bytes a.0 fits a.1 in
     let master = section_takes (2 ^ 56) a.0.0.before a.0.1 b.0 counts.rest b.1 in
     let known = known_takes a.0.0.before a.0.0.after b.0.1 c.0 master.rest c.1 in
-    let heads = heads_take c.0.1 d.0 known.rest d.1 in
-    let others = others_take a.0.0.after d.0.1 f.0 heads.rest f.1 in
-    let none = nil_from_length f.0.1 (eqb-true (length f.0.1) 0 g.0) in
-    subst (PartsTaken bytes) g.1 (parts-made bytes a.0.1 b.0.1 c.0.1 d.0.1 f.0.1 a.0.0 b.0.0 c.0.0 d.0.0 f.0.0 counts master known heads others none)
+    subst (MastersTaken bytes) (some_is (made a.0.0 b.0.0 c.0) x c.2) (record { behind-counts = a.0.1; behind-master = b.0.1; counts = counts; master = master; known = known })
+
+pub parts_take : (bytes : List ℕ) (p : Payload) → IsBytes bytes → parts_at bytes ≡ Some p → PartsTaken bytes p
+unfolding parts_at
+parts_take bytes p fits e =
+    let last = λ (m : Masters) (heads : List Name) (others : Others × List ℕ). cond (eqb (length others.1) 0) (Some (joined m.counts m.master m.known heads others.0)) None in
+    let a = bind_some (masters_at bytes) (λ m. heads_at m.1 >>= λ heads. others_at m.0.counts.after heads.1 >>= λ others. last m.0 heads.0 others) p e in
+    let b = bind_some (heads_at a.0.1) (λ heads. others_at a.0.0.counts.after heads.1 >>= λ others. last a.0.0 heads.0 others) p a.2 in
+    let c = bind_some (others_at a.0.0.counts.after b.0.1) (λ others. last a.0.0 b.0.0 others) p b.2 in
+    let d = guard_some (eqb (length c.0.1) 0) (joined a.0.0.counts a.0.0.master a.0.0.known b.0.0 c.0.0) p c.2 in
+    let m = masters_take bytes a.0 fits a.1 in
+    let heads = heads_take a.0.1 b.0 m.known.rest b.1 in
+    let others = others_take a.0.0.counts.after b.0.1 c.0 heads.rest c.1 in
+    let none = nil_from_length c.0.1 (eqb-true (length c.0.1) 0 d.0) in
+    subst (PartsTaken bytes) d.1 (parts-made bytes m.behind-counts m.behind-master a.0.1 b.0.1 c.0.1 a.0.0.counts a.0.0.master a.0.0.known b.0.0 c.0.0 m.counts m.master m.known heads others none)
 
 parts-read : (bytes r1 r2 r3 r4 : List ℕ) (counts : Counts) (master : List Segment) (known : List Known) (heads : List Name) (others : Others)
     → counts_at bytes ≡ Some (counts, r1) → section_at (2 ^ 56) counts.before r1 ≡ Some (master, r2) → known_at counts.before counts.after r2 ≡ Some (known, r3) → heads_at r3 ≡ Some (heads, r4) → others_at counts.after r4 ≡ Some (others, [])
     → parts_at bytes ≡ Some (joined counts master known heads others)
-unfolding parts_at
+unfolding parts_at masters_at
 parts-read bytes r1 r2 r3 r4 counts master known heads others c m k h o = rw (c, m, k, h, o) refl
 
 pub record Lengths (p : Payload) : Type 0 where

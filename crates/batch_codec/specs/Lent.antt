@@ -5,7 +5,8 @@ use Rattle.batch_codec.specs.declared.lent.NameSlice.{NameSlice}
 use Rattle.batch_codec.specs.declared.lent.KnownRef.{KnownRef}
 use Rattle.batch_codec.specs.declared.whole.BatchRef.{BatchRef}
 use Rattle.batch_codec.specs.Payload.{Known, Payload}
-use Rattle.batch_codec.specs.Reading.{Others}
+use Rattle.batch_codec.specs.declared.batch.MasterSections.{MasterSections}
+use Rattle.batch_codec.specs.Reading.{Masters, Others}
 
 abbrev pub known_of : KnownRef → Known
 known_of k = record { id = k.id; name = k.name.bytes.now }
@@ -16,3 +17,7 @@ payload_of b = payload_in b.parts
 -- the sections of the other ids
 abbrev pub others_of : SegmentSlice → NameSlice → Others
 others_of segments names = record { others = segments_of segments; other_names = names_of names }
+
+-- what is said of the ids of master
+abbrev pub masters_of : MasterSections → Masters
+masters_of m = record { counts = m.counts; master = segments_of m.segments; known = knowns_of m.known }

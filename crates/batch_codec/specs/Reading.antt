@@ -112,16 +112,27 @@ others_at after bytes = do
   names ← names_at count.0 others.1
   Some (record { others = others.0; other_names = names.0 }, names.1)
 
--- the sections of a payload, and nothing behind them
-unfoldable pub parts_at : List ℕ → Option Payload
-parts_at bytes = do
+pub record Masters : Type 0 where
+  pub counts : Counts
+  pub master : List Segment
+  pub known : List Known
+
+-- the master counts, the records of the new master ids, and the known ids
+unfoldable pub masters_at : List ℕ → Option (Masters × List ℕ)
+masters_at bytes = do
   counts ← counts_at bytes
   master ← section_at (2 ^ 56) counts.0.before counts.1
   known ← known_at counts.0.before counts.0.after master.1
-  heads ← heads_at known.1
-  others ← others_at counts.0.after heads.1
+  Some (record { counts = counts.0; master = master.0; known = known.0 }, known.1)
+
+-- the sections of a payload, and nothing behind them
+unfoldable pub parts_at : List ℕ → Option Payload
+parts_at bytes = do
+  masters ← masters_at bytes
+  heads ← heads_at masters.1
+  others ← others_at masters.0.counts.after heads.1
   if nat_eq (length others.1) 0
-      then Some (record { kind = counts.0.kind; before = counts.0.before; after = counts.0.after; master = master.0; known = known.0; heads = heads.0; others = others.0.others; other_names = others.0.other_names })
+      then Some (record { kind = masters.0.counts.kind; before = masters.0.counts.before; after = masters.0.counts.after; master = masters.0.master; known = masters.0.known; heads = heads.0; others = others.0.others; other_names = others.0.other_names })
       else None
 
 -- each stands among the known ids

@@ -2,15 +2,15 @@
 
 ghost use Rattle.std.specs.Prelude.{◌≡◌, ◌<◌, ◌≤◌, ◌+◌, ◌*◌, ◌^◌, ℕ, slice_index, length, IfSome, MatchOption};
 ghost use Rattle.segment_codec.specs.Reading.{Gives};
-ghost use Rattle.batch_codec.specs.Payload.{Payload, payload_bytes};
+ghost use Rattle.batch_codec.specs.Payload.{Payload, payload_bytes, master_start};
 ghost use Rattle.segment_codec.specs.Turns.{place_behind};
 ghost use Rattle.batch_codec.specs.Grammar.{IsPayload};
-ghost use Rattle.batch_codec.specs.Reading.{others_at, parts_at, ends_fit, payload_at};
-ghost use Rattle.batch_codec.specs.Lent.{segments_of, others_of, payload_of, payload_in, HasPlaces};
+ghost use Rattle.batch_codec.specs.Reading.{others_at, masters_at, parts_at, ends_fit, payload_at};
+ghost use Rattle.batch_codec.specs.Lent.{segments_of, masters_of, others_of, payload_of, payload_in, HasPlaces};
 
-use crate::counts::read_counts;
+use crate::counts::{Counts, read_counts};
 use crate::fixed::read_u32;
-use crate::lent::{NameSlice, Parts, SegmentSlice};
+use crate::lent::{KnownSlice, NameSlice, Parts, SegmentSlice};
 use crate::rules::has_kind;
 use crate::section::{read_heads, read_known, read_names, read_section};
 use crate::whole::BatchRef;
@@ -66,6 +66,38 @@ fn read_others<'a>(
     Some((segments, names, end, rest))
 }
 
+/// What a payload says of the ids of master, and the place behind their records.
+#[derive(Clone, Copy)]
+struct MasterSections<'a> {
+    counts: Counts,
+    segments: SegmentSlice<'a>,
+    end: u64,
+    known: KnownSlice<'a>,
+}
+
+/// The counts, the records of the new master ids, the known ids, and the rest.
+#[tactic(auto, unfolding(crate::specs::Reading::masters_at))]
+fn read_masters<'a>(payload: &'a [u8]) -> Option<(MasterSections<'a>, &'a [u8])>
+    ensures exact { Gives (λ r. (masters_of r.0, r.1.now)) result (masters_at payload.now) }
+    ensures end { IfSome result (λ r. r.0.end ≡ place_behind r.0.counts.before (segments_of r.0.segments)) }
+    ensures counts { IfSome result (λ r. r.0.counts.before ≤ r.0.counts.after) }
+    ensures segments { IfSome result (λ r. r.0.segments.start ≡ master_start) }
+    ensures known { IfSome result (λ r. r.0.known.start ≡ master_start + length r.0.segments.bytes.now + 4) }
+    ensures size { IfSome result (λ r. length payload.now ≡ r.0.known.start + 28 * r.0.known.count + length r.1.now) }
+{
+    let total = payload.len();
+    let (counts, rest) = read_counts(payload)?;
+    let (segments, end, rest) = read_section(rest, FIRST_OTHER, counts.before, total)?;
+    let (known, rest) = read_known(rest, counts.before, counts.after, total)?;
+    let masters = MasterSections {
+        counts,
+        segments,
+        end,
+        known,
+    };
+    Some((masters, rest))
+}
+
 /// The payload, and the places behind its two sections of records.
 #[tactic(auto, unfolding(crate::specs::Reading::parts_at))]
 fn read_parts<'a>(payload: &'a [u8]) -> Option<(Parts<'a>, u64, u64)>
@@ -76,25 +108,23 @@ fn read_parts<'a>(payload: &'a [u8]) -> Option<(Parts<'a>, u64, u64)>
     ensures places { IfSome result (λ r. HasPlaces r.0) }
 {
     let total = payload.len();
-    let (counts, rest) = read_counts(payload)?;
-    let (master, master_end, rest) = read_section(rest, FIRST_OTHER, counts.before, total)?;
-    let (known, rest) = read_known(rest, counts.before, counts.after, total)?;
+    let (masters, rest) = read_masters(payload)?;
     let (heads, rest) = read_heads(rest, total)?;
-    let (others, other_names, others_end, rest) = read_others(rest, counts.after, total)?;
+    let (others, other_names, others_end, rest) = read_others(rest, masters.counts.after, total)?;
     if !rest.is_empty() {
         return None;
     }
     let batch = Parts {
-        kind: counts.kind,
-        before: counts.before,
-        after: counts.after,
-        master,
-        known,
+        kind: masters.counts.kind,
+        before: masters.counts.before,
+        after: masters.counts.after,
+        master: masters.segments,
+        known: masters.known,
         heads,
         others,
         other_names,
     };
-    Some((batch, master_end, others_end))
+    Some((batch, masters.end, others_end))
 }
 
 /// Whether the records end where the groups do.

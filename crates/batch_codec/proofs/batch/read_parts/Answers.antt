@@ -4,13 +4,11 @@ use Rattle.batch_codec.proofs.batch.read_parts.Goals as goal
 
 pub returns-clause-places : goal.returns-clause-places
 returns-clause-places c =
-    let c0 = c.in_ok-counts.ensures.size in
-    let m0 = c.in_ok-master.ensures.size in
-    let m1 = c.in_ok-master.ensures.start in
-    let m2 = ap (length {A = ℕ}) c.in_ok-master.master.spelled in
-    let k0 = c.in_ok-known.ensures.size in
-    let k1 = c.in_ok-known.ensures.start in
-    let k2 = knowns-length c.in_ok-known.known.count c.in_ok-known.known.bytes.now in
+    let m0 = c.in_ok-masters.ensures.segments in
+    let m1 = c.in_ok-masters.ensures.known in
+    let m2 = c.in_ok-masters.ensures.size in
+    let m3 = ap (length {A = ℕ}) c.in_ok-masters.masters.segments.spelled in
+    let k2 = knowns-length c.in_ok-masters.masters.known.count c.in_ok-masters.masters.known.bytes.now in
     let h0 = c.in_ok-heads.ensures.size in
     let h1 = c.in_ok-heads.ensures.start in
     let h2 = names-length c.in_ok-heads.heads.count c.in_ok-heads.heads.bytes.now in
@@ -19,9 +17,9 @@ returns-clause-places c =
     let o2 = c.in_ok-others.ensures.names in
     let o3 = ap (length {A = ℕ}) c.in_ok-others.others.spelled in
     record {
-      master = omega (arith, c0, m0, m1);
-      known = omega (arith, c0, m0, m2, k0, k1);
-      heads = omega (arith, c0, m0, m2, k0, k2, h0, h1);
-      others = omega (arith, c0, m0, m2, k0, k2, h0, h2, o0, o1);
-      other_names = omega (arith, c0, m0, m2, k0, k2, h0, h2, o0, o2, o3);
+      master = m0;
+      known = omega (arith, m1, m3);
+      heads = omega (arith, m1, m2, m3, k2, h0, h1);
+      others = omega (arith, m1, m2, m3, k2, h0, h2, o0, o1);
+      other_names = omega (arith, m1, m2, m3, k2, h0, h2, o0, o2, o3);
     }
