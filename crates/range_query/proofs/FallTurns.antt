@@ -257,13 +257,12 @@ module _ (flats : List Segment) (S : ℕ → Type 0) (lowest : ℕ) where
                   }
 
     -- when nothing from the lowest id on is left
-    module _ (place reached : ℕ) (near far : List ℕ) (least end : ℕ) (Found : ℕ → Type 0) (cuts : List Cut) (h : Falls place reached near far least end Found cuts)
-        (Ids : ℕ → Type 0) (same : (z : ℕ) → Ids z ↔ Found z) where
-      pub falls-done : reached ≤ lowest → (z : ℕ) → Ids z ↔ (Anc z × (lowest ≤ z))
+    module _ (place reached : ℕ) (near far : List ℕ) (least end : ℕ) (Found : ℕ → Type 0) (cuts : List Cut) (h : Falls place reached near far least end Found cuts) where
+      pub falls-done : reached ≤ lowest → (z : ℕ) → Found z ↔ (Anc z × (lowest ≤ z))
       falls-done le z = (
-        λ m. let k = (h.exact z).0 ((same z).0 m) in (k.0, k.2),
-        λ k. let low = k.1 in (same z).1 ((h.exact z).1 (k.0, omega arith, low)),
+        λ m. let k = (h.exact z).0 m in (k.0, k.2),
+        λ k. let low = k.1 in (h.exact z).1 (k.0, omega arith, low),
       )
 
-      pub falls-cuts : (c : Cut) → IsIn c cuts → IsCut (table_graph flats) Ids c
-      falls-cuts c j some z m from = (h.known c j).1 some z ((same z).0 m) from
+      pub falls-cuts : (c : Cut) → IsIn c cuts → IsCut (table_graph flats) Found c
+      falls-cuts c j = (h.known c j).1

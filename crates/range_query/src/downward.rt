@@ -9,6 +9,7 @@ ghost use Rattle.span_set.specs.Members.{IsMember};
 ghost use Rattle.ancestor_query.specs.Graph.{table_graph};
 ghost use Rattle.ancestor_query.specs.Visits.{Keeps, ToVisit};
 ghost use Rattle.range_query.specs.Cuts.{IsCut};
+ghost use Rattle.range_query.specs.Tails.{HasFallen};
 ghost use Rattle.range_query.specs.Falls.{AreAbove, one_above, IsEndOf, IsOfBoth, IsRaised, IsLeastParent};
 ghost use Rattle.range_query.specs.declared.cut.Cut.{Cut as PlainCut};
 
@@ -164,12 +165,13 @@ pub(crate) fn walk_down<T: SegmentTable>(
     let mut ids = IdSet::empty(alloc);
     let mut cuts = Vec::new(alloc);
     let mut far = WorkList::empty(alloc);
-    go_down(&mut ids, &mut cuts, &mut far, table, to, lowest, steps)?;
+    let tail = go_down(&mut ids, &mut cuts, &mut far, table, to, lowest, steps)?;
+    tail.put_into(&mut ids)?;
     Ok(Descent { ids, cuts })
 }
 
-/// The walk: the ids and the cuts get what it finds, and are none before. What waits outside the window is on the list,
-/// which is empty before.
+/// The walk: the ids and the cuts get what it finds, and are none before. The lowest of the ids are the tail that it answers.
+/// What waits outside the window is on the list, which is empty before.
 fn go_down<T: SegmentTable>(
     ids: &mut IdSet,
     cuts: &mut Vec<Cut>,
@@ -178,13 +180,13 @@ fn go_down<T: SegmentTable>(
     to: &IdSet,
     lowest: Id,
     steps: &mut Steps,
-) -> Result<(), AllocError>
+) -> Result<Tail, AllocError>
     requires held { (x : ℕ) → IsMember to.now x → IsHeld (T.flats table.now) x }
     requires ids { ids.old ≡ [] }
     requires cuts { cuts.old.items ≡ [] }
     requires far { far.old ≡ [] }
-    ensures members { OnOk result ((x : ℕ) → IsMember ids.new x ↔ (sets.ancestors (table_graph (T.flats table.now)) (IsMember to.now) x × (lowest ≤ x))) }
-    ensures cuts { OnOk result ((c : PlainCut) → IsIn c cuts.new.items → IsCut (table_graph (T.flats table.now)) (IsMember ids.new) c) }
+    ensures members { IfOk result (λ tail. (x : ℕ) → HasFallen ids.new tail.low tail.end x ↔ (sets.ancestors (table_graph (T.flats table.now)) (IsMember to.now) x × (lowest ≤ x))) }
+    ensures cuts { IfOk result (λ tail. (c : PlainCut) → IsIn c cuts.new.items → IsCut (table_graph (T.flats table.now)) (HasFallen ids.new tail.low tail.end) c) }
     ensures counted { min steps.old.taken (2 ^ 64 - 1) ≤ steps.new.taken }
 {
     let mut tail = Tail::empty();
@@ -216,6 +218,5 @@ fn go_down<T: SegmentTable>(
         )?;
         reached = after(near.greatest()).max(ways.end);
     }
-    tail.put_into(ids)?;
-    Ok(())
+    Ok(tail)
 }

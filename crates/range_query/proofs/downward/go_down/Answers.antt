@@ -7,7 +7,7 @@ use Rattle.range_query.specs.Tails.{HasFallen}
 use Rattle.range_query.specs.Falls.{IsEndOf}
 use Rattle.range_query.specs.declared.cut.Cut.{Cut}
 use Rattle.range_query.proofs.ChildLemmas.{group-at}
-use Rattle.range_query.proofs.FallTurns.{Falls, falls-none, falls-place, falls-past, falls-in, falls-turn, falls-cuts}
+use Rattle.range_query.proofs.FallTurns.{Falls, falls-none, falls-place, falls-past, falls-in, falls-turn, falls-done, falls-cuts}
 use Rattle.range_query.proofs.downward.go_down.Goals as goal
 
 pub down-init : goal.down-init
@@ -105,8 +105,13 @@ down-preserved g c =
       counted = let k = c.flat_at-segment.ensures.tick in let b = c.down.invariant.counted in omega arith;
     }
 
+pub returns-clause-members : goal.returns-clause-members
+returns-clause-members g c =
+    falls-done (g.T.SegmentTable.flats c.args.table.now) (IsMember c.args.to.now) c.args.lowest (g.met.T.SegmentTable.lawful c.args.table.now) c.requires.held
+    c.down.place c.down.reached c.down.near c.down.far c.down.ways.least c.down.ways.end (HasFallen c.down.ids c.down.tail.low c.down.tail.end) c.down.cuts.items c.down.invariant.falls
+    (omega (arith, c.down-test.false, c.number.ensures.number))
+
 pub returns-clause-cuts : goal.returns-clause-cuts
 returns-clause-cuts g c =
     falls-cuts (g.T.SegmentTable.flats c.args.table.now) (IsMember c.args.to.now) c.args.lowest (g.met.T.SegmentTable.lawful c.args.table.now) c.requires.held
     c.down.place c.down.reached c.down.near c.down.far c.down.ways.least c.down.ways.end (HasFallen c.down.ids c.down.tail.low c.down.tail.end) c.down.cuts.items c.down.invariant.falls
-    (IsMember c.put_into.new.ids) c.in_ok-put_into.ensures
