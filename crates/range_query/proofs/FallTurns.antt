@@ -16,10 +16,10 @@ use Rattle.ancestor_query.proofs.Graphs.{flat-jump, reach-down, reached-below, h
 use Rattle.ancestor_query.proofs.Down.{anc-reach, anc-inside, anc-top, below-frontier, frontier-kept, frontier-jump}
 use Rattle.range_query.specs.Places.{IsOf}
 use Rattle.range_query.specs.Cuts.{IsCut}
-use Rattle.range_query.specs.Falls.{AreAbove, one_above, IsEndOf, IsOfBoth, IsRaised, IsLeastParent}
+use Rattle.range_query.specs.Falls.{AreAbove, one_above, IsEndOf, IsOfBoth, IsLeastParent}
 use Rattle.range_query.specs.declared.cut.Cut.{Cut}
 use Rattle.range_query.proofs.Rows.{at-in, held-of, of-in, of-parts, of-take, of-before, at-or-behind}
-use Rattle.range_query.proofs.FallLemmas.{end-lower, raised-end}
+use Rattle.range_query.proofs.FallLemmas.{end-lower}
 
 pub both-list : (xs ys : List ℕ) (w : ℕ) → IsIn w (xs ++ ys) ↔ IsOfBoth xs ys w
 both-list [] ys w = (λ i. inr i, λ h. ⊎_elim (λ n. absurd n) (λ i. i) h)
@@ -53,6 +53,19 @@ end-of-both P Q b m n r e f g =
           (λ (lt : m < n). let same : n ≡ r = omega arith in inr (subst (λ k. Q (k - 1)) same (g.is (omega arith)))) (le_or_lt n m);
       over = λ w h lt. ⊎_elim (λ p. let u = f.over w p lt in omega arith) (λ q. let u = g.over w q lt in omega arith) h;
     }
+
+-- after what lies from a bound on is let go, and ids below it wait
+module _ (low : ℕ) (parents near far near1 far1 near2 far2 : List ℕ) (slid : Keeps near near1 low) (dropped : Keeps far far1 low)
+    (pushed : (w : ℕ) → IsOfBoth near2 far2 w ↔ (IsOfBoth near1 far1 w ⊎ IsIn w parents)) where
+  pub visit-keeps : Keeps ((near ++ far) ++ parents) (near2 ++ far2) low
+  visit-keeps = record {
+    kept = λ w j. (both-list (near ++ far) parents w).1 (⊎_elim
+        (λ q. inl ((both-list near far w).1 (⊎_elim (λ a. inl (slid.kept w a)) (λ b. inr (dropped.kept w b)) q)))
+        (λ p. inr p) ((pushed w).0 ((both-list near2 far2 w).0 j)));
+    lost = λ w j lt. (both-list near2 far2 w).1 ((pushed w).1 (⊎_elim
+        (λ q. inl (⊎_elim (λ a. inl (slid.lost w a lt)) (λ b. inr (dropped.lost w b lt)) ((both-list near far w).0 q)))
+        (λ p. inr p) ((both-list (near ++ far) parents w).0 j)));
+  }
 
 module _ (flats : List Segment) (S : ℕ → Type 0) (lowest : ℕ) where
   abbrev Anc : ℕ → Type 0
@@ -148,19 +161,13 @@ module _ (flats : List Segment) (S : ℕ → Type 0) (lowest : ℕ) where
           parent-under p j = each (λ q. q < s.low) s.parents (lawful.each s i).segment.below p j
 
           -- after what lies from the segment's lowest on is let go, and its parents wait
-          module _ (near1 far1 near2 far2 : List ℕ) (end1 end2 least2 reached2 n : ℕ) (o : Option ℕ)
-              (slid : Keeps near near1 s.low) (under : (w : ℕ) → IsIn w near1 → w < s.low)
-              (dropped : Keeps far far1 s.low) (end1-is : (b : ℕ) → s.low ≤ b → IsEndOf (ToVisit S far) b end → IsEndOf (ToVisit S far1) s.low end1)
+          module _ (near2 far2 : List ℕ) (end2 least2 reached2 n : ℕ) (o : Option ℕ)
+              (keeps : Keeps ((near ++ far) ++ s.parents) (near2 ++ far2) s.low) (inside2 : (w : ℕ) → IsIn w near2 → w < s.low)
+              (end2-is : (b : ℕ) → s.low ≤ b → IsEndOf (ToVisit S far) b end → IsEndOf (ToVisit S far2) s.low end2)
               (least2-is : IsLeastParent s.parents least least2)
-              (added : (w : ℕ) → IsIn w near2 → IsIn w near1 ⊎ IsIn w s.parents)
-              (pushed : (w : ℕ) → IsOfBoth near2 far2 w ↔ (IsOfBoth near1 far1 w ⊎ IsIn w s.parents))
-              (raised : IsRaised far1 far2 (λ p. IsIn p s.parents) end1 end2)
               (greatest : IsGreatestOf near2 o) (n-is : n ≡ one_above o) (reached2-is : reached2 ≡ max n end2) where
-            inside2 : (w : ℕ) → IsIn w near2 → w < s.low
-            inside2 w j = ⊎_elim (λ k. under w k) (λ k. parent-under w k) (added w j)
-
             ends2 : IsEndOf (ToVisit S far2) s.low end2
-            ends2 = raised-end S far1 far2 (λ p. IsIn p s.parents) s.low end1 end2 parent-under raised (end1-is reached (omega arith) h.ends)
+            ends2 = end2-is reached (omega arith) h.ends
 
             all2 : IsEndOf (λ w. IsIn w near2 ⊎ ToVisit S far2 w) s.low reached2
             all2 = end-of-both (λ w. IsIn w near2) (ToVisit S far2) s.low n end2 reached2 reached2-is (end-of-window near2 s.low o n n-is greatest inside2) ends2
@@ -173,16 +180,6 @@ module _ (flats : List Segment) (S : ℕ → Type 0) (lowest : ℕ) where
 
             abbrev more : List ℕ
             more = (near ++ far) ++ s.parents
-
-            keeps : Keeps more (near2 ++ far2) s.low
-            keeps = record {
-              kept = λ w j. (both-list (near ++ far) s.parents w).1 (⊎_elim
-                  (λ q. inl ((both-list near far w).1 (⊎_elim (λ a. inl (slid.kept w a)) (λ b. inr (dropped.kept w b)) q)))
-                  (λ p. inr p) ((pushed w).0 ((both-list near2 far2 w).0 j)));
-              lost = λ w j lt. (both-list near2 far2 w).1 ((pushed w).1 (⊎_elim
-                  (λ q. inl (⊎_elim (λ a. inl (slid.lost w a lt)) (λ b. inr (dropped.lost w b lt)) ((both-list near far w).0 q)))
-                  (λ p. inr p) ((both-list (near ++ far) s.parents w).0 j)));
-            }
 
             front : IsFrontier flats S s.low (near2 ++ far2)
             front = frontier-kept flats lawful S s.low more (near2 ++ far2) keeps

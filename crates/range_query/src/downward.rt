@@ -1,6 +1,6 @@
 //! What a set reaches, with cuts of the ways down.
 
-ghost use Rattle.std.specs.Prelude.{◌≡◌, ℕ, [], ◌-◌, ◌<◌, ◌≤◌, ◌^◌, ◌⊎◌, ◌↔◌, length, drop, IfOk, OnOk, min};
+ghost use Rattle.std.specs.Prelude.{◌≡◌, ℕ, [], ◌++◌, ◌-◌, ◌<◌, ◌≤◌, ◌^◌, ◌⊎◌, ◌↔◌, length, drop, IfOk, OnOk, min};
 ghost use Rattle.id_groups.specs.Lists.{IsIn};
 ghost use Rattle.commit_graph.specs.Sets as sets;
 ghost use Rattle.segment_codec.specs.Lent.{segment_of};
@@ -147,6 +147,40 @@ fn push_parents(
     Ok(more)
 }
 
+/// Lets go of what waits from the segment's lowest id on, lets its parents wait, and keeps a cut at that lowest id if the
+/// segment's place is one that leaves a cut.
+#[inline(always)]
+fn visit(
+    near: &mut Window,
+    far: &mut WorkList,
+    cuts: &mut Vec<Cut>,
+    to: &IdSet,
+    ways: Ways,
+    place: u32,
+    segment: SegmentRef<'_>,
+) -> Result<Ways, AllocError>
+    ensures keeps { OnOk result (Keeps ((near.old ++ far.old) ++ (segment_of segment.entry).parents) (near.new ++ far.new) (segment_of segment.entry).low) }
+    ensures near { OnOk result ((x : ℕ) → IsIn x near.new → x < (segment_of segment.entry).low) }
+    ensures end { IfOk result (λ r. (b : ℕ) → (segment_of segment.entry).low ≤ b → IsEndOf (ToVisit (IsMember to.now) far.old) b ways.end
+        → IsEndOf (ToVisit (IsMember to.now) far.new) (segment_of segment.entry).low r.end) }
+    ensures least { IfOk result (λ r. IsLeastParent (segment_of segment.entry).parents ways.least r.least) }
+    ensures cuts { IfOk result (λ r. (c : PlainCut) → IsIn c cuts.new.items → IsIn c cuts.old.items ⊎ (c ≡ record { at = (segment_of segment.entry).low; least = r.least })) }
+{
+    let low = segment.low().number();
+    near.slide(low);
+    let left = Ways {
+        least: ways.least,
+        end: end_from(far, to, ways.end, low),
+    };
+    let ways = push_parents(near, far, left, segment)?;
+    let cut = Cut {
+        at: low,
+        least: ways.least,
+    };
+    keep_cut(cuts, place, cut)?;
+    Ok(ways)
+}
+
 /// The ids from `lowest` on that some member of `to` reaches along parents, the members from `lowest` on among them, and cuts
 /// of the ways down to them. It looks at the flat segments from the one that has the greatest member of `to` down to the one
 /// that has the lowest id found.
@@ -205,17 +239,7 @@ fn go_down<T: SegmentTable>(
             continue;
         }
         tail.add(ids, low.max(lowest.number()), reached)?;
-        near.slide(low);
-        ways.end = end_from(far, to, ways.end, low);
-        ways = push_parents(&mut near, far, ways, segment)?;
-        keep_cut(
-            cuts,
-            place,
-            Cut {
-                at: low,
-                least: ways.least,
-            },
-        )?;
+        ways = visit(&mut near, far, cuts, to, ways, place, segment)?;
         reached = after(near.greatest()).max(ways.end);
     }
     Ok(tail)

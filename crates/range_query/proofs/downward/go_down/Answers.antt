@@ -1,11 +1,8 @@
 use Rattle.std.proofs.Common.{arith, ◌≡◌, ◌∙◌, ◌-◌, ◌<◌, ◌≤◌, ◌^◌, ◌⊎◌, ◌↔◌, ℕ, max, subst, sym, ⊎_elim}
-use Rattle.id_groups.specs.Lists.{IsIn}
 use Rattle.segment_codec.specs.Lent.{segment_of}
 use Rattle.span_set.specs.Members.{IsMember}
-use Rattle.ancestor_query.specs.Visits.{ToVisit, Keeps}
+use Rattle.ancestor_query.specs.Visits.{Keeps}
 use Rattle.range_query.specs.Tails.{HasFallen}
-use Rattle.range_query.specs.Falls.{IsEndOf}
-use Rattle.range_query.specs.declared.cut.Cut.{Cut}
 use Rattle.range_query.proofs.ChildLemmas.{group-at}
 use Rattle.range_query.proofs.FallTurns.{Falls, falls-none, falls-place, falls-past, falls-in, falls-turn, falls-done, falls-cuts}
 use Rattle.range_query.proofs.downward.go_down.Goals as goal
@@ -91,17 +88,12 @@ down-preserved g c =
           c.down.place c.down.reached c.down.near c.down.far c.down.ways.least c.down.ways.end (HasFallen c.down.ids c.down.tail.low c.down.tail.end) c.down.cuts.items c.down.invariant.falls
           (omega (arith, c.down-test.true, c.number.ensures.number))
           (c.down.place - 1) s (omega arith) c.flat_at-segment.ensures.found (omega (arith, c.if-reached-low.false, low))
-          c.slide.new.self c.end_from.new.far c.push_parents.new.near c.push_parents.new.far c.end_from.result c.in_ok-ways.ways.end c.in_ok-ways.ways.least c.max-reached.result c.after.result c.greatest.result
-          (subst (λ n. Keeps c.down.near c.slide.new.self n) low c.slide.ensures.keeps)
-          (λ w i. let lt = c.slide.ensures.under w i in omega arith)
-          (subst (λ n. Keeps c.down.far c.end_from.new.far n) low c.end_from.ensures.keeps)
-          (subst (λ n. (b : ℕ) → n ≤ b → IsEndOf (ToVisit (IsMember c.args.to.now) c.down.far) b c.down.ways.end → IsEndOf (ToVisit (IsMember c.args.to.now) c.end_from.new.far) n c.end_from.result) low c.end_from.ensures.end)
-          c.in_ok-ways.ensures.least c.in_ok-ways.ensures.near c.in_ok-ways.ensures.all c.in_ok-ways.ensures.end
+          c.visit.new.near c.visit.new.far c.in_ok-ways.ways.end c.in_ok-ways.ways.least c.max-reached.result c.after.result c.greatest.result
+          c.in_ok-ways.ensures.keeps c.in_ok-ways.ensures.near c.in_ok-ways.ensures.end c.in_ok-ways.ensures.least
           c.greatest.ensures c.after.ensures c.max-reached.ensures
           (HasFallen c.add.new.ids c.add.new.self.low c.add.new.self.end)
           (subst (λ n. (z : ℕ) → HasFallen c.add.new.ids c.add.new.self.low c.add.new.self.end z ↔ (HasFallen c.down.ids c.down.tail.low c.down.tail.end z ⊎ ((n ≤ z) × (z < c.down.reached)))) from c.in_ok-add.ensures)
-          c.keep_cut.new.cuts.items
-          (subst (λ n. (d : Cut) → IsIn d c.keep_cut.new.cuts.items → IsIn d c.down.cuts.items ⊎ (d ≡ record { at = n; least = c.in_ok-ways.ways.least })) low c.in_ok-keep_cut.ensures);
+          c.visit.new.cuts.items c.in_ok-ways.ensures.cuts;
       counted = let k = c.flat_at-segment.ensures.tick in let b = c.down.invariant.counted in omega arith;
     }
 

@@ -1,4 +1,3 @@
-use Rattle.std.proofs.Common.{◌↔◌}
 use Rattle.span_set.specs.Members.{IsMember}
 use Rattle.ancestor_query.specs.Graph.{table_graph}
 use Rattle.range_query.specs.Tails.{HasFallen}
