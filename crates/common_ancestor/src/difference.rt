@@ -1,13 +1,15 @@
 //! What some ids reach and others don't.
 
-ghost use Rattle.std.specs.Prelude.{◌≡◌, ℕ, [], ◌+◌, ◌-◌, ◌<◌, ◌≤◌, ◌^◌, ◌↔◌, IfOk, OnOk, min};
+ghost use Rattle.std.specs.Prelude.{◌≡◌, ℕ, [], ◌+◌, ◌-◌, ◌<◌, ◌≤◌, ◌^◌, ◌↔◌, IfOk, OnOk, MatchOption, ⊤, min};
 ghost use Rattle.commit_graph.specs.Sets as sets;
 ghost use Rattle.segment_codec.specs.Lent.{parents_left};
 ghost use Rattle.segment_codec.specs.Table.{IsHeld};
 ghost use Rattle.span_set.specs.Members.{IsMember, IsCanonical};
 ghost use Rattle.ancestor_query.specs.Graph.{table_graph};
+ghost use Rattle.common_ancestor.specs.Jumps.{IsFloor};
 ghost use Rattle.common_ancestor.specs.Turns.{first_above, greater_with, PutsEither};
 
+use crate::jump::{floor_under, jump_above};
 use ancestor_query::WorkList;
 use id_groups::{ID_END, Id, IdSpan};
 use segment_codec::{Parents, SegmentTable, Steps};
@@ -35,6 +37,16 @@ fn first_above(low: Id, id: &Option<Id>) -> u64
             from.max(after)
         }
         None => from,
+    }
+}
+
+/// The lowest id that one jump from `id`, the greatest that waits, may pass.
+fn floor_of(id: Id, next: Id, reached: &Option<Id>) -> u64
+    ensures { MatchOption reached.now ⊤ (λ y. IsFloor id y result) }
+{
+    match reached {
+        Some(y) => floor_under(id, *y, next),
+        None => 0,
     }
 }
 
@@ -108,7 +120,8 @@ fn add_only<T: SegmentTable>(
     'visit: while let Some(next) = mine.next_id(from, frontier) {
         let reached = theirs.next_id(minus, frontier);
         let id = greater_with(next, &reached);
-        let segment = table.flat(id, steps).unwrap();
+        let floor = floor_of(id, next, &reached);
+        let segment = jump_above(table, id, floor, steps);
         let low = segment.low();
         let start = first_above(low, &reached);
         answer.insert_between(start, id.number() + 1)?;
