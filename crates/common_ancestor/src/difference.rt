@@ -40,7 +40,8 @@ fn first_above(low: Id, id: &Option<Id>) -> u64
     }
 }
 
-/// The lowest id that one jump from `id`, the greatest that waits, may pass.
+/// The lowest id that one jump from `id`, the greatest that waits, may pass. `next` waits on the first list, `reached` on the
+/// second.
 fn floor_of(id: Id, next: Id, reached: &Option<Id>) -> u64
     ensures { MatchOption reached.now ⊤ (λ y. IsFloor id y result) }
 {
@@ -67,8 +68,9 @@ fn push_either(
 }
 
 /// The ids that some member of `from` reaches along parents and no member of `minus`. Each member of either is an id of
-/// the table. It goes down a flat segment at a time, by one look-up each, until all that `from` reaches is reached from
-/// `minus` too. It takes back nothing that `steps` counted. `AllocError` only for want of memory.
+/// the table. It goes down a segment at a time, until all that `from` reaches is reached from `minus` too: a flat one by one
+/// look-up, or where the next id that waits lies far below a longer one by at most eight. It takes back nothing that `steps`
+/// counted. `AllocError` only for want of memory.
 pub fn only<T: SegmentTable>(
     alloc: Global,
     table: &T,

@@ -11,12 +11,12 @@ use segment_codec::{SegmentRef, SegmentTable, Steps};
 /// Levels of segments end below this one.
 const LEVEL_END: u8 = 8;
 
-/// Segments of higher levels are looked for only where so many ids may be passed: a visit of near ids takes no longer than
-/// over flat segments.
-const FAR: u64 = 256;
+/// Segments of higher levels are looked for only where so many ids may be passed at once, so that a visit of near ids takes
+/// no longer than over flat segments.
+const FAR: u64 = 64;
 
-/// The lowest id that one jump from `id` may pass: one above `other`, where that lies below `id`. Where it doesn't, any; only
-/// where the next id that waits lies far below is a jump worth looking for.
+/// The lowest id that one jump from `id` may pass: the one above `other`, where that lies below `id`. Where it doesn't, both
+/// sides reach all that a jump passes: any, but a jump pays only where `next`, the next id that waits, lies far below.
 #[inline]
 pub(crate) fn floor_under(id: Id, other: Id, next: Id) -> u64
     ensures { IsFloor id other result }
@@ -32,8 +32,8 @@ pub(crate) fn floor_under(id: Id, other: Id, next: Id) -> u64
     }
 }
 
-/// Whether a segment of the level may be taken, and it pays to go on to the next level: above the first, it begins lower than
-/// the best.
+/// Whether a segment of the level begins no lower than the floor, and above the first level lower than the best so far: where
+/// hardly anything is grouped, the levels above are not looked at.
 #[inline]
 fn is_better(level: u8, floor: u64, best: &SegmentRef<'_>, other: &SegmentRef<'_>) -> bool
     ensures { IsTrue result → floor ≤ other.now.low }
@@ -42,8 +42,8 @@ fn is_better(level: u8, floor: u64, best: &SegmentRef<'_>, other: &SegmentRef<'_
     low.number() >= floor && (level == 1 || low < best.low())
 }
 
-/// The last of the segments that end at the id, from level 1 up, as long as they begin no lower than the floor and each lower
-/// than the one before; `flat` where there is none.
+/// Of the segments that end at the id, from level 1 up as long as each is better, the last; `flat` where there is none. Where
+/// a segment of a level ends, one of the level below does, which begins no lower.
 fn longest_above<'a, T: SegmentTable>(
     table: &'a T,
     id: Id,
@@ -68,8 +68,8 @@ fn longest_above<'a, T: SegmentTable>(
     best
 }
 
-/// A segment by which a visit goes down from the id: the flat one that has it, or a longer one that begins no lower than the
-/// floor. A segment of a higher level that ends at an id is held by those of the levels above it that end there.
+/// A segment by which a visit goes down from the id: the flat one that has it, or one that ends at it and begins no lower than
+/// the floor.
 #[inline]
 pub(crate) fn jump_above<'a, T: SegmentTable>(
     table: &'a T,

@@ -59,7 +59,7 @@ impl Next {
         greater_with(lesser, &self.both)
     }
 
-    /// The lowest id that one jump from the greatest may pass: above what both can reach, or where both reach the greatest, any.
+    /// The lowest id that one jump from the greatest may pass: above what both can reach, unless that is the greatest itself.
     fn floor(&self, greatest: Id) -> u64
         ensures { IsFloor greatest (shared_of self.now.left self.now.right self.now.both) result }
     {
@@ -134,8 +134,9 @@ fn add_shared(last: &mut IdSet, low: Id, next: &Next) -> Result<(), AllocError>
 }
 
 /// The last of what both sets reach: the ids that both reach are those that the answer reaches, and none of the answer is
-/// a parent of such. Each member of either is an id of the table. It goes down a flat segment at a time, by one look-up
-/// each, until all that one of the sets reaches is reached from the answer. `AllocError` only for want of memory.
+/// a parent of such. Each member of either is an id of the table. It goes down a segment at a time, a flat one or where the
+/// next that waits lies far below a longer one, until all that one of the sets reaches is reached from the answer.
+/// `AllocError` only for want of memory.
 pub(crate) fn meet<T: SegmentTable>(
     alloc: Global,
     table: &T,
