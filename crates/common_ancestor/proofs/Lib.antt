@@ -1,3 +1,4 @@
+pub mod Jumps
 pub mod Sides
 pub mod OnlyVisits
 pub mod MeetVisits

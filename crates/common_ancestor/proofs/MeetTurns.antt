@@ -2,12 +2,13 @@
 use Rattle.std.proofs.Common.{◌≡◌, ℕ, ◌<◌, ◌^◌, [], List, Some, refl, sym, subst, arith}
 use Rattle.id_groups.specs.declared.span.IdSpan.{IdSpan}
 use Rattle.segment_codec.specs.Record.{Segment}
-use Rattle.segment_codec.specs.Table.{segment_at, IsHeld, IsLawful}
-use Rattle.segment_codec.proofs.Tables.{segment-in}
+use Rattle.segment_codec.specs.Table.{IsHeld, IsLawful}
+use Rattle.common_ancestor.specs.Jumps.{IsFloor, IsJumpAbove}
 use Rattle.common_ancestor.specs.Meets.{greatest_of, shared_of, AddsShared}
 use Rattle.common_ancestor.specs.Waits.{Drops, FindsNext, PutsParents}
 use Rattle.common_ancestor.specs.declared.meeting.Waiting.{Waiting}
 use Rattle.common_ancestor.specs.declared.meeting.Next.{Next}
+use Rattle.common_ancestor.proofs.Jumps.{jump-step}
 use Rattle.common_ancestor.proofs.MeetVisits.{MeetVisits, meet-kept, meet-none, meet-turn, tops-of, greatest-under, greatest-held}
 
 -- the visit as its lists stand
@@ -31,19 +32,20 @@ module _ (flats : List Segment) (lawful : IsLawful flats) (A B : ℕ → Type 0)
       pub turn-held : ((z : ℕ) → A z → IsHeld flats z) → ((z : ℕ) → B z → IsHeld flats z) → IsHeld flats x
       turn-held inside_a inside_b = greatest-held flats lawful A B a w2.left w2.right w2.both answer visiting-kept n.left n.right finds.0 finds.1 inside_a inside_b n.both finds.2 x ex
 
-      module _ (s : Segment) (at : segment_at flats x ≡ Some s) (low : ℕ) (el : low ≡ s.low) where
+      module _ (s : Segment) (floor : ℕ) (goes : IsJumpAbove flats x floor s) (low : ℕ) (el : low ≡ s.low) where
         pub turn-falls : low < a
         turn-falls =
             let under = greatest-under flats lawful A B a w2.left w2.right w2.both answer visiting-kept n.left n.right finds.0 finds.1 n.both finds.2 in
-            let le = (segment-in flats x s at).1.0 in omega arith
+            let le = goes.jump.order in omega arith
 
-        pub turn-visits : (ids : List ℕ) (w3 : Waiting) (longer : List IdSpan) → ids ≡ s.parents → PutsParents low n ids w2 w3
+        pub turn-visits : (ids : List ℕ) (w3 : Waiting) (longer : List IdSpan) → IsFloor x (shared_of n.left n.right n.both) floor → ids ≡ s.parents → PutsParents low n ids w2 w3
             → AddsShared low (shared_of n.left n.right n.both) n.both answer longer → Visiting flats A B low w3 longer
-        turn-visits ids w3 longer ei puts adds =
+        turn-visits ids w3 longer free ei puts adds =
             let y = shared_of n.left n.right n.both in
+            let step = jump-step flats lawful x floor s y goes free in
             subst (λ l. Visiting flats A B l w3 longer) (sym el)
-            (meet-turn flats lawful A B a w2.left w2.right w2.both answer visiting-kept n.left n.right finds.0 finds.1 x y s at n.both
-            (tops-of flats lawful A B a w2.left w2.right w2.both answer visiting-kept n.left n.right finds.0 finds.1 x y s at n.both finds.2 ex refl)
+            (meet-turn flats lawful A B a w2.left w2.right w2.both answer visiting-kept n.left n.right finds.0 finds.1 x y s step n.both
+            (tops-of flats lawful A B a w2.left w2.right w2.both answer visiting-kept n.left n.right finds.0 finds.1 x y s step n.both finds.2 ex refl)
             w3.left w3.right w3.both longer
             (subst (λ l. PutsParents l n s.parents w2 w3) el (subst (λ i. PutsParents low n i w2 w3) ei puts))
             (subst (λ l. AddsShared l y n.both answer longer) el adds))

@@ -6,15 +6,15 @@ use Rattle.commit_graph.specs.Graph.{Reaches}
 use Rattle.commit_graph.specs.Sets as sets
 use Rattle.commit_graph.proofs.Walks.{reaches-self, reaches-trans}
 use Rattle.segment_codec.specs.Record.{Segment}
-use Rattle.segment_codec.specs.Table.{segment_at, IsHeld, IsLawful}
-use Rattle.segment_codec.proofs.Tables.{le_or_lt, segment-in, parent-below}
+use Rattle.segment_codec.specs.Table.{IsHeld, IsLawful}
+use Rattle.segment_codec.proofs.Tables.{le_or_lt, parent-below}
 use Rattle.span_set.specs.Members.{IsMember}
-use Rattle.ancestor_query.specs.Graph.{table_graph}
+use Rattle.ancestor_query.specs.Graph.{table_graph, IsJump}
 use Rattle.ancestor_query.specs.Visits.{ToVisit, Keeps, IsGreatest, Greatest}
-use Rattle.ancestor_query.proofs.Graphs.{segment-jump, flat-jump}
 use Rattle.ancestor_query.proofs.Down.{anc-reach, anc-parent, anc-inside, anc-bound}
 use Rattle.common_ancestor.specs.Turns.{Puts}
 use Rattle.common_ancestor.specs.Meets.{AreLast, greatest_of, shared_of, PutsOne, AddsShared}
+use Rattle.common_ancestor.proofs.Jumps.{IsStep}
 use Rattle.common_ancestor.proofs.Sides.{Side, side-all, side-under, side-visit, side-step, side-none}
 
 -- what both sets reach
@@ -57,20 +57,20 @@ module _ (flats : List Segment) (lawful : IsLawful flats) where
     }
 
     -- the segment's parents went to the side's own list
-    pub side-own : (x : ℕ) (s : Segment) (more : List ℕ) → segment_at flats x ≡ Some s → Anc S x → x < a → ((z : ℕ) → Anc S z → z < a → z ≤ x) → Puts work s.parents more
+    pub side-own : (x : ℕ) (s : Segment) (more : List ℕ) → IsJump (table_graph flats) s.low x s.parents → Anc S x → x < a → ((z : ℕ) → Anc S z → z < a → z ≤ x) → Puts work s.parents more
         → Side flats S (λ p. IsIn p both) s.low more
-    side-own x s more at here under top put =
-        let jump = segment-jump flats lawful x s at in let order = jump.order in
+    side-own x s more jump here under top put =
+        let order = jump.order in
         side-step flats lawful S (λ p. IsIn p both) a work side (λ p. IsIn p both) s.low more (omega arith) (λ w i. (put.put w).1 (inl i))
         (λ w i. ⊎_elim (λ o. side.sound w o) (λ p. let h = jump.only w p in anc-parent flats lawful S h.1 w (anc-reach flats lawful S x h.1 here (jump.reaches h.1 h.2 h.3)) h.4) ((put.put w).0 i))
         (λ p h. h)
         (λ y p ay low lt i out. inl ((put.put p).1 (inr (jump.out y p low (top y ay lt) i out))))
 
     -- they went to the list of both
-    pub side-both : (x : ℕ) (s : Segment) (more : List ℕ) → segment_at flats x ≡ Some s → x < a → ((z : ℕ) → Anc S z → z < a → z ≤ x) → Puts both s.parents more
+    pub side-both : (x : ℕ) (s : Segment) (more : List ℕ) → IsJump (table_graph flats) s.low x s.parents → x < a → ((z : ℕ) → Anc S z → z < a → z ≤ x) → Puts both s.parents more
         → Side flats S (λ p. IsIn p more) s.low work
-    side-both x s more at under top put =
-        let jump = segment-jump flats lawful x s at in let order = jump.order in
+    side-both x s more jump under top put =
+        let order = jump.order in
         side-step flats lawful S (λ p. IsIn p both) a work side (λ p. IsIn p more) s.low work (omega arith) (λ w i. i) side.sound
         (λ p h. (put.put p).1 (inl h))
         (λ y p ay low lt i out. inr ((put.put p).1 (inr (jump.out y p low (top y ay lt) i out))))
@@ -123,13 +123,13 @@ module _ (flats : List Segment) (lawful : IsLawful flats) where
       }
 
       -- both reach y, and nothing above it below the frontier; it is in the answer where it doesn't wait
-      pub shared-turn : (x y : ℕ) (s : Segment) (more : List ℕ) (longer : List IdSpan) → segment_at flats x ≡ Some s → x < a → s.low ≤ y → y ≤ x → C y
+      pub shared-turn : (x y : ℕ) (s : Segment) (more : List ℕ) (longer : List IdSpan) → IsStep flats x y s.low s.parents → x < a → s.low ≤ y → y ≤ x → C y
           → ((z : ℕ) → C z → z < a → z ≤ y) → Puts both s.parents more
           → (IsIn y both × ((z : ℕ) → IsMember longer z ↔ IsMember answer z)) ⊎ ((IsIn y both → ⊥) × ((z : ℕ) → IsMember longer z ↔ (IsMember answer z ⊎ (z ≡ y))))
           → Shared flats A B s.low more longer
-      shared-turn x y s more longer at under low yx cy top put taken =
-          let f = segment-in flats x s at in let high = f.1.1 in
-          let jump = flat-jump flats lawful s f.0 y (low, omega arith) in
+      shared-turn x y s more longer step under low yx cy top put taken =
+          let order = step.jump.order in
+          let jump = step.shared low yx in
           let grows : (z : ℕ) → IsMember answer z → IsMember longer z = λ z m. ⊎_elim (λ t. (t.1 z).1 m) (λ t. (t.1 z).1 (inl m)) taken in
           let from_y : Anc (IsMember longer) y =
           ⊎_elim (λ t. anc-more answer longer grows y (k.waits y t.0).1) (λ t. (y, (t.1 y).1 (inr refl), reaches-self (table_graph flats) y)) taken in
@@ -175,9 +175,8 @@ module _ (flats : List Segment) (lawful : IsLawful flats) where
         right-under bound lt waits = side-bound B a rights both v.right bound (λ w t wa. let le = top_r.greatest w t wa in omega arith) waits
 
         -- the lesser of two that wait is reached from the segment's greatest
-        lesser-c : (x y : ℕ) (s : Segment) → segment_at flats x ≡ Some s → x ≡ max l r → y ≡ min l r → s.low ≤ y → C y
-        lesser-c x y s at ex ey low =
-            let jump = segment-jump flats lawful x s at in
+        lesser-c : (x y : ℕ) (s : Segment) → IsJump (table_graph flats) s.low x s.parents → x ≡ max l r → y ≡ min l r → s.low ≤ y → C y
+        lesser-c x y s jump ex ey low =
             ⊎_elim
             (λ (le : l ≤ r). let el : l ≡ y = omega arith in let er : r ≡ x = omega arith in
             (subst (Anc A) el here-l, anc-reach flats lawful B x y (subst (Anc B) er here-r) (jump.reaches y low (omega arith))))
@@ -197,7 +196,7 @@ module _ (flats : List Segment) (lawful : IsLawful flats) where
             pub waiting : (IsIn y both × (o ≡ Some y)) ⊎ ((IsIn y both → ⊥) × (o ≡ Some y → ⊥))
             pub passed : y < s.low → (x ≡ max l r) × (min l r < s.low) × ((w : ℕ) → IsIn w both → w < a → w < s.low)
 
-          module _ (s : Segment) (at : segment_at flats x ≡ Some s) where
+          module _ (s : Segment) (step : IsStep flats x y s.low s.parents) where
             pub tops-of : (o : Option ℕ) → Greatest (λ w. IsIn w both) a o → x ≡ greatest_of l r o → y ≡ shared_of l r o → Tops s o
             tops-of None none ex ey =
                 let ul = top_l.under in let ur = top_r.under in
@@ -208,7 +207,7 @@ module _ (flats : List Segment) (lawful : IsLawful flats) where
                   of_left = λ z az lt. let b = left-under (suc l) (omega arith) (waits (suc l)) z az lt in omega arith;
                   of_right = λ z bz lt. let b = right-under (suc r) (omega arith) (waits (suc r)) z bz lt in omega arith;
                   of_both = λ z cz lt. let b = left-under (suc l) (omega arith) (waits (suc l)) z cz.0 lt in let d = right-under (suc r) (omega arith) (waits (suc r)) z cz.1 lt in omega arith;
-                  is_both = lesser-c x y s at ex ey;
+                  is_both = lesser-c x y s step.jump ex ey;
                   waiting = inr (λ i. none y i (omega arith), λ e. none-some y e);
                   passed = λ lt. (ex, omega arith, waits s.low);
                 }
@@ -225,27 +224,27 @@ module _ (flats : List Segment) (lawful : IsLawful flats) where
                       let d = right-under (suc (max r k)) (omega arith) (waits (suc (max r k)) (omega arith)) z cz.1 lt in omega arith;
                   is_both = λ low. ⊎_elim
                       (λ (le : min l r ≤ k). let e : k ≡ y = omega arith in subst C e (wait-c k top.is))
-                      (λ (lt : k < min l r). lesser-c x y s at (omega arith) (omega arith) low) (le_or_lt (min l r) k);
+                      (λ (lt : k < min l r). lesser-c x y s step.jump (omega arith) (omega arith) low) (le_or_lt (min l r) k);
                   waiting = ⊎_elim
                       (λ (le : y ≤ k). let e : k ≡ y = omega arith in inl (subst (λ w. IsIn w both) e top.is, ap (λ w. Some w) e))
                       (λ (lt : k < y). inr (λ i. let le = top.greatest y i (omega arith) in absurd (omega arith), λ e. let same = some-number k y e in absurd (omega arith))) (le_or_lt y k);
-                  passed = λ lt. let inside = (segment-in flats x s at).1.0 in (omega arith, omega arith, waits s.low (omega arith));
+                  passed = λ lt. let inside = step.jump.order in (omega arith, omega arith, waits s.low (omega arith));
                 }
 
             pub meet-turn : (o : Option ℕ) → Tops s o → (lefts2 rights2 both2 : List ℕ) (longer : List IdSpan)
                 → PutsOne s.low y l r s.parents (lefts, rights, both) (lefts2, rights2, both2) → AddsShared s.low y o answer longer
                 → MeetVisits flats A B s.low lefts2 rights2 both2 longer
             meet-turn o t lefts2 rights2 both2 longer puts adds =
-                let inside = (segment-in flats x s at).1.0 in
+                let inside = step.jump.order in
                 let under = t.under in
                 ⊎_elim
                 (λ p. let low = p.0 in
                 subst (λ q. MeetVisits flats A B s.low q rights2 both2 longer) (sym p.1)
                 (subst (λ q. MeetVisits flats A B s.low lefts q both2 longer) (sym p.2)
                 (record {
-                  left = side-both A a lefts both v.left x s both2 at t.under t.of_left p.3;
-                  right = side-both B a rights both v.right x s both2 at t.under t.of_right p.3;
-                  shared = shared-turn a both answer v.shared x y s both2 longer at t.under p.0 t.order (t.is_both p.0) t.of_both p.3
+                  left = side-both A a lefts both v.left x s both2 step.jump t.under t.of_left p.3;
+                  right = side-both B a rights both v.right x s both2 step.jump t.under t.of_right p.3;
+                  shared = shared-turn a both answer v.shared x y s both2 longer step t.under p.0 t.order (t.is_both p.0) t.of_both p.3
                       (⊎_elim
                       (λ w. inl (w.0, λ z. (λ m. ⊎_elim (λ k. k) (λ h. absurd (h.2 (subst (λ q. o ≡ Some q) (sym h.0) w.1))) ((adds z).0 m), λ m. (adds z).1 (inl m))))
                       (λ w. inr (
@@ -268,14 +267,14 @@ module _ (flats : List Segment) (lawful : IsLawful flats) where
                 (subst (λ q. MeetVisits flats A B s.low lefts rights2 q longer) (sym p.4)
                 (record {
                   left = side-past A a lefts both v.left s.low (omega arith) (left-under s.low (omega arith) pass.2);
-                  right = side-own B a rights both v.right x s rights2 at (subst (Anc B) er here-r) t.under t.of_right p.3;
+                  right = side-own B a rights both v.right x s rights2 step.jump (subst (Anc B) er here-r) t.under t.of_right p.3;
                   shared = shared-same s.low both answer (shared-past a both answer v.shared s.low (omega arith) (λ z cz lt. left-under s.low (omega arith) pass.2 z cz.0 lt)) longer same;
                 })))
                 (λ p. let rl = p.1 in let el : l ≡ x = omega arith in
                 subst (λ q. MeetVisits flats A B s.low lefts2 q both2 longer) (sym p.3)
                 (subst (λ q. MeetVisits flats A B s.low lefts2 rights q longer) (sym p.4)
                 (record {
-                  left = side-own A a lefts both v.left x s lefts2 at (subst (Anc A) el here-l) t.under t.of_left p.2;
+                  left = side-own A a lefts both v.left x s lefts2 step.jump (subst (Anc A) el here-l) t.under t.of_left p.2;
                   right = side-past B a rights both v.right s.low (omega arith) (right-under s.low (omega arith) pass.2);
                   shared = shared-same s.low both answer (shared-past a both answer v.shared s.low (omega arith) (λ z cz lt. right-under s.low (omega arith) pass.2 z cz.1 lt)) longer same;
                 }))) rest) puts

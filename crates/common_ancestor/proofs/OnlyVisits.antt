@@ -1,18 +1,19 @@
 -- A visit of what one set reaches and another doesn't.
-use Rattle.std.proofs.Common.{◌≡◌, ℕ, suc, ◌-◌, ◌<◌, ◌≤◌, ◌^◌, ◌⊎◌, inl, inr, ◌↔◌, List, [], Option, Some, None, max, sym, subst, arith, ⊎_elim}
+use Rattle.std.proofs.Common.{◌≡◌, ℕ, suc, ◌<◌, ◌≤◌, ◌^◌, ◌⊎◌, inl, inr, ◌↔◌, List, [], Option, Some, None, max, sym, subst, arith, ⊎_elim}
+use Rattle.std.specs.Prelude.{MatchOption, ⊤}
 use Rattle.id_groups.specs.Lists.{IsIn}
 use Rattle.id_groups.specs.declared.span.IdSpan.{IdSpan}
 use Rattle.commit_graph.specs.Sets as sets
 use Rattle.segment_codec.specs.Record.{Segment}
-use Rattle.segment_codec.specs.Table.{segment_at, IsHeld, IsLawful}
-use Rattle.segment_codec.proofs.Tables.{le_or_lt, segment-in, parents-over, parent-below}
+use Rattle.segment_codec.specs.Table.{IsHeld, IsLawful}
+use Rattle.segment_codec.proofs.Tables.{le_or_lt, parent-below}
 use Rattle.span_set.specs.Members.{IsMember}
-use Rattle.ancestor_query.specs.Graph.{table_graph}
+use Rattle.ancestor_query.specs.Graph.{table_graph, IsJump}
 use Rattle.ancestor_query.specs.Visits.{ToVisit, Keeps, IsGreatest, Greatest, IsNext}
-use Rattle.ancestor_query.proofs.Best.{same-group}
-use Rattle.ancestor_query.proofs.Graphs.{segment-jump, flat-jump}
 use Rattle.ancestor_query.proofs.Down.{anc-reach, anc-parent, anc-inside, anc-bound}
+use Rattle.common_ancestor.specs.Jumps.{IsFloor, IsJumpAbove}
 use Rattle.common_ancestor.specs.Turns.{first_above, greater_with, Puts, PutsEither}
+use Rattle.common_ancestor.proofs.Jumps.{IsStep, jump-step}
 use Rattle.common_ancestor.proofs.Sides.{Side, side-all, side-under, side-kept, side-visit, side-step, side-none}
 
 -- The answer has exactly what A reaches and B doesn't, from the frontier on. Of what A reaches, what B reaches too is left.
@@ -48,11 +49,10 @@ module _ (flats : List Segment) (lawful : IsLawful flats) (A B : ℕ → Type 0)
     other-under bound top = side-under flats lawful B (λ _. ⊥) a theirs v.other bound top (λ p n lt. absurd n)
 
     -- nothing of B is in the segment below the id: its ids are A's alone
-    pub mine-turn : (x : ℕ) (s : Segment) (more : List ℕ) (longer : List IdSpan) → IsGreatest (ToVisit A mine) a x → segment_at flats x ≡ Some s
+    pub mine-turn : (x : ℕ) (s : Segment) (more : List ℕ) (longer : List IdSpan) → IsGreatest (ToVisit A mine) a x → IsJump (table_graph flats) s.low x s.parents
         → ((w : ℕ) → ToVisit B theirs w → w < a → w < s.low) → Puts mine s.parents more
         → ((z : ℕ) → IsMember longer z ↔ (IsMember answer z ⊎ ((s.low ≤ z) × (z ≤ x)))) → OnlyVisits flats A B s.low more theirs longer
-    mine-turn x s more longer top at none put added =
-        let jump = segment-jump flats lawful x s at in
+    mine-turn x s more longer top jump none put added =
         let order = jump.order in let under = top.under in
         let here : Anc A x = side-visit flats lawful A (Anc B) a mine v.own x top.is in
         record {
@@ -72,14 +72,13 @@ module _ (flats : List Segment) (lawful : IsLawful flats) (A B : ℕ → Type 0)
 
     -- B reaches y in the segment: of its ids those above are A's alone
     pub theirs-turn : (x y : ℕ) (s : Segment) (more : List ℕ) (longer : List IdSpan) → ((w : ℕ) → ToVisit A mine w → w < a → w ≤ x)
-        → x < a → (y < x → ToVisit A mine x) → segment_at flats x ≡ Some s
+        → x < a → (y < x → ToVisit A mine x) → IsStep flats x y s.low s.parents
         → IsGreatest (ToVisit B theirs) a y → y ≤ x → s.low ≤ y → Puts theirs s.parents more
         → ((z : ℕ) → IsMember longer z ↔ (IsMember answer z ⊎ ((suc y ≤ z) × (z ≤ x)))) → OnlyVisits flats A B s.low mine more longer
-    theirs-turn x y s more longer top under own at reached yx low put added =
-        let f = segment-in flats x s at in
-        let high = f.1.1 in
-        let jump = segment-jump flats lawful x s at in
-        let below_y = flat-jump flats lawful s f.0 y (low, omega arith) in
+    theirs-turn x y s more longer top under own step reached yx low put added =
+        let jump = step.jump in
+        let order = jump.order in
+        let below_y = step.shared low yx in
         let there : Anc B y = side-visit flats lawful B (λ _. ⊥) a theirs v.other y reached.is in
         let none : (z : ℕ) → Anc B z → z < a → z < suc y = other-under (suc y) (λ w h lt. let le = reached.greatest w h lt in omega arith) in
         record {
@@ -97,7 +96,7 @@ module _ (flats : List Segment) (lawful : IsLawful flats) (A B : ℕ → Type 0)
               (λ z p az ge lt i out. inr (⊎_elim
               (λ (le : z ≤ x). ⊎_elim
               (λ (zy : z ≤ y). anc-parent flats lawful B z p (anc-reach flats lawful B y z there (below_y.reaches z ge zy)) i)
-              (λ (yz : y < z). let e : p ≡ z - 1 = ⊎_elim (λ q. q) (λ n. absurd n) (subst (IsIn p) (parents-over flats lawful s f.0 z (omega arith) (omega arith)) i) in absurd (omega arith))
+              (λ (yz : y < z). let h = below_y.only p (jump.out z p ge le i out) in anc-parent flats lawful B h.1 p (anc-reach flats lawful B y h.1 there (below_y.reaches h.1 h.2 h.3)) h.4)
               (le_or_lt z y))
               (λ b. anc-parent flats lawful B z p b i) (own-at_most x top z az lt)));
           other = side-step flats lawful B (λ _. ⊥) a theirs v.other (λ _. ⊥) s.low more (omega arith) (λ w i. (put.put w).1 (inl i))
@@ -108,35 +107,36 @@ module _ (flats : List Segment) (lawful : IsLawful flats) (A B : ℕ → Type 0)
 
     -- a turn: the greatest that waits, of either side, and its segment
     module _ (m : ℕ) (top : IsGreatest (ToVisit A mine) a m) where
-      only-turn-own : (x : ℕ) (s : Segment) (start : ℕ) (more_mine more_theirs : List ℕ) (longer : List IdSpan) → x ≡ m → start ≡ s.low → segment_at flats x ≡ Some s
+      only-turn-own : (x : ℕ) (s : Segment) (start : ℕ) (more_mine more_theirs : List ℕ) (longer : List IdSpan) → x ≡ m → start ≡ s.low → IsJump (table_graph flats) s.low x s.parents
           → ((w : ℕ) → ToVisit B theirs w → w < a → w < s.low) → PutsEither s.low start s.parents mine theirs more_mine more_theirs
           → ((z : ℕ) → IsMember longer z ↔ (IsMember answer z ⊎ ((start ≤ z) × (z ≤ x)))) → OnlyVisits flats A B s.low more_mine more_theirs longer
-      only-turn-own x s start more_mine more_theirs longer ex es at none puts added =
+      only-turn-own x s start more_mine more_theirs longer ex es jump none puts added =
           ⊎_elim (λ h. let lt = h.0 in absurd (omega arith))
           (λ h. subst (λ t. OnlyVisits flats A B s.low more_mine t longer) (sym h.2)
-          (mine-turn x s more_mine longer (subst (IsGreatest (ToVisit A mine) a) (sym ex) top) at none h.1
+          (mine-turn x s more_mine longer (subst (IsGreatest (ToVisit A mine) a) (sym ex) top) jump none h.1
           (subst (λ q. (z : ℕ) → IsMember longer z ↔ (IsMember answer z ⊎ ((q ≤ z) × (z ≤ x)))) es added))) puts
 
-      pub only-turn : (x : ℕ) (s : Segment) (r : Option ℕ) (start : ℕ) (more_mine more_theirs : List ℕ) (longer : List IdSpan)
-          → Greatest (ToVisit B theirs) a r → x ≡ greater_with m r → start ≡ first_above s.low r → segment_at flats x ≡ Some s
+      pub only-turn : (x floor : ℕ) (s : Segment) (r : Option ℕ) (start : ℕ) (more_mine more_theirs : List ℕ) (longer : List IdSpan)
+          → Greatest (ToVisit B theirs) a r → x ≡ greater_with m r → start ≡ first_above s.low r → IsJumpAbove flats x floor s → MatchOption r ⊤ (λ y. IsFloor x y floor)
           → PutsEither s.low start s.parents mine theirs more_mine more_theirs
           → ((z : ℕ) → IsMember longer z ↔ (IsMember answer z ⊎ ((start ≤ z) × (z ≤ x)))) → OnlyVisits flats A B s.low more_mine more_theirs longer
-      only-turn x s None start more_mine more_theirs longer reached ex es at puts added =
-          only-turn-own x s start more_mine more_theirs longer ex es at (λ w t lt. absurd (reached w t lt)) puts added
-      only-turn x s (Some y) start more_mine more_theirs longer reached ex es at puts added =
+      only-turn x floor s None start more_mine more_theirs longer reached ex es goes free puts added =
+          only-turn-own x s start more_mine more_theirs longer ex es goes.jump (λ w t lt. absurd (reached w t lt)) puts added
+      only-turn x floor s (Some y) start more_mine more_theirs longer reached ex es goes free puts added =
           let um = top.under in let uy = reached.under in
+          let step = jump-step flats lawful x floor s y goes free in
           ⊎_elim
           (λ (low : s.low ≤ y).
           let est : start ≡ suc y = omega arith in
           ⊎_elim
           (λ h. subst (λ t. OnlyVisits flats A B s.low t more_theirs longer) (sym h.1)
           (theirs-turn x y s more_theirs longer (λ w t lt. let le = top.greatest w t lt in omega arith) (omega arith)
-          (λ lt. let e : m ≡ x = omega arith in subst (ToVisit A mine) e top.is) at reached (omega arith) low h.2
+          (λ lt. let e : m ≡ x = omega arith in subst (ToVisit A mine) e top.is) step reached (omega arith) low h.2
           (subst (λ q. (z : ℕ) → IsMember longer z ↔ (IsMember answer z ⊎ ((q ≤ z) × (z ≤ x)))) est added)))
           (λ h. let le = h.0 in absurd (omega arith)) puts)
           (λ (under : y < s.low).
-          let inside = (segment-in flats x s at).1.0 in
-          only-turn-own x s start more_mine more_theirs longer (omega arith) (omega arith) at
+          let inside = goes.jump.order in
+          only-turn-own x s start more_mine more_theirs longer (omega arith) (omega arith) goes.jump
           (λ w t lt. let le = reached.greatest w t lt in omega arith) puts added)
           (le_or_lt s.low y)
 
@@ -171,23 +171,21 @@ module _ (flats : List Segment) (lawful : IsLawful flats) (A B : ℕ → Type 0)
     pub turn-held : ((z : ℕ) → A z → IsHeld flats z) → ((z : ℕ) → B z → IsHeld flats z) → IsHeld flats x
     turn-held inside_a inside_b = subst (IsHeld flats) (sym ex) (only-held a mine2 theirs2 answer kept2 m next.greatest inside_a inside_b r reached.greatest)
 
-    module _ (s : Segment) (at : segment_at flats x ≡ Some s) (low start : ℕ) (el : low ≡ s.low) (es : start ≡ first_above low r) where
+    module _ (s : Segment) (floor : ℕ) (goes : IsJumpAbove flats x floor s) (low start : ℕ) (el : low ≡ s.low) (es : start ≡ first_above low r) where
       pub turn-falls : low < a
-      turn-falls = let under = only-under a mine2 theirs2 answer kept2 m next.greatest r reached.greatest in let le = (segment-in flats x s at).1.0 in omega arith
+      turn-falls = let under = only-under a mine2 theirs2 answer kept2 m next.greatest r reached.greatest in let le = goes.jump.order in omega arith
 
       -- the ids taken are of one group
       pub turn-group : start < 2 ^ 56 → x < 2 ^ 56
       turn-group lt =
-          let f = segment-in flats x s at in let le = f.1.1 in
-          let over : low ≤ start = first_over low r start es in
-          let top = same-group s.low s.high (lawful.each s f.0).segment.one_group (omega arith) in omega arith
+          let over : low ≤ start = first_over low r start es in goes.group (omega arith)
 
-      pub turn-visits : (ids more_mine more_theirs : List ℕ) (longer : List IdSpan) → ids ≡ s.parents → PutsEither low start ids mine2 theirs2 more_mine more_theirs
+      pub turn-visits : (ids more_mine more_theirs : List ℕ) (longer : List IdSpan) → MatchOption r ⊤ (λ y. IsFloor x y floor) → ids ≡ s.parents → PutsEither low start ids mine2 theirs2 more_mine more_theirs
           → ((z : ℕ) → IsMember longer z ↔ (IsMember answer z ⊎ ((start ≤ z) × (z ≤ x)))) → OnlyVisits flats A B low more_mine more_theirs longer
-      turn-visits ids more_mine more_theirs longer ei puts added =
+      turn-visits ids more_mine more_theirs longer free ei puts added =
           subst (λ l. OnlyVisits flats A B l more_mine more_theirs longer) (sym el)
-          (only-turn a mine2 theirs2 answer kept2 m next.greatest x s r start more_mine more_theirs longer reached.greatest ex
-          (subst (λ l. start ≡ first_above l r) el es) at
+          (only-turn a mine2 theirs2 answer kept2 m next.greatest x floor s r start more_mine more_theirs longer reached.greatest ex
+          (subst (λ l. start ≡ first_above l r) el es) goes free
           (subst (λ l. PutsEither l start s.parents mine2 theirs2 more_mine more_theirs) el (subst (λ i. PutsEither low start i mine2 theirs2 more_mine more_theirs) ei puts)) added)
 
   module _ (inside_a : (x : ℕ) → A x → IsHeld flats x) (inside_b : (x : ℕ) → B x → IsHeld flats x) where

@@ -1,13 +1,15 @@
 //! What some ids reach and others don't.
 
-ghost use Rattle.std.specs.Prelude.{◌≡◌, ℕ, [], ◌+◌, ◌-◌, ◌<◌, ◌≤◌, ◌^◌, ◌↔◌, IfOk, OnOk, min};
+ghost use Rattle.std.specs.Prelude.{◌≡◌, ℕ, [], ◌+◌, ◌-◌, ◌<◌, ◌≤◌, ◌^◌, ◌↔◌, IfOk, OnOk, MatchOption, ⊤, min};
 ghost use Rattle.commit_graph.specs.Sets as sets;
 ghost use Rattle.segment_codec.specs.Lent.{parents_left};
 ghost use Rattle.segment_codec.specs.Table.{IsHeld};
 ghost use Rattle.span_set.specs.Members.{IsMember, IsCanonical};
 ghost use Rattle.ancestor_query.specs.Graph.{table_graph};
+ghost use Rattle.common_ancestor.specs.Jumps.{IsFloor};
 ghost use Rattle.common_ancestor.specs.Turns.{first_above, greater_with, PutsEither};
 
+use crate::jump::{floor_under, jump_above};
 use ancestor_query::WorkList;
 use id_groups::{ID_END, Id, IdSpan};
 use segment_codec::{Parents, SegmentTable, Steps};
@@ -38,6 +40,17 @@ fn first_above(low: Id, id: &Option<Id>) -> u64
     }
 }
 
+/// The lowest id that one jump from `id`, the greatest that waits, may pass. `next` waits on the first list, `reached` on the
+/// second.
+fn floor_of(id: Id, next: Id, reached: &Option<Id>) -> u64
+    ensures { MatchOption reached.now ⊤ (λ y. IsFloor id y result) }
+{
+    match reached {
+        Some(y) => floor_under(id, *y, next),
+        None => 0,
+    }
+}
+
 /// Puts the parents on the second list where `start` lies above `low`, else on the first.
 fn push_either(
     low: Id,
@@ -55,8 +68,9 @@ fn push_either(
 }
 
 /// The ids that some member of `from` reaches along parents and no member of `minus`. Each member of either is an id of
-/// the table. It goes down a flat segment at a time, by one look-up each, until all that `from` reaches is reached from
-/// `minus` too. It takes back nothing that `steps` counted. `AllocError` only for want of memory.
+/// the table. It goes down a segment at a time, until all that `from` reaches is reached from `minus` too: a flat one by one
+/// look-up, or where the next id that waits lies far below a longer one by at most eight. It takes back nothing that `steps`
+/// counted. `AllocError` only for want of memory.
 pub fn only<T: SegmentTable>(
     alloc: Global,
     table: &T,
@@ -108,7 +122,8 @@ fn add_only<T: SegmentTable>(
     'visit: while let Some(next) = mine.next_id(from, frontier) {
         let reached = theirs.next_id(minus, frontier);
         let id = greater_with(next, &reached);
-        let segment = table.flat(id, steps).unwrap();
+        let floor = floor_of(id, next, &reached);
+        let segment = jump_above(table, id, floor, steps);
         let low = segment.low();
         let start = first_above(low, &reached);
         answer.insert_between(start, id.number() + 1)?;

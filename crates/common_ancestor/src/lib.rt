@@ -4,6 +4,7 @@
 
 mod all_reach;
 mod difference;
+mod jump;
 mod last_members;
 mod meeting;
 

@@ -6,10 +6,12 @@ ghost use Rattle.segment_codec.specs.Lent.{parents_left};
 ghost use Rattle.segment_codec.specs.Table.{IsHeld};
 ghost use Rattle.span_set.specs.Members.{IsMember, IsCanonical};
 ghost use Rattle.ancestor_query.specs.Graph.{table_graph};
+ghost use Rattle.common_ancestor.specs.Jumps.{IsFloor};
 ghost use Rattle.common_ancestor.specs.Meets.{AreLast, greatest_of, shared_of, AddsShared};
 ghost use Rattle.common_ancestor.specs.Waits.{FindsNext, Drops, PutsParents};
 
 use crate::difference::greater_with;
+use crate::jump::{floor_under, jump_above};
 use ancestor_query::WorkList;
 use id_groups::{ID_END, Id, IdSpan};
 use segment_codec::{Parents, SegmentTable, Steps};
@@ -55,6 +57,18 @@ impl Next {
             self.right
         };
         greater_with(lesser, &self.both)
+    }
+
+    /// The lowest id that one jump from the greatest may pass: above what both can reach, unless that is the greatest itself.
+    fn floor(&self, greatest: Id) -> u64
+        ensures { IsFloor greatest (shared_of self.now.left self.now.right self.now.both) result }
+    {
+        let greater = if self.left < self.right {
+            self.right
+        } else {
+            self.left
+        };
+        floor_under(greatest, self.shared(), greater)
     }
 }
 
@@ -120,8 +134,9 @@ fn add_shared(last: &mut IdSet, low: Id, next: &Next) -> Result<(), AllocError>
 }
 
 /// The last of what both sets reach: the ids that both reach are those that the answer reaches, and none of the answer is
-/// a parent of such. Each member of either is an id of the table. It goes down a flat segment at a time, by one look-up
-/// each, until all that one of the sets reaches is reached from the answer. `AllocError` only for want of memory.
+/// a parent of such. Each member of either is an id of the table. It goes down a segment at a time, a flat one or where the
+/// next that waits lies far below a longer one, until all that one of the sets reaches is reached from the answer.
+/// `AllocError` only for want of memory.
 pub(crate) fn meet<T: SegmentTable>(
     alloc: Global,
     table: &T,
@@ -164,7 +179,8 @@ fn add_last<T: SegmentTable>(
 {
     let mut frontier = ID_END;
     'visit: while let Some(next) = waiting.next(left, right, frontier) {
-        let segment = table.flat(next.greatest(), steps).unwrap();
+        let id = next.greatest();
+        let segment = jump_above(table, id, next.floor(id), steps);
         let low = segment.low();
         add_shared(last, low, &next)?;
         waiting.push_parents(low, &next, segment.parents())?;

@@ -2,7 +2,6 @@ use Rattle.std.proofs.Common.{◌≡◌, ◌^◌, ◌+◌, ◌<◌, ◌≤◌, �
 use Rattle.id_groups.specs.declared.span.IdSpan.{IdSpan}
 use Rattle.segment_codec.specs.Lent.{segment_of, parents_left}
 use Rattle.span_set.specs.Members.{IsMember, IsCanonical}
-use Rattle.ancestor_query.proofs.Best.{looked-up, found-at}
 use Rattle.common_ancestor.proofs.OnlyVisits.{OnlyVisits, only-none, only-kept, only-done, turn-held, turn-falls, turn-group, turn-visits}
 use Rattle.common_ancestor.proofs.difference.add_only.Goals as goal
 
@@ -20,33 +19,29 @@ visit-init g c =
       bound = omega arith;
     }
 
-pub unwrap-segment-requires : goal.unwrap-segment-requires
-unwrap-segment-requires g c =
-    let flats = g.T.SegmentTable.flats c.args.table.now in
-    looked-up flats c.greater_with-id.result c.flat.result c.flat.ensures.found
-    (turn-held flats (g.met.T.SegmentTable.lawful c.args.table.now) (IsMember c.args.from.now) (IsMember c.args.minus.now)
+pub jump_above-segment-requires : goal.jump_above-segment-requires
+jump_above-segment-requires g c =
+    turn-held (g.T.SegmentTable.flats c.args.table.now) (g.met.T.SegmentTable.lawful c.args.table.now) (IsMember c.args.from.now) (IsMember c.args.minus.now)
     c.visit.frontier c.visit.mine c.visit.theirs c.next_id.new.self c.next_id-reached.new.self c.visit.answer c.visit.invariant.visits
-    c.in-Some.next c.next_id-reached.result c.in-Some.ensures c.next_id-reached.ensures c.greater_with-id.result c.greater_with-id.ensures c.requires.from c.requires.minus)
+    c.in-Some.next c.next_id-reached.result c.in-Some.ensures c.next_id-reached.ensures c.greater_with-id.result c.greater_with-id.ensures c.requires.from c.requires.minus
 
 pub insert_between-requires : goal.insert_between-requires
 insert_between-requires g c =
     let flats = g.T.SegmentTable.flats c.args.table.now in
     let number = c.number.ensures.number in let small = c.number.ensures.small in
-    let found = found-at flats c.greater_with-id.result c.flat.result c.unwrap-segment.result c.unwrap-segment.ensures c.flat.ensures.found in
     let group = turn-group flats (g.met.T.SegmentTable.lawful c.args.table.now) (IsMember c.args.from.now) (IsMember c.args.minus.now)
     c.visit.frontier c.visit.mine c.visit.theirs c.next_id.new.self c.next_id-reached.new.self c.visit.answer c.visit.invariant.visits
     c.in-Some.next c.next_id-reached.result c.in-Some.ensures c.next_id-reached.ensures c.greater_with-id.result c.greater_with-id.ensures
-    (segment_of c.unwrap-segment.result) found c.low-low.result c.first_above-start.result c.low-low.ensures c.first_above-start.ensures in
+    (segment_of c.jump_above-segment.result) c.floor_of-floor.result c.jump_above-segment.ensures.jump c.low-low.result c.first_above-start.result c.low-low.ensures c.first_above-start.ensures in
     record { group = λ lt. let below = group lt in omega (arith, below, number); bound = omega (arith, number, small) }
 
 pub visit-smaller : goal.visit-smaller
 visit-smaller g c =
     let flats = g.T.SegmentTable.flats c.args.table.now in
-    let found = found-at flats c.greater_with-id.result c.flat.result c.unwrap-segment.result c.unwrap-segment.ensures c.flat.ensures.found in
     let lt = turn-falls flats (g.met.T.SegmentTable.lawful c.args.table.now) (IsMember c.args.from.now) (IsMember c.args.minus.now)
     c.visit.frontier c.visit.mine c.visit.theirs c.next_id.new.self c.next_id-reached.new.self c.visit.answer c.visit.invariant.visits
     c.in-Some.next c.next_id-reached.result c.in-Some.ensures c.next_id-reached.ensures c.greater_with-id.result c.greater_with-id.ensures
-    (segment_of c.unwrap-segment.result) found c.low-low.result c.first_above-start.result c.low-low.ensures c.first_above-start.ensures in
+    (segment_of c.jump_above-segment.result) c.floor_of-floor.result c.jump_above-segment.ensures.jump c.low-low.result c.first_above-start.result c.low-low.ensures c.first_above-start.ensures in
     omega (arith, lt, c.number-frontier.ensures.number)
 
 -- ids before the one behind an id are those up to it
@@ -61,17 +56,16 @@ pub visit-preserved : goal.visit-preserved
 visit-preserved g c =
     let flats = g.T.SegmentTable.flats c.args.table.now in
     let A = IsMember c.args.from.now in let B = IsMember c.args.minus.now in
-    let found = found-at flats c.greater_with-id.result c.flat.result c.unwrap-segment.result c.unwrap-segment.ensures c.flat.ensures.found in
     let small = c.number-frontier.ensures.small in
     record {
       visits = subst (λ f. OnlyVisits flats A B f c.push_either.new.mine c.push_either.new.theirs c.insert_between.new.self) (sym c.number-frontier.ensures.number)
           (turn-visits flats (g.met.T.SegmentTable.lawful c.args.table.now) A B
           c.visit.frontier c.visit.mine c.visit.theirs c.next_id.new.self c.next_id-reached.new.self c.visit.answer c.visit.invariant.visits
           c.in-Some.next c.next_id-reached.result c.in-Some.ensures c.next_id-reached.ensures c.greater_with-id.result c.greater_with-id.ensures
-          (segment_of c.unwrap-segment.result) found c.low-low.result c.first_above-start.result c.low-low.ensures c.first_above-start.ensures
-          (parents_left c.parents.result) c.push_either.new.mine c.push_either.new.theirs c.insert_between.new.self c.parents.ensures c.in_ok-push_either.ensures (up-to c.insert_between.new.self c.visit.answer c.first_above-start.result c.number.result c.greater_with-id.result c.number.ensures.number c.in_ok-insert_between.ensures.members));
+          (segment_of c.jump_above-segment.result) c.floor_of-floor.result c.jump_above-segment.ensures.jump c.low-low.result c.first_above-start.result c.low-low.ensures c.first_above-start.ensures
+          (parents_left c.parents.result) c.push_either.new.mine c.push_either.new.theirs c.insert_between.new.self c.floor_of-floor.ensures c.parents.ensures c.in_ok-push_either.ensures (up-to c.insert_between.new.self c.visit.answer c.first_above-start.result c.number.result c.greater_with-id.result c.number.ensures.number c.in_ok-insert_between.ensures.members));
       canonical = c.insert_between.ensures.canonical c.visit.invariant.canonical;
-      counted = let tick = c.flat.ensures.tick in let before = c.visit.invariant.counted in omega arith;
+      counted = let more = c.jump_above-segment.ensures.counted in let before = c.visit.invariant.counted in omega arith;
       bound = omega arith;
     }
 
