@@ -36,7 +36,7 @@ module _ {X : Type 0} where
   pub all-both : (P : X → Type 0) (xs ys : List X) → AllByRecursion P xs → AllByRecursion P ys → AllByRecursion P (xs ++ ys)
   all-both P xs ys h g = all-of P (xs ++ ys) (λ x i. ⊎_elim (each-of P xs h x) (each-of P ys g x) (in-either x xs ys i))
 
-name-of : (n : NamedPlace) (named : List NamedPlace) → IsIn n named → IsIn n.name (names_in named)
+pub name-of : (n : NamedPlace) (named : List NamedPlace) → IsIn n named → IsIn n.name (names_in named)
 name-of n [] i = absurd i
 name-of n (m ∷ ms) (inl e) = inl (ap (λ z. z.name) e)
 name-of n (m ∷ ms) (inr i) = inr (name-of n ms i)
@@ -144,11 +144,11 @@ pub record Looked (at : ℕ) (bytes : List ℕ) (rest : List Entry) (others : Li
   pub fewer : HaveCommon (names_in named) others → HaveCommon (names_in left) others
   pub more : HaveCommon (names_in left) others → HaveCommon (names_in named) others
 
-found-in : (held : List NamedPlace) (name : Name) (result : Option ℕ) → Finds held name result → is_some result ≡ true → IsIn name (names_in held)
+pub found-in : (held : List NamedPlace) (name : Name) (result : Option ℕ) → Finds held name result → is_some result ≡ true → IsIn name (names_in held)
 found-in held name None h t = absurd (true≢false (sym t))
 found-in held name (Some place) h t = name-of _ held h
 
-not-in : (held : List NamedPlace) (name : Name) (result : Option ℕ) → Finds held name result → is_some result ≡ false → IsIn name (names_in held) → ⊥
+pub not-in : (held : List NamedPlace) (name : Name) (result : Option ℕ) → Finds held name result → is_some result ≡ false → IsIn name (names_in held) → ⊥
 not-in held name None h t i = h i
 not-in held name (Some place) h t i = true≢false t
 

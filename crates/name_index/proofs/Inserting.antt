@@ -23,7 +23,7 @@ distinct-apart [] new h name i j = i
 distinct-apart (n ∷ ns) new h name (inl e) j = h.0 (subst (λ z. IsIn z (names_in (ns ++ new))) e (name-right name ns new j))
 distinct-apart (n ∷ ns) new h name (inr i) j = distinct-apart ns new h.1 name i j
 
-distinct-both : (all new : List NamedPlace) → AreDistinct (names_in all) → AreDistinct (names_in new) → ((name : Name) → IsIn name (names_in all) → IsIn name (names_in new) → ⊥) → AreDistinct (names_in (all ++ new))
+pub distinct-both : (all new : List NamedPlace) → AreDistinct (names_in all) → AreDistinct (names_in new) → ((name : Name) → IsIn name (names_in all) → IsIn name (names_in new) → ⊥) → AreDistinct (names_in (all ++ new))
 distinct-both [] new h g apart = g
 distinct-both (n ∷ ns) new h g apart =
     (λ i. ⊎_elim h.0 (apart n.name (inl refl)) (name-either n.name ns new i), distinct-both ns new h.1 g (λ name i j. apart name (inr i) j))
@@ -38,7 +38,7 @@ common-by [] ys name i j = absurd i
 common-by (x ∷ xs) ys name (inl e) j = inl (subst (λ z. IsIn z ys) e j)
 common-by (x ∷ xs) ys name (inr i) j = inr (common-by xs ys name i j)
 
-names-back : (xs ys : List NamedPlace) → IsPermutation xs ys → (name : Name) → IsIn name (names_in ys) → IsIn name (names_in xs)
+pub names-back : (xs ys : List NamedPlace) → IsPermutation xs ys → (name : Name) → IsIn name (names_in ys) → IsIn name (names_in xs)
 names-back xs ys moved name i = names-moved ys xs (IsPermutation-sym xs ys moved) name i
 
 pub stands-held : (at : ℕ) (bytes : List ℕ) (run : List Entry) (new : List NamedPlace) (holds : Holds run new) → StandFrom at bytes new → StandFrom at bytes holds.held
@@ -79,20 +79,20 @@ runs-take (suc k) [] (g ∷ gs) h = absurd h
 runs-take (suc k) (r ∷ rs) [] h = absurd h
 runs-take (suc k) (r ∷ rs) (g ∷ gs) h = (h.0, runs-take k rs gs h.1)
 
-runs-drop : (k : ℕ) (runs : List (List Entry)) (held : List (List NamedPlace)) → AreRuns runs held → AreRuns (drop k runs) (drop k held)
+pub runs-drop : (k : ℕ) (runs : List (List Entry)) (held : List (List NamedPlace)) → AreRuns runs held → AreRuns (drop k runs) (drop k held)
 runs-drop zero runs held h = h
 runs-drop (suc k) [] [] h = tt
 runs-drop (suc k) [] (g ∷ gs) h = absurd h
 runs-drop (suc k) (r ∷ rs) [] h = absurd h
 runs-drop (suc k) (r ∷ rs) (g ∷ gs) h = runs-drop k rs gs h.1
 
-runs-push : (runs : List (List Entry)) (held : List (List NamedPlace)) (run : List Entry) (named : List NamedPlace) → AreRuns runs held → IsRun run named → AreRuns (runs ++ run ∷ []) (held ++ named ∷ [])
+pub runs-push : (runs : List (List Entry)) (held : List (List NamedPlace)) (run : List Entry) (named : List NamedPlace) → AreRuns runs held → IsRun run named → AreRuns (runs ++ run ∷ []) (held ++ named ∷ [])
 runs-push [] [] run named h r = (r, tt)
 runs-push [] (g ∷ gs) run named h r = absurd h
 runs-push (s ∷ ss) [] run named h r = absurd h
 runs-push (s ∷ ss) (g ∷ gs) run named h r = (h.0, runs-push ss gs run named h.1 r)
 
-joined-append : (xs ys : List (List NamedPlace)) → joined (xs ++ ys) ≡ joined xs ++ joined ys
+pub joined-append : (xs ys : List (List NamedPlace)) → joined (xs ++ ys) ≡ joined xs ++ joined ys
 joined-append [] ys = refl
 joined-append (x ∷ xs) ys = ap (λ l. x ++ l) (joined-append xs ys) ∙ sym (append_assoc x (joined xs) (joined ys))
 
@@ -138,28 +138,34 @@ module _ (at : ℕ) (bytes : List ℕ) (at' : ℕ) (bytes' : List ℕ) (due run 
         same = IsPermutation-trans _ _ _ (IsPermutation-append (joined held) old.held named holds.held old.same holds.same) last.same;
       }
 
+-- the index with one run in place of those behind the first `kept`, which holds what they do and the new names
+pub put-behind : (runs : List (List Entry)) (kept : ℕ) (merged : List Entry) (all new : List NamedPlace) (is : IsIndexOf runs all) → Holds merged (joined (drop kept is.held) ++ new)
+    → (AreDistinct (names_in (joined is.held)) → AreDistinct (names_in (joined is.held ++ new))) → IsIndexOf (take kept runs ++ merged ∷ []) (all ++ new)
+put-behind runs kept merged all new is last distinct =
+    let front = take kept is.held in
+    let back = drop kept is.held in
+    let split : joined is.held ≡ joined front ++ joined back = ap joined (sym (take-append-drop kept is.held)) ∙ joined-append front back in
+    let one = IsPermutation-append all (joined is.held) new new is.same (IsPermutation-refl new) in
+    let two = subst (λ l. IsPermutation (all ++ new) l) (ap (λ l. l ++ new) split ∙ append_assoc (joined front) (joined back) new) one in
+    let three = IsPermutation-trans _ _ _ two (IsPermutation-append (joined front) (joined front) (joined back ++ new) last.held (IsPermutation-refl (joined front)) last.same) in
+    let once = distinct (distinct-moved _ _ (IsPermutation-map (λ n. n.name) all (joined is.held) is.same) is.distinct) in
+    record {
+      held = front ++ last.held ∷ [];
+      in_order = runs-push (take kept runs) front merged last.held (runs-take kept runs is.held is.in_order) last.run;
+      same = subst (λ l. IsPermutation (all ++ new) l) (sym (joined-append front (last.held ∷ []) ∙ ap (λ l. joined front ++ l) (append-nil last.held))) three;
+      distinct = distinct-moved _ _ (IsPermutation-sym _ _ (IsPermutation-map (λ n. n.name) (all ++ new) (joined is.held ++ new) one)) once;
+    }
+
 -- the index behind an insert
 module _ (bytes : List ℕ) (at : ℕ) (added : List ℕ) (runs : List (List Entry)) (kept : ℕ) (run merged : List Entry) (all new : List NamedPlace) where
   pub inserted : (is : IsIndexOf runs all) → Stand bytes all → StandFrom at added new → Holds run new → (AreDistinct (names_in (joined is.held)) → AreDistinct (names_in (joined is.held ++ new)))
       → ((held : List (List NamedPlace)) (named : List NamedPlace) → AreRuns (drop kept runs) held → AllByRecursion (StandFrom 0 bytes) held → Holds run named → StandFrom at added named → Holds merged (joined held ++ named))
       → IsIndexOf (take kept runs ++ merged ∷ []) (all ++ new)
   inserted is stand stands holds distinct both =
-      let front = take kept is.held in
       let back = drop kept is.held in
       let held = runs-stand bytes all is.held is.same stand in
-      let stand_back = all-right (StandFrom 0 bytes) front back (subst (AllByRecursion (StandFrom 0 bytes)) (sym (take-append-drop kept is.held)) held) in
-      let last = both back new (runs-drop kept runs is.held is.in_order) stand_back holds stands in
-      let split : joined is.held ≡ joined front ++ joined back = ap joined (sym (take-append-drop kept is.held)) ∙ joined-append front back in
-      let one = IsPermutation-append all (joined is.held) new new is.same (IsPermutation-refl new) in
-      let two = subst (λ l. IsPermutation (all ++ new) l) (ap (λ l. l ++ new) split ∙ append_assoc (joined front) (joined back) new) one in
-      let three = IsPermutation-trans _ _ _ two (IsPermutation-append (joined front) (joined front) (joined back ++ new) last.held (IsPermutation-refl (joined front)) last.same) in
-      let once = distinct (distinct-moved _ _ (IsPermutation-map (λ n. n.name) all (joined is.held) is.same) is.distinct) in
-      record {
-        held = front ++ last.held ∷ [];
-        in_order = runs-push (take kept runs) front merged last.held (runs-take kept runs is.held is.in_order) last.run;
-        same = subst (λ l. IsPermutation (all ++ new) l) (sym (joined-append front (last.held ∷ []) ∙ ap (λ l. joined front ++ l) (append-nil last.held))) three;
-        distinct = distinct-moved _ _ (IsPermutation-sym _ _ (IsPermutation-map (λ n. n.name) (all ++ new) (joined is.held ++ new) one)) once;
-      }
+      let stand_back = all-right (StandFrom 0 bytes) (take kept is.held) back (subst (AllByRecursion (StandFrom 0 bytes)) (sym (take-append-drop kept is.held)) held) in
+      put-behind runs kept merged all new is (both back new (runs-drop kept runs is.held is.in_order) stand_back holds stands) distinct
 
 -- names of an index and new ones that aren't distinct
 pub double-all : (all new : List NamedPlace) (held : List NamedPlace) → IsPermutation all held → (AreDistinct (names_in (held ++ new)) → ⊥) → AreDistinct (names_in (all ++ new)) → ⊥

@@ -5,3 +5,4 @@ mod Indexes
 mod Merging
 mod Inserting
 mod Searching
+mod OneName

@@ -99,7 +99,7 @@ module _ (at : ℕ) (bytes : List ℕ) where
       let there = subst (λ es. IsIn entry es) run.entries_of (subst (λ z. IsIn z entries) (sym e) (index-in entries i entry l)) in
       found-among held name entry h there (ap (key_in bytes at) e ∙ equal-keys _ _ equal ∙ named)
 
-  rises : (entries : List Entry) (held : List NamedPlace) (key : List ℕ) → IsRun entries held → StandFrom at bytes held → IsNonDecreasingBy (λ y. ordering_index (slice_cmp nat_cmp (key_in bytes at y) key)) entries
+  pub rises : (entries : List Entry) (held : List NamedPlace) (key : List ℕ) → IsRun entries held → StandFrom at bytes held → IsNonDecreasingBy (λ y. ordering_index (slice_cmp nat_cmp (key_in bytes at y) key)) entries
   rises entries held key run h = searchable_from_sorted nat_list_cmp_total (key_in bytes at) entries key (sorted-ascending (key_in bytes at) entries (run-ascending entries held run h))
 
   unlike : (entry : Entry) (key : List ℕ) (o : Ordering) → slice_cmp nat_cmp (key_in bytes at entry) key ≡ o → (o ≡ Equal → ⊥) → key_in bytes at entry ≡ key → ⊥

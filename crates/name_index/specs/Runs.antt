@@ -1,5 +1,5 @@
 -- Runs of an index: entries in ascending order of their names, and how a name is read from lent bytes.
-use Rattle.std.specs.Prelude.{◌≡◌, ◌-◌, ℕ, List, [], ◌∷◌, ◌++◌, ◌⊎◌, map, length, take, drop, nat_lt, if◌then◌else◌, ⊤, false}
+use Rattle.std.specs.Prelude.{◌≡◌, ◌-◌, ℕ, List, [], ◌∷◌, ◌++◌, ◌⊎◌, map, length, take, drop, nat_lt, if◌then◌else◌, ⊤, true, false}
 use Rattle.std.specs.Int.{w64, from_be_bytes}
 use Rattle.std.specs.List.{AllByRecursion}
 use Rattle.std.specs.List.Sorted.{IsPermutation}
@@ -42,6 +42,11 @@ keys_of named = map (λ n. sort_key n.name) named
 abbrev pub IsAscending : List (List ℕ) → Type 0
 IsAscending [] = ⊤
 IsAscending (k ∷ ks) = AllByRecursion (λ m. is_lt (slice_cmp nat_cmp m k) ≡ false) ks × IsAscending ks
+
+-- a key may stand behind so many of these: each of them is less, and none behind them is
+pub record MayStandAt (k : List ℕ) (ks : List (List ℕ)) (at : ℕ) : Type 0 where
+  pub front : AllByRecursion (λ m. is_lt (slice_cmp nat_cmp m k) ≡ true) (take at ks)
+  pub back : AllByRecursion (λ m. is_lt (slice_cmp nat_cmp m k) ≡ false) (drop at ks)
 
 -- the key is the first of them
 abbrev pub IsHead : List ℕ → List (List ℕ) → Type 0

@@ -1,14 +1,14 @@
 //! The index: its runs, look-ups and inserts.
 
-ghost use Rattle.std.specs.Prelude.{◌≡◌, ◌≤◌, ◌↔◌, ◌++◌, List, [], ◌∷◌, length, take, drop, map, IfOk, OnOk, OnErr, Err, IsTrue, true, false};
+ghost use Rattle.std.specs.Prelude.{◌≡◌, ◌≤◌, ◌+◌, ◌↔◌, ◌++◌, List, [], ◌∷◌, length, take, drop, map, IfOk, IfSome, OnOk, OnErr, Err, IsTrue, true, false};
 ghost use Rattle.std.specs.List.{AllByRecursion};
-ghost use Rattle.id_groups.specs.Lists.{AreDistinct};
+ghost use Rattle.id_groups.specs.Lists.{AreDistinct, IsIn};
 ghost use Rattle.name_index.specs.Index.{IsIndexOf, Finds};
 ghost use Rattle.name_index.specs.Runs.{AreRuns, Holds, HaveCommon, entry_of, joined};
 ghost use Rattle.name_index.specs.declared.index.IndexFault.{IndexFault as Fault};
 ghost use Rattle.name_index.specs.Named.{NamedPlace, Stand, StandFrom, names_in, places_in};
 
-use crate::entry::{Entry, Stretch, name_at};
+use crate::entry::{Entry, Stretch, front_of_name, name_at};
 use crate::run::Run;
 use id_groups::NameRef;
 use std::alloc::{AllocError, AllocFailed, Global};
@@ -17,6 +17,9 @@ use std::marker::Model;
 /// A last run is merged with what is added behind it, unless it is more than about so many times as long. Smaller
 /// means fewer merges, but more runs to look through.
 const GROWTH: usize = 4;
+
+/// A name alone is put into the last run, while that has fewer entries.
+const SMALL: usize = 256;
 
 /// Why names weren't inserted.
 #[derive(Clone, Copy, PartialEq, Eq, Debug)]
@@ -103,6 +106,27 @@ fn count_kept(runs: &[Run], added: usize) -> usize
         size = size.saturating_add(runs[kept].len());
     }
     kept
+}
+
+/// How many runs stand before the last one, if that has room for a name alone.
+fn room_in(runs: &[Run]) -> Option<usize>
+    ensures { IfSome result (λ before. length runs.now ≡ before + 1) }
+{
+    let (last, front) = runs.split_last()?;
+    if last.len() < SMALL {
+        return Some(front.len());
+    }
+    None
+}
+
+/// How many of the first runs stay as they are, where the last one is full and a further one begins.
+fn count_settled(runs: &[Run]) -> usize
+    ensures { result ≤ length runs.now }
+{
+    match runs.split_last() {
+        None => 0,
+        Some((last, front)) => count_kept(front, last.len()),
+    }
 }
 
 /// The runs as one, the last and shortest merged first.
@@ -232,6 +256,16 @@ impl NameIndex {
         Ok(())
     }
 
+    /// Puts both runs in place of those behind the first `kept` ones, of which there are two or more.
+    fn replace_by_two(&mut self, kept: usize, merged: Run, run: Run)
+        requires { kept + 2 ≤ length self.old }
+        ensures { self.new ≡ take kept self.old ++ merged ∷ run ∷ [] }
+    {
+        self.runs[kept] = merged;
+        self.runs[kept + 1] = run;
+        self.runs.truncate(kept + 2);
+    }
+
     /// The index that holds this run alone.
     fn of_run(alloc: Global, run: Run) -> Result<NameIndex, AllocError>
         ensures { IfOk result (λ index. index ≡ run ∷ []) }
@@ -254,6 +288,77 @@ impl NameIndex {
         }
         let index = NameIndex::of_run(alloc, run)?;
         Ok(index)
+    }
+
+    /// Puts an entry into the last run, the one behind the first `before`. Want of memory changes nothing.
+    fn put_last(
+        &mut self,
+        before: usize,
+        bytes: &[u8],
+        name: &[u8],
+        entry: Entry,
+    ) -> Result<(), AllocError>
+        requires { length self.old ≡ before + 1 }
+        ensures added { (all : List NamedPlace) (n : NamedPlace) → IsIndexOf self.old all → Stand bytes.now all → entry ≡ entry_of n → n.name ≡ name.now
+            → (IsIn name.now (names_in all) → ⊥) → OnOk result (IsIndexOf self.new (all ++ n ∷ [])) }
+        ensures unchanged { OnErr result (self.new ≡ self.old) }
+    {
+        let last = &mut self.runs[before];
+        last.insert(&Stretch { bytes, at: 0 }, name, entry)?;
+        Ok(())
+    }
+
+    /// Begins a run of one entry, and merges the runs before it that are due. Want of memory changes nothing.
+    fn begin_run(&mut self, bytes: &[u8], entry: Entry) -> Result<(), AllocError>
+        ensures added { (all : List NamedPlace) (n : NamedPlace) → IsIndexOf self.old all → Stand bytes.now all → entry ≡ entry_of n
+            → (IsIn n.name (names_in all) → ⊥) → OnOk result (IsIndexOf self.new (all ++ n ∷ [])) }
+        ensures unchanged { OnErr result (self.new ≡ self.old) }
+    {
+        let run = Run::of_entry(self.alloc, entry)?;
+        let kept = count_settled(&self.runs);
+        if self.runs.len() - kept < 2 {
+            self.runs.push(run)?;
+            return Ok(());
+        }
+        let (_front, due) = self.runs.split_at(kept);
+        let merged = merge_all(self.alloc, &Stretch { bytes, at: 0 }, due)?;
+        self.replace_by_two(kept, merged, run);
+        Ok(())
+    }
+
+    /// Puts an entry into the last run, or begins one. Want of memory changes nothing.
+    fn put(&mut self, bytes: &[u8], name: &[u8], entry: Entry) -> Result<(), AllocError>
+        ensures added { (all : List NamedPlace) (n : NamedPlace) → IsIndexOf self.old all → Stand bytes.now all → entry ≡ entry_of n → n.name ≡ name.now
+            → (IsIn name.now (names_in all) → ⊥) → OnOk result (IsIndexOf self.new (all ++ n ∷ [])) }
+        ensures unchanged { OnErr result (self.new ≡ self.old) }
+    {
+        match room_in(&self.runs) {
+            Some(before) => self.put_last(before, bytes, name, entry),
+            None => self.begin_run(bytes, entry),
+        }
+    }
+
+    /// Adds the name, which stands, or will stand, at the place; those that are held already stand in `bytes`. `Double` comes only
+    /// where it is held, and `Memory` for want of memory; either leaves the index as it was.
+    pub fn insert_one(
+        &mut self,
+        bytes: &[u8],
+        name: NameRef<'_>,
+        place: u64,
+    ) -> Result<(), IndexFault>
+        ensures added { (all : List NamedPlace) → IsIndexOf self.old all → Stand bytes.now all → OnOk result (IsIndexOf self.new (all ++ record { place = place; name = name.entry.bytes.now } ∷ [])) }
+        ensures double { (all : List NamedPlace) → IsIndexOf self.old all → Stand bytes.now all → result ≡ Err Fault.Double → IsIn name.entry.bytes.now (names_in all) }
+        ensures unchanged { OnErr result (self.new ≡ self.old) }
+    {
+        if self.find(bytes, name).is_some() {
+            return Err(IndexFault::Double);
+        }
+        let entry = Entry {
+            front: front_of_name(name.bytes),
+            place,
+        };
+        self.put(bytes, name.bytes, entry)?;
+        Ok(())
     }
 
     /// Adds the names that stand at these places, in bytes `added` that stand, or will stand, at `at`. The names that

@@ -1,21 +1,18 @@
 -- One name more in the index of pending names.
-use Rattle.std.proofs.Common.{◌≡◌, ℕ, ◌+◌, ◌-◌, ◌*◌, Bool, true, false, inl, inr, List, [], ◌∷◌, ◌++◌, length, map, take, drop, refl, sym, ap, ap₂, subst, ◌∙◌, ⊎_elim, arith}
+use Rattle.std.proofs.Common.{◌≡◌, ℕ, ◌+◌, ◌*◌, inl, inr, List, [], ◌∷◌, ◌++◌, length, map, take, drop, sym, ap, ap₂, subst, ◌∙◌, ⊎_elim, arith}
 use Rattle.std.specs.List.{AllByRecursion}
-use Rattle.std.proofs.lemmas.List.{map-append, take_all, take_at}
-use Rattle.id_groups.specs.Lists.{IsIn, is_in, AreDistinct}
-use Rattle.id_groups.specs.Name.{Name, IsName, same_name}
-use Rattle.id_groups.proofs.Names.{same_name-exact, same_name-self}
-use Rattle.id_groups.proofs.Listing.{found, missing}
+use Rattle.std.proofs.lemmas.List.{map-append, take_at}
+use Rattle.id_groups.specs.Lists.{IsIn}
+use Rattle.id_groups.specs.Name.{Name, IsName}
 use Rattle.commit_graph.proofs.Histories.{in-append}
 use Rattle.commit_graph.proofs.Down.{in-left, in-right}
 use Rattle.commit_graph.proofs.Naming.{each, all-each}
 use Rattle.batch_codec.specs.Payload.{names_bytes}
-use Rattle.name_index.specs.Index.{NamedPlace, Stand, StandsAt, StandFrom, names_in, IsIndexOf}
+use Rattle.name_index.specs.Index.{NamedPlace, Stand, StandsAt, names_in, IsIndexOf}
 use Rattle.flat_segments.specs.Placed.{Placed}
 use Rattle.flat_segments.specs.Kept.{Kept, entry_of, IsSectionOf}
 use Rattle.name_map.specs.Added.{names_from}
 use Rattle.payload_tables.specs.Pending.{FindsNames}
-use Rattle.payload_tables.proofs.Lists.{distinct-join}
 use Rattle.payload_tables.proofs.Naming.{name-in-bytes, names-from-in, get-in}
 
 -- the names that the index holds stand in the bytes of all
@@ -26,9 +23,6 @@ held-stand bytes names index f e w = all-each (StandsAt bytes) f.named (λ n i.
       whole = (each IsName names w n.name (get-in names r.0 n.name r.2)).0;
       stands = ap (λ m. take 20 (drop m bytes)) (r.1 ∙ (let z : 0 + 20 * r.0 ≡ 20 * r.0 = omega arith in z)) ∙ ap (λ b. take 20 (drop (20 * r.0) b)) e ∙ name-in-bytes names r.0 n.name w r.2;
     })
-
-pub new-stands : (at : ℕ) (name : Name) → length name ≡ 20 → StandFrom at name (record { place = at; name = name } ∷ [])
-new-stands at name e = (record { behind = omega arith; whole = e; stands = ap (λ n. take 20 (drop n name)) (let z : at - at ≡ 0 = omega arith in z) ∙ take_all 20 name (omega (arith, e)) }, tt)
 
 from-left : (place : ℕ) (names : List Name) (x : Name) (n : NamedPlace) → IsIn n (names_from place names) → IsIn n (names_from place (names ++ x ∷ []))
 from-left place [] x n i = absurd i
@@ -51,22 +45,13 @@ finds-more old new names at x f e is = record {
 }
 
 -- a name that is held already
-pub finds-again : (old new : _) (names : List Name) (at : ℕ) (x : Name) (f : FindsNames old names) → new ≡ old → (AreDistinct (names_in (f.named ++ record { place = at; name = x } ∷ [])) → ⊥) → FindsNames new (names ++ x ∷ [])
-finds-again old new names at x f e twice = record {
+pub finds-again : (old new : _) (names : List Name) (x : Name) (f : FindsNames old names) → new ≡ old → IsIn x (names_in f.named) → FindsNames new (names ++ x ∷ [])
+finds-again old new names x f e here = record {
   named = f.named;
   index_of = subst (λ z. IsIndexOf z f.named) (sym e) f.index_of;
   sound = λ n i. from-left 0 names x n (f.sound n i);
   whole = λ name i. ⊎_elim (f.whole name) (λ j. ⊎_elim (λ g. subst (λ z. IsIn z (names_in f.named)) (sym g) here) (λ g. absurd g) j) (in-append name names (x ∷ []) i);
 }
-  where
-    by_test : (b : Bool) → is_in same_name x (names_in f.named) ≡ b → IsIn x (names_in f.named)
-    by_test true t = found same_name same_name-exact same_name-self x (names_in f.named) t
-    by_test false t = absurd (twice (subst AreDistinct (sym (map-append (λ (n : NamedPlace). n.name) f.named (record { place = at; name = x } ∷ [])))
-        (distinct-join (names_in f.named) (x ∷ []) f.index_of.distinct ((λ g. g), tt)
-        (λ y i j. ⊎_elim (λ g. missing same_name same_name-exact same_name-self x (names_in f.named) t (subst (λ z. IsIn z (names_in f.named)) g i)) (λ g. g) j))))
-
-    here : IsIn x (names_in f.named)
-    here = by_test (is_in same_name x (names_in f.named)) refl
 
 -- what is taken back leaves the section as it was
 pub section-back : (old new : Kept) (before more : List Placed) (len end : ℕ) → IsSectionOf old before → IsSectionOf new (before ++ more) → len ≡ length old.entries → end ≡ old.end

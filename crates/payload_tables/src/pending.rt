@@ -22,7 +22,6 @@ use std::marker::Model;
 /// holds, `HoldsRows` says.
 #[derive(Drop)]
 pub struct PendingRows {
-    pub(crate) alloc: Global,
     pub(crate) first: u64,
     pub(crate) records: Vec<u8>,
     pub(crate) places: Vec<u64>,
@@ -41,37 +40,21 @@ impl Model for PendingRows {
 
 /// Puts a name, which stands or will stand behind these, into the index; one that is held already stays where it was. Want
 /// of memory changes nothing.
-fn add_name(
-    alloc: Global,
-    index: &mut NameIndex,
-    names: &[u8],
-    name: &Name,
-) -> Result<(), AllocError>
+fn add_name(index: &mut NameIndex, names: &[u8], name: &Name) -> Result<(), AllocError>
     ensures found { (before : List NameBytes) → FindsNames index.old before → names.now ≡ names_bytes before → AllByRecursion IsName before
         → OnOk result (FindsNames index.new (before ++ name.now ∷ [])) }
     ensures unchanged { OnErr result (index.new ≡ index.old) }
 {
     let at = names.len() as u64;
-    let places = one_place(alloc, at)?;
-    match index.insert(names, at, name.lend().bytes, places) {
+    match index.insert_one(names, name.lend(), at) {
         Ok(()) => Ok(()),
         Err(IndexFault::Double) => Ok(()),
         Err(IndexFault::Memory) => Err(AllocError),
     }
 }
 
-/// The list of one place.
-fn one_place(alloc: Global, place: u64) -> Result<Vec<u64>, AllocError>
-    ensures { IfOk result (λ places. places.items ≡ place ∷ []) }
-{
-    let mut places = Vec::new(alloc);
-    places.push(place)?;
-    Ok(places)
-}
-
 /// Adds a segment and a name. A refusal changes neither.
 fn add_found(
-    alloc: Global,
     section: &mut Section,
     index: &mut NameIndex,
     names: &[u8],
@@ -89,7 +72,7 @@ fn add_found(
     let len = section.len();
     let end = section.end();
     section.push(segment, place)?;
-    let added = add_name(alloc, index, names, name);
+    let added = add_name(index, names, name);
     if added.is_err() {
         section.cut_back(len, end);
     }
@@ -98,7 +81,6 @@ fn add_found(
 
 /// Adds a name's bytes, and the parts that are found by it. A refusal changes nothing.
 fn add_named(
-    alloc: Global,
     names: &mut Vec<u8>,
     section: &mut Section,
     index: &mut NameIndex,
@@ -118,7 +100,7 @@ fn add_named(
     let len = names.len();
     names.extend_from_slice(name.lend().bytes)?;
     let (before, _) = names.split_at(len);
-    let added = add_found(alloc, section, index, before, segment, place, name);
+    let added = add_found(section, index, before, segment, place, name);
     if added.is_err() {
         names.truncate(len);
     }
@@ -127,7 +109,6 @@ fn add_named(
 
 /// Adds the place of a record, a name's bytes, and the parts that are found by them. A refusal changes nothing.
 fn add_parts(
-    alloc: Global,
     places: &mut Vec<u64>,
     names: &mut Vec<u8>,
     section: &mut Section,
@@ -148,7 +129,7 @@ fn add_parts(
 {
     let len = places.len();
     places.push(place)?;
-    let added = add_named(alloc, names, section, index, segment, place, name);
+    let added = add_named(names, section, index, segment, place, name);
     if added.is_err() {
         places.truncate(len);
     }
@@ -173,7 +154,6 @@ impl PendingRows {
         ensures first { result.first ≡ first }
     {
         PendingRows {
-            alloc,
             first,
             records: Vec::new(alloc),
             places: Vec::new(alloc),
@@ -198,7 +178,6 @@ impl PendingRows {
             return Ok(());
         };
         let added = add_parts(
-            self.alloc,
             &mut self.places,
             &mut self.names,
             &mut self.section,
@@ -226,7 +205,6 @@ impl PendingRows {
         let section = self.section.copy(alloc)?;
         let index = self.index.copy(alloc)?;
         Ok(PendingRows {
-            alloc,
             first: self.first,
             records,
             places,
