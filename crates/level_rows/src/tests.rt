@@ -129,9 +129,9 @@ type Walked = (u64, Question, &'static [u64], &'static [u64], u64, u64);
 
 const WALKED: [Walked; 4] = [
     (35, Question::Ancestors, &[31], &[], 32, 8),
-    (600, Question::Only, &[599], &[3], 596, 128),
-    (600, Question::Only, &[3], &[599], 0, 128),
-    (600, Question::Gca, &[599, 3], &[], 1, 128),
+    (600, Question::Only, &[599], &[3], 596, 200),
+    (600, Question::Only, &[3], &[599], 0, 200),
+    (600, Question::Gca, &[599, 3], &[], 1, 200),
 ];
 
 fn ids_of(alloc: Global, numbers: &[u64]) -> Result<Vec<Id>, AllocError> {
