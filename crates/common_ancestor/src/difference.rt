@@ -17,6 +17,7 @@ use span_set::IdSet;
 use std::alloc::{AllocError, Global};
 
 /// The greater of an id and another, where there is one.
+#[inline]
 pub(crate) fn greater_with(id: Id, other: &Option<Id>) -> Id
     ensures { result ≡ greater_with id other.now }
 {
@@ -27,6 +28,7 @@ pub(crate) fn greater_with(id: Id, other: &Option<Id>) -> Id
 }
 
 /// The first number from `low` on that lies above the id, where there is one.
+#[inline]
 fn first_above(low: Id, id: &Option<Id>) -> u64
     ensures { result ≡ first_above low id.now }
 {
@@ -42,6 +44,7 @@ fn first_above(low: Id, id: &Option<Id>) -> u64
 
 /// The lowest id that one jump from `id`, the greatest that waits, may pass. `next` waits on the first list, `reached` on the
 /// second.
+#[inline]
 fn floor_of(id: Id, next: Id, reached: &Option<Id>) -> u64
     ensures { MatchOption reached.now ⊤ (λ y. IsFloor id y result) }
 {

@@ -13,7 +13,7 @@ const LEVEL_END: u8 = 8;
 
 /// Segments of higher levels are looked for only where so many ids may be passed at once, so that a visit of near ids takes
 /// no longer than over flat segments.
-const FAR: u64 = 64;
+const FAR: u64 = 256;
 
 /// The lowest id that one jump from `id` may pass: the one above `other`, where that lies below `id`. Where it doesn't, both
 /// sides reach all that a jump passes: any, but a jump pays only where `next`, the next id that waits, lies far below.
@@ -32,14 +32,14 @@ pub(crate) fn floor_under(id: Id, other: Id, next: Id) -> u64
     }
 }
 
-/// Whether a segment of the level begins no lower than the floor, and above the first level lower than the best so far: where
-/// hardly anything is grouped, the levels above are not looked at.
+/// Whether a segment begins lower than the best so far, but no lower than the floor. Where hardly anything is grouped, no more
+/// than one level is looked at.
 #[inline]
-fn is_better(level: u8, floor: u64, best: &SegmentRef<'_>, other: &SegmentRef<'_>) -> bool
+fn is_better(floor: u64, best: &SegmentRef<'_>, other: &SegmentRef<'_>) -> bool
     ensures { IsTrue result → floor ≤ other.now.low }
 {
     let low = other.low();
-    low.number() >= floor && (level == 1 || low < best.low())
+    low < best.low() && floor <= low.number()
 }
 
 /// Of the segments that end at the id, from level 1 up as long as each is better, the last; `flat` where there is none. Where
@@ -60,7 +60,7 @@ fn longest_above<'a, T: SegmentTable>(
         let Some(other) = table.ending(level, id, steps) else {
             return best;
         };
-        if !is_better(level, floor, &best, &other) {
+        if !is_better(floor, &best, &other) {
             return best;
         }
         best = other;

@@ -36,6 +36,7 @@ pub(crate) struct Next {
 
 impl Next {
     /// The greatest of all: nothing is reached between it and the frontier.
+    #[inline]
     fn greatest(&self) -> Id
         ensures { result ≡ greatest_of self.now.left self.now.right self.now.both }
     {
@@ -48,6 +49,7 @@ impl Next {
     }
 
     /// The greatest id that both sets can reach: they do where it is in the segment of the greatest.
+    #[inline]
     fn shared(&self) -> Id
         ensures { result ≡ shared_of self.now.left self.now.right self.now.both }
     {
@@ -60,6 +62,7 @@ impl Next {
     }
 
     /// The lowest id that one jump from the greatest may pass: above what both can reach, unless that is the greatest itself.
+    #[inline]
     fn floor(&self, greatest: Id) -> u64
         ensures { IsFloor greatest (shared_of self.now.left self.now.right self.now.both) result }
     {
