@@ -1,11 +1,10 @@
 -- The segment that has an id on a level, by what is kept of the levels.
 use Rattle.std.proofs.Common.{◌≡◌, ℕ, zero, suc, ◌+◌, ◌-◌, ◌<◌, ◌≤◌, ◌^◌, ◌⊎◌, inl, inr, List, [], ◌∷◌, ◌++◌, length, take, Option, Some, None, cond, get_or, refl, sym, subst, ap, ◌∙◌, arith, lit≤, ⊎_elim, le_of_suc-le-suc}
-use Rattle.std.specs.List.{AllByRecursion}
 use Rattle.std.proofs.lemmas.Bool.{lt-ltb, le-ltb}
 use Rattle.std.proofs.lemmas.List.{append-nil}
 use Rattle.id_groups.specs.Lists.{IsIn}
 use Rattle.segment_codec.specs.Record.{Segment}
-use Rattle.segment_codec.specs.Table.{segment_at, Follow}
+use Rattle.segment_codec.specs.Table.{segment_at}
 use Rattle.segment_rules.specs.Levels.{level_segments}
 use Rattle.segment_levels.specs.Kept.{PlainGroups, groups_in, IsAlone, IsLevelOf, AreLevelsAbove}
 use Rattle.segment_levels.specs.Sound.{IsReadable}
