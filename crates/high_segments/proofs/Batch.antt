@@ -21,7 +21,7 @@ use Rattle.flat_segments.proofs.Cutting.{all-filter, rise-filter, up_to-flat}
 use Rattle.flat_segments.proofs.Graphs.{maximal-ids}
 use Rattle.flat_segments.proofs.Rising.{follow-rise}
 use Rattle.flat_segments.proofs.Standing.{all-segments}
-use Rattle.segment_rules.specs.Levels.{complete, level_segments, count_grouped}
+use Rattle.segment_rules.specs.Levels.{complete, count_grouped}
 use Rattle.segment_levels.specs.Kept.{Kept, PlainLevel, PlainGroups, segments_in, AreLevelsAbove}
 use Rattle.segment_levels.specs.Whole.{IsWhole, Grows}
 use Rattle.high_segments.specs.Growing.{MayGrow, MayBecome}

@@ -1,11 +1,11 @@
 -- The segments of a level that are gathered by their ids.
-use Rattle.std.proofs.Common.{◌≡◌, ℕ, zero, suc, ◌+◌, ◌-◌, ◌<◌, ◌≤◌, inl, true, List, [], ◌∷◌, ◌++◌, length, drop, Option, Some, None, refl, sym, subst, ap, ◌∙◌, arith, append_assoc, le_refl}
+use Rattle.std.proofs.Common.{◌≡◌, ℕ, zero, suc, ◌+◌, ◌-◌, ◌<◌, ◌≤◌, inl, true, List, [], ◌∷◌, ◌++◌, length, drop, Some, None, refl, sym, subst, ap, ◌∙◌, arith, append_assoc}
 use Rattle.std.specs.List.{list_all, AllByRecursion}
 use Rattle.std.proofs.lemmas.List.{append-nil, length-drop, drop-drop}
 use Rattle.id_groups.specs.Lists.{IsIn}
 use Rattle.segment_codec.specs.Record.{Segment, parents_bytes}
 use Rattle.segment_codec.specs.Number.{HasNumber}
-use Rattle.segment_codec.specs.Table.{segment_at, Follow}
+use Rattle.segment_codec.specs.Table.{Follow}
 use Rattle.segment_codec.proofs.Numbers.{some_is}
 use Rattle.segment_codec.proofs.Tables.{rising-at, follow-rising, follow-within}
 use Rattle.flat_segments.specs.Maximal.{begin_of}

@@ -1,20 +1,18 @@
 -- Levels that are brought from those of some flat segments to those of more.
-use Rattle.std.proofs.Common.{◌≡◌, ℕ, zero, suc, ◌+◌, ◌-◌, ◌<◌, ◌≤◌, ◌^◌, ◌⊎◌, inl, inr, true, List, [], ◌∷◌, ◌++◌, length, take, drop, Option, Some, None, refl, sym, subst, ap, ◌∙◌, arith, lit≤, ⊎_elim}
-use Rattle.std.specs.Prelude.{filter, flat_map, nat_lt}
-use Rattle.std.specs.List.{list_all, AllByRecursion}
+use Rattle.std.proofs.Common.{◌≡◌, ℕ, zero, suc, ◌+◌, ◌-◌, ◌<◌, ◌≤◌, ◌^◌, ◌⊎◌, List, [], ◌∷◌, ◌++◌, length, take, drop, sym, subst, ap, ◌∙◌, arith, lit≤}
+use Rattle.std.specs.Prelude.{nat_lt}
+use Rattle.std.specs.List.{AllByRecursion}
 use Rattle.std.proofs.lemmas.Bool.{lt-ltb}
 use Rattle.std.proofs.lemmas.List.{length-append, length-drop, length-take, take-append-le, drop-append-le, take-append-drop, append-nil}
 use Rattle.id_groups.specs.Lists.{IsIn}
 use Rattle.segment_codec.specs.Record.{Segment}
-use Rattle.segment_codec.specs.Table.{Follow, segment_at}
-use Rattle.segment_codec.proofs.Tables.{follow-within}
+use Rattle.segment_codec.specs.Table.{Follow}
 use Rattle.flat_segments.specs.Maximal.{begin_of}
-use Rattle.flat_segments.specs.Runs.{is_read}
 use Rattle.segment_rules.specs.Levels.{merged, groups, count_grouped, level_segments, parents_below, ascending}
 use Rattle.segment_levels.specs.Kept.{PlainLevel, PlainGroups, segments_in, groups_in, IsAlone, IsLevelOf}
 use Rattle.segment_levels.specs.Sound.{IsSound}
 use Rattle.high_segments.specs.Growing.{AddsGroups, AreBelow, KeepsRun, IsLeft, MayBecome}
-use Rattle.segment_levels.proofs.Ascending.{Ascend, all-from-in, ascend-same, ascending-ascends, ascending-in, in-ascending, in-kept, kept-in, in-either, in-left}
+use Rattle.segment_levels.proofs.Ascending.{all-from-in, ascend-same, ascending-ascends, ascending-in, in-ascending, in-kept, kept-in, in-left}
 use Rattle.segment_levels.proofs.Grouping.{count-most}
 use Rattle.segment_levels.proofs.Heading.{follow-drop, in-drop}
 use Rattle.segment_levels.proofs.Leveled.{IsHigh, one-end, leveled, level-high, level-more, count-more, next-begin, level-grows, groups-fewer, groups-end}

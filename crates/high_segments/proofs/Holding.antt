@@ -1,13 +1,12 @@
 -- The segment that has an id on a level, by what is kept of the levels.
-use Rattle.std.proofs.Common.{◌≡◌, ℕ, zero, suc, ◌+◌, ◌-◌, ◌<◌, ◌≤◌, ◌^◌, ◌⊎◌, inl, inr, List, [], ◌∷◌, ◌++◌, length, take, Option, Some, None, cond, get_or, refl, sym, subst, ap, ◌∙◌, arith, lit≤, ⊎_elim, le_of_suc-le-suc}
-use Rattle.std.specs.List.{AllByRecursion}
+use Rattle.std.proofs.Common.{◌≡◌, ℕ, zero, suc, ◌+◌, ◌-◌, ◌<◌, ◌≤◌, ◌^◌, ◌⊎◌, inl, inr, List, [], ◌∷◌, ◌++◌, length, map, take, Option, Some, None, cond, get_or, refl, sym, subst, ap, ◌∙◌, arith, lit≤, ⊎_elim, le_of_suc-le-suc}
 use Rattle.std.proofs.lemmas.Bool.{lt-ltb, le-ltb}
 use Rattle.std.proofs.lemmas.List.{append-nil}
 use Rattle.id_groups.specs.Lists.{IsIn}
 use Rattle.segment_codec.specs.Record.{Segment}
-use Rattle.segment_codec.specs.Table.{segment_at, Follow}
+use Rattle.segment_codec.specs.Table.{segment_at}
 use Rattle.segment_rules.specs.Levels.{level_segments}
-use Rattle.segment_levels.specs.Kept.{PlainGroups, groups_in, IsAlone, IsLevelOf, AreLevelsAbove}
+use Rattle.segment_levels.specs.Kept.{PlainGroup, PlainGroups, groups_in, made_in, IsAlone, IsLevelOf, AreLevelsAbove}
 use Rattle.segment_levels.specs.Sound.{IsReadable}
 use Rattle.segment_levels.specs.Whole.{IsWhole, Grows}
 use Rattle.segment_levels.specs.Endings.{or_else, at_level, held_on, held_from}
@@ -107,6 +106,9 @@ held-group l id below s lt e = ap (λ b. cond b (or_else (segment_at (groups_in 
 
 pub held-below : (l : PlainGroups) (id : ℕ) (below : Option Segment) → id < l.end → segment_at (groups_in l) id ≡ None → held_on l id below ≡ below
 held-below l id below lt e = ap (λ b. cond b (or_else (segment_at (groups_in l) id) below) None) (lt-ltb id l.end lt) ∙ ap (λ o. or_else o below) e
+
+pub none-kept : (l : PlainGroups) (id : ℕ) → l.groups ≡ [] → segment_at (groups_in l) id ≡ None
+none-kept l id e = ap (λ (gs : List PlainGroup). segment_at (map (made_in l.level l.bytes) gs) id) e
 
 pub last-readable : (levels front : List PlainGroups) (top : PlainGroups) → levels ≡ front ++ top ∷ [] → AreReadable levels → AreReadable front × IsReadable top
 last-readable levels front top e h = go front (subst AreReadable e h)

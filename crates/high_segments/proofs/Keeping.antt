@@ -1,14 +1,13 @@
 -- What is kept of a level to which the groups of a row are added.
-use Rattle.std.proofs.Common.{◌≡◌, ℕ, zero, suc, ◌+◌, ◌-◌, ◌<◌, ◌≤◌, ◌⊎◌, inl, inr, Bool, true, false, cond, ◌&&◌, ◌||◌, List, [], ◌∷◌, ◌++◌, length, map, take, drop, refl, sym, subst, ap, ◌∙◌, arith, append_assoc, ⊎_elim}
-use Rattle.std.specs.Prelude.{flat_map, nat_eq, nat_lt, filter}
+use Rattle.std.proofs.Common.{◌≡◌, ℕ, zero, suc, ◌+◌, ◌-◌, ◌<◌, ◌≤◌, inl, inr, Bool, true, false, cond, ◌||◌, List, [], ◌∷◌, ◌++◌, length, map, take, drop, refl, sym, subst, ap, ◌∙◌, arith, append_assoc, ⊎_elim}
+use Rattle.std.specs.Prelude.{flat_map, nat_eq, nat_lt}
 use Rattle.std.specs.List.{list_all, AllByRecursion}
-use Rattle.std.proofs.lemmas.Bool.{ltb-false, lt-ltb, eq-eqb}
+use Rattle.std.proofs.lemmas.Bool.{ltb-false}
 use Rattle.std.proofs.lemmas.List.{length-append, map-append, append-nil, take_at, drop_at}
 use Rattle.id_groups.specs.Lists.{IsIn}
 use Rattle.id_groups.proofs.Listing.{and_true, both_true}
 use Rattle.segment_codec.specs.Record.{Segment}
 use Rattle.segment_codec.specs.Number.{number_bytes, numbers_in, HasNumber}
-use Rattle.segment_codec.specs.Table.{Follow}
 use Rattle.segment_codec.proofs.Lists.{in-numbers}
 use Rattle.segment_codec.proofs.Tables.{follow-ends}
 use Rattle.flat_segments.specs.Maximal.{begin_of}

@@ -1,8 +1,8 @@
 -- Levels of which the first ones are brought on already.
-use Rattle.std.proofs.Common.{◌≡◌, ℕ, zero, suc, ◌+◌, ◌-◌, ◌<◌, ◌≤◌, ◌^◌, List, [], ◌∷◌, ◌++◌, length, take, drop, get_or, slice_set, Option, Some, None, refl, sym, subst, ap, ◌∙◌, arith, le_of_suc-le-suc, ⊎_elim}
+use Rattle.std.proofs.Common.{◌≡◌, ℕ, zero, suc, ◌+◌, ◌-◌, ◌<◌, ◌≤◌, ◌^◌, List, [], ◌∷◌, length, take, drop, get_or, slice_set, Some, None, refl, sym, subst, ap, ◌∙◌, arith, le_of_suc-le-suc, ⊎_elim}
 use Rattle.std.specs.Prelude.{slice_get}
 use Rattle.segment_codec.specs.Record.{Segment}
-use Rattle.segment_codec.specs.Table.{segment_at, Follow}
+use Rattle.segment_codec.specs.Table.{segment_at}
 use Rattle.segment_codec.proofs.Tables.{le_or_lt}
 use Rattle.flat_segments.specs.Maximal.{begin_of}
 use Rattle.segment_rules.specs.Levels.{level_segments, count_grouped}

@@ -205,28 +205,6 @@ child-none id from k xs s get none here =
     ap (λ n. list_any (λ (t : Segment). is_in nat_eq id t.parents) (take n (drop from xs))) one
     ∙ ap (list_any (λ (t : Segment). is_in nat_eq id t.parents)) (take-next from k xs s get) ∙ any-append id (take k (drop from xs)) s ∙ ap (λ b. b || is_in nat_eq id s.parents) none ∙ here
 
-any-longer : (p : Segment → Bool) (m n : ℕ) (xs : List Segment) → m ≤ n → list_any p (take m xs) ≡ true → list_any p (take n xs) ≡ true
-any-longer p zero n [] le e = absurd (let f : false ≡ true = e in cc)
-any-longer p zero n (x ∷ xs) le e = absurd (let f : false ≡ true = e in cc)
-any-longer p (suc m) zero xs le e = absurd (omega (arith, le))
-any-longer p (suc m) (suc n) [] le e = absurd (let f : false ≡ true = e in cc)
-any-longer p (suc m) (suc n) (x ∷ xs) le e = go (p x) (any-longer p m n xs (omega (arith, le))) e
-  where
-    go : (b : Bool) → (list_any p (take m xs) ≡ true → list_any p (take n xs) ≡ true) → (b || list_any p (take m xs)) ≡ true → (b || list_any p (take n xs)) ≡ true
-    go true rest e = refl
-    go false rest e = rest e
-
-or-true : (b : Bool) → (b || true) ≡ true
-or-true true = refl
-or-true false = refl
-
-pub child-some : (id from k count : ℕ) (xs : List Segment) (s : Segment) → slice_get xs (from + k) ≡ Some s → is_in nat_eq id s.parents ≡ true → k < count
-    → list_any (λ (t : Segment). is_in nat_eq id t.parents) (take count (drop from xs)) ≡ true
-child-some id from k count xs s get here lt =
-    any-longer (λ (t : Segment). is_in nat_eq id t.parents) (suc k) count (drop from xs) (omega (arith, lt))
-    (ap (list_any (λ (t : Segment). is_in nat_eq id t.parents)) (take-next from k xs s get) ∙ any-append id (take k (drop from xs)) s
-    ∙ ap (λ b. list_any (λ (t : Segment). is_in nat_eq id t.parents) (take k (drop from xs)) || b) here ∙ or-true (list_any (λ (t : Segment). is_in nat_eq id t.parents) (take k (drop from xs))))
-
 drop-one-more : (from : ℕ) (xs : List Segment) (s : Segment) → slice_get xs from ≡ Some s → drop from xs ≡ s ∷ drop (from + 1) xs
 drop-one-more zero [] s e = absurd cc
 drop-one-more zero (x ∷ xs) s e = ap (λ z. z ∷ xs) (Rattle.segment_codec.proofs.Numbers.some_is x s e)

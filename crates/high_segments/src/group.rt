@@ -1,12 +1,12 @@
 //! Which segments form the next group, and its parents.
 
-ghost use Rattle.std.specs.List.{list_any};
 ghost use Rattle.std.specs.Prelude.{◌≡◌, ◌≤◌, ◌+◌, ◌++◌, ℕ, [], ◌∷◌, length, take, drop, filter, not, nat_eq, nat_lt, OnOk, IfOk};
 ghost use Rattle.id_groups.specs.Lists.{is_in};
 ghost use Rattle.segment_codec.specs.Lent.{segment_of};
 ghost use Rattle.segment_rules.specs.Levels.{group_limit, group_size as size_of, parents_below as below_of, ascending};
 ghost use Rattle.segment_levels.specs.Kept.{segments_in};
 ghost use Rattle.segment_levels.specs.Sound.{IsSound};
+ghost use Rattle.high_segments.specs.Noting.{AreNoted};
 
 use crate::level::Level;
 use segment_codec::SegmentRef;
@@ -34,34 +34,6 @@ fn add_head(heads: &mut Vec<u64>, segment: SegmentRef<'_>) -> Result<(), AllocEr
     Ok(())
 }
 
-/// Whether the id is a parent of the segment.
-fn has_parent(segment: SegmentRef<'_>, id: u64) -> bool
-    ensures { result ≡ is_in nat_eq id (segment_of segment.entry).parents }
-{
-    let mut rest = segment.parents();
-    'parents: while let Some(parent) = rest.next() {
-        if parent.number() == id {
-            return true;
-        }
-    }
-    false
-}
-
-/// Whether the id is a parent of one of so many segments from a place on.
-fn has_child(below: &Level, from: usize, count: usize, id: u64) -> bool
-    requires sound { IsSound below.now }
-    requires room { from + count ≤ length below.now.entries }
-    ensures { result ≡ list_any (λ t. is_in nat_eq id t.parents) (take count (drop from (segments_in below.now))) }
-{
-    let _count = below.len();
-    for k in 0..count {
-        if has_parent(below.at(from + k), id) {
-            return true;
-        }
-    }
-    false
-}
-
 /// How many of the sixteen segments from a place on form a group, by their heads. What `heads` has is written over.
 fn scan_group(heads: &mut Vec<u64>, below: &Level, from: usize) -> Result<usize, AllocError>
     requires sound { IsSound below.now }
@@ -80,19 +52,20 @@ fn scan_group(heads: &mut Vec<u64>, below: &Level, from: usize) -> Result<usize,
     Ok(size)
 }
 
-/// How many of the sixteen segments from a place on form a group. What `heads` has is written over.
+/// How many of the sixteen segments from a place on form a group, with a note of those that have a child among the fifteen
+/// behind them. What `heads` has is written over.
 pub(crate) fn group_size(
     heads: &mut Vec<u64>,
     below: &Level,
+    children: &[bool],
     from: usize,
 ) -> Result<usize, AllocError>
     requires sound { IsSound below.now }
     requires room { from + 16 ≤ length below.now.entries }
+    requires noted { AreNoted (segments_in below.now) (length below.now.entries) children.now }
     ensures { IfOk result (λ n. n ≡ size_of group_limit (drop from (segments_in below.now))) }
 {
-    let _count = below.len();
-    let first = below.at(from).high().number();
-    if !has_child(below, from + 1, GROUP_LIMIT - 1, first) {
+    if !children[from] {
         return Ok(1);
     }
     scan_group(heads, below, from)

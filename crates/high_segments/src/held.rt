@@ -24,6 +24,9 @@ pub(crate) fn held<'a>(levels: &'a [KeptLevel], id: u64, near: usize) -> Option<
     if id >= top.end() {
         return None;
     }
+    if top.keeps_none() {
+        return held(lower, id, near);
+    }
     match top.find(id, near) {
         Some(segment) => Some(segment),
         None => held(lower, id, near),

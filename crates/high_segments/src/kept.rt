@@ -1,7 +1,7 @@
 //! What is kept of one level.
 
 ghost use Rattle.std.specs.List.{AllWithin, AllByRecursion, list_all};
-ghost use Rattle.std.specs.Prelude.{nat_le, false, None, MatchOption, ◌≡◌, ◌≤◌, ◌<◌, ◌+◌, ◌^◌, [], true, length, Some, OnOk, OnErr, IfOk};
+ghost use Rattle.std.specs.Prelude.{◌↔◌, IsTrue, nat_le, false, None, MatchOption, ◌≡◌, ◌≤◌, ◌<◌, ◌+◌, ◌^◌, [], true, length, Some, OnOk, OnErr, IfOk};
 ghost use Rattle.segment_codec.specs.Lent.{segment_of};
 ghost use Rattle.segment_codec.specs.Number.{numbers_in};
 ghost use Rattle.segment_codec.specs.Table.{segment_at};
@@ -168,6 +168,14 @@ impl KeptLevel {
         (self.groups.len() as u64)
             .saturating_mul(32)
             .saturating_add(self.bytes.len() as u64)
+    }
+
+    /// Whether it keeps no group.
+    #[inline(always)]
+    pub(crate) fn keeps_none(&self) -> bool
+        ensures { IsTrue result ↔ (self.now.groups ≡ []) }
+    {
+        self.groups.is_empty()
     }
 
     /// The kept group that has the id. The search begins at a place. No parent is read.

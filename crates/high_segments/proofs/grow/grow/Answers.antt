@@ -2,8 +2,11 @@ use Rattle.std.proofs.Common.{◌-◌, ◌+◌, ◌<◌, ◌≤◌, ◌∙◌, �
 use Rattle.high_segments.specs.Growing.{with_next}
 use Rattle.high_segments.proofs.Places.{segments-length}
 use Rattle.high_segments.proofs.Groups.{adds-all, adds-size}
-use Rattle.high_segments.proofs.Keeping.{grows-none, grows-more}
+use Rattle.high_segments.proofs.Keeping.{front-self, grows-none, grows-more}
 use Rattle.high_segments.proofs.grow.grow.Goals as goal
+
+pub returns-in_err-children-clause-front : goal.returns-in_err-children-clause-front
+returns-in_err-children-clause-front c = front-self c.args.kept.now
 
 pub groups-init : goal.groups-init
 groups-init c = grows-none c.args.below.now c.args.run.now c.args.kept.now c.requires.begin c.requires.grouped c.requires.read
@@ -36,7 +39,7 @@ groups-preserved c =
     let len = c.len-len.ensures in let t = c.groups-test.true in
     grows-more c.args.below.now c.requires.sound c.groups.at c.in_ok-size.size c.args.run.now c.groups.run c.add_group.new.level c.args.kept.now c.groups.kept c.add.new.self c.add_group.new.scratch.parents.items
     c.groups.invariant (omega (arith, t, len)) c.in_ok-size.ensures.ok
-    (c.in_ok-add.ensures.added ∙ ap (λ (ps : List ℕ). with_next c.groups.kept ps c.end.result c.in_ok-size.size) c.deref.ensures.value
+    (c.in_ok-add.ensures.added ∙ ap (λ (ps : List ℕ). with_next c.groups.kept ps c.end.result c.in_ok-size.size) c.deref-in-groups.ensures.value
     ∙ ap (λ (e : ℕ). with_next c.groups.kept c.add_group.new.scratch.parents.items e c.in_ok-size.size) c.end.ensures)
 
 pub returns-clause-groups : goal.returns-clause-groups

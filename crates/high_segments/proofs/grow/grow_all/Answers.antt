@@ -1,5 +1,7 @@
-use Rattle.std.proofs.Common.{◌≤◌, arith, length}
+use Rattle.std.proofs.Common.{ap, arith, length}
+use Rattle.segment_levels.specs.Kept.{PlainLevel}
 use Rattle.high_segments.proofs.Mixing.{fronts-then, grown-none, grown-more, grown-all}
+use Rattle.high_segments.proofs.Staying.{grown-short}
 use Rattle.high_segments.proofs.grow.grow_all.Goals as goal
 
 pub loop-k-init : goal.loop-k-init
@@ -10,6 +12,12 @@ grow_level-requires-clause-may c = let r = c.requires in (r.0, r.1, c.loop-k.inv
 
 pub returns-in_err-below-clause-front : goal.returns-in_err-below-clause-front
 returns-in_err-below-clause-front c = fronts-then c.args.levels.now c.loop-k.levels c.grow_level.new.levels c.loop-k.invariant.front c.grow_level.ensures.front
+
+pub returns-then-len-lt-GROUP_LIMIT-clause-levels : goal.returns-then-len-lt-GROUP_LIMIT-clause-levels
+returns-then-len-lt-GROUP_LIMIT-clause-levels c = λ old new h.
+    let lt = c.loop-k-test.true in let same = c.loop-k.auto.levels in
+    let few = c.if-len-lt-GROUP_LIMIT.true in let len = c.len.ensures in let view = ap (λ (z : PlainLevel). length z.entries) c.below.view_is in
+    grown-short c.args.flats c.args.levels.now c.loop-k.below c.loop-k.k c.loop-k.levels c.loop-k.invariant (omega (arith, lt, same)) (omega (arith, few, len, view)) old new h
 
 pub loop-k-preserved : goal.loop-k-preserved
 loop-k-preserved c =

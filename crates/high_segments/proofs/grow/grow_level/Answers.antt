@@ -1,4 +1,4 @@
-use Rattle.std.proofs.Common.{◌≡◌, ◌-◌, ◌+◌, ◌<◌, ◌≤◌, ◌∙◌, ℕ, List, sym, ap, arith, length}
+use Rattle.std.proofs.Common.{◌≡◌, ◌-◌, ◌∙◌, sym, ap, arith, length}
 use Rattle.segment_levels.specs.Kept.{PlainGroups}
 use Rattle.high_segments.proofs.Mixing.{all-front, front-set, row-of, row-held, row-front, row-few, row-grown, row-longer, below-sound, begins-there, few-there}
 use Rattle.high_segments.proofs.grow.grow_level.Goals as goal

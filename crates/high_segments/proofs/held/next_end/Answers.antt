@@ -1,4 +1,4 @@
-use Rattle.std.proofs.Common.{◌≡◌, ◌≤◌, ◌<◌, ◌+◌, ◌∙◌, ℕ, suc, sym, ap, arith, get_or, length, ⊎_elim, true≢false}
+use Rattle.std.proofs.Common.{◌≡◌, ◌≤◌, ◌<◌, ◌+◌, ◌∙◌, suc, sym, ap, arith, get_or, length, ⊎_elim, true≢false}
 use Rattle.segment_codec.proofs.Tables.{le_or_lt}
 use Rattle.high_segments.proofs.Mixing.{next-some, next-none}
 use Rattle.high_segments.proofs.held.next_end.Goals as goal

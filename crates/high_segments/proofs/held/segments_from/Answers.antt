@@ -1,4 +1,4 @@
-use Rattle.std.proofs.Common.{◌≡◌, ◌≤◌, ◌<◌, ◌-◌, ◌+◌, ◌^◌, ◌∙◌, ℕ, List, Option, None, Some, refl, sym, subst, ap, arith, lit≤}
+use Rattle.std.proofs.Common.{◌≡◌, ◌≤◌, ◌<◌, ◌-◌, ◌^◌, ◌∙◌, ℕ, Option, None, Some, refl, sym, subst, ap, arith, lit≤}
 use Rattle.std.specs.Prelude.{MatchOption}
 use Rattle.std.specs.Option.{IsSome}
 use Rattle.std.specs.List.{AllByRecursion}
@@ -8,7 +8,7 @@ use Rattle.segment_codec.specs.Number.{HasNumber}
 use Rattle.segment_codec.proofs.Lists.{all-below}
 use Rattle.segment_levels.specs.Kept.{PlainLevel}
 use Rattle.segment_levels.specs.Endings.{held_from}
-use Rattle.high_segments.proofs.Gathering.{row-none, row-more, row-all, not-none, next-low}
+use Rattle.high_segments.proofs.Gathering.{row-more, row-all, not-none, next-low}
 use Rattle.high_segments.proofs.held.segments_from.Goals as goal
 
 some-found : {X : Type 0} (o : Option X) (A : Type 0) (B : X → Type 0) → MatchOption o A B → (A → ⊥) → IsSome o

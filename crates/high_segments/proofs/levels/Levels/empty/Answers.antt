@@ -2,7 +2,7 @@ use Rattle.std.proofs.Common.{◌≡◌, ◌+◌, ℕ, suc, List, [], inl, refl,
 use Rattle.id_groups.specs.Lists.{IsIn}
 use Rattle.segment_codec.specs.Record.{Segment}
 use Rattle.segment_rules.specs.Levels.{level_segments, count_grouped, groups}
-use Rattle.segment_levels.specs.Kept.{PlainGroups, IsLevelOf, AreLevelsAbove}
+use Rattle.segment_levels.specs.Kept.{PlainGroups, IsLevelOf}
 use Rattle.high_segments.proofs.levels.Levels.empty.Goals as goal
 
 abbrev no-flats : List Segment
