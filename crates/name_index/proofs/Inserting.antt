@@ -167,10 +167,21 @@ module _ (bytes : List ℕ) (at : ℕ) (added : List ℕ) (runs : List (List Ent
       let stand_back = all-right (StandFrom 0 bytes) (take kept is.held) back (subst (AllByRecursion (StandFrom 0 bytes)) (sym (take-append-drop kept is.held)) held) in
       put-behind runs kept merged all new is (both back new (runs-drop kept runs is.held is.in_order) stand_back holds stands) distinct
 
+-- names of an index and new ones that are distinct
+
+pub held-distinct : (all held : List NamedPlace) → IsPermutation all held → AreDistinct (names_in all) → AreDistinct (names_in held)
+held-distinct all held same h = distinct-moved _ _ (IsPermutation-map (λ n. n.name) all held same) h
+
+pub distinct-there : (all new held : List NamedPlace) → IsPermutation all held → AreDistinct (names_in (all ++ new)) → AreDistinct (names_in (held ++ new))
+distinct-there all new held same h = held-distinct (all ++ new) (held ++ new) (IsPermutation-append all held new new same (IsPermutation-refl new)) h
+
+pub distinct-whole : (all new held : List NamedPlace) → IsPermutation all held → AreDistinct (names_in (held ++ new)) → AreDistinct (names_in (all ++ new))
+distinct-whole all new held same h = distinct-there held new all (IsPermutation-sym all held same) h
+
 -- names of an index and new ones that aren't distinct
 pub double-all : (all new : List NamedPlace) (held : List NamedPlace) → IsPermutation all held → (AreDistinct (names_in (held ++ new)) → ⊥) → AreDistinct (names_in (all ++ new)) → ⊥
 double-all all new held same double distinct =
-    double (distinct-moved _ _ (IsPermutation-map (λ n. n.name) (all ++ new) (held ++ new) (IsPermutation-append all held new new same (IsPermutation-refl new))) distinct)
+    double (distinct-there all new held same distinct)
 
 pub same-fault : {T E : Type 0} (r : Result T E) (x y z : E) → r ≡ Err x → x ≡ y → r ≡ Err z → y ≡ z
 same-fault r x y z is same goal = let e : x ≡ z = cc (sym is ∙ goal) in sym same ∙ e

@@ -1,12 +1,12 @@
 -- A name alone that is put among others.
-use Rattle.std.proofs.Common.{◌≡◌, ◌∙◌, ◌<◌, ◌≤◌, ◌+◌, refl, sym, ap, ap₂, subst, ℕ, zero, suc, length, get_or, set, List, [], ◌∷◌, ◌++◌, map, take, drop, true, false, arith, zero-le, inl, inr, Ordering, Less, Equal, Greater, nat_cmp, is_lt, append-nil, take-append-drop}
+use Rattle.std.proofs.Common.{◌≡◌, ◌∙◌, ◌<◌, ◌≤◌, ◌+◌, refl, sym, ap, ap₂, subst, ℕ, zero, suc, length, get_or, set, List, [], ◌∷◌, ◌++◌, map, take, drop, true, false, arith, zero-le, inl, inr, Less, Equal, Greater, nat_cmp, is_lt, append-nil, take-append-drop}
 use Rattle.std.specs.Prelude.{insert}
 use Rattle.std.specs.Ordering.{ordering_index}
 use Rattle.std.specs.Cmp.Lexicographic.{slice_cmp}
 use Rattle.std.specs.List.{AllByRecursion, HoldsAt}
 use Rattle.std.specs.List.Sorted.{IsPermutation, IsNonDecreasingBy, IsPartitionPoint}
 use Rattle.std.proofs.lemmas.List.{drop-map, take-map, get_or-map, get_or_default, map-append, length-map}
-use Rattle.std.proofs.lemmas.List.Sorted.{IsPermutation-sym, IsPermutation-map, IsPermutation-trans, IsPermutation-cons, IsPermutation-middle, IsPermutation-append, IsPermutation-refl}
+use Rattle.std.proofs.lemmas.List.Sorted.{IsPermutation-sym, IsPermutation-map, IsPermutation-trans, IsPermutation-middle, IsPermutation-append, IsPermutation-refl}
 use Rattle.id_groups.specs.Lists.{IsIn, AreDistinct}
 use Rattle.id_groups.specs.Name.{Name}
 use Rattle.name_index.specs.declared.entry.Entry.{Entry}

@@ -361,6 +361,39 @@ impl NameIndex {
         Ok(())
     }
 
+    /// Puts a run of new names, no two of which are the same, behind the others, merged with those that are due. Want of memory
+    /// changes nothing.
+    fn put_run(&mut self, bytes: &[u8], new: &Stretch<'_>, run: Run) -> Result<(), AllocError>
+        ensures added { (all named : List NamedPlace) → IsIndexOf self.old all → Stand bytes.now all → StandFrom new.now.at new.now.bytes.now named → Holds run named
+            → AreDistinct (names_in (all ++ named)) → OnOk result (IsIndexOf self.new (all ++ named)) }
+        ensures unchanged { OnErr result (self.new ≡ self.old) }
+    {
+        let old = Stretch { bytes, at: 0 };
+        let kept = count_kept(&self.runs, run.len());
+        let merged = merge_last(self.alloc, &old, &self.runs, kept, new, run)?;
+        self.replace(kept, merged)?;
+        Ok(())
+    }
+
+    /// Adds the names as `insert` does, where it is known that no two of them and of those that are held are the same: none is
+    /// sought. Want of memory leaves the index as it was.
+    pub fn insert_new(
+        &mut self,
+        bytes: &[u8],
+        at: u64,
+        added: &[u8],
+        places: Vec<u64>,
+    ) -> Result<(), AllocError>
+        ensures added { (all named : List NamedPlace) → IsIndexOf self.old all → Stand bytes.now all → StandFrom at added.now named → places_in named ≡ places.items
+            → AreDistinct (names_in (all ++ named)) → OnOk result (IsIndexOf self.new (all ++ named)) }
+        ensures unchanged { OnErr result (self.new ≡ self.old) }
+    {
+        let stretch = Stretch { bytes: added, at };
+        let run = Run::of_places(self.alloc, &stretch, &places)?;
+        self.put_run(bytes, &stretch, run)?;
+        Ok(())
+    }
+
     /// Adds the names that stand at these places, in bytes `added` that stand, or will stand, at `at`. The names that
     /// are held already stand in `bytes`. `Double` comes only where the names together aren't distinct, and `Memory`
     /// for want of memory; either leaves the index as it was.
@@ -378,9 +411,7 @@ impl NameIndex {
         let old = Stretch { bytes, at: 0 };
         let new = Stretch { bytes: added, at };
         let run = run_of_new(self.alloc, &self.runs, &old, &new, &places)?;
-        let kept = count_kept(&self.runs, run.len());
-        let merged = merge_last(self.alloc, &old, &self.runs, kept, &new, run)?;
-        self.replace(kept, merged)?;
+        self.put_run(bytes, &new, run)?;
         Ok(())
     }
 }

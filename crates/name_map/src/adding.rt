@@ -65,6 +65,25 @@ fn insert_known(
     Ok(())
 }
 
+/// Puts the names of the known ids, whose first one stands or will stand at `start`, into the index, where it is known that no two
+/// of them and of those in it are the same. Want of memory leaves it as it was.
+fn insert_new_known(
+    alloc: Global,
+    index: &mut NameIndex,
+    bytes: &[u8],
+    start: u64,
+    known: &KnownSlice<'_>,
+) -> Result<(), AllocError>
+    requires { start < 2 ^ 63 }
+    ensures added { (all : List NamedPlace) → IsIndexOf index.old all → Stand bytes.now all → AreDistinct (names_in (all ++ named_from start (knowns_of known.now)))
+        → OnOk result (IsIndexOf index.new (all ++ named_from start (knowns_of known.now))) }
+    ensures unchanged { OnErr result (index.new ≡ index.old) }
+{
+    let places = places_every(alloc, start + ID_BYTES, ENTRY_BYTES, known.len())?;
+    index.insert_new(bytes, start, known.bytes(), places)?;
+    Ok(())
+}
+
 /// Refuses other names that aren't distinct, or meet a known one of the payload.
 pub(crate) fn check_own_names(
     alloc: Global,
@@ -135,4 +154,30 @@ pub(crate) fn add_part(
             Err(fault)
         }
     }
+}
+
+/// Adds the part, and the names of its ids to the index, where it is known that no two of them and of those in it are the same.
+/// Want of memory leaves both as they were.
+pub(crate) fn add_new_part(
+    alloc: Global,
+    parts: &mut Vec<Part>,
+    index: &mut NameIndex,
+    part: Part,
+    bytes: &[u8],
+    known: &KnownSlice<'_>,
+) -> Result<(), AllocError>
+    requires { part.start < 2 ^ 63 }
+    ensures part { OnOk result (parts.new.items ≡ parts.old.items ++ part ∷ []) }
+    ensures index { (all : List NamedPlace) → IsIndexOf index.old all → Stand bytes.now all → AreDistinct (names_in (all ++ named_from part.start (knowns_of known.now)))
+        → OnOk result (IsIndexOf index.new (all ++ named_from part.start (knowns_of known.now))) }
+    ensures unchanged { OnErr result ((parts.new.items ≡ parts.old.items) × (index.new ≡ index.old)) }
+{
+    let start = part.start();
+    let count = parts.len();
+    push_part(parts, part)?;
+    let added = insert_new_known(alloc, index, bytes, start, known);
+    if added.is_err() {
+        parts.truncate(count);
+    }
+    added
 }

@@ -9,7 +9,7 @@ ghost use Rattle.name_map.specs.Added.{Placed, AllStand, known_of, payloads_of};
 ghost use Rattle.name_map.specs.Map.{IsMapOf, IsIdOf, count_known, NamesAs, names_with};
 ghost use Rattle.name_map.specs.Adding.{placed};
 
-use crate::adding::{add_part, check_others};
+use crate::adding::{add_new_part, add_part, check_others};
 use crate::fault::MapFault;
 use crate::part::Part;
 use crate::reading::{id_before, name_at};
@@ -96,6 +96,31 @@ impl NameMap {
         let part = Part::of_batch(self.alloc, batch, at + known.start(), self.known)?;
         check_others(self.alloc, &self.index, bytes, batch)?;
         add_part(
+            self.alloc,
+            &mut self.parts,
+            &mut self.index,
+            part,
+            bytes,
+            &known,
+        )?;
+        self.masters = batch.after();
+        self.known += u64::from(known.len());
+        Ok(())
+    }
+
+    /// Adds a payload as `add_batch` does, where it is known that all known names, those of the payload among them, and its other
+    /// names are distinct: none is sought. Want of memory changes nothing.
+    pub fn add_new(&mut self, bytes: &[u8], batch: &BatchRef<'_>, at: u64) -> Result<(), AllocError>
+        requires room { at + length (payload_bytes 1 (payload_of batch.now)) < 2 ^ 63 }
+        requires follows { (payload_of batch.now).before ≡ self.old.masters }
+        ensures added { (added : List Placed) → IsMapOf self.old added → AllStand bytes.now added → AreDistinct (names_with (payloads_of added) (payload_of batch.now))
+            → OnOk result (IsMapOf self.new (added ++ placed at batch.now ∷ [])) }
+        ensures unchanged { OnErr result (self.new ≡ self.old) }
+    {
+        batch.is_payload();
+        let known = batch.known();
+        let part = Part::of_batch(self.alloc, batch, at + known.start(), self.known)?;
+        add_new_part(
             self.alloc,
             &mut self.parts,
             &mut self.index,

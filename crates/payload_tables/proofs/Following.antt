@@ -1,5 +1,5 @@
 -- Tables with one payload more.
-use Rattle.std.proofs.Common.{◌≡◌, ◌<◌, ◌==◌, ℕ, List, [], ◌∷◌, ◌++◌, length, flat_map, Option, Some, None, is_some, refl, sym, ap, ◌∙◌, subst, append_assoc, append-nil, if◌then◌else◌, ⊎_elim, arith, true≢false}
+use Rattle.std.proofs.Common.{◌≡◌, ◌<◌, ◌==◌, ℕ, Bool, true, false, List, [], ◌∷◌, ◌++◌, length, flat_map, Option, Some, None, is_some, refl, sym, ap, ◌∙◌, subst, append_assoc, append-nil, if◌then◌else◌, ⊎_elim, arith, true≢false}
 use Rattle.std.specs.List.{last_or}
 use Rattle.std.proofs.lemmas.List.{map-append}
 use Rattle.id_groups.specs.Lists.{AreDistinct}
@@ -37,6 +37,18 @@ count-more payloads p h first = ⊎_elim
 
 pub no-payloads : (added : List Placed) → added ≡ [] → payloads_of added ≡ []
 no-payloads added e = ap payloads_of e
+
+no-placed : (added : List Placed) → payloads_of added ≡ [] → added ≡ []
+no-placed [] e = refl
+no-placed (a ∷ more) e = absurd (true≢false (ap is-more e))
+  where
+    is-more : List Payload → Bool
+    is-more [] = false
+    is-more (p ∷ ps) = true
+
+-- the rule of a clone, where the payload may come behind the others
+pub clone-rule : (added : List Placed) (p : Payload) → MayFollow (payloads_of added) p → p.kind ≡ 2 → (added ≡ []) × (p.heads ≡ head_names p)
+clone-rule added p f e = (no-placed added (f.clone_first e), f.clone_heads e)
 
 pub tables-more : (tables : PlainTables) (new : PlainTables) (added : List Placed) (a : Placed) → AreTablesOf tables added → IsPayload a.payload → a.payload.before ≡ tables.names.masters
     → (a.payload.kind ≡ 2 → (added ≡ []) × (a.payload.heads ≡ head_names a.payload))

@@ -91,3 +91,41 @@ pub(crate) fn extend_masters(
         }
     }
 }
+
+/// Adds a payload to all three, as `extend_masters` does, where it is known that its names and those before it are distinct. Want of
+/// memory changes none.
+pub(crate) fn extend_lawful(
+    flat: &mut FlatTable,
+    levels: &mut Levels,
+    names: &mut NameMap,
+    bytes: &[u8],
+    batch: &BatchRef<'_>,
+    at: u64,
+) -> Result<(), TableFault>
+    requires room { at + length (payload_bytes 1 (payload_of batch.now)) < 2 ^ 63 }
+    requires tables { (added : List Placed) × AreMastersOf flat.old levels.old names.old added × AllStand bytes.now added }
+    requires follows { (payload_of batch.now).before ≡ names.old.masters }
+    ensures table { (added : List Placed) → AreMastersOf flat.old levels.old names.old added → AllStand bytes.now added
+        → OnOk result (IsTableOf flat.new (master_records (added ++ placed at batch.now ∷ []))) }
+    ensures levels { (added : List Placed) → AreMastersOf flat.old levels.old names.old added → AllStand bytes.now added
+        → OnOk result (AreLevelsOf levels.new (flats_of flat.new (master_records (added ++ placed at batch.now ∷ [])))) }
+    ensures names { (added : List Placed) → AreMastersOf flat.old levels.old names.old added → AllStand bytes.now added
+        → AreDistinct (names_with (payloads_of added) (payload_of batch.now)) → OnOk result (IsMapOf names.new (added ++ placed at batch.now ∷ [])) }
+    ensures taken { result ≡ Err Unlawful → ⊥ }
+    ensures unchanged { OnErr result ((flat.new ≡ flat.old) × (levels.new ≡ levels.old) × (names.new ≡ names.old)) }
+{
+    batch.is_payload();
+    let len = flat.len();
+    let end = flat.count();
+    let mark = levels.mark();
+    let masters = batch.master_segments();
+    extend_table(flat, levels, bytes, masters.bytes(), at + masters.start())?;
+    match names.add_new(bytes, batch, at) {
+        Ok(()) => Ok(()),
+        Err(refused) => {
+            flat.cut_back(len, end);
+            levels.cut_back(&mark);
+            Err(TableFault::from(refused))
+        }
+    }
+}

@@ -19,7 +19,7 @@ ghost use Rattle.change_rules.specs.Tables.{StandFor, remote_heads, cloned_count
 use crate::base::BaseRef;
 use crate::fault::TableFault;
 use crate::heads::{has_heads, heads_of};
-use crate::masters::extend_masters;
+use crate::masters::{extend_lawful, extend_masters};
 use crate::others::OthersTable;
 use batch_codec::BatchRef;
 use flat_segments::FlatTable;
@@ -141,6 +141,43 @@ impl Tables {
             at,
         )?;
         self.others = others;
+        keep_clone(
+            &mut self.heads,
+            &mut self.cloned,
+            batch.kind(),
+            heads,
+            batch.after(),
+        );
+        Ok(())
+    }
+
+    /// Adds a payload as `add_batch` does, where it is known that it may come behind those that were added: no name is sought. Want
+    /// of memory changes nothing.
+    pub fn add_lawful(
+        &mut self,
+        bytes: &[u8],
+        batch: &BatchRef<'_>,
+        at: u64,
+    ) -> Result<(), TableFault>
+        requires room { at + length (payload_bytes 1 (payload_of batch.now)) < 2 ^ 63 }
+        requires lawful { (added : List Placed) × AreTablesOf self.old added × AllStand bytes.now added × MayFollow (payloads_of added) (payload_of batch.now) }
+        ensures added { (added : List Placed) → AreTablesOf self.old added → AllStand bytes.now added → MayFollow (payloads_of added) (payload_of batch.now)
+            → OnOk result (AreTablesOf self.new (added ++ placed at batch.now ∷ [])) }
+        ensures taken { result ≡ Err Unlawful → ⊥ }
+        ensures unchanged { OnErr result (self.new ≡ self.old) }
+    {
+        batch.is_payload();
+        let newest = OthersTable::read(self.alloc, batch, at)?;
+        let heads = heads_of(self.alloc, batch)?;
+        extend_lawful(
+            &mut self.flat,
+            &mut self.levels,
+            &mut self.names,
+            bytes,
+            batch,
+            at,
+        )?;
+        self.others = newest;
         keep_clone(
             &mut self.heads,
             &mut self.cloned,

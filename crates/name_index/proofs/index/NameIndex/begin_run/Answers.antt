@@ -1,4 +1,4 @@
-use Rattle.std.proofs.Common.{◌≡◌, ◌∙◌, ◌++◌, ◌∷◌, [], take, drop, ap, sym, subst, append_assoc}
+use Rattle.std.proofs.Common.{◌∙◌, ◌++◌, ◌∷◌, [], take, drop, ap, sym, subst, append_assoc}
 use Rattle.name_index.specs.Index.{IsIndexOf}
 use Rattle.name_index.specs.Runs.{AreRuns}
 use Rattle.name_index.proofs.OneName.{pushed-one, settled}

@@ -1,4 +1,4 @@
-use Rattle.std.proofs.Common.{◌≡◌, ◌∙◌, ◌++◌, ◌∷◌, [], List, length, ap, sym, subst}
+use Rattle.std.proofs.Common.{◌∙◌, ◌++◌, ◌∷◌, [], List, length, ap, sym, subst}
 use Rattle.id_groups.specs.Lists.{IsIn}
 use Rattle.name_index.specs.declared.entry.Entry.{Entry}
 use Rattle.name_index.specs.Index.{IsIndexOf, names_in}

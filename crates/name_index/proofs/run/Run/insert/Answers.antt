@@ -1,4 +1,4 @@
-use Rattle.std.proofs.Common.{◌≡◌, ◌∙◌, ◌++◌, ◌∷◌, [], ap, sym, subst}
+use Rattle.std.proofs.Common.{◌∙◌, ◌++◌, ◌∷◌, [], ap, sym, subst}
 use Rattle.name_index.specs.Runs.{IsRun, Holds, MayStandAt, front_of, keys_of, sort_key}
 use Rattle.name_index.specs.declared.entry.Entry.{Entry}
 use Rattle.name_index.proofs.OneName.{holds-one}
