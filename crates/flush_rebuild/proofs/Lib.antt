@@ -20,3 +20,4 @@ pub mod Moved
 pub mod LeftSoFar
 pub mod Stepping
 pub mod OnWorlds
+pub mod Following

@@ -157,7 +157,7 @@ names-of-rows : (v : World Name) (rows : List (Row Name)) → row_names (map (id
 names-of-rows v [] = refl
 names-of-rows v (r ∷ rows) = ap (λ l. r.name ∷ l) (names-of-rows v rows)
 
-whole-names : (v : World Name) (rows : List (Row Name)) → AllByRecursion (λ (row : IdRow). IsName row.name) (map (id_row v) rows) → AllByRecursion IsName (names_of rows)
+pub whole-names : (v : World Name) (rows : List (Row Name)) → AllByRecursion (λ (row : IdRow). IsName row.name) (map (id_row v) rows) → AllByRecursion IsName (names_of rows)
 whole-names v [] h = tt
 whole-names v (r ∷ rows) h = (h.0, whole-names v rows h.1)
 

@@ -3,3 +3,4 @@ pub mod Moves
 pub mod Plans
 pub mod Asked
 pub mod Rebasing
+pub mod Following

@@ -9,7 +9,10 @@ ghost use Rattle.batch_codec.specs.Building.{IsBuilt};
 ghost use Rattle.assign_ids.specs.Numbers.{AreBelow};
 ghost use Rattle.flush_rebuild.specs.Moves.{flat_record};
 ghost use Rattle.change_rules.specs.Change.{known_from};
-ghost use Rattle.flush_rebuild.specs.Moves.{name_at, rest_of, change_in};
+ghost use Rattle.segment_codec.specs.Table.{parents_at};
+ghost use Rattle.id_groups.specs.Id.{other_id};
+ghost use Rattle.flush_rebuild.specs.Flat.{flat_segments};
+ghost use Rattle.flush_rebuild.specs.Moves.{name_at, new_id, rest_of, change_in};
 
 use crate::numbers::ids_of;
 use crate::runs::{Run, runs_of};
@@ -117,6 +120,60 @@ pub(crate) fn add_other_names(
     Ok(())
 }
 
+/// Adds the records and the known names of these numbers, which have the master ids from `before` on. `ids` has the new id of
+/// each number.
+fn add_master_section<T: SegmentTable>(
+    alloc: Global,
+    build: &mut BatchBuild,
+    table: &T,
+    names: &Names<'_>,
+    ids: &[Id],
+    order: &[u32],
+    before: u64,
+) -> Result<(), AllocError>
+    requires names { AreBelow (names.now.count + names.now.more) order.now }
+    requires ids { AreBelow (length ids.now) order.now }
+    requires room { before + length order.now ≤ 2 ^ 56 }
+    requires records { AllByRecursion (λ s. IsSegment (flat_record s)) (flat_segments before (map (λ k. map (new_id ids.now) (parents_at (T.flats table.now) (other_id k))) order.now)) }
+    ensures built { OnOk result ((p : PlainPayload) → IsBuilt build.old p → IsBuilt build.new (record p {
+      master = p.master ++ map flat_record (flat_segments before (map (λ k. map (new_id ids.now) (parents_at (T.flats table.now) (other_id k))) order.now));
+      known = p.known ++ known_from before (map (name_at (names.now.stored.now ++ names.now.pending.now)) order.now);
+    })) }
+    ensures count { build.new.other_count ≡ build.old.other_count }
+{
+    let runs = runs_of(alloc, table, ids, order, before)?;
+    add_masters(build, &runs)?;
+    add_known(build, names, order, before)?;
+    Ok(())
+}
+
+/// Adds the records and the names of these numbers, which are all that stay outside master, and counts them. `ids` has the new
+/// id of each number.
+fn add_others_section<T: SegmentTable>(
+    alloc: Global,
+    build: &mut BatchBuild,
+    table: &T,
+    names: &Names<'_>,
+    ids: &[Id],
+    rest: &[u32],
+) -> Result<(), AllocError>
+    requires names { AreBelow (names.now.count + names.now.more) rest.now }
+    requires few { length rest.now < 2 ^ 32 }
+    requires ids { AreBelow (length ids.now) rest.now }
+    requires records { AllByRecursion (λ s. IsSegment (flat_record s)) (flat_segments (2 ^ 56) (map (λ k. map (new_id ids.now) (parents_at (T.flats table.now) (other_id k))) rest.now)) }
+    ensures built { OnOk result ((p : PlainPayload) → IsBuilt build.old p → IsBuilt build.new (record p {
+      others = p.others ++ map flat_record (flat_segments (2 ^ 56) (map (λ k. map (new_id ids.now) (parents_at (T.flats table.now) (other_id k))) rest.now));
+      other_names = p.other_names ++ map (name_at (names.now.stored.now ++ names.now.pending.now)) rest.now;
+    })) }
+    ensures count { OnOk result (build.new.other_count ≡ length rest.now) }
+{
+    let runs = runs_of(alloc, table, ids, rest, FIRST_OTHER)?;
+    add_others(build, &runs)?;
+    add_other_names(build, names, rest)?;
+    build.other_count(rest.len() as u32)?;
+    Ok(())
+}
+
 /// The payload of a flush in which the numbers of the order move behind so many master ids.
 pub(crate) fn payload_of<T: SegmentTable>(
     alloc: Global,
@@ -135,13 +192,8 @@ pub(crate) fn payload_of<T: SegmentTable>(
 {
     let after = before + order.len() as u64;
     let ids = ids_of(alloc, before, names.count + names.more, order, rest)?;
-    let masters = runs_of(alloc, table, &ids, order, before)?;
-    let others = runs_of(alloc, table, &ids, rest, FIRST_OTHER)?;
     let mut build = BatchBuild::new(alloc, FLUSH, before, after)?;
-    add_masters(&mut build, &masters)?;
-    add_known(&mut build, names, order, before)?;
-    add_others(&mut build, &others)?;
-    add_other_names(&mut build, names, rest)?;
-    build.other_count(rest.len() as u32)?;
+    add_master_section(alloc, &mut build, table, names, &ids, order, before)?;
+    add_others_section(alloc, &mut build, table, names, &ids, rest)?;
     build.finish()
 }

@@ -4,6 +4,7 @@
 
 mod building;
 mod fault;
+mod flush;
 mod laws;
 mod numbers;
 mod plan;
@@ -12,6 +13,7 @@ mod runs;
 
 pub use change_rules::{Limit, Limits};
 pub use fault::PlanFault;
+pub use flush::{Plan, plan_flush};
 pub use laws::payloads_stand_for_a_world;
 pub use payload_tables::{BaseRef, OthersTable, PendingRows, TableFault, Tables};
 pub use plan::{Change, Payload, plan_change};
