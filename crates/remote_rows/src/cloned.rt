@@ -1,4 +1,4 @@
-//! A clone of a chain of ten commits, of which only the last one's name is stored.
+//! Clones in memory, over which names are found and fetched.
 
 use batch_codec::BatchRef;
 use commit_graph::{Row, World};
@@ -7,17 +7,9 @@ use lazy_names::{Fetched, LazyFault, LazyNames};
 use name_map::NameMap;
 use remote_memory::MemoryRemote;
 use remote_trait::Remote;
-use sample_tables::{Sample, held_ids};
+use sample_tables::held_ids;
 use segment_codec::SegmentTable;
 use std::alloc::{AllocError, Global};
-
-/// The payload of the clone: one segment from 0 to 9, and the name of id 9, which is the head.
-pub const CLONE: [u8; 96] = [
-    1, 2, 0, 0, 0, 0, 0, 0, 0, 0, 0, 0, 0, 0, 0, 0, 0, 10, 0, 0, 0, 1, 1, 0, 0, 0, 0, 0, 0, 0, 0,
-    9, 9, 0, 0, 0, 0, 1, 0, 0, 0, 0, 0, 0, 0, 9, 0, 0, 0, 0, 0, 0, 0, 0, 0, 0, 0, 0, 0, 0, 0, 0, 0,
-    0, 0, 0x19, 0, 1, 0, 0, 0, 0, 0, 0, 0, 0, 0, 0, 0, 0, 0, 0, 0, 0, 0, 0, 0, 0x19, 0, 0, 0, 0, 0,
-    0, 0, 0,
-];
 
 /// The name of 19 zero bytes and this one.
 pub fn name(last: u8) -> Name {
@@ -26,30 +18,54 @@ pub fn name(last: u8) -> Name {
     Name::from_bytes(bytes)
 }
 
-/// The chain of so many commits, the first of which is that of 0x10.
-fn chain(alloc: Global, commits: u8) -> Result<Option<World>, AllocError> {
-    let mut rows = Vec::new(alloc);
-    for k in 0..commits.min(16) {
-        let own = name(0x10 + k);
-        if k == 0 {
-            rows.push(Row::new(own, &[]))?;
-        } else {
-            rows.push(Row::new(own, &[name(0x0f + k)]))?;
-        }
+/// The last byte of a name.
+fn last_byte(name: NameRef<'_>) -> u8 {
+    match name.bytes {
+        [.., last] => *last,
+        [] => 0,
     }
-    if rows.len() > 16 {
-        return Ok(None);
-    }
-    World::of_master(alloc, rows)
 }
 
-/// A remote of the chain of so many commits, that fails at these calls.
-pub fn remote(alloc: Global, commits: u8, fails: &[u64]) -> Result<MemoryRemote, AllocError> {
-    let world = chain(alloc, commits)?.ok_or(AllocError)?;
+/// The rows of a chain of commits with these last bytes, the first of which has no parent.
+fn chain_rows(alloc: Global, lasts: &[u8]) -> Result<Vec<Row>, AllocError> {
+    let mut rows = Vec::new(alloc);
+    let mut before: Option<Name> = None;
+    for last in lasts {
+        let own = name(*last);
+        rows.push(match before {
+            None => Row::new(own, &[]),
+            Some(parent) => Row::new(own, &[parent]),
+        })?;
+        before = Some(own);
+    }
+    Ok(rows)
+}
+
+/// The world with these rows, of which there are few; `AllocError` also where there is none.
+pub fn world_of(alloc: Global, rows: Vec<Row>) -> Result<World, AllocError> {
+    if rows.len() > 16 {
+        return Err(AllocError);
+    }
+    World::of_master(alloc, rows)?.ok_or(AllocError)
+}
+
+/// A mirror of a world, which fails at these calls.
+pub fn remote_of(alloc: Global, world: World, fails: &[u64]) -> Result<MemoryRemote, AllocError> {
     if world.master_count() > 16 {
         return Err(AllocError);
     }
     MemoryRemote::new(alloc, world, fails)
+}
+
+/// A mirror of the chain of commits with these last bytes, which fails at these calls.
+pub fn chain_remote(
+    alloc: Global,
+    lasts: &[u8],
+    fails: &[u64],
+) -> Result<MemoryRemote, AllocError> {
+    let rows = chain_rows(alloc, lasts)?;
+    let world = world_of(alloc, rows)?;
+    remote_of(alloc, world, fails)
 }
 
 /// The names that the payload stores; `None` where it is no payload, or for want of memory.
@@ -65,21 +81,13 @@ pub fn known(alloc: Global, payload: &[u8]) -> Option<NameMap> {
     }
 }
 
-/// The segment of the clone.
-pub fn table(alloc: Global) -> Result<Sample, AllocError> {
-    let mut sample = Sample::empty(alloc);
-    if sample.may_push(&[], 10) {
-        sample.push(&[], 10)?;
-    }
-    Ok(sample)
-}
-
-/// A clone: its payload, the names in it, and its table.
+/// A clone: its payload, the names in it, its heads, and its table.
 #[derive(Clone, Copy)]
 pub struct Stored<'a, T> {
     pub alloc: Global,
     pub payload: &'a [u8],
     pub known: &'a NameMap,
+    pub heads: &'a [Name],
     pub table: &'a T,
 }
 
@@ -90,21 +98,21 @@ impl<'a, T: SegmentTable> Stored<'a, T> {
         lazy: &mut LazyNames,
         mirrors: &mut Vec<R>,
         last: u8,
-    ) -> Result<Option<Id>, LazyFault> {
+    ) -> Result<Option<u64>, LazyFault> {
         if mirrors.len() > 16 {
             return Err(LazyFault::Memory);
         }
-        let heads = [name(0x19)];
         let wanted = name(last);
-        lazy.find_among(
+        let found = lazy.find_among(
             self.alloc,
             self.table,
             self.known,
             self.payload,
-            &heads,
+            self.heads,
             mirrors,
             &wanted,
-        )
+        )?;
+        Ok(found.map(|id| id.number()))
     }
 
     /// The last bytes of the names of these ids, in the order in which they come.
@@ -131,8 +139,8 @@ impl<'a, T: SegmentTable> Stored<'a, T> {
     }
 }
 
-/// The ids with these numbers.
-fn ids_of(alloc: Global, numbers: &[u64]) -> Result<Vec<Id>, AllocError> {
+/// The ids with these numbers, those of 16 and above left out.
+pub fn ids_of(alloc: Global, numbers: &[u64]) -> Result<Vec<Id>, AllocError> {
     let mut ids = Vec::new(alloc);
     for number in numbers {
         if *number < 16 {
@@ -149,12 +157,4 @@ fn last_bytes(alloc: Global, names: &Fetched) -> Result<Vec<u8>, AllocError> {
         bytes.push(last_byte(names.at(i).name.lend()))?;
     }
     Ok(bytes)
-}
-
-/// The last byte of a name.
-fn last_byte(name: NameRef<'_>) -> u8 {
-    match name.bytes {
-        [.., last] => *last,
-        [] => 0,
-    }
 }

@@ -3,6 +3,20 @@
 //! Finding and fetching names over mirrors in memory, and over mirrors that tell what isn't so.
 
 #[cfg(test)]
+mod broken;
+#[cfg(test)]
+mod chain;
+#[cfg(test)]
 mod cloned;
 #[cfg(test)]
-mod tests;
+mod counted;
+#[cfg(test)]
+mod drawn;
+#[cfg(test)]
+mod liars;
+#[cfg(test)]
+mod mirrors;
+#[cfg(test)]
+mod plain;
+#[cfg(test)]
+mod worlds;
