@@ -1,5 +1,9 @@
 //! Small worlds, drawn as tables.
 
+ghost use Rattle.std.specs.Prelude.{IsTrue};
+ghost use Rattle.id_groups.specs.Lists.{AreAllIn};
+ghost use Rattle.commit_graph.specs.World.{names_of, rows_of};
+
 use commit_graph::{Row, World};
 use id_groups::Name;
 use std::alloc::{AllocError, Global};
@@ -51,4 +55,29 @@ pub(crate) fn master(
     }
     assert!(rt; rows.len() < 100);
     World::of_master(alloc, rows)
+}
+
+/// Whether the world has commits of these names.
+fn has_all(world: &World, names: &[Name]) -> bool
+    ensures { IsTrue result → AreAllIn names.now (names_of (rows_of world.now)) }
+{
+    match names {
+        [] => true,
+        [name] => world.find(name).is_some(),
+        [name, other] => world.find(name).is_some() && world.find(other).is_some(),
+        _ => false,
+    }
+}
+
+/// Puts a commit behind the others, if its name is new and its parents are there, and says whether that was so.
+pub(crate) fn put(world: &mut World, drawn: Drawn) -> Result<bool, AllocError> {
+    let row = row(drawn);
+    if world.find(row.name()).is_some() || world.others_count() > 99 {
+        return Ok(false);
+    }
+    if !has_all(world, row.parents()) {
+        return Ok(false);
+    }
+    world.push_other(row)?;
+    Ok(true)
 }

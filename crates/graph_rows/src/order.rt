@@ -65,6 +65,18 @@ struct Case<'a> {
     order: &'a [u32],
 }
 
+/// Whether the heads of the case give its order.
+fn gives<const WIDTH: usize>(
+    alloc: Global,
+    drawn: &Drawn<'_, WIDTH>,
+    case: Case<'_>,
+) -> Result<bool, Fail>
+    requires { HaveOlderParents (λ k. slice_index_or drawn.now.rows.now k []) }
+{
+    let order = place(alloc, drawn, case.heads)?;
+    Ok(order.as_slice() == case.order)
+}
+
 fn check<R: Abort, const WIDTH: usize>(
     rt: &R,
     alloc: Global,
@@ -76,8 +88,7 @@ fn check<R: Abort, const WIDTH: usize>(
     assert!(rt; are_older(rows));
     let drawn = Drawn { rows };
     for case in cases {
-        let order = place(alloc, &drawn, case.heads)?;
-        assert_eq!(rt; order.as_slice(), case.order);
+        assert!(rt; gives(alloc, &drawn, *case)?);
     }
     Ok(())
 }

@@ -92,53 +92,70 @@ fn nested(alloc: Global, calls: u32) -> Result<Vec<u8>, AllocError> {
     Ok(text)
 }
 
-/// An expression of 255 nodes, unions of unions, with so many calls of one set around it.
-fn wide_in(alloc: Global, calls: u32) -> Result<Vec<u8>, AllocError> {
-    let mut text = Vec::from_slice(alloc, b"all")?;
-    for _doubling in 0..7 {
-        let mut twice = Vec::from_slice(alloc, b"union(")?;
-        twice.extend_from_slice(&text)?;
-        twice.push(b',')?;
-        twice.extend_from_slice(&text)?;
-        twice.push(b')')?;
-        text = twice;
+/// The union of an expression and itself.
+fn doubled(alloc: Global, text: &[u8]) -> Result<Vec<u8>, AllocError> {
+    let mut twice = Vec::from_slice(alloc, b"union(")?;
+    for part in [text, b",", text, b")"] {
+        twice.extend_from_slice(part)?;
     }
+    Ok(twice)
+}
+
+/// An expression with so many calls of one set around it.
+fn called(alloc: Global, text: &[u8], calls: u32) -> Result<Vec<u8>, AllocError> {
     let mut whole = Vec::new(alloc);
     for _call in 0..calls {
         whole.extend_from_slice(b"heads(")?;
     }
-    whole.extend_from_slice(&text)?;
+    whole.extend_from_slice(text)?;
     for _call in 0..calls {
         whole.push(b')')?;
     }
     Ok(whole)
 }
 
+/// An expression of 255 nodes, unions of unions, with so many calls of one set around it.
+fn wide_in(alloc: Global, calls: u32) -> Result<Vec<u8>, AllocError> {
+    let mut text = Vec::from_slice(alloc, b"all")?;
+    for _doubling in 0..7 {
+        text = doubled(alloc, &text)?;
+    }
+    called(alloc, &text, calls)
+}
+
 fn is_refused(alloc: Global, text: &[u8]) -> bool {
     matches!(Expr::parse(alloc, text), Err(ExprFault::Syntax))
 }
 
+/// The last bytes of the names in the expression, from left to right.
+fn last_bytes(alloc: Global, expr: &Expr) -> Result<Vec<u8>, AllocError> {
+    let mut last = Vec::new(alloc);
+    for k in 0..expr.name_count() {
+        last.push(expr.name_at(k).lend().bytes[19])?;
+    }
+    Ok(last)
+}
+
+/// The same of the expression that a text spells.
+fn named_in(alloc: Global, text: &[u8]) -> Result<Vec<u8>, Fail> {
+    let expr = Expr::parse(alloc, text)?;
+    Ok(last_bytes(alloc, &expr)?)
+}
+
 #[test]
 fn the_names_come_in_text_order(rt: HostRuntime) -> Result<(), Fail> {
-    for (text, last) in EXPRESSIONS {
-        let expr = Expr::parse(rt.alloc(), text)?;
-        assert_eq!(rt; expr.name_count() as usize, last.len());
-        for k in 0..expr.name_count() {
-            assert_eq!(rt;
-                Some(&expr.name_at(k).lend().bytes[19]),
-                last.get(k as usize)
-            );
-        }
+    for (text, last) in &EXPRESSIONS {
+        let found = named_in(rt.alloc(), text)?;
+        assert_eq!(rt; found.as_slice(), *last);
     }
     Ok(())
 }
 
 #[test]
-fn other_texts_are_refused(rt: HostRuntime) -> Result<(), Fail> {
-    for text in OTHERS {
+fn other_texts_are_refused(rt: HostRuntime) {
+    for text in &OTHERS {
         assert!(rt; is_refused(rt.alloc(), text));
     }
-    Ok(())
 }
 
 #[test]
@@ -159,6 +176,25 @@ fn an_expression_has_up_to_256_nodes(rt: HostRuntime) -> Result<(), Fail> {
     Ok(())
 }
 
+/// Whether the tree is that of `top(parents(others),7)`.
+fn is_greatest_of_parents(tree: &Tree) -> bool {
+    let Tree::Top(set, 7) = tree else {
+        return false;
+    };
+    let Tree::Of(Call::Parents, word) = &**set else {
+        return false;
+    };
+    matches!(&**word, Tree::Named(Word::Others))
+}
+
+/// Whether the tree is that of the text below, whose name this is.
+fn is_as_spelled(tree: &Tree, name: &Name) -> bool {
+    let Tree::OfTwo(PairCall::Only, first, second) = tree else {
+        return false;
+    };
+    matches!(&**second, Tree::Up(up, 3) if up == name) && is_greatest_of_parents(first)
+}
+
 #[test]
 fn a_tree_is_gone_over(rt: HostRuntime) -> Result<(), Fail> {
     let mut bytes = [0u8; 20];
@@ -168,16 +204,6 @@ fn a_tree_is_gone_over(rt: HostRuntime) -> Result<(), Fail> {
         rt.alloc(),
         b"only(top(parents(others),7),up(00000000000000000000000000000000000000A1,3))",
     )?;
-    let Tree::OfTwo(PairCall::Only, first, second) = expr.tree() else {
-        return Err(Fail::new("a call of two sets"));
-    };
-    assert!(rt; matches!(&**second, Tree::Up(up, 3) if *up == name));
-    let Tree::Top(set, 7) = &**first else {
-        return Err(Fail::new("the greatest of a set"));
-    };
-    let Tree::Of(Call::Parents, word) = &**set else {
-        return Err(Fail::new("a call of one set"));
-    };
-    assert!(rt; matches!(&**word, Tree::Named(Word::Others)));
+    assert!(rt; is_as_spelled(expr.tree(), &name));
     Ok(())
 }

@@ -1,14 +1,12 @@
 //! Small worlds, drawn as tables: what is found in them, and where walks lead.
 
-ghost use Rattle.std.specs.Prelude.{◌<◌, ◌^◌, IsSome, IsTrue, length};
-ghost use Rattle.id_groups.specs.Lists.{AreAllIn};
+ghost use Rattle.std.specs.Prelude.{◌<◌, ◌^◌, IsSome};
 ghost use Rattle.commit_graph.specs.Ids.{row_at};
-ghost use Rattle.commit_graph.specs.World.{names_of, rows_of};
 
-use crate::histories::{DAY, Drawn, master, name, row};
+use crate::histories::{DAY, Drawn, master, name, put};
 use commit_graph::{World, first_ancestor, reaches};
-use id_groups::{Id, Name};
-use std::alloc::AllocError;
+use id_groups::Id;
+use std::alloc::{AllocError, Global};
 use std::process::Abort;
 use std::test::Fail;
 
@@ -17,6 +15,18 @@ const TWICE: [Drawn; 3] = [[1, 0, 0], [2, 1, 0], [1, 2, 0]];
 const PARENT_LATER: [Drawn; 3] = [[1, 0, 0], [2, 3, 0], [3, 1, 0]];
 
 const OWN_PARENT: [Drawn; 1] = [[1, 1, 0]];
+
+/// Commits of the day, and their first ancestors so many steps away.
+const STEPS: [(u8, u64, Option<u8>); 8] = [
+    (6, 0, Some(6)),
+    (6, 1, Some(3)),
+    (6, 2, Some(2)),
+    (5, 2, Some(2)),
+    (5, 3, Some(1)),
+    (6, 4, None),
+    (1, 1, None),
+    (1, u64::MAX, None),
+];
 
 /// The id of a commit that is there.
 fn id(rt: &impl Abort, world: &World, last: u8) -> Id
@@ -28,82 +38,83 @@ fn id(rt: &impl Abort, world: &World, last: u8) -> Id
     }
 }
 
-/// Whether the world has commits of these names.
-fn has_all(world: &World, names: &[Name]) -> bool
-    ensures { IsTrue result → AreAllIn names.now (names_of (rows_of world.now)) }
-{
-    match names {
-        [] => true,
-        [name] => world.find(name).is_some(),
-        [name, other] => world.find(name).is_some() && world.find(other).is_some(),
-        _ => false,
-    }
-}
-
-/// Puts a commit behind the others, if its name is new and its parents are there, and says whether that was so.
-fn put(world: &mut World, drawn: Drawn) -> Result<bool, AllocError> {
-    let row = row(drawn);
-    if world.find(row.name()).is_some() || world.others_count() > 99 {
-        return Ok(false);
-    }
-    if !has_all(world, row.parents()) {
-        return Ok(false);
-    }
-    world.push_other(row)?;
-    Ok(true)
+/// Whether the commit is put behind the others, and then no second time.
+fn is_put_once(world: &mut World, drawn: Drawn) -> Result<bool, AllocError> {
+    Ok(put(world, drawn)? && !put(world, drawn)?)
 }
 
 #[test]
 fn a_day_is_put_behind_nothing(rt: HostRuntime) -> Result<(), Fail> {
     let mut world = World::empty(rt.alloc());
     for drawn in DAY {
-        assert!(rt; put(&mut world, drawn)?);
-        assert!(rt; !put(&mut world, drawn)?);
+        assert!(rt; is_put_once(&mut world, drawn)?);
     }
     assert!(rt; !put(&mut world, [7, 8, 0])?);
-    assert_eq!(rt; world.master_count(), 0);
-    assert_eq!(rt; world.others_count(), 6);
+    assert_eq!(rt; (world.master_count(), world.others_count()), (0, 6));
     assert_eq!(rt; world.find(&name(5)), Some(Id::other(4)));
     Ok(())
+}
+
+/// Whether each first commit reaches the second one is what stands beside them.
+fn check_reached(
+    rt: &impl Abort,
+    alloc: Global,
+    world: &World,
+    cases: &[(u8, u8, bool)],
+) -> Result<(), Fail> {
+    for (x, y, want) in cases {
+        let found = reaches(alloc, world, id(rt, world, *x), id(rt, world, *y))?;
+        assert_eq!(rt; found, *want, "from {x} to {y}");
+    }
+    Ok(())
+}
+
+/// The last byte of the name of the first ancestor so many steps from the commit.
+fn ancestor(rt: &impl Abort, world: &World, last: u8, steps: u64) -> Option<u8> {
+    let found = first_ancestor(world, id(rt, world, last), steps)?;
+    (1..7).find(|number| world.find(&name(*number)) == Some(found))
 }
 
 #[test]
 fn walks_lead_along_parents(rt: HostRuntime) -> Result<(), Fail> {
     let world = master(&rt, rt.alloc(), &DAY)?.expect(&rt, "the day is a history");
-    for (x, y, want) in [
-        (5, 2, true),
-        (5, 3, false),
-        (2, 5, false),
-        (6, 5, true),
-        (6, 1, true),
-        (4, 4, true),
-    ] {
-        let found = reaches(rt.alloc(), &world, id(&rt, &world, x), id(&rt, &world, y))?;
-        assert_eq!(rt; found, want, "from {x} to {y}");
-    }
-    for (x, n, want) in [(6, 0, 6), (6, 1, 3), (6, 2, 2), (5, 2, 2), (5, 3, 1)] {
-        let ancestor = first_ancestor(&world, id(&rt, &world, x), n);
-        assert_eq!(rt; ancestor, Some(id(&rt, &world, want)), "{n} steps from {x}");
-    }
-    for (x, n) in [(6, 4), (1, 1), (1, u64::MAX)] {
-        assert_eq!(rt;
-            first_ancestor(&world, id(&rt, &world, x), n),
-            None,
-            "{n} steps from {x}"
-        );
+    check_reached(
+        &rt,
+        rt.alloc(),
+        &world,
+        &[
+            (5, 2, true),
+            (5, 3, false),
+            (2, 5, false),
+            (6, 5, true),
+            (6, 1, true),
+            (4, 4, true),
+        ],
+    )?;
+    for (x, n, want) in STEPS {
+        assert_eq!(rt; ancestor(&rt, &world, x, n), want, "{n} steps from {x}");
     }
     Ok(())
+}
+
+/// Whether these commits are the rows of a master.
+fn is_history(rt: &impl Abort, alloc: Global, commits: &[Drawn]) -> Result<bool, AllocError> {
+    Ok(master(rt, alloc, commits)?.is_some())
 }
 
 #[test]
 fn masters_are_histories(rt: HostRuntime) -> Result<(), Fail> {
     let day = master(&rt, rt.alloc(), &DAY)?.expect(&rt, "the day is a history");
-    assert_eq!(rt; day.master_count(), 6);
-    assert_eq!(rt; day.others_count(), 0);
+    assert_eq!(rt; (day.master_count(), day.others_count()), (6, 0));
     assert_eq!(rt; day.find(&name(3)), Some(Id::master(2)));
     assert_eq!(rt; day.find(&name(7)), None);
-    assert!(rt; master(&rt, rt.alloc(), &TWICE)?.is_none());
-    assert!(rt; master(&rt, rt.alloc(), &PARENT_LATER)?.is_none());
-    assert!(rt; master(&rt, rt.alloc(), &OWN_PARENT)?.is_none());
+    Ok(())
+}
+
+#[test]
+fn other_rows_are_no_master(rt: HostRuntime) -> Result<(), Fail> {
+    for commits in [TWICE.as_slice(), &PARENT_LATER, &OWN_PARENT] {
+        assert!(rt; !is_history(&rt, rt.alloc(), commits)?);
+    }
     Ok(())
 }
