@@ -15,6 +15,8 @@ use std::io;
 use std::process::ExitCode;
 
 #[cfg(test)]
+mod look_ups;
+#[cfg(test)]
 mod tests;
 
 /// Why the cases weren't all run.
