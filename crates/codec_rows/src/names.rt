@@ -5,7 +5,7 @@ ghost use Rattle.std.specs.Prelude.{◌<◌, ◌^◌};
 use crate::payloads::MERGE;
 use batch_codec::BatchRef;
 use id_groups::{Id, NameRef};
-use name_map::{MapFault, NameMap};
+use name_map::{MapBuild, MapFault, NameMap};
 use std::alloc::{AllocError, Global};
 use std::test::Fail;
 
@@ -186,5 +186,88 @@ fn double_names_are_refused(rt: HostRuntime) -> Result<(), Fail> {
         );
     }
     assert!(rt; has(&map, &log, 1, 2, 1));
+    Ok(())
+}
+
+/// The names of new master ids and of other ids of payloads that come one behind the other, by their numbers, and how many
+/// known names there are with them; none where the names don't fit.
+const IN_TURN: [(&[(&[u16], &[u16])], Option<u64>); 8] = [
+    (&[], Some(0)),
+    (&[(&[9, 1], &[2]), (&[2, 3], &[]), (&[], &[4])], Some(4)),
+    (
+        &[(&[1], &[2, 3]), (&[], &[3, 2]), (&[3], &[2]), (&[2], &[])],
+        Some(3),
+    ),
+    (&[(&[1], &[]), (&[2, 1], &[])], None),
+    (&[(&[1], &[]), (&[2], &[3, 1])], None),
+    (&[(&[1], &[]), (&[2], &[2])], None),
+    (&[(&[1], &[]), (&[2], &[3, 3])], None),
+    (&[(&[1, 2, 1], &[])], None),
+];
+
+/// The names of these numbers.
+fn names_of(alloc: Global, numbers: &[u16]) -> Result<Vec<[u8; 20]>, AllocError> {
+    let mut names = Vec::new(alloc);
+    for number in numbers {
+        names.push(name_of(*number))?;
+    }
+    Ok(names)
+}
+
+/// How many known names a map has to which the payloads are added in turn.
+fn count_in_turn(alloc: Global, payloads: &[(&[u16], &[u16])]) -> Result<Option<u64>, AllocError> {
+    let mut map = NameMap::empty(alloc);
+    let mut log: Vec<u8> = Vec::new(alloc);
+    for (names, others) in payloads {
+        let names = names_of(alloc, names)?;
+        let others = names_of(alloc, others)?;
+        if !add_flush(alloc, &mut map, &mut log, &names, &others)? {
+            return Ok(None);
+        }
+    }
+    Ok(Some(map.known_below(1 << 60)))
+}
+
+/// Adds the payload behind the log's end to what becomes a map. Whether it is taken; `None` where it is no payload that may
+/// come there, or for want of memory.
+fn add_to_build(build: &mut MapBuild, log: &[u8], payload: &[u8]) -> Option<bool> {
+    let batch = BatchRef::read(payload)?;
+    if batch.before() != build.master_count() || log.len() >= 1 << 40 || payload.len() >= 1 << 40 {
+        return None;
+    }
+    match build.add_batch(&batch, log.len() as u64) {
+        Ok(()) => Some(true),
+        Err(MapFault::Double) => Some(false),
+        Err(MapFault::Memory) => None,
+    }
+}
+
+/// How many known names a map has that is made of the payloads at once.
+fn count_at_once(alloc: Global, payloads: &[(&[u16], &[u16])]) -> Result<Option<u64>, AllocError> {
+    let mut build = MapBuild::empty(alloc);
+    let mut log: Vec<u8> = Vec::new(alloc);
+    for (names, others) in payloads {
+        let names = names_of(alloc, names)?;
+        let others = names_of(alloc, others)?;
+        let payload = flush_bytes(alloc, build.master_count(), &names, &others)?;
+        if !add_to_build(&mut build, &log, &payload).ok_or(AllocError)? {
+            return Ok(None);
+        }
+        log.extend_from_slice(&payload)?;
+    }
+    match build.finish(&log) {
+        Ok(map) => Ok(Some(map.known_below(1 << 60))),
+        Err(MapFault::Double) => Ok(None),
+        Err(MapFault::Memory) => Err(AllocError),
+    }
+}
+
+#[test]
+fn a_map_at_once_is_that_in_turn(rt: HostRuntime) -> Result<(), Fail> {
+    let alloc = rt.alloc();
+    for (payloads, known) in &IN_TURN {
+        assert!(rt; count_in_turn(alloc, payloads)? == *known);
+        assert!(rt; count_at_once(alloc, payloads)? == *known);
+    }
     Ok(())
 }
