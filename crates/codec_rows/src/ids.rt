@@ -3,22 +3,32 @@
 use id_groups::{Id, Name};
 use std::test::Fail;
 
-#[test]
-fn names_are_read_in_either_case(rt: HostRuntime) -> Result<(), Fail> {
+/// Texts, and whether they are read as the name of 19 zeros and a1.
+const TEXTS: [(&[u8], bool); 5] = [
+    (b"00000000000000000000000000000000000000A1", true),
+    (b"00000000000000000000000000000000000000a1", true),
+    (b"0000000000000000000000000000000000000a1", false),
+    (b"00000000000000000000000000000000000000a1a", false),
+    (b"00000000000000000000000000000000000000g1", false),
+];
+
+fn name() -> Name {
     let mut bytes = [0u8; 20];
     bytes[19] = 0xa1;
-    let name = Name::from_bytes(bytes);
-    for (text, is_read) in [
-        (b"00000000000000000000000000000000000000A1".as_slice(), true),
-        (b"00000000000000000000000000000000000000a1", true),
-        (b"0000000000000000000000000000000000000a1", false),
-        (b"00000000000000000000000000000000000000a1a", false),
-        (b"00000000000000000000000000000000000000g1", false),
-    ] {
-        assert_eq!(rt; Name::from_hex(text) == Some(name), is_read);
+    Name::from_bytes(bytes)
+}
+
+fn is_read(text: &[u8]) -> bool {
+    Name::from_hex(text) == Some(name())
+}
+
+#[test]
+fn names_are_read_in_either_case(rt: HostRuntime) -> Result<(), Fail> {
+    for (text, wanted) in TEXTS {
+        assert!(rt; is_read(text) == wanted);
     }
     assert_eq!(rt;
-        name.to_hex().as_slice(),
+        name().to_hex().as_slice(),
         b"00000000000000000000000000000000000000a1".as_slice()
     );
     Ok(())

@@ -28,71 +28,125 @@ fn append(
     Ok(places)
 }
 
+/// The names of these fillers and numbers, one behind the other.
+fn names_of(alloc: Global, named: &[(u8, u64)]) -> Result<Vec<u8>, AllocError> {
+    let mut bytes = Vec::new(alloc);
+    for (filler, number) in named {
+        bytes.extend_from_slice(&name_of(*filler, *number))?;
+    }
+    Ok(bytes)
+}
+
+/// Whether the index takes names that stand at the places in bytes behind those of `held`. They stay out where one of them stands
+/// there twice.
+fn takes(
+    alloc: Global,
+    index: &mut NameIndex,
+    held: &[u8],
+    added: &[u8],
+    places: &[u64],
+) -> Result<bool, AllocError> {
+    let places = Vec::from_slice(alloc, places)?;
+    match index.insert(held, held.len() as u64, added, places) {
+        Ok(()) => Ok(true),
+        Err(IndexFault::Double) => Ok(false),
+        Err(IndexFault::Memory) => Err(AllocError),
+    }
+}
+
+/// The numbers of five names that have their first 19 bytes in common.
+const CLOSE: [(u8, u64); 5] = [(7, 5), (7, 4), (7, 3), (7, 2), (7, 1)];
+
+/// Whether the index over the bytes has the close names at their places, and no other.
+fn has_close(index: &NameIndex, bytes: &[u8]) -> bool {
+    for k in 0..5u64 {
+        if index.find(bytes, NameRef::over(&name_of(7, 5 - k))) != Some(20 * k) {
+            return false;
+        }
+    }
+    index.find(bytes, NameRef::over(&name_of(7, 6))).is_none()
+        && index.find(&[], NameRef::over(&name_of(7, 3))).is_none()
+}
+
 #[test]
 fn close_names_are_told_apart(rt: HostRuntime) -> Result<(), Fail> {
-    let alloc = rt.alloc();
-    let mut index = NameIndex::empty(alloc);
-    let mut bytes: Vec<u8> = Vec::new(alloc);
-    let mut places = Vec::new(alloc);
-    for k in 0..5u64 {
-        places.push(20 * k)?;
-        bytes.extend_from_slice(&name_of(7, 5 - k))?;
-    }
-    assert_eq!(rt; index.insert(&[], 0, &bytes, places), Ok(()));
-    for k in 0..5u64 {
-        assert_eq!(rt;
-            index.find(&bytes, NameRef::over(&name_of(7, 5 - k))),
-            Some(20 * k)
-        );
-    }
-    assert_eq!(rt; index.find(&bytes, NameRef::over(&name_of(7, 6))), None);
-    assert_eq!(rt; index.find(&[], NameRef::over(&name_of(7, 3))), None);
+    let bytes = names_of(rt.alloc(), &CLOSE)?;
+    let mut index = NameIndex::empty(rt.alloc());
+    let taken = takes(rt.alloc(), &mut index, &[], &bytes, &[0, 20, 40, 60, 80])?;
+    assert!(rt; taken && has_close(&index, &bytes));
     Ok(())
+}
+
+/// Names behind one of (7, 3) at 0, their places, and whether they are taken, in turn.
+type Behind = (&'static [(u8, u64)], &'static [u64], bool);
+
+const BEHIND: [Behind; 3] = [
+    (&[(7, 3)], &[20], false),
+    (&[(8, 1), (8, 1)], &[40, 20], false),
+    (&[(8, 1)], &[20], true),
+];
+
+/// Whether the names are taken behind that one, or not, as it is wanted.
+fn are_behind(
+    alloc: Global,
+    index: &mut NameIndex,
+    held: &[u8],
+    row: &Behind,
+) -> Result<bool, AllocError> {
+    let (named, places, wanted) = row;
+    let added = names_of(alloc, named)?;
+    let taken = takes(alloc, index, held, &added, places)?;
+    Ok(taken == *wanted && index.find(held, NameRef::over(&name_of(7, 3))) == Some(0))
 }
 
 #[test]
 fn a_name_stands_once(rt: HostRuntime) -> Result<(), Fail> {
-    let alloc = rt.alloc();
-    let mut index = NameIndex::empty(alloc);
     let held = name_of(7, 3);
-    assert_eq!(rt; index.insert(&[], 0, &held, vec![in alloc; 0]?), Ok(()));
-    assert_eq!(rt;
-        index.insert(&held, 20, &held, vec![in alloc; 20]?),
-        Err(IndexFault::Double)
-    );
-    let mut twice: Vec<u8> = Vec::new(alloc);
-    twice.extend_from_slice(&name_of(8, 1))?;
-    twice.extend_from_slice(&name_of(8, 1))?;
-    assert_eq!(rt;
-        index.insert(&held, 20, &twice, vec![in alloc; 40, 20]?),
-        Err(IndexFault::Double)
-    );
-    assert_eq!(rt; index.find(&held, NameRef::over(&held)), Some(0));
-    assert_eq!(rt;
-        index.insert(&held, 20, &name_of(8, 1), vec![in alloc; 20]?),
-        Ok(())
-    );
+    let mut index = NameIndex::empty(rt.alloc());
+    assert!(rt; takes(rt.alloc(), &mut index, &[], &held, &[0])?);
+    for row in &BEHIND {
+        assert!(rt; are_behind(rt.alloc(), &mut index, &held, row)?);
+    }
     Ok(())
+}
+
+/// Adds a hundred times up to 22 names behind those in the bytes, and says how many there are then; `None` where a name is held
+/// already.
+fn fill(
+    alloc: Global,
+    index: &mut NameIndex,
+    bytes: &mut Vec<u8>,
+) -> Result<Option<u64>, AllocError> {
+    let mut total = 0u64;
+    for k in 0..100u64 {
+        let count = k * 37 % 23;
+        let places = append(alloc, bytes, total, count)?;
+        match index.insert(bytes, 0, bytes, places) {
+            Ok(()) => total = total.wrapping_add(count),
+            Err(IndexFault::Double) => return Ok(None),
+            Err(IndexFault::Memory) => return Err(AllocError),
+        }
+    }
+    Ok(Some(total))
+}
+
+/// Whether the index has the first names of so many numbers at their places.
+fn has_first(index: &NameIndex, bytes: &[u8], total: u64) -> bool {
+    for step in 0..total {
+        let name = name_of(7, step.wrapping_mul(0x9e3779b97f4a7c15));
+        if index.find(bytes, NameRef::over(&name)) != Some(step.wrapping_mul(20)) {
+            return false;
+        }
+    }
+    true
 }
 
 #[test]
 fn all_are_found_behind_many_inserts(rt: HostRuntime) -> Result<(), Fail> {
-    let alloc = rt.alloc();
-    let mut index = NameIndex::empty(alloc);
-    let mut bytes: Vec<u8> = Vec::new(alloc);
-    let mut total = 0u64;
-    for k in 0..100u64 {
-        let count = k * 37 % 23;
-        let places = append(alloc, &mut bytes, total, count)?;
-        assert_eq!(rt; index.insert(&bytes, 0, &bytes, places), Ok(()));
-        total = total.wrapping_add(count);
-    }
-    for step in 0..total {
-        let name = name_of(7, step.wrapping_mul(0x9e3779b97f4a7c15));
-        assert_eq!(rt;
-            index.find(&bytes, NameRef::over(&name)),
-            Some(step.wrapping_mul(20))
-        );
-    }
+    let mut index = NameIndex::empty(rt.alloc());
+    let mut bytes: Vec<u8> = Vec::new(rt.alloc());
+    let total = fill(rt.alloc(), &mut index, &mut bytes)?;
+    assert_eq!(rt; total, Some(1082));
+    assert!(rt; has_first(&index, &bytes, 1082));
     Ok(())
 }

@@ -2,14 +2,45 @@
 
 ghost use Rattle.std.specs.Prelude.{◌<◌};
 
-use line_io::{
-    Line, LineFault, Lines, MemorySink, MemorySource, Sink, SinkFault, Source, StdSource,
-};
+use line_io::{Line, LineFault, Lines, MemorySink, MemorySource, Sink, Source, StdSource};
 use std::alloc::{AllocError, Global};
 use std::test::Fail;
 
-/// The lines of an input: `|` behind each text, `!` for a line that is too long, and then how the input ends: `.` at
-/// its end, `>` behind the limit, `x` at a fault.
+/// Appends what comes next: `|` behind a text, `!` for a line that is too long, or how the input ends: `.` at its end, `>` behind
+/// the limit, `x` at a fault. Whether it goes on.
+fn spell_next(
+    lines: &mut Lines,
+    source: &mut MemorySource,
+    spelled: &mut Vec<u8>,
+) -> Result<bool, AllocError> {
+    let (mark, goes_on) = match lines.next(source) {
+        Ok(Some(Line::Text)) => (b'|', true),
+        Ok(Some(Line::TooLong)) => (b'!', true),
+        Ok(None) => (b'.', false),
+        Err(LineFault::Limit) => (b'>', false),
+        Err(LineFault::Read) => (b'x', false),
+    };
+    if mark == b'|' {
+        spelled.extend_from_slice(lines.text())?;
+    }
+    spelled.push(mark)?;
+    Ok(goes_on)
+}
+
+fn spell_all(
+    lines: &mut Lines,
+    source: &mut MemorySource,
+    spelled: &mut Vec<u8>,
+) -> Result<(), AllocError> {
+    for _turn in 0..9u32 {
+        if !spell_next(lines, source, spelled)? {
+            break;
+        }
+    }
+    Ok(())
+}
+
+/// The lines of an input, and how it ends.
 fn spelled(
     alloc: Global,
     input: &[u8],
@@ -22,93 +53,116 @@ fn spelled(
     let mut source = MemorySource::new(alloc, input, cut, fails)?;
     let mut lines = Lines::new(alloc, limit)?;
     let mut spelled = Vec::new(alloc);
-    for _turn in 0..9u32 {
-        match lines.next(&mut source) {
-            Ok(Some(Line::Text)) => {
-                spelled.extend_from_slice(lines.text())?;
-                spelled.push(b'|')?;
-            }
-            Ok(Some(Line::TooLong)) => spelled.push(b'!')?,
-            Ok(None) => {
-                spelled.push(b'.')?;
-                return Ok(spelled);
-            }
-            Err(LineFault::Limit) => {
-                spelled.push(b'>')?;
-                return Ok(spelled);
-            }
-            Err(LineFault::Read) => {
-                spelled.push(b'x')?;
-                return Ok(spelled);
-            }
-        }
-    }
+    spell_all(&mut lines, &mut source, &mut spelled)?;
     Ok(spelled)
 }
 
+/// Whether the input has these lines and this end.
+fn has_lines(
+    alloc: Global,
+    input: &[u8],
+    limit: u64,
+    cut: u32,
+    fails: &[u64],
+    want: &[u8],
+) -> Result<bool, AllocError>
+    requires { 0 < cut }
+{
+    let lines = spelled(alloc, input, limit, cut, fails)?;
+    Ok(lines.as_slice() == want)
+}
+
+/// Inputs, limits, and the lines with the end.
+const LIMITED: [(&[u8], u64, &[u8]); 10] = [
+    (b"", 0, b"."),
+    (b"a\r\n\nb\r\r\nc\n", 99, b"a||b\r|c|."),
+    (b"a\nb", 99, b"a|b|."),
+    (b"a\nb\r", 99, b"a|b\r|."),
+    (b"a\nbc", 4, b"a|bc|."),
+    (b"a\nbc", 3, b"a|>"),
+    (b"a\nb\n", 3, b"a|>"),
+    (b"a\nb\n", 4, b"a|b|."),
+    (b"a\nb\nc", 4, b"a|b|>"),
+    (b"abcdef", 3, b">"),
+];
+
 #[test]
 fn lines_within_the_limit(rt: HostRuntime) -> Result<(), Fail> {
-    for (input, limit, want) in [
-        (b"".as_slice(), 0, b".".as_slice()),
-        (b"a\r\n\nb\r\r\nc\n", 99, b"a||b\r|c|."),
-        (b"a\nb", 99, b"a|b|."),
-        (b"a\nb\r", 99, b"a|b\r|."),
-        (b"a\nbc", 4, b"a|bc|."),
-        (b"a\nbc", 3, b"a|>"),
-        (b"a\nb\n", 3, b"a|>"),
-        (b"a\nb\n", 4, b"a|b|."),
-        (b"a\nb\nc", 4, b"a|b|>"),
-        (b"abcdef", 3, b">"),
-    ] {
+    for (input, limit, want) in LIMITED {
         for cut in [1, 2, 99] {
-            let lines = spelled(rt.alloc(), input, limit, cut, &[])?;
-            assert_eq!(rt; lines.as_slice(), want, "at {cut}");
+            assert!(rt;
+                has_lines(rt.alloc(), input, limit, cut, &[], want)?,
+                "at {cut}"
+            );
         }
     }
     Ok(())
+}
+
+/// Lines of so many bytes with an end behind them, and whether they are texts.
+const LONG: [(usize, &[u8], bool); 8] = [
+    (16_384, b"", true),
+    (16_384, b"\n", true),
+    (16_384, b"\r\n", true),
+    (16_384, b"\r", false),
+    (16_385, b"", false),
+    (16_385, b"\n", false),
+    (16_385, b"\r\n", false),
+    (70_000, b"\n", false),
+];
+
+/// Whether an input of so many bytes with this end is one text, or else one line that is too long.
+fn is_long(
+    alloc: Global,
+    count: usize,
+    end: &[u8],
+    cut: u32,
+    is_text: bool,
+) -> Result<bool, AllocError>
+    requires { 0 < cut }
+{
+    let mut input = vec![in alloc; b'a'; count]?;
+    input.extend_from_slice(end)?;
+    let lines = spelled(alloc, &input, 99_999, cut, &[])?;
+    Ok(lines.len() == if is_text { 16_386 } else { 2 })
 }
 
 #[test]
 fn a_line_has_at_most_16384_bytes(rt: HostRuntime) -> Result<(), Fail> {
-    for (count, end, is_text) in [
-        (16_384, b"".as_slice(), true),
-        (16_384, b"\n", true),
-        (16_384, b"\r\n", true),
-        (16_384, b"\r", false),
-        (16_385, b"", false),
-        (16_385, b"\n", false),
-        (16_385, b"\r\n", false),
-        (70_000, b"\n", false),
-    ] {
-        let mut input = vec![in rt.alloc(); b'a'; count]?;
-        input.extend_from_slice(end)?;
+    for (count, end, is_text) in LONG {
         for cut in [1, 99_999] {
-            let lines = spelled(rt.alloc(), &input, 99_999, cut, &[])?;
-            assert_eq!(rt; lines.len(), if is_text { 16_386 } else { 2 }, "at {cut}");
+            assert!(rt; is_long(rt.alloc(), count, end, cut, is_text)?, "at {cut}");
         }
     }
     Ok(())
 }
 
+/// How many bytes a call gives at most, which calls fail, and the lines of `a`, `b` and `cd` with the end.
+const FAILING: [(u32, &[u64], &[u8]); 3] = [
+    (2, &[1], b"x"),
+    (2, &[3], b"a|b|x"),
+    (99, &[3], b"a|b|cd|."),
+];
+
 #[test]
 fn a_source_fails_at_the_calls_that_are_named(rt: HostRuntime) -> Result<(), Fail> {
-    for (cut, fails, want) in [
-        (2, [1u64].as_slice(), b"x".as_slice()),
-        (2, &[3], b"a|b|x"),
-        (99, &[3], b"a|b|cd|."),
-    ] {
-        let lines = spelled(rt.alloc(), b"a\nb\ncd", 99, cut, fails)?;
-        assert_eq!(rt; lines.as_slice(), want, "at {cut}");
+    for (cut, fails, want) in FAILING {
+        assert!(rt; cut > 0 && has_lines(rt.alloc(), b"a\nb\ncd", 99, cut, fails, want)?);
     }
     Ok(())
+}
+
+/// Whether the sink takes the text.
+fn is_put(sink: &mut MemorySink, text: &[u8]) -> bool {
+    sink.put(text).is_ok()
 }
 
 #[test]
 fn a_sink_fails_at_the_calls_that_are_named(rt: HostRuntime) -> Result<(), Fail> {
     let mut sink = MemorySink::new(rt.alloc(), &[2])?;
-    assert_eq!(rt; sink.put(b"abc"), Ok(()));
-    assert_eq!(rt; sink.put(b"defgh"), Err(SinkFault));
-    assert_eq!(rt; sink.put(b"ij"), Ok(()));
+    assert!(rt;
+        is_put(&mut sink, b"abc") && !is_put(&mut sink, b"defgh") && is_put(&mut sink, b"ij")
+    );
     assert_eq!(rt; sink.bytes(), b"abcdeij".as_slice());
     Ok(())
 }

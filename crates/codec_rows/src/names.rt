@@ -29,35 +29,30 @@ fn append_count(out: &mut Vec<u8>, count: usize) -> Result<(), AllocError> {
     out.extend_from_slice(&(count as u64).to_be_bytes()[4..])
 }
 
-/// A flush of new master ids with these names, and of other ids with those.
-fn flush_bytes(
-    alloc: Global,
-    before: u64,
-    names: &[[u8; 20]],
-    others: &[[u8; 20]],
-) -> Result<Vec<u8>, AllocError> {
+/// The segment and the names of new master ids from `before` on.
+fn append_masters(out: &mut Vec<u8>, before: u64, names: &[[u8; 20]]) -> Result<(), AllocError> {
     let after = before.wrapping_add(names.len() as u64);
-    let mut out = Vec::new(alloc);
-    out.extend_from_slice(&[1, 1])?;
-    out.extend_from_slice(&before.to_be_bytes())?;
-    out.extend_from_slice(&after.to_be_bytes())?;
-    append_count(&mut out, names.len().min(1))?;
+    append_count(out, names.len().min(1))?;
     if !names.is_empty() {
-        append_segment(&mut out, after.wrapping_sub(1), names.len())?;
+        append_segment(out, after.wrapping_sub(1), names.len())?;
     }
-    append_count(&mut out, names.len())?;
+    append_count(out, names.len())?;
     let mut id = before;
     for name in names {
         out.extend_from_slice(&id.to_be_bytes())?;
         out.extend_from_slice(name)?;
         id = id.wrapping_add(1);
     }
-    out.extend_from_slice(&[0, 0])?;
-    append_count(&mut out, others.len())?;
-    append_count(&mut out, others.len().min(1))?;
+    Ok(())
+}
+
+/// The segment and the names of other ids.
+fn append_others(out: &mut Vec<u8>, others: &[[u8; 20]]) -> Result<(), AllocError> {
+    append_count(out, others.len())?;
+    append_count(out, others.len().min(1))?;
     if !others.is_empty() {
         append_segment(
-            &mut out,
+            out,
             (1u64 << 56).wrapping_add(others.len() as u64 - 1),
             others.len(),
         )?;
@@ -65,6 +60,33 @@ fn flush_bytes(
     for name in others {
         out.extend_from_slice(name)?;
     }
+    Ok(())
+}
+
+/// Appends a flush of new master ids with these names, and of other ids with those.
+fn append_flush(
+    out: &mut Vec<u8>,
+    before: u64,
+    names: &[[u8; 20]],
+    others: &[[u8; 20]],
+) -> Result<(), AllocError> {
+    out.extend_from_slice(&[1, 1])?;
+    out.extend_from_slice(&before.to_be_bytes())?;
+    out.extend_from_slice(&before.wrapping_add(names.len() as u64).to_be_bytes())?;
+    append_masters(out, before, names)?;
+    out.extend_from_slice(&[0, 0])?;
+    append_others(out, others)
+}
+
+/// A flush of new master ids with these names, and of other ids with those.
+fn flush_bytes(
+    alloc: Global,
+    before: u64,
+    names: &[[u8; 20]],
+    others: &[[u8; 20]],
+) -> Result<Vec<u8>, AllocError> {
+    let mut out = Vec::new(alloc);
+    append_flush(&mut out, before, names, others)?;
     Ok(out)
 }
 
@@ -82,6 +104,15 @@ fn add(map: &mut NameMap, log: &[u8], payload: &[u8]) -> Option<bool> {
     }
 }
 
+/// Adds the payload to the map and the log, if its names are distinct, and says whether they are.
+fn add_payload(map: &mut NameMap, log: &mut Vec<u8>, payload: &[u8]) -> Result<bool, AllocError> {
+    let distinct = add(map, log, payload).ok_or(AllocError)?;
+    if distinct {
+        log.extend_from_slice(payload)?;
+    }
+    Ok(distinct)
+}
+
 /// Adds a flush of these names to the map and the log. Whether the names are distinct.
 fn add_flush(
     alloc: Global,
@@ -91,11 +122,7 @@ fn add_flush(
     others: &[[u8; 20]],
 ) -> Result<bool, AllocError> {
     let payload = flush_bytes(alloc, map.master_count(), names, others)?;
-    let distinct = add(map, log, &payload).ok_or(AllocError)?;
-    if distinct {
-        log.extend_from_slice(&payload)?;
-    }
-    Ok(distinct)
+    add_payload(map, log, &payload)
 }
 
 /// Whether the id has the name of this number, is found by it, and has so many known ids below it.
@@ -115,83 +142,140 @@ fn has(map: &NameMap, log: &[u8], id: u64, number: u16, below: u64) -> bool
         && map.known_below(id) == below
 }
 
-#[test]
-fn names_are_found_both_ways(rt: HostRuntime) -> Result<(), Fail> {
-    let alloc = rt.alloc();
-    let mut map = NameMap::empty(alloc);
-    let mut log: Vec<u8> = Vec::new(alloc);
-    let mut number = 9_999u16;
-    for batch in 0..100u16 {
-        let mut names: Vec<[u8; 20]> = Vec::new(alloc);
-        for _name in 0..batch * 7 % 11 {
-            names.push(name_of(number))?;
-            number = number.wrapping_sub(1);
-        }
-        let others = [name_of(30_000 + batch)];
-        assert!(rt; add_flush(alloc, &mut map, &mut log, &names, &others)?);
+/// So many names, of the numbers from `first` down.
+fn names_down(alloc: Global, first: u16, count: u16) -> Result<Vec<[u8; 20]>, AllocError> {
+    let mut names = Vec::new(alloc);
+    for k in 0..count {
+        names.push(name_of(first.wrapping_sub(k)))?;
     }
+    Ok(names)
+}
+
+/// Adds so many names from the number `first` down as master ids, and that of `other` as another id. Whether they are distinct.
+fn add_down(
+    alloc: Global,
+    map: &mut NameMap,
+    log: &mut Vec<u8>,
+    first: u16,
+    count: u16,
+    other: u16,
+) -> Result<bool, AllocError> {
+    let names = names_down(alloc, first, count)?;
+    add_flush(alloc, map, log, &names, &[name_of(other)])
+}
+
+/// Adds a hundred flushes: 495 master ids, whose names go down from that of 9,999, and another id in each, of a name from that of
+/// 30,000 on. Whether the names are distinct.
+fn add_hundred(alloc: Global, map: &mut NameMap, log: &mut Vec<u8>) -> Result<bool, AllocError> {
+    let mut first = 9_999u16;
+    for batch in 0..100u16 {
+        let count = batch * 7 % 11;
+        if !add_down(alloc, map, log, first, count, 30_000 + batch)? {
+            return Ok(false);
+        }
+        first = first.wrapping_sub(count);
+    }
+    Ok(true)
+}
+
+/// Whether the map has the names of those master ids, and no others.
+fn has_hundred(map: &NameMap, log: &[u8]) -> bool {
     for place in 0..495u16 {
         let id = u64::from(place);
-        assert!(rt; has(&map, &log, id, 9_999 - place, id));
+        if !has(map, log, id, 9_999 - place, id) {
+            return false;
+        }
     }
-    assert!(rt; map.name(&log, Id::master(495)).is_none());
-    assert!(rt;
-        map.id(&log, NameRef::over(&name_of(30_099)), 1 << 60)
+    map.name(log, Id::master(495)).is_none()
+        && map
+            .id(log, NameRef::over(&name_of(30_099)), 1 << 60)
             .is_none()
-    );
-    assert!(rt; map.known_below(1 << 60) == 495);
+        && map.known_below(1 << 60) == 495
+}
+
+#[test]
+fn names_are_found_both_ways(rt: HostRuntime) -> Result<(), Fail> {
+    let mut map = NameMap::empty(rt.alloc());
+    let mut log: Vec<u8> = Vec::new(rt.alloc());
+    assert!(rt; add_hundred(rt.alloc(), &mut map, &mut log)?);
+    assert!(rt; has_hundred(&map, &log));
     Ok(())
+}
+
+/// Whether the map has the names of a clone's ids 1 to 3 and of the id 4 behind it, and none of the id 0.
+fn has_clone(map: &NameMap, log: &[u8]) -> bool {
+    map.name(log, Id::master(0)).is_none()
+        && has(map, log, 1, 0xb1, 0)
+        && has(map, log, 2, 0xc1, 1)
+        && has(map, log, 3, 0xd1, 2)
+        && has(map, log, 4, 5, 3)
 }
 
 #[test]
 fn a_clone_leaves_ids_out(rt: HostRuntime) -> Result<(), Fail> {
-    let alloc = rt.alloc();
-    let mut map = NameMap::empty(alloc);
-    let mut log: Vec<u8> = Vec::new(alloc);
-    assert!(rt; add(&mut map, &log, &MERGE) == Some(true));
-    log.extend_from_slice(&MERGE)?;
-    assert!(rt; add_flush(alloc, &mut map, &mut log, &[name_of(5)], &[])?);
-    assert!(rt; map.name(&log, Id::master(0)).is_none());
-    assert!(rt; has(&map, &log, 1, 0xb1, 0));
-    assert!(rt; has(&map, &log, 2, 0xc1, 1));
-    assert!(rt; has(&map, &log, 3, 0xd1, 2));
-    assert!(rt; has(&map, &log, 4, 5, 3));
+    let mut map = NameMap::empty(rt.alloc());
+    let mut log: Vec<u8> = Vec::new(rt.alloc());
+    assert!(rt; add_payload(&mut map, &mut log, &MERGE)?);
+    assert!(rt; add_flush(rt.alloc(), &mut map, &mut log, &[name_of(5)], &[])?);
+    assert!(rt; has_clone(&map, &log));
     Ok(())
+}
+
+/// The names of these numbers.
+fn names_of(alloc: Global, numbers: &[u16]) -> Result<Vec<[u8; 20]>, AllocError> {
+    let mut names = Vec::new(alloc);
+    for number in numbers {
+        names.push(name_of(*number))?;
+    }
+    Ok(names)
+}
+
+/// The numbers of a flush's master names, and of its other names.
+type Numbers = (&'static [u16], &'static [u16]);
+
+/// A flush of the names of these numbers over so many master ids.
+fn flush_of(alloc: Global, before: u64, numbers: &Numbers) -> Result<Vec<u8>, AllocError> {
+    let (names, others) = numbers;
+    let names = names_of(alloc, names)?;
+    let others = names_of(alloc, others)?;
+    flush_bytes(alloc, before, &names, &others)
+}
+
+/// Flushes that are tried in turn, each over what was taken before, and whether their names are distinct from those and one another.
+const TRIED: [(Numbers, bool); 8] = [
+    ((&[1, 1], &[]), false),
+    ((&[1], &[1]), false),
+    ((&[], &[1, 1]), false),
+    ((&[1], &[2, 2]), false),
+    ((&[1], &[2]), true),
+    ((&[1], &[]), false),
+    ((&[], &[1]), false),
+    ((&[2], &[]), true),
+];
+
+/// Tries these flushes. Whether those are taken that may be.
+fn are_told_apart(alloc: Global, map: &mut NameMap, log: &mut Vec<u8>) -> Result<bool, AllocError> {
+    for (numbers, distinct) in &TRIED {
+        let payload = flush_of(alloc, map.master_count(), numbers)?;
+        if add_payload(map, log, &payload)? != *distinct {
+            return Ok(false);
+        }
+    }
+    Ok(true)
 }
 
 #[test]
 fn double_names_are_refused(rt: HostRuntime) -> Result<(), Fail> {
-    let alloc = rt.alloc();
-    let mut map = NameMap::empty(alloc);
-    let mut log: Vec<u8> = Vec::new(alloc);
-    let one = [name_of(1)];
-    let two = [name_of(2)];
-    let one_twice = [name_of(1), name_of(1)];
-    let two_twice = [name_of(2), name_of(2)];
-    let none = [];
-    // in turn, each over what was taken before
-    for (names, others, distinct) in [
-        (one_twice.as_slice(), none.as_slice(), false),
-        (&one, &one, false),
-        (&none, &one_twice, false),
-        (&one, &two_twice, false),
-        (&one, &two, true),
-        (&one, &none, false),
-        (&none, &one, false),
-        (&two, &none, true),
-    ] {
-        assert_eq!(rt;
-            add_flush(alloc, &mut map, &mut log, names, others)?,
-            distinct
-        );
-    }
+    let mut map = NameMap::empty(rt.alloc());
+    let mut log: Vec<u8> = Vec::new(rt.alloc());
+    assert!(rt; are_told_apart(rt.alloc(), &mut map, &mut log)?);
     assert!(rt; has(&map, &log, 1, 2, 1));
     Ok(())
 }
 
 /// The names of new master ids and of other ids of payloads that come one behind the other, by their numbers, and how many
 /// known names there are with them; none where the names don't fit.
-const IN_TURN: [(&[(&[u16], &[u16])], Option<u64>); 8] = [
+const IN_TURN: [(&[Numbers], Option<u64>); 8] = [
     (&[], Some(0)),
     (&[(&[9, 1], &[2]), (&[2, 3], &[]), (&[], &[4])], Some(4)),
     (
@@ -205,25 +289,28 @@ const IN_TURN: [(&[(&[u16], &[u16])], Option<u64>); 8] = [
     (&[(&[1, 2, 1], &[])], None),
 ];
 
-/// The names of these numbers.
-fn names_of(alloc: Global, numbers: &[u16]) -> Result<Vec<[u8; 20]>, AllocError> {
-    let mut names = Vec::new(alloc);
-    for number in numbers {
-        names.push(name_of(*number))?;
+/// Adds the flushes to the map and the log in turn, up to one whose names aren't distinct from those before. Whether there is none.
+fn add_all(
+    alloc: Global,
+    map: &mut NameMap,
+    log: &mut Vec<u8>,
+    flushes: &[Numbers],
+) -> Result<bool, AllocError> {
+    for numbers in flushes {
+        let payload = flush_of(alloc, map.master_count(), numbers)?;
+        if !add_payload(map, log, &payload)? {
+            return Ok(false);
+        }
     }
-    Ok(names)
+    Ok(true)
 }
 
-/// How many known names a map has to which the payloads are added in turn.
-fn count_in_turn(alloc: Global, payloads: &[(&[u16], &[u16])]) -> Result<Option<u64>, AllocError> {
+/// How many known names a map has to which the flushes are added in turn.
+fn count_in_turn(alloc: Global, flushes: &[Numbers]) -> Result<Option<u64>, AllocError> {
     let mut map = NameMap::empty(alloc);
     let mut log: Vec<u8> = Vec::new(alloc);
-    for (names, others) in payloads {
-        let names = names_of(alloc, names)?;
-        let others = names_of(alloc, others)?;
-        if !add_flush(alloc, &mut map, &mut log, &names, &others)? {
-            return Ok(None);
-        }
+    if !add_all(alloc, &mut map, &mut log, flushes)? {
+        return Ok(None);
     }
     Ok(Some(map.known_below(1 << 60)))
 }
@@ -242,32 +329,57 @@ fn add_to_build(build: &mut MapBuild, log: &[u8], payload: &[u8]) -> Option<bool
     }
 }
 
-/// How many known names a map has that is made of the payloads at once.
-fn count_at_once(alloc: Global, payloads: &[(&[u16], &[u16])]) -> Result<Option<u64>, AllocError> {
-    let mut build = MapBuild::empty(alloc);
-    let mut log: Vec<u8> = Vec::new(alloc);
-    for (names, others) in payloads {
-        let names = names_of(alloc, names)?;
-        let others = names_of(alloc, others)?;
-        let payload = flush_bytes(alloc, build.master_count(), &names, &others)?;
-        if !add_to_build(&mut build, &log, &payload).ok_or(AllocError)? {
-            return Ok(None);
+/// Adds the payload to the log and to what becomes a map, and says whether it is taken.
+fn build_payload(
+    build: &mut MapBuild,
+    log: &mut Vec<u8>,
+    payload: &[u8],
+) -> Result<bool, AllocError> {
+    let taken = add_to_build(build, log, payload).ok_or(AllocError)?;
+    log.extend_from_slice(payload)?;
+    Ok(taken)
+}
+
+/// Adds the flushes to the log and to what becomes a map, up to one that isn't taken. Whether there is none.
+fn build_all(
+    alloc: Global,
+    build: &mut MapBuild,
+    log: &mut Vec<u8>,
+    flushes: &[Numbers],
+) -> Result<bool, AllocError> {
+    for numbers in flushes {
+        let payload = flush_of(alloc, build.master_count(), numbers)?;
+        if !build_payload(build, log, &payload)? {
+            return Ok(false);
         }
-        log.extend_from_slice(&payload)?;
     }
-    match build.finish(&log) {
+    Ok(true)
+}
+
+/// How many known names the map has that becomes of this, where its names are distinct.
+fn finished(build: MapBuild, log: &[u8]) -> Result<Option<u64>, AllocError> {
+    match build.finish(log) {
         Ok(map) => Ok(Some(map.known_below(1 << 60))),
         Err(MapFault::Double) => Ok(None),
         Err(MapFault::Memory) => Err(AllocError),
     }
 }
 
+/// How many known names a map has that is made of the flushes at once.
+fn count_at_once(alloc: Global, flushes: &[Numbers]) -> Result<Option<u64>, AllocError> {
+    let mut build = MapBuild::empty(alloc);
+    let mut log: Vec<u8> = Vec::new(alloc);
+    if !build_all(alloc, &mut build, &mut log, flushes)? {
+        return Ok(None);
+    }
+    finished(build, &log)
+}
+
 #[test]
 fn a_map_at_once_is_that_in_turn(rt: HostRuntime) -> Result<(), Fail> {
-    let alloc = rt.alloc();
-    for (payloads, known) in &IN_TURN {
-        assert!(rt; count_in_turn(alloc, payloads)? == *known);
-        assert!(rt; count_at_once(alloc, payloads)? == *known);
+    for (flushes, known) in &IN_TURN {
+        assert!(rt; count_in_turn(rt.alloc(), flushes)? == *known);
+        assert!(rt; count_at_once(rt.alloc(), flushes)? == *known);
     }
     Ok(())
 }

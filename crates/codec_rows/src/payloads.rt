@@ -1,6 +1,9 @@
 //! The bytes of payloads, both ways, and each rule broken alone.
 
-ghost use Rattle.std.specs.Prelude.{◌≡◌, ◌++◌, ◌∷◌, [], replicate};
+ghost use Rattle.std.specs.Prelude.{◌≡◌, ◌++◌, ◌∷◌, [], OnOk, length, replicate};
+ghost use Rattle.batch_codec.specs.Building.{IsBuilt, empty_payload};
+ghost use Rattle.batch_codec.specs.Grammar.{IsPayload};
+ghost use Rattle.batch_codec.specs.Payload.{Payload};
 
 use batch_codec::{BatchBuild, BatchRef};
 use id_groups::{Id, Name};
@@ -126,39 +129,66 @@ fn name(last: u8) -> Name
     Name::from_bytes(bytes)
 }
 
-#[test]
-fn a_flush_of_others_is_built(rt: HostRuntime) -> Result<(), Fail> {
-    let mut build = BatchBuild::new(rt.alloc(), 1, 0, 0)?;
+/// Puts the parts of `CHAIN` into a payload without any.
+fn put_chain(build: &mut BatchBuild) -> Result<(), AllocError>
+    requires { IsBuilt build.old (empty_payload 1 0 0) }
+    ensures { OnOk result ((p : Payload) × IsPayload p × IsBuilt build.new p × (build.new.other_count ≡ length p.other_names)) }
+{
     build.other_count(2)?;
     build.other_segment(Id::other(0), Id::other(1), &[])?;
     build.other_name(&name(0xa1))?;
     build.other_name(&name(0xb1))?;
+    Ok(())
+}
+
+#[test]
+fn a_flush_of_others_is_built(rt: HostRuntime) -> Result<(), Fail> {
+    let mut build = BatchBuild::new(rt.alloc(), 1, 0, 0)?;
+    put_chain(&mut build)?;
     let bytes = build.finish()?;
     assert_eq!(rt; bytes.as_slice(), CHAIN.as_slice());
     Ok(())
 }
 
-#[test]
-fn a_flush_is_built(rt: HostRuntime) -> Result<(), Fail> {
-    let mut build = BatchBuild::new(rt.alloc(), 1, 0, 2)?;
+/// Puts the parts of `FORK` into a payload without any.
+fn put_fork(build: &mut BatchBuild) -> Result<(), AllocError>
+    requires { IsBuilt build.old (empty_payload 1 0 2) }
+    ensures { OnOk result ((p : Payload) × IsPayload p × IsBuilt build.new p × (build.new.other_count ≡ length p.other_names)) }
+{
     build.segment(Id::master(0), Id::master(1), &[])?;
     build.known(Id::master(0), &name(0xa1))?;
     build.known(Id::master(1), &name(0xc1))?;
     build.other_count(1)?;
     build.other_segment(Id::other(0), Id::other(0), &[Id::master(0)])?;
     build.other_name(&name(0xb1))?;
+    Ok(())
+}
+
+#[test]
+fn a_flush_is_built(rt: HostRuntime) -> Result<(), Fail> {
+    let mut build = BatchBuild::new(rt.alloc(), 1, 0, 2)?;
+    put_fork(&mut build)?;
     let bytes = build.finish()?;
     assert_eq!(rt; bytes.as_slice(), FORK.as_slice());
+    Ok(())
+}
+
+/// Puts the parts of `CLONE` into a payload without any.
+fn put_clone(build: &mut BatchBuild) -> Result<(), AllocError>
+    requires { IsBuilt build.old (empty_payload 2 0 10) }
+    ensures { OnOk result ((p : Payload) × IsPayload p × IsBuilt build.new p × (build.new.other_count ≡ length p.other_names)) }
+{
+    build.segment(Id::master(0), Id::master(9), &[])?;
+    build.known(Id::master(9), &name(0x19))?;
+    build.head(&name(0x19))?;
+    build.other_count(0)?;
     Ok(())
 }
 
 #[test]
 fn a_clone_is_built(rt: HostRuntime) -> Result<(), Fail> {
     let mut build = BatchBuild::new(rt.alloc(), 2, 0, 10)?;
-    build.segment(Id::master(0), Id::master(9), &[])?;
-    build.known(Id::master(9), &name(0x19))?;
-    build.head(&name(0x19))?;
-    build.other_count(0)?;
+    put_clone(&mut build)?;
     let bytes = build.finish()?;
     assert_eq!(rt; bytes.as_slice(), CLONE.as_slice());
     Ok(())

@@ -1,12 +1,11 @@
 use Rattle.std.proofs.Common.{◌≡◌, subst}
 use Rattle.batch_codec.proofs.Samples.{cloned, chain, chain-is}
 use Rattle.batch_codec.specs.Building.{empty_payload, IsBuilt}
-use Rattle.codec_rows.proofs.payloads.a_clone_is_built.Goals as goal
+use Rattle.codec_rows.proofs.payloads.put_clone.Goals as goal
 
-pub finish-requires : goal.finish-requires
-finish-requires g c =
-    let a0 : IsBuilt c.in_ok-build.build (empty_payload 2 0 10) = c.in_ok-build.ensures.built in
-    let a1 = c.in_ok-segment.ensures.ok (empty_payload 2 0 10) a0 in
+pub returns : goal.returns
+returns c =
+    let a1 = c.in_ok-segment.ensures.ok (empty_payload 2 0 10) c.requires in
     let a2 = c.in_ok-known.ensures.ok _ a1 in
     let a3 = c.in_ok-head.ensures.ok _ a2 in
     let a4 = c.other_count.ensures.built _ a3 in

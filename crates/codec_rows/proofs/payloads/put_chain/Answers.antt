@@ -1,12 +1,11 @@
 use Rattle.std.proofs.Common.{◌≡◌, ◌∙◌, subst}
 use Rattle.batch_codec.proofs.Samples.{loose, twins, twins-is}
 use Rattle.batch_codec.specs.Building.{empty_payload, IsBuilt}
-use Rattle.codec_rows.proofs.payloads.a_flush_of_others_is_built.Goals as goal
+use Rattle.codec_rows.proofs.payloads.put_chain.Goals as goal
 
-pub finish-requires : goal.finish-requires
-finish-requires g c =
-    let a0 : IsBuilt c.in_ok-build.build (empty_payload 1 0 0) = c.in_ok-build.ensures.built in
-    let a1 = c.other_count.ensures.built _ a0 in
+pub returns : goal.returns
+returns c =
+    let a1 = c.other_count.ensures.built _ c.requires in
     let a2 = c.in_ok-other_segment.ensures.ok _ a1 in
     let a3 = c.in_ok-other_name.ensures.ok _ a2 in
     let a4 = c.in_ok-other_name-2.ensures.ok _ a3 in
