@@ -1,4 +1,5 @@
-//! Graphs of a few commits, and expressions with the names of their members. In a text `@05` stands for the name of 38 zeros and 05.
+//! Graphs of a few commits, and expressions with the names of their members. In a text `@05` stands for the name of 38 zeros and 05,
+//! `<` for fifteen times `union(all,` and `>` for as many brackets that close these: `<all>` has 31 nodes and is 16 deep.
 //! The answers are those of `tests/plain_store.py`.
 
 /// A graph, how its commits are stored, and what expressions over it mean.
@@ -83,6 +84,26 @@ const DAY_CASES: [(&str, &[u8]); 62] = [
     ("inter(master,ancestors(@05))", &[5, 4, 2, 1]),
     ("children(parents(@06))", &[6]),
     ("parents(children(@02))", &[2]),
+];
+
+/// Expressions over the day that are 31 and 32 deep, and of 255 and 256 nodes.
+const LARGE_CASES: [(&str, &[u8]); 4] = [
+    ("<<all>>", &[6, 5, 4, 3, 2, 1]),
+    ("union(all,<<all>>)", &[6, 5, 4, 3, 2, 1]),
+    (
+        "union(union(union(<all>,<all>),union(<all>,<all>)),union(union(<all>,<all>),union(<all>,<all>)))",
+        &[6, 5, 4, 3, 2, 1],
+    ),
+    (
+        "tips(union(union(union(<all>,<all>),union(<all>,<all>)),union(union(<all>,<all>),union(<all>,<all>))))",
+        &[6],
+    ),
+];
+
+/// Texts that are 33 deep, and of 257 nodes: no expressions.
+pub const TOO_LARGE: [&str; 2] = [
+    "union(all,union(all,<<all>>))",
+    "union(all,union(union(union(<all>,<all>),union(<all>,<all>)),union(union(<all>,<all>),union(<all>,<all>))))",
 ];
 
 /// Two merges of the same two commits, in both orders.
@@ -244,12 +265,18 @@ const WIDE_CASES: [(&str, &[u8]); 16] = [
 ];
 
 /// All graphs.
-pub const GRAPHS: [Graph; 5] = [
+pub const GRAPHS: [Graph; 6] = [
     Graph {
         parents: &DAY,
         masters: 6,
         stored: 0,
         cases: &DAY_CASES,
+    },
+    Graph {
+        parents: &DAY,
+        masters: 6,
+        stored: 0,
+        cases: &LARGE_CASES,
     },
     Graph {
         parents: &CROSSED,

@@ -16,15 +16,26 @@ pub fn name_at(place: usize) -> u8 {
     (place % 256) as u8
 }
 
-/// The expression with 38 zeros for each `@`.
+/// What a byte of a text stands for.
+fn put_spelled(whole: &mut Vec<u8>, byte: u8) -> Result<(), AllocError> {
+    match byte {
+        b'@' => whole.extend_from_slice(&[b'0'; 38])?,
+        b'<' => {
+            for _call in 0..15 {
+                whole.extend_from_slice(b"union(all,")?;
+            }
+        }
+        b'>' => whole.extend_from_slice(&[b')'; 15])?,
+        _ => whole.push(byte)?,
+    }
+    Ok(())
+}
+
+/// The expression that a text stands for.
 pub fn spelled(alloc: Global, text: &[u8]) -> Result<Vec<u8>, AllocError> {
     let mut whole = Vec::new(alloc);
     for byte in text {
-        if *byte == b'@' {
-            whole.extend_from_slice(&[b'0'; 38])?;
-        } else {
-            whole.push(*byte)?;
-        }
+        put_spelled(&mut whole, *byte)?;
     }
     Ok(whole)
 }

@@ -74,6 +74,31 @@ fn push_run(
     push(sample, &ids, count)
 }
 
+/// Adds the first commits of the graph and so many more that go on from the last, up to a run of commits that may not come. Whether
+/// there is none.
+fn push_runs(
+    alloc: Global,
+    sample: &mut Sample,
+    graph: &Graph,
+    count: usize,
+    more: u64,
+) -> Result<bool, AllocError> {
+    let mut from = 0usize;
+    for place in 0..count {
+        let next = place.saturating_add(1);
+        if next < count && goes_on(graph, next) {
+            continue;
+        }
+        let run = next.saturating_sub(from) as u64;
+        let behind = if next == count { more } else { 0 };
+        if !push_run(alloc, sample, graph, count, from, run.saturating_add(behind))? {
+            return Ok(false);
+        }
+        from = next;
+    }
+    Ok(true)
+}
+
 /// The first commits of the graph as a table of master ids, and so many more that go on from the last; `None` where the rows are
 /// no history.
 pub fn sample_of(
@@ -83,35 +108,41 @@ pub fn sample_of(
     more: u64,
 ) -> Result<Option<Sample>, AllocError> {
     let mut sample = Sample::empty(alloc);
-    let mut from = 0usize;
-    for place in 0..count {
-        let next = place.saturating_add(1);
-        if next < count && goes_on(graph, next) {
-            continue;
-        }
-        let run = next.saturating_sub(from) as u64;
-        let behind = if next == count { more } else { 0 };
-        if !push_run(
-            alloc,
-            &mut sample,
-            graph,
-            count,
-            from,
-            run.saturating_add(behind),
-        )? {
-            return Ok(None);
-        }
-        from = next;
+    if !push_runs(alloc, &mut sample, graph, count, more)? {
+        return Ok(None);
     }
     Ok(Some(sample))
 }
 
-/// Adds a commit with these parents, if it may come.
-fn push_other(part: &mut OtherSample, parents: &[Id]) -> Result<bool, AllocError> {
-    if !part.may_push(parents, 1) {
+/// Adds a commit with the parents of these names, if it may come.
+fn push_other(
+    alloc: Global,
+    part: &mut OtherSample,
+    masters: usize,
+    parents: &[u8],
+) -> Result<bool, AllocError> {
+    let ids = ids_of(alloc, masters, parents)?;
+    if !part.may_push(&ids, 1) {
         return Ok(false);
     }
-    part.push(parents, 1)?;
+    part.push(&ids, 1)?;
+    Ok(true)
+}
+
+/// Adds the commits from one place to before another, up to one that may not come. Whether there is none.
+fn push_others(
+    alloc: Global,
+    part: &mut OtherSample,
+    graph: &Graph,
+    from: usize,
+    to: usize,
+) -> Result<bool, AllocError> {
+    for place in from..to {
+        let parents = graph.parents.get(place).copied().unwrap_or_default();
+        if !push_other(alloc, part, graph.masters, parents)? {
+            return Ok(false);
+        }
+    }
     Ok(true)
 }
 
@@ -124,16 +155,8 @@ pub fn part_of(
 ) -> Result<Option<OtherSample>, AllocError> {
     let place = from.saturating_sub(graph.masters) as u64;
     let mut part = OtherSample::empty(alloc, graph.masters as u64, place % 256);
-    for parents in graph
-        .parents
-        .iter()
-        .skip(from)
-        .take(to.saturating_sub(from))
-    {
-        let ids = ids_of(alloc, graph.masters, parents)?;
-        if !push_other(&mut part, &ids)? {
-            return Ok(None);
-        }
+    if !push_others(alloc, &mut part, graph, from, to)? {
+        return Ok(None);
     }
     Ok(Some(part))
 }

@@ -2,8 +2,9 @@
 
 ghost use Rattle.std.specs.Prelude.{◌≤◌};
 
-use crate::cases::{GRAPHS, Graph};
+use crate::cases::{GRAPHS, Graph, TOO_LARGE};
 use crate::lines::{lines_of, replies_of};
+use crate::names::parsed;
 use crate::rows::{answered, world_of};
 use crate::tables::{evaluated, levels_of, part_of, sample_of};
 use dag_run::{Limits, run_lines};
@@ -94,21 +95,29 @@ fn wrong_over_levels(alloc: Global, graph: &Graph, more: u64) -> Result<Wrong, F
     Ok(wrong_over(alloc, &view, count, graph)?)
 }
 
+/// Whether the program goes through all lines of the input.
+fn is_run(
+    alloc: Global,
+    disk: &mut MemoryDisk,
+    input: &mut MemorySource,
+    output: &mut MemorySink,
+) -> bool {
+    run_lines(alloc, Limits::standard(), disk, input, output).status == 0
+}
+
+/// Whether the program replies to the lines so.
+fn are_replied(alloc: Global, lines: &[u8], replies: &[u8]) -> Result<bool, AllocError> {
+    let mut disk = MemoryDisk::new(alloc, &[], &[], None)?;
+    let mut input = MemorySource::new(alloc, lines, 65_536, &[])?;
+    let mut output = MemorySink::new(alloc, &[])?;
+    Ok(is_run(alloc, &mut disk, &mut input, &mut output) && output.bytes() == replies)
+}
+
 /// Whether the program replies to the graph's lines as it has to.
 fn is_replied(alloc: Global, graph: &Graph) -> Result<bool, AllocError> {
     let lines = lines_of(alloc, graph)?;
-    let mut disk = MemoryDisk::new(alloc, &[], &[], None)?;
-    let mut input = MemorySource::new(alloc, &lines, 65_536, &[])?;
-    let mut output = MemorySink::new(alloc, &[])?;
-    let report = run_lines(
-        alloc,
-        Limits::standard(),
-        &mut disk,
-        &mut input,
-        &mut output,
-    );
     let replies = replies_of(alloc, graph)?;
-    Ok(report.status == 0 && output.bytes() == replies.as_slice())
+    are_replied(alloc, &lines, &replies)
 }
 
 /// By the program, which is run on lines that add the graph's commits.
@@ -178,4 +187,15 @@ fn tables_with_levels_answer(rt: HostRuntime) -> Result<(), Fail> {
 fn the_program_answers(rt: HostRuntime) -> Result<(), Fail> {
     assert_eq!(rt; wrong_by(rt.alloc(), Way::Program)?, None);
     Ok(())
+}
+
+fn is_refused(alloc: Global, text: &str) -> bool {
+    matches!(parsed(alloc, text.as_bytes()), Err(ExprFault::Syntax))
+}
+
+#[test]
+fn texts_beyond_the_limits_are_refused(rt: HostRuntime) {
+    for text in TOO_LARGE {
+        assert!(rt; is_refused(rt.alloc(), text));
+    }
 }

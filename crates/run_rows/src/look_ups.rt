@@ -7,33 +7,61 @@ use line_io::{MemorySink, MemorySource};
 use std::alloc::{AllocError, Global};
 use std::test::Fail;
 
-/// Lines that add 35 commits and flush them into master. Commit i, the name of which is i + 1, has the one before it as its
-/// parent where i is odd, and the two before it where i is even and not 0.
-fn ladder(alloc: Global) -> Result<String, AllocError> {
-    let mut lines = format!(in alloc; "0 add {:040}\n", 1)?;
-    for i in 1..35u32 {
-        let add = format!(in alloc; "0 add {:040}", i + 1)?;
-        lines.push_str(add.as_str())?;
-        if i % 2 == 0 {
-            let first = format!(in alloc; " {:040}", i - 1)?;
-            lines.push_str(first.as_str())?;
-        }
-        let parent = format!(in alloc; " {i:040}\n")?;
-        lines.push_str(parent.as_str())?;
+/// The name of 38 zeros and the two digits of this number.
+fn put_name(text: &mut Vec<u8>, number: u8) -> Result<(), AllocError> {
+    text.extend_from_slice(&[b'0'; 38])?;
+    text.push(b'0' + number / 10 % 10)?;
+    text.push(b'0' + number % 10)?;
+    Ok(())
+}
+
+fn put_parent(lines: &mut Vec<u8>, number: u8) -> Result<(), AllocError> {
+    lines.push(b' ')?;
+    put_name(lines, number)
+}
+
+/// The line that adds the commit of this number. Its parents are the two before it where it is odd, and else the one before it;
+/// the first has none.
+fn put_add(lines: &mut Vec<u8>, number: u8) -> Result<(), AllocError> {
+    lines.extend_from_slice(b"0 add ")?;
+    put_name(lines, number)?;
+    if number > 1 && number % 2 == 1 {
+        put_parent(lines, number - 2)?;
     }
-    let flush = format!(in alloc; "0 flush {:040}\n", 35)?;
-    lines.push_str(flush.as_str())?;
+    if number > 1 {
+        put_parent(lines, number - 1)?;
+    }
+    lines.push(b'\n')?;
+    Ok(())
+}
+
+/// Lines that add the commits 1 to 35 and flush them into master.
+fn ladder(alloc: Global) -> Result<Vec<u8>, AllocError> {
+    let mut lines = Vec::new(alloc);
+    for number in 1..36u8 {
+        put_add(&mut lines, number)?;
+    }
+    lines.extend_from_slice(b"0 flush")?;
+    put_parent(&mut lines, 35)?;
+    lines.push(b'\n')?;
     Ok(lines)
 }
 
-/// The store of the log that these lines leave, if it can be loaded.
-fn store_of(alloc: Global, lines: &[u8]) -> Result<Option<Store>, AllocError> {
-    let limits = Limits::standard();
-    let mut disk = MemoryDisk::new(alloc, &[], &[], None)?;
+/// Runs the lines over the disk. Whether they were all answered.
+fn run(alloc: Global, lines: &[u8], disk: &mut MemoryDisk) -> Result<bool, AllocError> {
     let mut input = MemorySource::new(alloc, lines, 65_536, &[])?;
     let mut output = MemorySink::new(alloc, &[])?;
-    let _report = run_lines(alloc, limits, &mut disk, &mut input, &mut output);
-    Ok(Store::load(alloc, &mut disk, limits).ok())
+    let report = run_lines(alloc, Limits::standard(), disk, &mut input, &mut output);
+    Ok(report.status == 0)
+}
+
+/// `ancestors` of the commit of this number.
+fn ancestors_of(alloc: Global, number: u8) -> Result<Vec<u8>, AllocError> {
+    let mut text = Vec::new(alloc);
+    text.extend_from_slice(b"ancestors(")?;
+    put_name(&mut text, number)?;
+    text.push(b')')?;
+    Ok(text)
 }
 
 /// How many members the expression has in the first session's view, and how many look-ups they took; nothing where it isn't
@@ -48,18 +76,41 @@ fn counted(alloc: Global, store: &Store, text: &[u8]) -> Option<(u64, u64)> {
     Some((answer.count(), answer.steps()))
 }
 
+/// A commit, how many ancestors it has, and how many look-ups it takes to find them. The segment of the higher level has the
+/// commits 1 to 32, the first flat one 1 and 2; no other segment is without parents.
+type Counted = (u8, u64, u64);
+
+const COUNTED: [Counted; 4] = [(2, 2, 8), (32, 32, 8), (35, 35, 24), (31, 31, 128)];
+
+fn is_counted(alloc: Global, store: &Store, row: &Counted) -> Result<bool, AllocError> {
+    let (number, members, look_ups) = row;
+    let text = ancestors_of(alloc, *number)?;
+    Ok(counted(alloc, store, &text) == Some((*members, *look_ups)))
+}
+
+/// Whether the store of two levels finds the ancestors by so many look-ups.
+fn are_counted(alloc: Global, store: &Store) -> Result<bool, AllocError> {
+    for row in &COUNTED {
+        if !is_counted(alloc, store, row)? {
+            return Ok(false);
+        }
+    }
+    Ok(store.levels().len() == 2)
+}
+
+/// Whether a store that is loaded from the disk does.
+fn are_counted_behind_load(alloc: Global, disk: &mut MemoryDisk) -> Result<bool, AllocError> {
+    match Store::load(alloc, disk, Limits::standard()) {
+        Ok(store) => are_counted(alloc, &store),
+        Err(_) => Ok(false),
+    }
+}
+
 #[test]
 fn ancestors_take_few_look_ups(rt: HostRuntime) -> Result<(), Fail> {
     let lines = ladder(rt.alloc())?;
-    let Some(store) = store_of(rt.alloc(), lines.as_bytes())? else {
-        return Err(Fail::new("the log isn't loaded"));
-    };
-    assert_eq!(rt; store.levels().len(), 2);
-    // The segment of the higher level has ids 0 to 31, the first flat one 0 and 1; no other segment is without parents.
-    for (name, members, look_ups) in [(2, 2, 8), (32, 32, 8), (35, 35, 24), (31, 31, 128)] {
-        let text = format!(in rt.alloc(); "ancestors({name:040})")?;
-        let answer = counted(rt.alloc(), &store, text.as_bytes());
-        assert_eq!(rt; answer, Some((members, look_ups)), "at {name}");
-    }
+    let mut disk = MemoryDisk::new(rt.alloc(), &[], &[], None)?;
+    assert!(rt; run(rt.alloc(), &lines, &mut disk)?);
+    assert!(rt; are_counted_behind_load(rt.alloc(), &mut disk)?);
     Ok(())
 }
