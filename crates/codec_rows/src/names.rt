@@ -253,11 +253,21 @@ const TRIED: [(Numbers, bool); 8] = [
     ((&[2], &[]), true),
 ];
 
+/// Adds a flush of the names of these numbers. Whether the names are distinct.
+fn add_numbers(
+    alloc: Global,
+    map: &mut NameMap,
+    log: &mut Vec<u8>,
+    numbers: &Numbers,
+) -> Result<bool, AllocError> {
+    let payload = flush_of(alloc, map.master_count(), numbers)?;
+    add_payload(map, log, &payload)
+}
+
 /// Tries these flushes. Whether those are taken that may be.
 fn are_told_apart(alloc: Global, map: &mut NameMap, log: &mut Vec<u8>) -> Result<bool, AllocError> {
     for (numbers, distinct) in &TRIED {
-        let payload = flush_of(alloc, map.master_count(), numbers)?;
-        if add_payload(map, log, &payload)? != *distinct {
+        if add_numbers(alloc, map, log, numbers)? != *distinct {
             return Ok(false);
         }
     }
@@ -297,8 +307,7 @@ fn add_all(
     flushes: &[Numbers],
 ) -> Result<bool, AllocError> {
     for numbers in flushes {
-        let payload = flush_of(alloc, map.master_count(), numbers)?;
-        if !add_payload(map, log, &payload)? {
+        if !add_numbers(alloc, map, log, numbers)? {
             return Ok(false);
         }
     }
@@ -375,11 +384,15 @@ fn count_at_once(alloc: Global, flushes: &[Numbers]) -> Result<Option<u64>, Allo
     finished(build, &log)
 }
 
+/// Whether both ways lead to so many known names.
+fn have(alloc: Global, flushes: &[Numbers], known: Option<u64>) -> Result<bool, AllocError> {
+    Ok(count_in_turn(alloc, flushes)? == known && count_at_once(alloc, flushes)? == known)
+}
+
 #[test]
 fn a_map_at_once_is_that_in_turn(rt: HostRuntime) -> Result<(), Fail> {
     for (flushes, known) in &IN_TURN {
-        assert!(rt; count_in_turn(rt.alloc(), flushes)? == *known);
-        assert!(rt; count_at_once(rt.alloc(), flushes)? == *known);
+        assert!(rt; have(rt.alloc(), flushes, *known)?);
     }
     Ok(())
 }

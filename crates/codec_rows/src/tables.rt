@@ -46,33 +46,35 @@ fn push_number(out: &mut Vec<u8>, number: u8) -> Result<(), AllocError> {
     Ok(())
 }
 
-/// The record of the ids from `low` to `high`.
-fn push_record(out: &mut Vec<u8>, low: u8, high: u8) -> Result<(), AllocError> {
-    let parents = parents_of(low);
-    out.push(if matches!(parents, Parents::None) {
-        1
-    } else {
-        0
-    })?;
-    out.extend_from_slice(&[0, 0, 0, 0, 0, 0, 0, 0, high])?;
-    push_number(out, high.saturating_sub(low))?;
-    match parents {
+fn push_one(out: &mut Vec<u8>, parent: u8) -> Result<(), AllocError> {
+    out.push(1)?;
+    push_number(out, parent)
+}
+
+fn push_two(out: &mut Vec<u8>, first: u8, second: u8) -> Result<(), AllocError> {
+    out.push(2)?;
+    push_number(out, first)?;
+    push_number(out, second)
+}
+
+/// How many parents the id has, and which.
+fn push_parents(out: &mut Vec<u8>, id: u8) -> Result<(), AllocError> {
+    match parents_of(id) {
         Parents::None => out.push(0)?,
-        Parents::Before => {
-            out.push(1)?;
-            push_number(out, low.saturating_sub(1))?;
-        }
-        Parents::One(parent) => {
-            out.push(1)?;
-            push_number(out, parent)?;
-        }
-        Parents::Two(first, second) => {
-            out.push(2)?;
-            push_number(out, first)?;
-            push_number(out, second)?;
-        }
+        Parents::Before => push_one(out, id.saturating_sub(1))?,
+        Parents::One(parent) => push_one(out, parent)?,
+        Parents::Two(first, second) => push_two(out, first, second)?,
     }
     Ok(())
+}
+
+/// The record of the ids from `low` to `high`.
+fn push_record(out: &mut Vec<u8>, low: u8, high: u8) -> Result<(), AllocError> {
+    let is_root = matches!(parents_of(low), Parents::None);
+    out.push(u8::from(is_root))?;
+    out.extend_from_slice(&[0, 0, 0, 0, 0, 0, 0, 0, high])?;
+    push_number(out, high.saturating_sub(low))?;
+    push_parents(out, low)
 }
 
 /// The records of a batch with the ids from one to that before another.
@@ -144,29 +146,40 @@ fn has_parents(segment: SegmentRef<'_>, id: u8) -> bool {
     }
 }
 
-/// Whether the view has the ids below a count, with their parents in the graph, in maximal segments.
-fn is_cut(view: &FlatView<'_>, below: u8) -> bool {
-    let mut steps = Steps::new();
+/// Whether the id is found with its parents in a segment below a count, by two look-ups.
+fn is_held(view: &FlatView<'_>, id: u8, below: u8, steps: &mut Steps) -> bool {
+    let number = u64::from(id);
+    let Some(segment) = view.flat(Id::master(number), steps) else {
+        return false;
+    };
+    let high = segment.high().number();
+    let ends = view.ending(0, Id::master(number), steps).is_some();
+    has_parents(segment, id) && high < u64::from(below) && ends == (high == number)
+}
+
+/// How many segments begin with an id below a count.
+fn segments_below(below: u8) -> u32 {
     let mut begun = 0u32;
     for id in 0..below {
-        let Some(segment) = view.flat(Id::master(u64::from(id)), &mut steps) else {
-            return false;
-        };
-        if !has_parents(segment, id) || segment.high().number() >= u64::from(below) {
-            return false;
-        }
         if !matches!(parents_of(id), Parents::Before) {
             begun = begun.saturating_add(1);
         }
-        let ends = view.ending(0, Id::master(u64::from(id)), &mut steps);
-        if ends.is_some() != (segment.high().number() == u64::from(id)) {
+    }
+    begun
+}
+
+/// Whether the view has the ids below a count, with their parents in the graph, in maximal segments.
+fn is_cut(view: &FlatView<'_>, below: u8) -> bool {
+    let mut steps = Steps::new();
+    for id in 0..below {
+        if !is_held(view, id, below, &mut steps) {
             return false;
         }
     }
     view.flat(Id::master(u64::from(below)), &mut steps)
         .is_none()
         && view.ending(1, Id::master(0), &mut steps).is_none()
-        && view.flat_count() == begun
+        && view.flat_count() == segments_below(below)
         && view.bounds().master == u64::from(below)
         && steps.taken() == 2 * u64::from(below) + 2
 }
@@ -248,39 +261,42 @@ fn a_graph_in_one_batch(rt: HostRuntime) -> Result<(), Fail> {
     Ok(())
 }
 
+/// Records that may not come first, and which of them is the wrong one.
+const REFUSED: [(&[u8], u32); 5] = [
+    // id 1 alone, where id 0 is next
+    (&[1, 0, 0, 0, 0, 0, 0, 0, 0, 1, 0, 0], 0),
+    // level 1
+    (&[1, 1, 0, 0, 0, 0, 0, 0, 0, 0, 0, 0], 0),
+    // an id of the other group
+    (&[1, 0, 1, 0, 0, 0, 0, 0, 0, 0, 0, 0], 0),
+    // id 0, and id 1 that goes on from it in the same batch
+    (
+        &[
+            1, 0, 0, 0, 0, 0, 0, 0, 0, 0, 0, 0, 0, 0, 0, 0, 0, 0, 0, 0, 0, 1, 0, 1, 0,
+        ],
+        1,
+    ),
+    // ids 0 and 1, and then ids 1 to 2
+    (
+        &[
+            1, 0, 0, 0, 0, 0, 0, 0, 0, 1, 1, 0, 1, 0, 0, 0, 0, 0, 0, 0, 0, 2, 1, 0,
+        ],
+        1,
+    ),
+];
+
+/// Whether the table of no ids takes none of the records, for the one of this number.
+fn are_refused(alloc: Global, bytes: &[u8], number: u32) -> bool {
+    let mut table = FlatTable::empty(alloc);
+    let result = add(&mut table, bytes, 0, bytes.len(), 0);
+    result == Err(FlatFault::BadSegment(number)) && table.count() == 0
+}
+
 #[test]
-fn records_that_may_not_come(rt: HostRuntime) -> Result<(), Fail> {
-    let rows: [(&[u8], u32); 5] = [
-        // id 1 alone, where id 0 is next
-        (&[1, 0, 0, 0, 0, 0, 0, 0, 0, 1, 0, 0], 0),
-        // level 1
-        (&[1, 1, 0, 0, 0, 0, 0, 0, 0, 0, 0, 0], 0),
-        // an id of the other group
-        (&[1, 0, 1, 0, 0, 0, 0, 0, 0, 0, 0, 0], 0),
-        // id 0, and id 1 that goes on from it in the same batch
-        (
-            &[
-                1, 0, 0, 0, 0, 0, 0, 0, 0, 0, 0, 0, 0, 0, 0, 0, 0, 0, 0, 0, 0, 1, 0, 1, 0,
-            ],
-            1,
-        ),
-        // ids 0 and 1, and then ids 1 to 2
-        (
-            &[
-                1, 0, 0, 0, 0, 0, 0, 0, 0, 1, 1, 0, 1, 0, 0, 0, 0, 0, 0, 0, 0, 2, 1, 0,
-            ],
-            1,
-        ),
-    ];
-    for (bytes, number) in &rows {
-        let mut table = FlatTable::empty(rt.alloc());
-        assert_eq!(rt;
-            add(&mut table, bytes, 0, bytes.len(), 0),
-            Err(FlatFault::BadSegment(*number))
-        );
-        assert_eq!(rt; table.count(), 0);
+fn records_that_may_not_come(rt: HostRuntime) {
+    for (bytes, number) in REFUSED {
+        assert!(rt; are_refused(rt.alloc(), bytes, number));
     }
-    Ok(())
 }
 
 /// Whether each parent is one of four master ids or an id of the other group.
