@@ -91,7 +91,14 @@ fn push_runs(
         }
         let run = next.saturating_sub(from) as u64;
         let behind = if next == count { more } else { 0 };
-        if !push_run(alloc, sample, graph, count, from, run.saturating_add(behind))? {
+        if !push_run(
+            alloc,
+            sample,
+            graph,
+            count,
+            from,
+            run.saturating_add(behind),
+        )? {
             return Ok(false);
         }
         from = next;
