@@ -106,11 +106,16 @@ fn are_counted_behind_load(alloc: Global, disk: &mut MemoryDisk) -> Result<bool,
     }
 }
 
+/// Writes the ladder's log to the disk. Whether its lines were all answered.
+fn put_ladder(alloc: Global, disk: &mut MemoryDisk) -> Result<bool, AllocError> {
+    let lines = ladder(alloc)?;
+    run(alloc, &lines, disk)
+}
+
 #[test]
 fn ancestors_take_few_look_ups(rt: HostRuntime) -> Result<(), Fail> {
-    let lines = ladder(rt.alloc())?;
     let mut disk = MemoryDisk::new(rt.alloc(), &[], &[], None)?;
-    assert!(rt; run(rt.alloc(), &lines, &mut disk)?);
+    assert!(rt; put_ladder(rt.alloc(), &mut disk)?);
     assert!(rt; are_counted_behind_load(rt.alloc(), &mut disk)?);
     Ok(())
 }
