@@ -172,12 +172,20 @@ fn first_broken(
     given.first_broken(alloc)
 }
 
+/// The first of the cases in which another item is told.
+fn first_wrong(alloc: Global, cases: &[Case]) -> Result<Option<&'static str>, AllocError> {
+    for case in cases {
+        let (what, segments, names, heads, want) = *case;
+        if first_broken(alloc, segments, names, heads)? != want {
+            return Ok(Some(what));
+        }
+    }
+    Ok(None)
+}
+
 #[test]
 fn the_first_broken_item_is_told(rt: HostRuntime) -> Result<(), Fail> {
-    let alloc = rt.alloc();
-    for (what, segments, names, heads, want) in CASES {
-        let seen = first_broken(alloc, segments, names, heads)?;
-        assert_eq!(rt; seen, want, "{what}");
-    }
+    let wrong = first_wrong(rt.alloc(), &CASES)?;
+    assert_eq!(rt; wrong, None);
     Ok(())
 }

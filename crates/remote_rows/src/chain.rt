@@ -82,6 +82,21 @@ fn not_found<T: SegmentTable>(
     None
 }
 
+/// Whether these ids are fetched so, which asks so much.
+fn is_fetched<T: SegmentTable>(
+    stored: &Stored<'_, T>,
+    lazy: &mut LazyNames,
+    mirrors: &mut Vec<Counted>,
+    numbers: &[u64],
+    want: &[u8],
+    fails: bool,
+    due: Count,
+) -> bool {
+    forget(mirrors);
+    let fetched = stored.fetch(lazy, mirrors, numbers);
+    are_names(fetched, want, fails) && count_of(mirrors) == due
+}
+
 /// The number of the first row whose ids aren't fetched as it says.
 fn not_fetched<T: SegmentTable>(
     stored: &Stored<'_, T>,
@@ -90,9 +105,8 @@ fn not_fetched<T: SegmentTable>(
 ) -> Option<u64> {
     let mut row = 0u64;
     for (numbers, want, fails, calls, names) in FETCHES {
-        forget(mirrors);
-        let fetched = stored.fetch(lazy, mirrors, numbers);
-        if !are_names(fetched, want, fails) || count_of(mirrors) != (Count { calls, names }) {
+        let due = Count { calls, names };
+        if !is_fetched(stored, lazy, mirrors, numbers, want, fails, due) {
             return Some(row);
         }
         row = row.wrapping_add(1);
@@ -113,10 +127,9 @@ fn first_wrong<T: SegmentTable>(
     Ok((name, row))
 }
 
-#[test]
-fn names_are_found_and_fetched(rt: HostRuntime) -> Result<(), Fail> {
-    let alloc = rt.alloc();
-    let known = known(alloc, &CLONE).ok_or("a payload")?;
+/// The first name and the first row over the clone that aren't as they should be.
+fn first_wrong_of_clone(alloc: Global) -> Result<(Option<u8>, Option<u64>), AllocError> {
+    let known = known(alloc, &CLONE).ok_or(AllocError)?;
     let sample = table(alloc)?;
     let view = sample.view(sample.count());
     let heads = [name(0x19)];
@@ -127,7 +140,12 @@ fn names_are_found_and_fetched(rt: HostRuntime) -> Result<(), Fail> {
         heads: &heads,
         table: &view,
     };
-    let wrong = first_wrong(&stored)?;
+    first_wrong(&stored)
+}
+
+#[test]
+fn names_are_found_and_fetched(rt: HostRuntime) -> Result<(), Fail> {
+    let wrong = first_wrong_of_clone(rt.alloc())?;
     assert_eq!(rt; wrong, (None, None));
     Ok(())
 }

@@ -123,19 +123,29 @@ impl<'a, T: SegmentTable> Stored<'a, T> {
         numbers: &[u64],
     ) -> Result<Vec<u8>, LazyFault> {
         let wanted = ids_of(self.alloc, numbers)?;
-        let ids = held_ids(self.alloc, self.table, &wanted)?;
+        let names = self.fetch_ids(lazy, mirrors, &wanted)?;
+        Ok(last_bytes(self.alloc, &names)?)
+    }
+
+    /// The names of those of these ids that the table has.
+    fn fetch_ids<R: Remote>(
+        &self,
+        lazy: &mut LazyNames,
+        mirrors: &mut Vec<R>,
+        wanted: &[Id],
+    ) -> Result<Fetched, LazyFault> {
+        let ids = held_ids(self.alloc, self.table, wanted)?;
         if ids.count() > 16 || mirrors.len() > 16 {
             return Err(LazyFault::Memory);
         }
-        let names = lazy.fetch_among(
+        lazy.fetch_among(
             self.alloc,
             self.table,
             self.known,
             self.payload,
             mirrors,
             &ids,
-        )?;
-        Ok(last_bytes(self.alloc, &names)?)
+        )
     }
 }
 

@@ -24,7 +24,7 @@ pub fn last_of(id: u64) -> u8 {
 }
 
 /// Numbers that are drawn, the same ones each time.
-#[derive(Drop)]
+#[derive(Clone, Copy)]
 pub struct Draws {
     state: u64,
 }

@@ -141,12 +141,24 @@ fn paths_hold<T: SegmentTable>(stored: &Stored<'_, T>) -> bool {
     true
 }
 
+/// Whether this comes of a fetch of these ids where a mirror gives these names, and so many are kept.
+fn is_given<T: SegmentTable>(
+    stored: &Stored<'_, T>,
+    told: &[u8],
+    numbers: &[u64],
+    want: &[u8],
+    fault: Option<LazyFault>,
+    kept: usize,
+) -> Result<bool, AllocError> {
+    let (fetched, len) = fetch(stored, told, numbers)?;
+    Ok(are_these(fetched, want, fault) && len == kept)
+}
+
 /// The number of the first row of names that come to something else.
 fn wrong_names<T: SegmentTable>(stored: &Stored<'_, T>) -> Result<Option<u64>, AllocError> {
     let mut row = 0u64;
     for (told, numbers, want, fault, kept) in NAMES {
-        let (fetched, len) = fetch(stored, told, numbers)?;
-        if !are_these(fetched, want, fault) || len != kept {
+        if !is_given(stored, told, numbers, want, fault, kept)? {
             return Ok(Some(row));
         }
         row = row.wrapping_add(1);
@@ -154,10 +166,18 @@ fn wrong_names<T: SegmentTable>(stored: &Stored<'_, T>) -> Result<Option<u64>, A
     Ok(None)
 }
 
-#[test]
-fn liars_are_refused_or_not_found_out(rt: HostRuntime) -> Result<(), Fail> {
-    let alloc = rt.alloc();
-    let known = known(alloc, &CLONE).ok_or("a payload")?;
+/// The first path that is believed, whether the others lead where they should, and the first row of names that is wrong.
+type Seen = (Option<(u8, u64)>, bool, Option<u64>);
+
+/// What is seen of all liars.
+fn seen<T: SegmentTable>(stored: &Stored<'_, T>) -> Result<Seen, AllocError> {
+    let names = wrong_names(stored)?;
+    Ok((believed(stored), paths_hold(stored), names))
+}
+
+/// What is seen of all liars over the clone.
+fn seen_of_clone(alloc: Global) -> Result<Seen, AllocError> {
+    let known = known(alloc, &CLONE).ok_or(AllocError)?;
     let sample = table(alloc)?;
     let view = sample.view(sample.count());
     let heads = [name(0x19)];
@@ -168,11 +188,12 @@ fn liars_are_refused_or_not_found_out(rt: HostRuntime) -> Result<(), Fail> {
         heads: &heads,
         table: &view,
     };
-    let believed = believed(&stored);
-    assert_eq!(rt; believed, None);
-    let hold = paths_hold(&stored);
-    assert!(rt; hold);
-    let wrong = wrong_names(&stored)?;
-    assert_eq!(rt; wrong, None);
+    seen(&stored)
+}
+
+#[test]
+fn liars_are_refused_or_not_found_out(rt: HostRuntime) -> Result<(), Fail> {
+    let seen = seen_of_clone(rt.alloc())?;
+    assert_eq!(rt; seen, (None, true, None));
     Ok(())
 }

@@ -90,6 +90,19 @@ fn is_missed<T: SegmentTable>(
             }
 }
 
+/// Whether a fetch of the ids gives the names of these.
+fn gives<T: SegmentTable>(
+    stored: &Stored<'_, T>,
+    run: &mut Run,
+    ids: &[u64],
+    lazy: &[u64],
+) -> bool {
+    match stored.fetch(&mut run.lazy, &mut run.mirrors, ids) {
+        Ok(names) => are_names(&names, lazy),
+        Err(_) => false,
+    }
+}
+
 /// Whether the names come of those of the ids, the greatest first, that aren't stored, and the mirror is asked just for those that
 /// aren't kept.
 fn is_fetched<T: SegmentTable>(
@@ -101,12 +114,9 @@ fn is_fetched<T: SegmentTable>(
     let lazy = lazy_ids(stored.alloc, given, ids)?;
     let due = fetch_due(given, &run.kept, &lazy);
     forget(&mut run.mirrors);
-    let names_hold = match stored.fetch(&mut run.lazy, &mut run.mirrors, ids) {
-        Ok(names) => are_names(&names, &lazy),
-        Err(_) => false,
-    };
+    let is_given = gives(stored, run, ids, &lazy);
     run.kept.put_all(&lazy)?;
-    Ok(names_hold && count_of(&run.mirrors) == due)
+    Ok(is_given && count_of(&run.mirrors) == due)
 }
 
 /// Whether each name is found, and one that the world hasn't isn't.
@@ -160,6 +170,17 @@ fn draw_ids(
     Ok(ids)
 }
 
+/// Whether a set of ids is fetched, and a name found behind it.
+fn set_holds<T: SegmentTable>(
+    stored: &Stored<'_, T>,
+    given: &CloneData,
+    run: &mut Run,
+    ids: &[u64],
+    found: u64,
+) -> Result<bool, AllocError> {
+    Ok(is_fetched(stored, given, run, ids)? && is_found(stored, given, run, found)?)
+}
+
 /// Whether sets of ids that are drawn are fetched, and a name is found behind each.
 fn sets_hold<T: SegmentTable>(
     stored: &Stored<'_, T>,
@@ -170,14 +191,26 @@ fn sets_hold<T: SegmentTable>(
     let mut draws = Draws::of(drawn.start);
     for sparse in SPARSE {
         let ids = draw_ids(stored.alloc, &mut draws, drawn.commits, sparse)?;
-        if !is_fetched(stored, given, run, &ids)? {
-            return Ok(false);
-        }
-        if !is_found(stored, given, run, draws.below(drawn.commits))? {
+        let found = draws.below(drawn.commits);
+        if !set_holds(stored, given, run, &ids, found)? {
             return Ok(false);
         }
     }
     Ok(true)
+}
+
+/// Whether each name is found, and each id and the sets are fetched.
+fn all_hold<T: SegmentTable>(
+    stored: &Stored<'_, T>,
+    given: &CloneData,
+    run: &mut Run,
+    drawn: Drawn,
+) -> Result<bool, AllocError> {
+    Ok(
+        finds_hold(stored, given, run, drawn.commits)?
+            && fetches_hold(stored, given, run, drawn.commits)?
+            && sets_hold(stored, given, run, drawn)?,
+    )
 }
 
 /// Whether all holds with one cache for so many names.
@@ -189,11 +222,7 @@ fn run_holds<T: SegmentTable>(
 ) -> Result<bool, AllocError> {
     let mirror = drawn.mirror(stored.alloc)?;
     let mut run = Run::new(stored.alloc, mirror, room)?;
-    Ok(
-        finds_hold(stored, given, &mut run, drawn.commits)?
-            && fetches_hold(stored, given, &mut run, drawn.commits)?
-            && sets_hold(stored, given, &mut run, drawn)?,
-    )
+    all_hold(stored, given, &mut run, drawn)
 }
 
 /// Whether all holds with caches for one to five names.
