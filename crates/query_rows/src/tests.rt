@@ -10,6 +10,7 @@ use crate::tables::{evaluated, levels_of, part_of, sample_of};
 use dag_run::{Limits, run_lines};
 use disk_memory::MemoryDisk;
 use line_io::{MemorySink, MemorySource};
+use mirror_set::Mirrors;
 use sample_tables::{OtherSample, Sample};
 use segment_codec::SegmentTable;
 use set_query::ExprFault;
@@ -102,7 +103,8 @@ fn is_run(
     input: &mut MemorySource,
     output: &mut MemorySink,
 ) -> bool {
-    run_lines(alloc, Limits::standard(), disk, input, output).status == 0
+    let mut none = Mirrors::new(Vec::new(alloc));
+    run_lines(alloc, Limits::standard(), disk, &mut none, input, output).status == 0
 }
 
 /// Whether the program replies to the lines so.

@@ -4,6 +4,7 @@ use dag_run::{Limits, run_lines};
 use dag_store::{Expr, Store};
 use disk_memory::MemoryDisk;
 use line_io::{MemorySink, MemorySource};
+use mirror_set::Mirrors;
 use std::alloc::{AllocError, Global};
 use std::test::Fail;
 
@@ -51,7 +52,15 @@ fn ladder(alloc: Global) -> Result<Vec<u8>, AllocError> {
 fn run(alloc: Global, lines: &[u8], disk: &mut MemoryDisk) -> Result<bool, AllocError> {
     let mut input = MemorySource::new(alloc, lines, 65_536, &[])?;
     let mut output = MemorySink::new(alloc, &[])?;
-    let report = run_lines(alloc, Limits::standard(), disk, &mut input, &mut output);
+    let mut none = Mirrors::new(Vec::new(alloc));
+    let report = run_lines(
+        alloc,
+        Limits::standard(),
+        disk,
+        &mut none,
+        &mut input,
+        &mut output,
+    );
     Ok(report.status == 0)
 }
 
