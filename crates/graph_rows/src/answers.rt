@@ -78,8 +78,6 @@ fn members_are_listed(rt: HostRuntime) -> Result<(), Fail> {
 #[test]
 fn others_stand_before_master(rt: HostRuntime) -> Result<(), Fail> {
     let mut world = master(&rt, rt.alloc(), &LOWER_LINE)?.expect(&rt, "the line is a history");
-    for drawn in [[3, 2, 0], [6, 3, 5]] {
-        assert!(rt; put(&mut world, drawn)?);
-    }
+    assert!(rt; put(&mut world, [3, 2, 0])? && put(&mut world, [6, 3, 5])?);
     check(&rt, rt.alloc(), &world, &OVER_BOTH_GROUPS)
 }

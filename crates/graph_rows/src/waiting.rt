@@ -15,7 +15,7 @@ fn peeks(rt: &impl Abort, work: &mut WorkList, expected: &[(u64, Option<u64>)]) 
     }
 }
 
-/// The same of `next_id`.
+/// The same of `next_id`, with the set.
 fn nexts(rt: &impl Abort, work: &mut WorkList, set: &IdSet, expected: &[(u64, Option<u64>)]) {
     for (below, number) in expected {
         assert!(rt; *below <= ID_END);
@@ -40,21 +40,13 @@ fn push_parents(work: &mut WorkList) -> Result<(), Fail> {
     Ok(())
 }
 
-#[test]
-fn waiting_ids_come_from_the_greatest_down(rt: HostRuntime) -> Result<(), Fail> {
-    let mut work = WorkList::empty(rt.alloc());
-    push_ids(&rt, &mut work, &[5, FIRST_OTHER])?;
-    push_parents(&mut work)?;
-    peeks(
-        &rt,
-        &mut work,
-        &[(ID_END, Some(FIRST_OTHER)), (FIRST_OTHER, Some(7))],
-    );
-    let mut set = IdSet::empty(rt.alloc());
+/// The ids 5 and 3 wait, beside a set of the id 6.
+fn nexts_beside_six(rt: &impl Abort, alloc: Global, work: &mut WorkList) -> Result<(), Fail> {
+    let mut set = IdSet::empty(alloc);
     set.insert_span(IdSpan::single(Id::master(6)))?;
     nexts(
-        &rt,
-        &mut work,
+        rt,
+        work,
         &set,
         &[
             (7, Some(6)),
@@ -65,6 +57,19 @@ fn waiting_ids_come_from_the_greatest_down(rt: HostRuntime) -> Result<(), Fail> 
         ],
     );
     Ok(())
+}
+
+#[test]
+fn waiting_ids_come_from_the_greatest_down(rt: HostRuntime) -> Result<(), Fail> {
+    let mut work = WorkList::empty(rt.alloc());
+    push_ids(&rt, &mut work, &[5, FIRST_OTHER])?;
+    push_parents(&mut work)?;
+    peeks(
+        &rt,
+        &mut work,
+        &[(ID_END, Some(FIRST_OTHER)), (FIRST_OTHER, Some(7))],
+    );
+    nexts_beside_six(&rt, rt.alloc(), &mut work)
 }
 
 /// Numbers of ids that are put on a list, and then bounds with the answers of `next_below` to them.

@@ -38,20 +38,31 @@ fn id(rt: &impl Abort, world: &World, last: u8) -> Id
     }
 }
 
-/// Whether the commit is put behind the others, and then no second time.
-fn is_put_once(world: &mut World, drawn: Drawn) -> Result<bool, AllocError> {
-    Ok(put(world, drawn)? && !put(world, drawn)?)
+/// Whether each commit is put behind the others, and then no second time.
+fn are_put_once(world: &mut World, commits: &[Drawn]) -> Result<bool, AllocError> {
+    for drawn in commits {
+        if !put(world, *drawn)? || put(world, *drawn)? {
+            return Ok(false);
+        }
+    }
+    Ok(true)
+}
+
+/// How many commits of master there are, how many others, and the id of one commit.
+fn found(world: &World, last: u8) -> (u64, u64, Option<Id>) {
+    (
+        world.master_count(),
+        world.others_count(),
+        world.find(&name(last)),
+    )
 }
 
 #[test]
 fn a_day_is_put_behind_nothing(rt: HostRuntime) -> Result<(), Fail> {
     let mut world = World::empty(rt.alloc());
-    for drawn in DAY {
-        assert!(rt; is_put_once(&mut world, drawn)?);
-    }
+    assert!(rt; are_put_once(&mut world, &DAY)?);
     assert!(rt; !put(&mut world, [7, 8, 0])?);
-    assert_eq!(rt; (world.master_count(), world.others_count()), (0, 6));
-    assert_eq!(rt; world.find(&name(5)), Some(Id::other(4)));
+    assert_eq!(rt; found(&world, 5), (0, 6, Some(Id::other(4))));
     Ok(())
 }
 
@@ -75,6 +86,13 @@ fn ancestor(rt: &impl Abort, world: &World, last: u8, steps: u64) -> Option<u8> 
     (1..7).find(|number| world.find(&name(*number)) == Some(found))
 }
 
+/// The first ancestor so many steps from each commit is the one that stands beside them.
+fn check_steps(rt: &impl Abort, world: &World, cases: &[(u8, u64, Option<u8>)]) {
+    for (x, n, want) in cases {
+        assert_eq!(rt; ancestor(rt, world, *x, *n), *want, "{n} steps from {x}");
+    }
+}
+
 #[test]
 fn walks_lead_along_parents(rt: HostRuntime) -> Result<(), Fail> {
     let world = master(&rt, rt.alloc(), &DAY)?.expect(&rt, "the day is a history");
@@ -91,9 +109,7 @@ fn walks_lead_along_parents(rt: HostRuntime) -> Result<(), Fail> {
             (4, 4, true),
         ],
     )?;
-    for (x, n, want) in STEPS {
-        assert_eq!(rt; ancestor(&rt, &world, x, n), want, "{n} steps from {x}");
-    }
+    check_steps(&rt, &world, &STEPS);
     Ok(())
 }
 
@@ -105,9 +121,8 @@ fn is_history(rt: &impl Abort, alloc: Global, commits: &[Drawn]) -> Result<bool,
 #[test]
 fn masters_are_histories(rt: HostRuntime) -> Result<(), Fail> {
     let day = master(&rt, rt.alloc(), &DAY)?.expect(&rt, "the day is a history");
-    assert_eq!(rt; (day.master_count(), day.others_count()), (6, 0));
-    assert_eq!(rt; day.find(&name(3)), Some(Id::master(2)));
-    assert_eq!(rt; day.find(&name(7)), None);
+    assert_eq!(rt; found(&day, 3), (6, 0, Some(Id::master(2))));
+    assert_eq!(rt; found(&day, 7), (6, 0, None));
     Ok(())
 }
 
