@@ -173,6 +173,38 @@ fn add_id(ids: &mut Vec<Id>, id: Id) -> Result<(), AllocError>
     Ok(())
 }
 
+/// Puts the pending rows that the newest world doesn't have behind `left`, which has none yet; `none` has none either.
+fn rebase_rows(
+    alloc: Global,
+    tables: &Tables,
+    bytes: &[u8],
+    base: &BaseRef<'_>,
+    pending: &PendingRows,
+    found: &[Option<Id>],
+    none: &PendingRows,
+    left: &mut PendingRows,
+) -> Result<(), PlanFault>
+    requires rebase { (added before : List Placed) × MayRebaseOn tables.now bytes.now base.now pending.now found.now added before }
+    requires none { HoldsRows none.now [] × (none.now.first ≡ tables.now.others.count) }
+    requires left { HoldsRows left.old [] × (left.old.first ≡ tables.now.others.count) }
+    ensures worlds { (w old : World NameBytes) (rows : List (Row NameBytes)) → MayRebase tables.now bytes.now base.now pending.now found.now w old rows
+        → MatchResult result
+        (λ done. (first_conflict same_name w rows ≡ None) × ArePending w left.new (left_of same_name w rows))
+        (λ fault. (fault ≡ Memory) ⊎ (conflict_fault (first_conflict same_name w rows) ≡ Some fault)) }
+    ensures left { (added before : List Placed) → MayRebaseOn tables.now bytes.now base.now pending.now found.now added before → OnOk result (MayStore left.new added) }
+{
+    let newest = tables.newest(bytes);
+    let view = newest.view(none);
+    let mut ids = Vec::with_capacity(alloc, found.len())?;
+    'rows: for i in 0..pending.len() {
+        let name = pending.name(i).to_name();
+        let moved = row_parents(alloc, &newest, base, pending, i, &ids)?;
+        let id = rebase_row(alloc, &view, &name, &moved, found[i as usize], left)?;
+        add_id(&mut ids, id)?;
+    }
+    Ok(())
+}
+
 /// The pending rows that the newest world doesn't have, in order, with their parents by their ids in it. `found` has for each
 /// pending row the id of its name in the newest world, where that has it.
 ///
@@ -193,17 +225,11 @@ pub fn rebase(
         (λ fault. (fault ≡ Memory) ⊎ (conflict_fault (first_conflict same_name w rows) ≡ Some fault)) }
     ensures left { (added before : List Placed) → MayRebaseOn tables.now bytes.now base.entry pending.now found.now added before → IfOk result (λ left. MayStore left added) }
 {
-    let newest = tables.newest(bytes);
     let others = u64::from(tables.others().count());
     let none = PendingRows::empty(alloc, others);
-    let view = newest.view(&none);
     let mut left = PendingRows::empty(alloc, others);
-    let mut ids = Vec::with_capacity(alloc, found.len())?;
-    'rows: for i in 0..pending.len() {
-        let name = pending.name(i).to_name();
-        let moved = row_parents(alloc, &newest, &base, pending, i, &ids)?;
-        let id = rebase_row(alloc, &view, &name, &moved, found[i as usize], &mut left)?;
-        add_id(&mut ids, id)?;
-    }
+    rebase_rows(
+        alloc, tables, bytes, &base, pending, found, &none, &mut left,
+    )?;
     Ok(left)
 }

@@ -6,7 +6,7 @@ use Rattle.flush_rebuild.specs.Asked.{MayRebaseOn}
 use Rattle.flush_rebuild.specs.Plans.{MayRebase}
 use Rattle.flush_rebuild.proofs.Rebased.{LeftIn}
 use Rattle.flush_rebuild.proofs.LeftSoFar.{LeftSoFar}
-use Rattle.flush_rebuild.proofs.rebasing.rebase.Given as goal
+use Rattle.flush_rebuild.proofs.rebasing.rebase_rows.Given as goal
 
 abbrev pub invariant-rows : goal.invariant-rows
 invariant-rows l = ((added before : List Placed) (m : MayRebaseOn l.tables l.bytes l.base l.pending l.found added before) → LeftSoFar added (take l.i m.rows) l.ids.items l.left)
