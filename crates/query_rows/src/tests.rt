@@ -69,15 +69,36 @@ fn wrong_joined(
     Ok(wrong_over(alloc, &view, graph.masters, graph)?)
 }
 
-/// Over a flat table of the graph, in whose log so many commits more go on from master's last.
-fn wrong_over_flats(alloc: Global, graph: &Graph, more: u64) -> Result<Wrong, Fail> {
+/// Over a flat table of the graph, whose master commits are in the sample.
+fn wrong_behind(alloc: Global, graph: &Graph, sample: &Sample) -> Result<Wrong, Fail> {
     let middle = graph.masters.saturating_add(graph.stored);
-    let sample = sample_of(alloc, graph, graph.masters, more)?.ok_or("master is a history")?;
     let others = part_of(alloc, graph, graph.masters, middle)?.ok_or("others come in turn")?;
     let pending = part_of(alloc, graph, middle, graph.parents.len())?.ok_or(
         "pending rows come in turn",
     )?;
-    wrong_joined(alloc, graph, &sample, &others, &pending)
+    wrong_joined(alloc, graph, sample, &others, &pending)
+}
+
+/// Over a flat table of the graph, in whose log so many commits more go on from master's last.
+fn wrong_over_flats(alloc: Global, graph: &Graph, more: u64) -> Result<Wrong, Fail> {
+    let sample = sample_of(alloc, graph, graph.masters, more)?.ok_or("master is a history")?;
+    wrong_behind(alloc, graph, &sample)
+}
+
+/// Over a table with the levels of the sample, in which so many first commits are the graph's.
+fn wrong_with_levels(
+    alloc: Global,
+    graph: &Graph,
+    sample: &Sample,
+    count: usize,
+) -> Result<Wrong, Fail> {
+    let levels = levels_of(alloc, sample)?;
+    let below = count as u64;
+    if below > levels.count() {
+        return Err(Fail::new("each commit is had"));
+    }
+    let view = levels.view(below);
+    Ok(wrong_over(alloc, &view, count, graph)?)
 }
 
 /// Over a table with levels, where the graph is master's alone.
@@ -87,13 +108,7 @@ fn wrong_over_levels(alloc: Global, graph: &Graph, more: u64) -> Result<Wrong, F
         return Ok(None);
     }
     let sample = sample_of(alloc, graph, count, more)?.ok_or("master is a history")?;
-    let levels = levels_of(alloc, &sample)?;
-    let below = count as u64;
-    if below > levels.count() {
-        return Err(Fail::new("each commit is had"));
-    }
-    let view = levels.view(below);
-    Ok(wrong_over(alloc, &view, count, graph)?)
+    wrong_with_levels(alloc, graph, &sample, count)
 }
 
 /// Whether the program goes through all lines of the input.
