@@ -216,8 +216,9 @@ impl Store {
         ensures { (began : ℕ) (st : Stored) → Stands began self.now st → IdStep self.now st s name.now result }
     {
         let session = &self.sessions[usize::from(s)];
-        let base = session.base(self.log.bytes(), &self.tables);
-        let unnamed = has_unnamed(&self.tables, session.below);
+        let tables: &Tables = &self.tables;
+        let base = session.base(self.log.bytes(), tables);
+        let unnamed = has_unnamed(tables, session.below);
         match find(&base, unnamed, &session.pending, name)? {
             Some(id) => Ok(id),
             None => Err(Refusal::Unknown(*name)),

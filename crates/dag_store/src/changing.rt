@@ -149,7 +149,7 @@ fn add_payload(
     let bytes = log.bytes();
     let at = bytes.len() as u64 + 8;
     let session = stored_session(alloc, log.batch_count() + 1, &batch, at)?;
-    match tables.add_batch(bytes, &batch, at) {
+    match tables.add_lawful(bytes, &batch, at) {
         Ok(()) => Ok(session),
         Err(TableFault::Memory) => Err(AllocError),
         Err(TableFault::Unlawful) => unreachable!(),
@@ -218,16 +218,16 @@ pub(crate) fn commit<D: Disk>(
     disk: &mut D,
     alloc: Global,
     log: Log,
-    tables: Tables,
+    tables: Box<Tables>,
     sessions: Vec<Session>,
     limits: Limits,
     change: Change,
 ) -> Flushed
     requires begins { IfSome (D.told disk.old) (IsOnDisk log) }
     requires limit { log.limit ≡ limits.log }
-    requires same { change.same ≡ true → IsKept log tables sessions.items limits }
+    requires same { change.same ≡ true → IsKept log tables.value sessions.items limits }
     requires room { change.same ≡ false → (longer log change.payload ≤ log.limit) × (longer log change.payload ≤ log.room) }
-    requires stored { (new : Held) → change.same ≡ false → IsBehind log change.payload new → IsKept new tables sessions.items limits }
+    requires stored { (new : Held) → change.same ≡ false → IsBehind log change.payload new → IsKept new tables.value sessions.items limits }
     ensures finishes { Finishes log sessions.items limits change result }
     ensures leaves { Goes (FlushLeaves (record { log = log; sessions = sessions.items; limits = limits }) change.payload result) (D.told disk.old) (D.told disk.new) }
     ensures quiet { change.same ≡ true → disk.new ≡ disk.old }

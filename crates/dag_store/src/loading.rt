@@ -141,7 +141,7 @@ fn read_in_turn(alloc: Global, log: &Log) -> Result<Tables, LoadFault>
 }
 
 /// The tables of a log's payloads. They are made at once, and one behind the other only to tell which payload is unlawful.
-pub(crate) fn read_tables(alloc: Global, log: &Log) -> Result<Tables, LoadFault>
+fn read_tables(alloc: Global, log: &Log) -> Result<Tables, LoadFault>
     requires { log.now.limit ≤ 2 ^ 32 }
     ensures ok { IfOk result (λ tables. (added : List Placed) × AreTablesOf tables added × AllStand (log_bytes log.now) added × (log.now.payloads ≡ map text_of (payloads_of added))
         × AllByRecursion (EndsWithin log.now) added) }
@@ -152,6 +152,18 @@ pub(crate) fn read_tables(alloc: Global, log: &Log) -> Result<Tables, LoadFault>
         Err(TableFault::Memory) => Err(LoadFault::Memory),
         Err(TableFault::Unlawful) => read_in_turn(alloc, log),
     }
+}
+
+/// The same tables behind a box, which a store is handed on with.
+pub(crate) fn boxed_tables(alloc: Global, log: &Log) -> Result<Box<Tables>, LoadFault>
+    requires { log.now.limit ≤ 2 ^ 32 }
+    ensures ok { IfOk result (λ tables. (added : List Placed) × AreTablesOf tables.value added × AllStand (log_bytes log.now) added × (log.now.payloads ≡ map text_of (payloads_of added))
+        × AllByRecursion (EndsWithin log.now) added) }
+    ensures err { IfErr result (λ fault. (fault ≡ LoadFault.Memory) ⊎ ((k : ℕ) × (fault ≡ LoadFault.Batch k) × IsFirstUnlawful [] log.now.payloads k)) }
+{
+    let tables = read_tables(alloc, log)?;
+    let boxed = Box::new(alloc, tables)?;
+    Ok(boxed)
 }
 
 /// Sixteen sessions without rows on all payloads of the log.

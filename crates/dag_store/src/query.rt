@@ -187,8 +187,9 @@ impl Store {
     {
         let session = &self.sessions[usize::from(s)];
         let bytes = self.log.bytes();
-        let answer = members(self.alloc, bytes, &self.tables, session, expr)?;
-        check_names(bytes, &self.tables, session, self.limits.answer, &answer)?;
+        let tables: &Tables = &self.tables;
+        let answer = members(self.alloc, bytes, tables, session, expr)?;
+        check_names(bytes, tables, session, self.limits.answer, &answer)?;
         Ok(Found { answer })
     }
 

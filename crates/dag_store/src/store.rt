@@ -20,7 +20,7 @@ ghost use Rattle.dag_store.specs.Stands.{Stands};
 ghost use Rattle.dag_store.specs.Steps.{ChangesOnly};
 ghost use Rattle.dag_store.specs.Loading.{LoadAnswers, Opens, KeepsHolding, IsLoadedStore, IsNoLogFault, SameBytes};
 
-use crate::loading::{new_sessions, read_tables};
+use crate::loading::{boxed_tables, new_sessions};
 use crate::replies::{Counts, LoadFault};
 use crate::session::Session;
 use disk_trait::Disk;
@@ -30,12 +30,13 @@ use high_segments::LevelCounts;
 use std::alloc::Global;
 use std::marker::Model;
 
-/// A log, its tables, and sixteen sessions on it. Contracts see the log, what is kept of each session, and the limits.
+/// A log, its tables, and sixteen sessions on it. Contracts see the log, what is kept of each session, and the limits. The tables
+/// stand behind a box, since a store is handed on by value with each line.
 #[derive(Drop)]
 pub struct Store {
     pub(crate) alloc: Global,
     pub(crate) log: Log,
-    pub(crate) tables: Tables,
+    pub(crate) tables: Box<Tables>,
     pub(crate) sessions: Vec<Session>,
     pub(crate) limits: Limits,
 }
@@ -47,7 +48,7 @@ impl Model for Store {
 
     ghost view = { λ s. record { log = s.log; sessions = s.sessions.items; limits = s.limits } };
 
-    ghost invariant = { λ s. IsKept s.log s.tables s.sessions.items s.limits };
+    ghost invariant = { λ s. IsKept s.log s.tables.value s.sessions.items s.limits };
 }
 
 impl Store {
@@ -69,7 +70,7 @@ impl Store {
         ensures cause { (fault : _) → result ≡ Err (LoadFault.Disk fault) → Rose (D.faults disk.old) (D.faults disk.new) }
     {
         let log = Log::load(alloc, disk, limits.log)?;
-        let tables = read_tables(alloc, &log)?;
+        let tables = boxed_tables(alloc, &log)?;
         let sessions = new_sessions(alloc, &log, &tables)?;
         Ok(Store {
             alloc,

@@ -13,18 +13,21 @@ pub invariant_of-self : goal.invariant_of-self
 invariant_of-self c =
     let i = c.self.inside in
     let items = i.sessions.items in
-    let k = c.self.invariant in
+    let tables = c.deref.result.now in
+    let k = subst (λ t. IsKept i.log t i.sessions.items i.limits) (sym c.deref.ensures) c.self.invariant in
     let there = session-there items c.args.s c.from.result c.index_mut-session.result.now _ c.requires.session k.count c.from.ensures c.index_mut-session.ensures.value in
     let stand = subst (λ b. AllStand b k.added) (sym c.bytes.ensures.bytes) k.stand in
     let of = subst (IsSessionOf k.added) (sym there) (k.each c.args.s c.requires.session) in
-    subst (λ n. IsKept i.log i.tables (set items n c.add_row.new.session) i.limits) (sym c.from.ensures)
-    (kept-with i.log i.tables items i.limits k c.args.s c.add_row.new.session c.requires.session (c.add_row.ensures.kept k.added k.tables_of stand of))
+    subst (λ t. IsKept i.log t (set items c.from.result c.add_row.new.session) i.limits) c.deref.ensures
+    (subst (λ n. IsKept i.log tables (set items n c.add_row.new.session) i.limits) (sym c.from.ensures)
+    (kept-with i.log tables items i.limits k c.args.s c.add_row.new.session c.requires.session (c.add_row.ensures.kept k.added k.tables_of stand of)))
 
 pub returns-clause-step : goal.returns-clause-step
 returns-clause-step c =
     let i = c.self.inside in
     let items = i.sessions.items in
-    let k = c.self.invariant in
+    let tables = c.deref.result.now in
+    let k = subst (λ t. IsKept i.log t i.sessions.items i.limits) (sym c.deref.ensures) c.self.invariant in
     let there = session-there items c.args.s c.from.result c.index_mut-session.result.now _ c.requires.session k.count c.from.ensures c.index_mut-session.ensures.value in
     let stand = subst (λ b. AllStand b k.added) (sym c.bytes.ensures.bytes) k.stand in
     let of = subst (IsSessionOf k.added) (sym there) (k.each c.args.s c.requires.session) in
@@ -33,10 +36,10 @@ returns-clause-step c =
     c.self.view_is
     (λ began st h.
     subst (λ n. AddStep began (record { log = i.log; sessions = items; limits = i.limits }) st c.args.s c.args.name.now c.args.parents.now c.add_row.result (record { log = i.log; sessions = set items n new; limits = i.limits })) (sym c.from.ensures)
-    (add-step i.log i.tables items i.limits k c.args.s c.requires.session began st h c.args.name.now c.args.parents.now c.add_row.result new
+    (add-step i.log tables items i.limits k c.args.s c.requires.session began st h c.args.name.now c.args.parents.now c.add_row.result new
     (subst (λ (q : PlainSession). AddsRow i.limits.pending q (payloads_of (base_added k.added q)) (base_of st c.args.s) (pending_of st c.args.s) c.args.name.now c.args.parents.now c.add_row.result new) there
     (c.add_row.ensures.adds k.added (base_of st c.args.s) (pending_of st c.args.s) k.tables_of stand of
-    (subst (λ (q : PlainSession). IsSeen k.added q (base_of st c.args.s) (pending_of st c.args.s)) (sym there) (session-seen i.log i.tables items i.limits k c.args.s c.requires.session began st h))))))
+    (subst (λ (q : PlainSession). IsSeen k.added q (base_of st c.args.s) (pending_of st c.args.s)) (sym there) (session-seen i.log tables items i.limits k c.args.s c.requires.session began st h))))))
 
 pub returns-clause-alone : goal.returns-clause-alone
 returns-clause-alone c =

@@ -21,9 +21,9 @@ invariant_of-self c =
     let first = c.empty.ensures.first ∙ c.first.ensures ∙ ap (λ (q : PlainSession). q.pending.first) x in
     let same = ap (λ n. set items n (record { payloads = c.session.inside.payloads; below = c.session.inside.below; others = c.session.inside.others; pending = none })) c.from.ensures
     ∙ ap (λ (q : PlainSession). set items c.args.s (record q { pending = none })) x in
-    subst (λ l. IsKept i.log i.tables l i.limits) (sym same)
-    (kept-with i.log i.tables items i.limits k c.args.s (record (session_at items c.args.s) { pending = none }) c.requires
-    (discarded-of i.log i.tables items i.limits k c.args.s c.requires none c.empty.ensures.rows first))
+    subst (λ l. IsKept i.log i.tables.value l i.limits) (sym same)
+    (kept-with i.log i.tables.value items i.limits k c.args.s (record (session_at items c.args.s) { pending = none }) c.requires
+    (discarded-of i.log i.tables.value items i.limits k c.args.s c.requires none c.empty.ensures.rows first))
 
 pub returns-clause-step : goal.returns-clause-step
 returns-clause-step c =
@@ -40,7 +40,7 @@ returns-clause-step c =
     c.self.view_is
     (subst (λ l. (began : ℕ) (st : Stored) → Stands began (record { log = i.log; sessions = items; limits = i.limits }) st → LoneStep i.limits st c.args.s Discard (Discarded c.len-count.result) (with_pending_rows st c.args.s [])
     × Stands began (record { log = i.log; sessions = l; limits = i.limits }) (with_pending_rows st c.args.s [])) (sym same)
-    (discard-step i.log i.tables items i.limits k c.args.s c.requires c.len-count.result none
+    (discard-step i.log i.tables.value items i.limits k c.args.s c.requires c.len-count.result none
     (λ rows held. c.len-count.ensures.len rows (subst (λ (q : PlainSession). HoldsRows q.pending rows) (sym x) held)) c.empty.ensures.rows first))
 
 pub returns-clause-alone : goal.returns-clause-alone

@@ -26,57 +26,58 @@ pub commit-requires-clause-same : goal.commit-requires-clause-same
 commit-requires-clause-same g c = λ same.
     let i = c.self.inside in
     let items = i.sessions.items in
-    let k = c.self.invariant in
+    let k = subst (λ (t : PlainTables). IsKept i.log t i.sessions.items i.limits) (sym c.deref_mut.ensures.value) c.self.invariant in
     let s = c.args.s in
     let small = c.requires.session in
     let x = session-there items s c.from-at.result c.index.result.now _ small k.count c.from-at.ensures c.index.ensures in
-    let p = (c.in-Ok.ensures.ready k.added (over-of i.log i.tables items i.limits k) (subst (IsSessionOf k.added) (sym x) (k.each s small))).same same in
+    let p = (c.in-Ok.ensures.ready k.added (over-of i.log c.deref_mut.result.now items i.limits k) (subst (IsSessionOf k.added) (sym x) (k.each s small))).same same in
     kept-room i.log c.prepare.new.log c.prepare.new.tables (set items c.from-at.result c.in-Ok.next.session) i.limits c.prepare.ensures.room
     (subst (λ (t : PlainTables). IsKept i.log t (set items c.from-at.result c.in-Ok.next.session) i.limits) (sym p.0)
-    (subst (λ n. IsKept i.log i.tables (set items n c.in-Ok.next.session) i.limits) (sym c.from-at.ensures)
-    (newest-kept i.log i.tables items i.limits k s small c.in-Ok.next.session p.1.0)))
+    (subst (λ n. IsKept i.log c.deref_mut.result.now (set items n c.in-Ok.next.session) i.limits) (sym c.from-at.ensures)
+    (newest-kept i.log c.deref_mut.result.now items i.limits k s small c.in-Ok.next.session p.1.0)))
 
 pub commit-requires-clause-room : goal.commit-requires-clause-room
 commit-requires-clause-room g c = λ changes.
     let i = c.self.inside in
     let items = i.sessions.items in
-    let k = c.self.invariant in
+    let k = subst (λ (t : PlainTables). IsKept i.log t i.sessions.items i.limits) (sym c.deref_mut.ensures.value) c.self.invariant in
     let s = c.args.s in
     let small = c.requires.session in
     let x = session-there items s c.from-at.result c.index.result.now _ small k.count c.from-at.ensures c.index.ensures in
-    let r = (c.in-Ok.ensures.ready k.added (over-of i.log i.tables items i.limits k) (subst (IsSessionOf k.added) (sym x) (k.each s small))).ready changes in
+    let r = (c.in-Ok.ensures.ready k.added (over-of i.log c.deref_mut.result.now items i.limits k) (subst (IsSessionOf k.added) (sym x) (k.each s small))).ready changes in
     (r.fits, r.enough)
 
 pub commit-requires-clause-stored : goal.commit-requires-clause-stored
 commit-requires-clause-stored g c = λ new changes behind.
     let i = c.self.inside in
     let items = i.sessions.items in
-    let k = c.self.invariant in
+    let k = subst (λ (t : PlainTables). IsKept i.log t i.sessions.items i.limits) (sym c.deref_mut.ensures.value) c.self.invariant in
     let s = c.args.s in
     let small = c.requires.session in
     let x = session-there items s c.from-at.result c.index.result.now _ small k.count c.from-at.ensures c.index.ensures in
-    let r = (c.in-Ok.ensures.ready k.added (over-of i.log i.tables items i.limits k) (subst (IsSessionOf k.added) (sym x) (k.each s small))).ready changes in
+    let r = (c.in-Ok.ensures.ready k.added (over-of i.log c.deref_mut.result.now items i.limits k) (subst (IsSessionOf k.added) (sym x) (k.each s small))).ready changes in
     subst (λ n. IsKept new c.prepare.new.tables (set items n c.in-Ok.next.session) i.limits) (sym c.from-at.ensures)
-    (stored-kept i.log i.tables items i.limits k s small c.prepare.new.log c.prepare.new.tables c.in-Ok.next.change c.in-Ok.next.session r new behind)
+    (stored-kept i.log c.deref_mut.result.now items i.limits k s small c.prepare.new.log c.prepare.new.tables c.in-Ok.next.change c.in-Ok.next.session r new behind)
 
 pub invariant_of-store : goal.invariant_of-store
 invariant_of-store g c =
     let i = c.self.inside in
     kept-room i.log c.prepare.new.log c.prepare.new.tables i.sessions.items i.limits c.prepare.ensures.room
-    (subst (λ (t : PlainTables). IsKept i.log t i.sessions.items i.limits) (sym c.in-Err.ensures.refused) c.self.invariant)
+    (subst (λ (t : PlainTables). IsKept i.log t i.sessions.items i.limits) (sym c.in-Err.ensures.refused)
+    (subst (λ (t : PlainTables). IsKept i.log t i.sessions.items i.limits) (sym c.deref_mut.ensures.value) c.self.invariant))
 
 pub returns-in-Ok-clause-step : goal.returns-in-Ok-clause-step
 returns-in-Ok-clause-step g c =
     let i = c.self.inside in
     let items = i.sessions.items in
     let kept : PlainStore = record { log = i.log; sessions = items; limits = i.limits } in
-    let k = c.self.invariant in
+    let k = subst (λ (t : PlainTables). IsKept i.log t i.sessions.items i.limits) (sym c.deref_mut.ensures.value) c.self.invariant in
     let s = c.args.s in
     let small = c.requires.session in
     let change = c.in-Ok.next.change in
     let next = c.in-Ok.next.session in
     let x = session-there items s c.from-at.result c.index.result.now _ small k.count c.from-at.ensures c.index.ensures in
-    let over = over-of i.log i.tables items i.limits k in
+    let over = over-of i.log c.deref_mut.result.now items i.limits k in
     let sess = subst (IsSessionOf k.added) (sym x) (k.each s small) in
     let told = g.D.Disk.told c.args.disk.now in
     let then = g.D.Disk.told c.commit.new.disk in
@@ -86,8 +87,8 @@ returns-in-Ok-clause-step g c =
       change.payload,
       leaves-room kept c.prepare.new.log c.prepare.ensures.room (set items c.from-at.result next) change.payload c.commit.result told then c.commit.ensures.leaves,
       λ began st h.
-          flush-finished began kept i.tables k st h s small c.args.heads.now c.prepare.new.log c.prepare.new.tables change next (c.in-Ok.ensures.ready k.added over sess) c.prepare.ensures.room
-          (c.in-Ok.ensures.step began s k.added st over sess (subst (λ (y : PlainSession). IsOn began k.added y st s) (sym x) (on-of i.log i.tables items i.limits k began st h s small)))
+          flush-finished began kept c.deref_mut.result.now k st h s small c.args.heads.now c.prepare.new.log c.prepare.new.tables change next (c.in-Ok.ensures.ready k.added over sess) c.prepare.ensures.room
+          (c.in-Ok.ensures.step began s k.added st over sess (subst (λ (y : PlainSession). IsOn began k.added y st s) (sym x) (on-of i.log c.deref_mut.result.now items i.limits k began st h s small)))
           c.commit.result finishes,
     )
 
@@ -106,7 +107,7 @@ returns-in-Err-clause-step g c =
     let items = i.sessions.items in
     let kept : PlainStore = record { log = i.log; sessions = items; limits = i.limits } in
     let same : PlainStore = record { log = c.prepare.new.log; sessions = items; limits = i.limits } in
-    let k = c.self.invariant in
+    let k = subst (λ (t : PlainTables). IsKept i.log t i.sessions.items i.limits) (sym c.deref_mut.ensures.value) c.self.invariant in
     let s = c.args.s in
     let small = c.requires.session in
     let x = session-there items s c.from-at.result c.index.result.now _ small k.count c.from-at.ensures c.index.ensures in
@@ -116,7 +117,7 @@ returns-in-Err-clause-step g c =
       [],
       goes-same (FlushLeaves kept [] (Refused same c.in-Err.refusal)) told (λ t. refl),
       λ began st h.
-          flush-refused began kept i.tables k st h s small c.args.heads.now c.prepare.new.log c.prepare.ensures.room same refl [] c.in-Err.refusal
-          (c.in-Err.ensures.step began s k.added st (over-of i.log i.tables items i.limits k) (subst (IsSessionOf k.added) (sym x) (k.each s small))
-          (subst (λ (y : PlainSession). IsOn began k.added y st s) (sym x) (on-of i.log i.tables items i.limits k began st h s small))),
+          flush-refused began kept c.deref_mut.result.now k st h s small c.args.heads.now c.prepare.new.log c.prepare.ensures.room same refl [] c.in-Err.refusal
+          (c.in-Err.ensures.step began s k.added st (over-of i.log c.deref_mut.result.now items i.limits k) (subst (IsSessionOf k.added) (sym x) (k.each s small))
+          (subst (λ (y : PlainSession). IsOn began k.added y st s) (sym x) (on-of i.log c.deref_mut.result.now items i.limits k began st h s small))),
     )

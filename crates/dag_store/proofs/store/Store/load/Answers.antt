@@ -1,7 +1,8 @@
-use Rattle.std.proofs.Common.{Ok, Err, refl, ap}
+use Rattle.std.proofs.Common.{Ok, Err, refl, ap, sym, subst}
 use Rattle.std.proofs.lemmas.Result.{err_from_is_err_and}
 use Rattle.gated_log.specs.Load.{Loads, IsLogOf}
 use Rattle.change_rules.specs.Holding.{HoldAs}
+use Rattle.payload_tables.specs.Kept.{AreTablesOf}
 use Rattle.dag_store.specs.Kept.{PlainStore}
 use Rattle.dag_store.specs.Loading.{Opens, fault_of}
 use Rattle.dag_store.proofs.Opening.{loaded-kept, opened, refused, log-refused, tables-refused, if-some, load-keeps, load-done}
@@ -40,15 +41,17 @@ returns-in_err-tables-clause-opens g c = λ payloads w.
 pub invariant_of-result : goal.invariant_of-result
 invariant_of-result g c =
     let read = c.in_ok-tables.ensures.ok in
-    loaded-kept c.in_ok-log.log c.in_ok-tables.tables c.in_ok-sessions.sessions.items c.args.limits read.0 read.1 read.2 read.3 read.4 c.in_ok-sessions.ensures.count
-    (λ s small. c.in_ok-sessions.ensures.each read.0 s read.1 read.3 small) c.requires c.in_ok-log.ensures.limit
+    let lent = subst (λ t. AreTablesOf t read.0) (sym c.deref.ensures) read.1 in
+    loaded-kept c.in_ok-log.log c.in_ok-tables.tables.value c.in_ok-sessions.sessions.items c.args.limits read.0 read.1 read.2 read.3 read.4 c.in_ok-sessions.ensures.count
+    (λ s small. c.in_ok-sessions.ensures.each read.0 s lent read.3 small) c.requires c.in_ok-log.ensures.limit
 
 pub returns-clause-opens : goal.returns-clause-opens
 returns-clause-opens g c = λ payloads w.
     let store : PlainStore = record { log = c.in_ok-log.log; sessions = c.in_ok-sessions.sessions.items; limits = c.args.limits } in
     let read = c.in_ok-tables.ensures.ok in
+    let lent = subst (λ t. AreTablesOf t read.0) (sym c.deref.ensures) read.1 in
     if-some (λ bytes. IsLogOf c.args.limits.log bytes c.in_ok-log.log) (λ bytes. HoldAs c.args.limits.log bytes payloads w → Opens c.args.limits payloads w (Ok store)) (g.D.Disk.bytes c.args.disk.now)
-    (λ bytes log hold. opened c.args.limits store c.in_ok-tables.tables read.0 payloads w bytes log read.1 read.3 (λ s small. c.in_ok-sessions.ensures.each read.0 s read.1 read.3 small) hold) c.in_ok-log.ensures.answers
+    (λ bytes log hold. opened c.args.limits store c.in_ok-tables.tables.value read.0 payloads w bytes log read.1 read.3 (λ s small. c.in_ok-sessions.ensures.each read.0 s lent read.3 small) hold) c.in_ok-log.ensures.answers
 
 pub returns-clause-done : goal.returns-clause-done
 returns-clause-done g c =

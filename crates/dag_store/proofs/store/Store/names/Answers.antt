@@ -5,7 +5,7 @@ use Rattle.span_set.specs.Down.{ids_left}
 use Rattle.name_map.specs.Added.{AllStand}
 use Rattle.payload_tables.specs.Bases.{IsBaseOf}
 use Rattle.step_rules.specs.State.{Stored, base_of, pending_of}
-use Rattle.dag_store.specs.Kept.{PlainSession, PlainStore, IsSessionOf, session_at, base_added}
+use Rattle.dag_store.specs.Kept.{PlainSession, PlainStore, IsSessionOf, session_at, base_added, IsKept}
 use Rattle.dag_store.specs.Stands.{Stands}
 use Rattle.dag_store.specs.Names.{named_front}
 use Rattle.dag_store.specs.Steps.{AreIdsOf}
@@ -18,7 +18,8 @@ use Rattle.dag_store.proofs.store.Store.names.Goals as goal
 pub returns : goal.returns
 returns c =
     let i = c.self.inside in
-    let k = c.self.invariant in
+    let tables = c.deref.result.now in
+    let k = subst (λ t. IsKept i.log t i.sessions.items i.limits) (sym c.deref.ensures) c.self.invariant in
     let items = i.sessions.items in
     let s = c.args.s in
     let x = session-there items s c.from.result c.index-session.result.now _ c.requires k.count c.from.ensures c.index-session.ensures in
@@ -29,8 +30,8 @@ returns c =
     let pending = ap (λ (q : PlainSession). q.pending) (c.session.view_is ∙ x) in
     subst (λ (q : PlainStore). (began : ℕ) (st : Stored) (names : List Name) → Stands began q st → AreIdsOf st s (ids_of c.args.found.now.answer.set) names → c.over.result ≡ names) c.self.view_is
     (λ began st names h are.
-    let sees = session-sees i.log i.tables items i.limits k began st h s c.requires base b in
-    let fine = none-lazy-there i.log i.tables items i.limits k began st h s c.requires names are.stored in
+    let sees = session-sees i.log tables items i.limits k began st h s c.requires base b in
+    let fine = none-lazy-there i.log tables items i.limits k began st h s c.requires names are.stored in
     c.over.ensures
     ∙ ap (λ p. named_front base p (ids_left c.ids_down.result)) pending
     ∙ ap (named_front base (session_at items s).pending) (c.ids_down.ensures ∙ ap ids_of c.set.ensures ∙ are.ids_are)

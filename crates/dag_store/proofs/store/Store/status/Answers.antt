@@ -15,7 +15,7 @@ returns c =
     let i = c.self.inside in
     let x = c.session.view_is ∙ session-there i.sessions.items c.args.s c.from.result c.index-session.result.now _ c.requires c.self.invariant.count c.from.ensures c.index-session.ensures in
     subst (λ (k : PlainStore). (began : ℕ) (st : Stored) → Stands began k st → LoneStep k.limits st c.args.s Status (Sizes c.session.inside.below c.from-2.result c.from-3.result) st) c.self.view_is
-    (status-step i.log i.tables i.sessions.items i.limits c.self.invariant c.args.s c.requires c.session.inside.below c.from-2.result c.from-3.result
+    (status-step i.log i.tables.value i.sessions.items i.limits c.self.invariant c.args.s c.requires c.session.inside.below c.from-2.result c.from-3.result
     (ap (λ (s : PlainSession). s.below) x)
     (c.from-2.ensures ∙ c.count.ensures ∙ ap (λ (s : PlainSession). s.others.count) x)
     (λ rows held. c.from-3.ensures ∙ c.len.ensures.len rows (subst (λ (s : PlainSession). HoldsRows s.pending rows) (sym x) held)))
