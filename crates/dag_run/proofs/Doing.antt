@@ -1,5 +1,6 @@
 -- What executing a command does.
-use Rattle.std.proofs.Common.{◌≡◌, ◌<◌, ◌≤◌, inl, inr, ℕ, Bool, true, false, not, List, [], length, Option, Some, None, Ok, Err, IfOk, IfErr, refl, sym, ap, subst, ◌∙◌, arith}
+use Rattle.std.proofs.Common.{◌≡◌, ◌<◌, ◌≤◌, inl, inr, ℕ, Bool, true, false, not, List, [], length, Option, Some, None, Ok, Err, IfOk, IfErr, refl, sym, ap, subst, subst₂, ◌∙◌, arith, nat_lt}
+use Rattle.std.specs.Bool.{MatchBool}
 use Rattle.std.specs.Prelude.{◌&&◌}
 use Rattle.std.specs.declared.result.Result.{Result}
 use Rattle.std.proofs.lemmas.Bool.{ltb-true, lt-ltb}
@@ -18,28 +19,30 @@ use Rattle.run_rules.specs.Grammar.{SpellsCommand}
 use Rattle.dag_store.specs.Kept.{PlainStore}
 use Rattle.dag_store.specs.Stands.{Stands}
 use Rattle.dag_store.specs.Flushes.{HasRoom, HasStored}
-use Rattle.dag_run.specs.Alone.{CommandAlone, StepAlone}
-use Rattle.dag_run.specs.Lines.{Changes, HasChanged, PutsReply, IsLimited, Replies, CommandReplies, LineReplies, LineLeaves}
+use Rattle.dag_run.specs.Alone.{CommandAlone}
+use Rattle.dag_run.specs.Unasked.{CommandBeside, StepBeside}
+use Rattle.dag_run.specs.Lines.{Changes, HasChanged, PutsReply, IsLimited, Replies, CommandReplies, RepliesBeside, DropsAt, LineReplies, LineLeaves}
 use Rattle.dag_run.specs.declared.stops.Stop.{Stop}
 use Rattle.dag_run.specs.declared.stops.Stop.TheVariants as stops
-use Rattle.dag_run.proofs.Solo.{lone-alone, command-step}
+use Rattle.dag_run.proofs.Solo.{lone-alone, inside-beside, counts-beside, drops-beside, refuses-beside, command-step}
 use Rattle.outside.specs.Told.{WhereTold}
 use Rattle.outside.proofs.ToldLemmas.{WhereTold-map}
 use Rattle.disk_trait.specs.Calls.{Goes}
 use Rattle.disk_trait.proofs.Telling.{goes-map, goes-same}
 use Rattle.step_rules.specs.declared.Refusal.TheVariants as why
 use Rattle.step_rules.specs.Plain.{IsInside}
-use Rattle.step_rules.specs.Step.{MayWantMemory}
+use Rattle.step_rules.specs.Step.{MayWantMemory, without}
 use Rattle.std.specs.Prelude.{OnOk, OnErr}
 use Rattle.id_groups.specs.Name.{same_name}
 use Rattle.set_expr.specs.Expr.{Expr}
 use Rattle.span_set.specs.Members.{ids_of}
 use Rattle.set_query.specs.declared.evaluation.Answer.{Answer}
 use Rattle.change_rules.specs.Rebase.{left_of}
+use Rattle.remote_rules.specs.Mirror.{Mirror}
 use Rattle.step_rules.specs.State.{pending_of, on_newest}
 use Rattle.step_rules.specs.Worlds.{with_added}
-use Rattle.step_rules.specs.Verb.{Add, Reload, IdOf, Count}
-use Rattle.step_rules.specs.Reply.{Added as IsAdded, Old as IsOld, Reloaded, Identified, Counted, Listed}
+use Rattle.step_rules.specs.Verb.{Add, Reload, IdOf, Count, CountMirrors, Drop}
+use Rattle.step_rules.specs.Reply.{Added as IsAdded, Old as IsOld, Reloaded, Identified, Counted, Listed, Dropped}
 use Rattle.dag_store.specs.declared.replies.Added.{Added}
 use Rattle.dag_store.specs.declared.replies.Added.TheVariants as adds
 use Rattle.std.proofs.lemmas.List.{length-map}
@@ -220,33 +223,72 @@ pub room-on : {T : Type 0} (old new : PlainStore) (s : ℕ) (answer : Result T R
 room-on old new s (Ok x) done refused = room-same old new (ap (λ (n : PlainStore). n.log) done.1)
 room-on old new s (Err x) done refused = room-same old new (ap (λ (n : PlainStore). n.log) refused)
 
+-- replies of a command that asks nothing stay where there are mirrors
+pub told-beside : (mirrors : List Mirror) (SinkFailed : Type 0) (kept : PlainStore) (s : ℕ) (verb asked : Verb) (payload : List ℕ) (clock : Option ℕ) (r : Result PlainStore Stop) (o p : Option (List ℕ)) → asked ≡ verb → IsInside verb
+    → WhereTold o p (CommandReplies SinkFailed kept s verb payload clock r) → WhereTold o p (RepliesBeside mirrors mirrors SinkFailed kept s asked payload clock r)
+told-beside mirrors SinkFailed kept s verb asked payload clock r o p e i h =
+    subst (λ v. WhereTold o p (RepliesBeside mirrors mirrors SinkFailed kept s v payload clock r)) (sym e)
+    (WhereTold-map o p (CommandReplies SinkFailed kept s verb payload clock r) (RepliesBeside mirrors mirrors SinkFailed kept s verb payload clock r)
+    (λ before now told began st stands.
+    replies-map SinkFailed began st (CommandAlone kept.limits st s verb) (CommandBeside kept.limits mirrors mirrors st s verb) payload clock r before now
+    (λ reply next. inside-beside kept.limits mirrors st s verb reply next i) (told began st stands)) h)
+
 -- a command that calls no disk
-pub quiet-command : (SinkFailed : Type 0) (old new : PlainStore) (s : ℕ) (verb asked : Verb) (r : Result PlainStore Stop) (reply : Reply) (d : Option Told) (o p : Option (List ℕ)) → asked ≡ verb
+pub quiet-command : (SinkFailed : Type 0) (old new : PlainStore) (s : ℕ) (verb asked : Verb) (r : Result PlainStore Stop) (reply : Reply) (d : Option Told) (o p : Option (List ℕ)) → asked ≡ verb → IsInside verb
     → IfOk r (λ next. next ≡ new) → IfErr r (λ stop. stop ≡ stops.Sink) → HasRoom old.log new.log → DoesSo old new s verb reply → WhereTold o p (PutsReply new reply r)
-    → Goes (LineLeaves old [] None r) d d × WhereTold o p (CommandReplies SinkFailed old s asked [] None r)
-quiet-command SinkFailed old new s verb asked r reply d o p e same stop room does put = (
+    → Goes (LineLeaves old [] None r) d d × ((mirrors : List Mirror) → WhereTold o p (RepliesBeside mirrors mirrors SinkFailed old s asked [] None r))
+quiet-command SinkFailed old new s verb asked r reply d o p e i same stop room does put = (
   still-goes old new [] r d same stop room,
-  subst (λ v. WhereTold o p (CommandReplies SinkFailed old s v [] None r)) (sym e) (command-told SinkFailed old new s verb [] None r reply o p does put),
+  λ mirrors. told-beside mirrors SinkFailed old s verb asked [] None r o p e i (command-told SinkFailed old new s verb [] None r reply o p does put),
 )
 
+-- a command on the mirrors
+mirrors-told : (mirrors left : List Mirror) (SinkFailed : Type 0) (kept : PlainStore) (s : ℕ) (verb asked : Verb) (r : Result PlainStore Stop) (reply : Reply) (o p : Option (List ℕ)) → asked ≡ verb
+    → ((st : Stored) → CommandBeside kept.limits mirrors left st s verb reply st) → WhereTold o p (PutsReply kept reply r) → WhereTold o p (RepliesBeside mirrors left SinkFailed kept s asked [] None r)
+mirrors-told mirrors left SinkFailed kept s verb asked r reply o p e does put =
+    subst (λ v. WhereTold o p (RepliesBeside mirrors left SinkFailed kept s v [] None r)) (sym e)
+    (WhereTold-map o p (PutsReply kept reply r) (RepliesBeside mirrors left SinkFailed kept s verb [] None r)
+    (λ before now is began st stands. told-replies SinkFailed began st (CommandBeside kept.limits mirrors left st s verb) [] None r reply st kept before now is (does st) (refl, refl) stands) put)
+
+pub counts-told : (mirrors : List Mirror) (count : ℕ) (SinkFailed : Type 0) (kept : PlainStore) (s : ℕ) (asked : Verb) (r : Result PlainStore Stop) (o p : Option (List ℕ)) → asked ≡ CountMirrors → count ≡ length mirrors
+    → WhereTold o p (PutsReply kept (Counted count) r) → WhereTold o p (RepliesBeside mirrors mirrors SinkFailed kept s asked [] None r)
+counts-told mirrors count SinkFailed kept s asked r o p e is put =
+    mirrors-told mirrors mirrors SinkFailed kept s CountMirrors asked r (Counted (length mirrors)) o p e (λ st. counts-beside kept.limits mirrors st s)
+    (subst (λ n. WhereTold o p (PutsReply kept (Counted n) r)) is put)
+
+pub drops-told : (mirrors left : List Mirror) (k : ℕ) (reply : Reply) (SinkFailed : Type 0) (kept : PlainStore) (s : ℕ) (asked : Verb) (r : Result PlainStore Stop) (o p : Option (List ℕ)) → asked ≡ Drop k → DropsAt k mirrors left reply
+    → WhereTold o p (PutsReply kept reply r) → WhereTold o p (RepliesBeside mirrors left SinkFailed kept s asked [] None r)
+drops-told mirrors left k reply SinkFailed kept s asked r o p e drops put =
+    mirrors-told mirrors left SinkFailed kept s (Drop k) asked r reply o p e (λ st. by_test st (nat_lt k (length mirrors)) refl drops) put
+  where
+    by_test : (st : Stored) (b : Bool) → nat_lt k (length mirrors) ≡ b → MatchBool b ((reply ≡ Dropped (length (without k mirrors))) × (left ≡ without k mirrors)) ((reply ≡ Refused why.NoRemote) × (left ≡ mirrors))
+        → CommandBeside kept.limits mirrors left st s (Drop k) reply st
+    by_test st true t d = subst₂ (λ m told. CommandBeside kept.limits mirrors m st s (Drop k) told st) (sym d.1) (sym d.0) (drops-beside kept.limits mirrors st s k t)
+    by_test st false t d = subst₂ (λ m told. CommandBeside kept.limits mirrors m st s (Drop k) told st) (sym d.1) (sym d.0) (refuses-beside kept.limits mirrors st s k t)
+
 -- ---- what each line does
-pub line-of-command : (SinkFailed : Type 0) (kept : PlainStore) (s : ℕ) (verb : Verb) (line payload : List ℕ) (clock : Option ℕ) (r : Result PlainStore Stop) (before now : List ℕ) → SpellsCommand line s verb → is_too_long line ≡ false → is_silent line ≡ false
-    → CommandReplies SinkFailed kept s verb payload clock r before now → LineReplies SinkFailed kept line payload clock r before now
-line-of-command SinkFailed kept s verb line payload clock r before now spells short silent h began st stands =
+pub line-of-command : (mirrors left : List Mirror) (SinkFailed : Type 0) (kept : PlainStore) (s : ℕ) (verb : Verb) (line payload : List ℕ) (clock : Option ℕ) (r : Result PlainStore Stop) (before now : List ℕ) → SpellsCommand line s verb → is_too_long line ≡ false → is_silent line ≡ false
+    → RepliesBeside mirrors left SinkFailed kept s verb payload clock r before now → LineReplies mirrors left SinkFailed kept line payload clock r before now
+line-of-command mirrors left SinkFailed kept s verb line payload clock r before now spells short silent h began st stands =
     inr (
       silent,
-      replies-map SinkFailed began st (CommandAlone kept.limits st s verb) (StepAlone kept.limits st line) payload clock r before now
-          (λ reply next. command-step kept.limits st line s verb reply next spells short) (h began st stands),
+      replies-map SinkFailed began st (CommandBeside kept.limits mirrors left st s verb) (StepBeside kept.limits mirrors left st line) payload clock r before now
+          (λ reply next. command-step kept.limits mirrors st line left s verb reply next spells short) (h began st stands),
     )
 
 -- a line that changes nothing
-pub line-told : (SinkFailed : Type 0) (kept : PlainStore) (line : List ℕ) (r : Result PlainStore Stop) (reply : Reply) (before now : List ℕ) → is_silent line ≡ false → ((st : Stored) → StepAlone kept.limits st line reply st)
-    → PutsReply kept reply r before now → LineReplies SinkFailed kept line [] None r before now
-line-told SinkFailed kept line r reply before now silent step put began st stands =
-    inr (silent, told-replies SinkFailed began st (StepAlone kept.limits st line) [] None r reply st kept before now put (step st) (refl, refl) stands)
+pub line-told : (mirrors : List Mirror) (SinkFailed : Type 0) (kept : PlainStore) (line : List ℕ) (r : Result PlainStore Stop) (reply : Reply) (before now : List ℕ) → is_silent line ≡ false → ((st : Stored) → StepBeside kept.limits mirrors mirrors st line reply st)
+    → PutsReply kept reply r before now → LineReplies mirrors mirrors SinkFailed kept line [] None r before now
+line-told mirrors SinkFailed kept line r reply before now silent step put began st stands =
+    inr (silent, told-replies SinkFailed began st (StepBeside kept.limits mirrors mirrors st line) [] None r reply st kept before now put (step st) (refl, refl) stands)
 
-pub line-passed : (SinkFailed : Type 0) (kept : PlainStore) (line before : List ℕ) → is_silent line ≡ true → LineReplies SinkFailed kept line [] None (Ok kept) before before
-line-passed SinkFailed kept line before silent began st stands = inl (silent, refl, stands, refl)
+pub line-passed : (mirrors : List Mirror) (SinkFailed : Type 0) (kept : PlainStore) (line before : List ℕ) → is_silent line ≡ true → LineReplies mirrors mirrors SinkFailed kept line [] None (Ok kept) before before
+line-passed mirrors SinkFailed kept line before silent began st stands = inl (refl, (silent, refl, stands, refl))
+
+-- of one text, and of a line that is the same
+pub line-as : (mirrors left : List Mirror) (SinkFailed : Type 0) (kept : PlainStore) (text line payload : List ℕ) (clock : Option ℕ) (r : Result PlainStore Stop) (before now : List ℕ) → line ≡ text
+    → LineReplies mirrors left SinkFailed kept text payload clock r before now → LineReplies mirrors left SinkFailed kept line payload clock r before now
+line-as mirrors left SinkFailed kept text line payload clock r before now e h = subst (λ l. LineReplies mirrors left SinkFailed kept l payload clock r before now) (sym e) h
 
 -- the text of an answer's names and of their number
 pub listed-is : (st : Stored) (s : ℕ) (ids : List ℕ) (names told : List Name) (count : ℕ) → AreIdsOf st s ids names → told ≡ names → count ≡ length ids → listed_text told count ≡ reply_text (Listed names)

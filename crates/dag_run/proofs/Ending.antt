@@ -20,14 +20,16 @@ use Rattle.change_rules.specs.Change.{text_of}
 use Rattle.change_rules.specs.Holding.{HoldBytes}
 use Rattle.step_rules.specs.State.{Stored, at_start, start}
 use Rattle.step_rules.specs.Reply.{Reply, reply_text}
-use Rattle.run_rules.specs.Run.{Run, output_of}
+use Rattle.remote_rules.specs.Mirror.{Mirror}
+use Rattle.run_rules.specs.Run.{output_of}
 use Rattle.run_rules.specs.Ends.{End, Done, OverLimit, NoSource, NoMemory, EndsAs, WroteFault, disk_text}
-use Rattle.run_rules.specs.Means.{Means, Keeps, Leaves, FailsAt, loaded_at}
+use Rattle.run_rules.specs.Means.{Keeps, FailsAt, loaded_at}
 use Rattle.gated_log.specs.Holding.{IsLogWithin}
 use Rattle.dag_store.specs.Flushes.{CutShort}
 use Rattle.dag_store.specs.Kept.{PlainStore}
 use Rattle.dag_run.specs.Seen.{Seen, streams}
-use Rattle.dag_run.specs.Alone.{alone, StepAlone}
+use Rattle.dag_run.specs.Unasked.{beside, RunUnasked, StepBeside}
+use Rattle.dag_run.specs.UnaskedEnds.{MeansUnasked, LeavesUnasked}
 use Rattle.dag_run.specs.Ends.{Begins}
 use Rattle.dag_run.specs.Stops.{stop_of, end_of}
 use Rattle.dag_run.specs.Lines.{changes_with, PutsFault, IsLimited, Replies, LineReplies, LineLeaves, StoresOn}
@@ -50,9 +52,14 @@ use Rattle.dag_run.proofs.Going.{Going, prefixes, fresh-prefixes, stays-line, re
 use Rattle.dag_run.proofs.Staying.{stopped-there, stopped-loaded, stopped-loading, stopped-short, short-sure, bytes-now, log-of}
 
 -- what a run ends as means what a run has to
-abbrev pub RunMeans : Limits → World Name → List Payload → ℕ → Type 0 → Result Unit Stop → List ℕ → Seen → Seen → Type 0
-RunMeans limits w payloads room SinkFailed result changes before after =
-    Means limits w payloads room [] [] (streams before after) SinkFailed before.disk after.disk (end_of result) changes
+abbrev pub RunMeans : Limits → World Name → List Payload → ℕ → List Mirror → List Mirror → Type 0 → Result Unit Stop → List ℕ → Seen → Seen → Type 0
+RunMeans limits w payloads room mirrors left SinkFailed result changes before after =
+    MeansUnasked limits w payloads room mirrors left (streams before after) SinkFailed before.disk after.disk (end_of result) changes
+
+-- by the changes that there are
+pub means-as : (limits : Limits) (w : World Name) (payloads : List Payload) (room : ℕ) (mirrors left : List Mirror) (SinkFailed : Type 0) (result : Result Unit Stop) (changes others : List ℕ) (before after : Seen) → others ≡ changes
+    → RunMeans limits w payloads room mirrors left SinkFailed result changes before after → RunMeans limits w payloads room mirrors left SinkFailed result others before after
+means-as limits w payloads room mirrors left SinkFailed result changes others before after e h = subst (λ cs. RunMeans limits w payloads room mirrors left SinkFailed result cs before after) (sym e) h
 
 wrote-fault : (SinkFailed : Type 0) (before mid after : Seen) (replies : List Reply) → mid.taken ≡ before.taken ++ output_of replies → PutsFault SinkFailed mid.taken after.taken → WroteFault (streams before after) SinkFailed replies
 wrote-fault SinkFailed before mid after replies e (inl put) = inl (put ∙ ap (λ t. t ++ disk_text) e)
@@ -69,14 +76,14 @@ failed-since Here SinkFailed since began st Does payload clock stops.NotLoaded b
 failed-since Here SinkFailed since began st Does payload clock stops.Source before now h = absurd h
 failed-since Here SinkFailed since began st Does payload clock stops.Limit before now h = absurd h
 
-module _ (limits : Limits) (fair : AreLimits limits) (w : World Name) (payloads : List Payload) (room : ℕ) (SinkFailed : Type 0) (before : Seen) (begins : Begins limits w payloads before) where
+module _ (limits : Limits) (fair : AreLimits limits) (w : World Name) (payloads : List Payload) (room : ℕ) (mirrors : List Mirror) (SinkFailed : Type 0) (before : Seen) (begins : Begins limits w payloads before) where
   -- ---- before the first line
   -- there was no memory, and nothing was called
-  pub ends-unread : (after : Seen) → after.disk ≡ before.disk → after.left ≡ before.left → after.taken ≡ before.taken → RunMeans limits w payloads room SinkFailed (Err stops.Memory) [] before after
-  ends-unread after disk left taken = subst (λ t. Means limits w payloads room [] [] (streams before after) SinkFailed before.disk t NoMemory []) (sym disk) (record {
+  pub ends-unread : (after : Seen) → after.disk ≡ before.disk → after.left ≡ before.left → after.taken ≡ before.taken → RunMeans limits w payloads room mirrors mirrors SinkFailed (Err stops.Memory) [] before after
+  ends-unread after disk left taken = subst (λ t. MeansUnasked limits w payloads room mirrors mirrors (streams before after) SinkFailed before.disk t NoMemory []) (sym disk) (record {
     lines = [];
     replies = [];
-    last = at_start w payloads room [];
+    last = at_start w payloads room mirrors;
     run = (refl, refl);
     more = [];
     ends = (refl, left, taken);
@@ -84,18 +91,18 @@ module _ (limits : Limits) (fair : AreLimits limits) (w : World Name) (payloads 
     final = start w payloads;
     leaves = (refl, refl);
     calls = tt;
-    stopped = stopped-there limits w payloads before.disk (fresh-prefixes limits fair w payloads room before begins) begins.holds;
+    stopped = stopped-there limits w payloads before.disk (fresh-prefixes limits fair w payloads room mirrors before begins) begins.holds;
     sure = inl (let near : moment_of before.disk + 1 ≤ moment_of before.disk + 2 = omega arith in near);
     kept = tt;
   })
 
   -- there was none to load the store
   pub ends-memory : (after : Seen) → SureSince (λ moment image. HoldBytes limits.log image w) before.disk after.disk → IsSureOf limits.log (map text_of payloads) before.disk after.disk
-      → after.left ≡ before.left → after.taken ≡ before.taken → RunMeans limits w payloads room SinkFailed (Err stops.Memory) [] before after
+      → after.left ≡ before.left → after.taken ≡ before.taken → RunMeans limits w payloads room mirrors mirrors SinkFailed (Err stops.Memory) [] before after
   ends-memory after holds is_sure left taken = record {
     lines = [];
     replies = [];
-    last = at_start w payloads room [];
+    last = at_start w payloads room mirrors;
     run = (refl, refl);
     more = [];
     ends = (refl, left, taken);
@@ -103,18 +110,18 @@ module _ (limits : Limits) (fair : AreLimits limits) (w : World Name) (payloads 
     final = start w payloads;
     leaves = (refl, refl);
     calls = tt;
-    stopped = stopped-loaded limits w payloads before.disk after.disk (fresh-prefixes limits fair w payloads room before begins) holds (log-of limits.log before.disk.bytes w payloads begins.read) is_sure;
+    stopped = stopped-loaded limits w payloads before.disk after.disk (fresh-prefixes limits fair w payloads room mirrors before begins) holds (log-of limits.log before.disk.bytes w payloads begins.read) is_sure;
     sure = inl (let near : moment_of before.disk + 2 ≤ moment_of before.disk + 2 = omega arith in near);
     kept = tt;
   }
 
   -- the disk failed while it was loaded
   pub ends-unloaded : (after : Seen) → SureSince (λ moment image. HoldBytes limits.log image w) before.disk after.disk → moment_of after.disk ≤ loaded_at before.disk
-      → PutsFault SinkFailed before.taken after.taken → RunMeans limits w payloads room SinkFailed (Err stops.NotLoaded) [] before after
+      → PutsFault SinkFailed before.taken after.taken → RunMeans limits w payloads room mirrors mirrors SinkFailed (Err stops.NotLoaded) [] before after
   ends-unloaded after holds calls put = record {
     lines = [];
     replies = [];
-    last = at_start w payloads room [];
+    last = at_start w payloads room mirrors;
     run = (refl, refl);
     more = [];
     ends = (refl, wrote-fault SinkFailed before before after [] (sym (append-nil before.taken)) put);
@@ -122,25 +129,25 @@ module _ (limits : Limits) (fair : AreLimits limits) (w : World Name) (payloads 
     final = start w payloads;
     leaves = (refl, refl);
     calls = calls;
-    stopped = stopped-loading limits w payloads before.disk after.disk (fresh-prefixes limits fair w payloads room before begins) holds;
+    stopped = stopped-loading limits w payloads before.disk after.disk (fresh-prefixes limits fair w payloads room mirrors before begins) holds;
     sure = inr refl;
     kept = tt;
   }
 
   -- ---- behind a line
-  module _ (store : PlainStore) (changes : List ℕ) (old new : Reading) (mid after : Seen) (h : Going limits w payloads room store changes old before mid) where
+  module _ (left : List Mirror) (store : PlainStore) (changes : List ℕ) (old new : Reading) (mid after : Seen) (h : Going limits w payloads room mirrors left store changes old before mid) where
     abbrev sure-on : h.stays.stopped.sure ≤ moment_of before.disk + 2
     sure-on = let e = h.stays.sure in omega (arith, e)
 
     -- the disk is as it was
     answered : (end : End) (lines : List (List ℕ)) → lines ≡ h.lines → after.disk ≡ mid.disk → IsSound mid.disk → EndsAs end limits.input (streams before after) SinkFailed lines [] h.replies
-        → ((limit : ℕ) (ps : List Payload) (t : Told) → IsLogWithin limit (map text_of ps) t.bytes → Keeps end limit ps t) → (Leaves end limits (alone h.last room) [] [] h.last)
-        → FailsAt end before.disk changes (moment_of mid.disk) → Means limits w payloads room [] [] (streams before after) SinkFailed before.disk after.disk end changes
-    answered end lines all disk sound ends keeps leaves calls = subst (λ t. Means limits w payloads room [] [] (streams before after) SinkFailed before.disk t end changes) (sym disk) (record {
+        → ((limit : ℕ) (ps : List Payload) (t : Told) → IsLogWithin limit (map text_of ps) t.bytes → Keeps end limit ps t) → (LeavesUnasked end limits (beside left h.last room) [] left h.last)
+        → FailsAt end before.disk changes (moment_of mid.disk) → MeansUnasked limits w payloads room mirrors left (streams before after) SinkFailed before.disk after.disk end changes
+    answered end lines all disk sound ends keeps leaves calls = subst (λ t. MeansUnasked limits w payloads room mirrors left (streams before after) SinkFailed before.disk t end changes) (sym disk) (record {
       lines = lines;
       replies = h.replies;
-      last = alone h.last room;
-      run = subst (λ ls. Run limits (at_start w payloads room []) ls h.replies (alone h.last room)) (sym all) h.run;
+      last = beside left h.last room;
+      run = subst (λ ls. RunUnasked limits (at_start w payloads room mirrors) ls h.replies (beside left h.last room)) (sym all) h.run;
       more = [];
       ends = ends;
       stored = h.stays.stored;
@@ -156,12 +163,12 @@ module _ (limits : Limits) (fair : AreLimits limits) (w : World Name) (payloads 
     no-more none = h.reads.all ∙ ap (λ ls. h.lines ++ ls) none ∙ append-nil h.lines
 
     -- the input ended
-    pub going-end : after.disk ≡ mid.disk → IsSound mid.disk → after.taken ≡ mid.taken → NextLine (Ok None) old mid.left new after.left → after.left ≡ [] → RunMeans limits w payloads room SinkFailed (Ok tt) changes before after
+    pub going-end : after.disk ≡ mid.disk → IsSound mid.disk → after.taken ≡ mid.taken → NextLine (Ok None) old mid.left new after.left → after.left ≡ [] → RunMeans limits w payloads room mirrors left SinkFailed (Ok tt) changes before after
     going-end disk sound taken next read =
         answered Done (lines_of limits.input before.left) (no-more next.0) disk sound (ltb-false _ _ (sym h.reads.over ∙ next.1), read, refl, taken ∙ h.out) (λ limit ps t is. is) (refl, refl) tt
 
     -- the source failed, or the input is too long
-    pub going-fault : (fault : LineFault) → after.disk ≡ mid.disk → IsSound mid.disk → after.taken ≡ mid.taken → NextLine (Err fault) old mid.left new after.left → RunMeans limits w payloads room SinkFailed (Err (stop_of fault)) changes before after
+    pub going-fault : (fault : LineFault) → after.disk ≡ mid.disk → IsSound mid.disk → after.taken ≡ mid.taken → NextLine (Err fault) old mid.left new after.left → RunMeans limits w payloads room mirrors left SinkFailed (Err (stop_of fault)) changes before after
     going-fault Read disk sound taken next =
         let given = h.reads.given ++ next.1 in
         let split : before.left ≡ given ++ after.left = h.reads.split ∙ ap (λ bs. h.reads.given ++ bs) next.2 ∙ sym (append_assoc h.reads.given next.1 after.left) in
@@ -171,22 +178,22 @@ module _ (limits : Limits) (fair : AreLimits limits) (w : World Name) (payloads 
         answered OverLimit (lines_of limits.input before.left) (no-more next.0) disk sound (ltb-true _ _ (sym h.reads.over ∙ next.1), refl, taken ∙ h.out) (λ limit ps t is. is) (refl, refl) tt
 
     -- ---- within a line
-    module _ (kind : Line) (payload : List ℕ) (clock : Option ℕ) (same : store.limits ≡ limits) (line : NextLine (Ok (Some kind)) old mid.left new after.left) (read : IsReadOut old mid.left → IsReadOut new after.left) where
+    module _ (now : List Mirror) (kind : Line) (payload : List ℕ) (clock : Option ℕ) (same : store.limits ≡ limits) (line : NextLine (Ok (Some kind)) old mid.left new after.left) (read : IsReadOut old mid.left → IsReadOut new after.left) where
       reads : Reads limits.input (h.lines ++ line.0 ∷ []) before.left new after.left
-      reads = read-on limits fair w payloads room before mid after begins store changes old new kind payload clock same h line read
+      reads = read-on limits fair w payloads room mirrors left now before mid after begins store changes old new kind payload clock same h line read
 
-      run : (reply : Reply) (next : Stored) → is_silent line.0 ≡ false → StepAlone store.limits h.last line.0 reply next → Run limits (at_start w payloads room []) (h.lines ++ line.0 ∷ []) (h.replies ++ reply ∷ []) (alone next room)
-      run = run-on limits fair w payloads room before mid after begins store changes old new kind payload clock same h line read
+      run : (reply : Reply) (next : Stored) → is_silent line.0 ≡ false → StepBeside store.limits left now h.last line.0 reply next → RunUnasked limits (at_start w payloads room mirrors) (h.lines ++ line.0 ∷ []) (h.replies ++ reply ∷ []) (beside now next room)
+      run = run-on limits fair w payloads room mirrors left now before mid after begins store changes old new kind payload clock same h line read
 
       -- the sink failed in the reply
-      cut : (is_silent line.0 ≡ false) × Replies SinkFailed (length payloads) h.last (StepAlone store.limits h.last line.0) payload clock (Err stops.Sink) mid.taken after.taken
-          → StoresOn store payload clock mid.disk after.disk → RunMeans limits w payloads room SinkFailed (Err stops.Sink) (changes_with changes clock) before after
+      cut : (is_silent line.0 ≡ false) × Replies SinkFailed (length payloads) h.last (StepBeside store.limits left now h.last line.0) payload clock (Err stops.Sink) mid.taken after.taken
+          → StoresOn store payload clock mid.disk after.disk → RunMeans limits w payloads room mirrors now SinkFailed (Err stops.Sink) (changes_with changes clock) before after
       cut (silent, (reply, st, step, changed, (count, put))) leaves =
-          let stays = stays-line limits fair w payloads room before begins store changes payload clock h.lines (h.lines ++ line.0 ∷ []) h.replies (h.replies ++ reply ∷ []) h.last st mid.disk after.disk same h.run (run reply st silent step) h.stands h.stays changed leaves in
+          let stays = stays-line limits fair w payloads room mirrors before begins left now store changes payload clock h.lines (h.lines ++ line.0 ∷ []) h.replies (h.replies ++ reply ∷ []) h.last st mid.disk after.disk same h.run (run reply st silent step) h.stands h.stays changed leaves in
           record {
             lines = h.lines ++ line.0 ∷ [];
             replies = h.replies ++ reply ∷ [];
-            last = alone st room;
+            last = beside now st room;
             run = run reply st silent step;
             more = lines_left new after.left;
             ends = (h.lines, line.0, h.replies, reply, count, reads.all, refl, silent, refl, put ∙ ap (λ t. t ++ take count (reply_text reply)) h.out);
@@ -200,34 +207,34 @@ module _ (limits : Limits) (fair : AreLimits limits) (w : World Name) (payloads 
           }
 
       -- the disk failed in its change
-      failed : (is_silent line.0 ≡ false) × Replies SinkFailed (length payloads) h.last (StepAlone store.limits h.last line.0) payload clock (Err stops.NotStored) mid.taken after.taken
-          → IsLimited store × CutShort store payload mid.disk after.disk → RunMeans limits w payloads room SinkFailed (Err stops.NotStored) (changes_with changes clock) before after
+      failed : (is_silent line.0 ≡ false) × Replies SinkFailed (length payloads) h.last (StepBeside store.limits left now h.last line.0) payload clock (Err stops.NotStored) mid.taken after.taken
+          → IsLimited store × CutShort store payload mid.disk after.disk → RunMeans limits w payloads room mirrors now SinkFailed (Err stops.NotStored) (changes_with changes clock) before after
       failed (silent, (reply, st, step, changed, none, put)) (limited, short) =
-          let before-it = prefixes limits fair w payloads room before begins h.lines h.replies h.last h.run in
-          let after-it = prefixes limits fair w payloads room before begins (h.lines ++ line.0 ∷ []) (h.replies ++ reply ∷ []) st (run reply st silent step) in
-          subst (λ c. RunMeans limits w payloads room SinkFailed (Err stops.NotStored) (changes_with changes c) before after) (sym none) (record {
+          let before-it = prefixes limits fair w payloads room mirrors before begins left h.lines h.replies h.last h.run in
+          let after-it = prefixes limits fair w payloads room mirrors before begins now (h.lines ++ line.0 ∷ []) (h.replies ++ reply ∷ []) st (run reply st silent step) in
+          subst (λ c. RunMeans limits w payloads room mirrors now SinkFailed (Err stops.NotStored) (changes_with changes c) before after) (sym none) (record {
             lines = h.lines;
             replies = h.replies;
-            last = alone h.last room;
+            last = beside left h.last room;
             run = h.run;
             more = line.0 ∷ lines_left new after.left;
             ends = (reads.all ∙ append_assoc h.lines (line.0 ∷ []) (lines_left new after.left), wrote-fault SinkFailed before mid after h.replies h.out put);
             stored = h.stays.stored;
             final = st;
-            leaves = (reply, alone st room, subst (λ m. StepAlone m h.last line.0 reply st) same step room, changed.past, refl, refl);
+            leaves = (reply, beside now st room, subst (λ m. StepBeside m left now h.last line.0 reply st) same step room, changed.past, refl, refl);
             calls = (let e = h.stays.calls in let le = short.calls in omega (arith, e, le));
             stopped = stopped-short limits w payloads changes h.last st store payload before.disk mid.disk after.disk same limited h.stands.texts h.stays before-it after-it changed short;
             sure = inl (short-sure limits w payloads changes h.last st store payload before.disk mid.disk after.disk same limited h.stands.texts h.stays before-it after-it changed short);
             kept = tt;
           })
 
-      pub going-stop : (Here : Type 0) → (Here → SinkFailed) → (stop : Stop) → ((l : List ℕ) → IsLine kind new.text l → LineReplies Here store l payload clock (Err stop) mid.taken after.taken)
-          → LineLeaves store payload clock (Err stop) mid.disk after.disk → RunMeans limits w payloads room SinkFailed (Err stop) (changes_with changes clock) before after
-      going-stop Here since stop told leaves = ⊎_elim (λ passed. absurd passed) (λ d. by_stop stop (d.0, failed-since Here SinkFailed since (length payloads) h.last (StepAlone store.limits h.last line.0) payload clock stop mid.taken after.taken d.1) leaves)
+      pub going-stop : (Here : Type 0) → (Here → SinkFailed) → (stop : Stop) → ((l : List ℕ) → IsLine kind new.text l → LineReplies left now Here store l payload clock (Err stop) mid.taken after.taken)
+          → LineLeaves store payload clock (Err stop) mid.disk after.disk → RunMeans limits w payloads room mirrors now SinkFailed (Err stop) (changes_with changes clock) before after
+      going-stop Here since stop told leaves = ⊎_elim (λ passed. absurd passed.1) (λ d. by_stop stop (d.0, failed-since Here SinkFailed since (length payloads) h.last (StepBeside store.limits left now h.last line.0) payload clock stop mid.taken after.taken d.1) leaves)
           (told line.0 line.1 (length payloads) h.last h.stands)
         where
-          by_stop : (s : Stop) → (is_silent line.0 ≡ false) × Replies SinkFailed (length payloads) h.last (StepAlone store.limits h.last line.0) payload clock (Err s) mid.taken after.taken
-              → LineLeaves store payload clock (Err s) mid.disk after.disk → RunMeans limits w payloads room SinkFailed (Err s) (changes_with changes clock) before after
+          by_stop : (s : Stop) → (is_silent line.0 ≡ false) × Replies SinkFailed (length payloads) h.last (StepBeside store.limits left now h.last line.0) payload clock (Err s) mid.taken after.taken
+              → LineLeaves store payload clock (Err s) mid.disk after.disk → RunMeans limits w payloads room mirrors now SinkFailed (Err s) (changes_with changes clock) before after
           by_stop stops.Sink d l = cut d l
           by_stop stops.NotStored d l = failed d l
           by_stop stops.Memory d l = absurd l
@@ -237,9 +244,9 @@ module _ (limits : Limits) (fair : AreLimits limits) (w : World Name) (payloads 
           by_stop stops.Limit d l = absurd l
 
 -- ---- where no store is loaded
-module _ (limits : Limits) (fair : AreLimits limits) (w : World Name) (payloads : List Payload) (room : ℕ) (SinkFailed : Type 0) (d e : Option Told) (i o q : Option (List ℕ)) where
+module _ (limits : Limits) (fair : AreLimits limits) (w : World Name) (payloads : List Payload) (room : ℕ) (mirrors : List Mirror) (SinkFailed : Type 0) (d e : Option Told) (i o q : Option (List ℕ)) where
   abbrev pub MeansSo : Result Unit Stop → Seen → Seen → Type 0
-  MeansSo result before after = Begins limits w payloads before → RunMeans limits w payloads room SinkFailed result [] before after
+  MeansSo result before after = Begins limits w payloads before → RunMeans limits w payloads room mirrors mirrors SinkFailed result [] before after
 
   abbrev Opening : Stop → Told → Type 0
   Opening stop t = HoldAs limits.log t.bytes payloads w → OpensRun payloads w (Err stop)
@@ -250,13 +257,13 @@ module _ (limits : Limits) (fair : AreLimits limits) (w : World Name) (payloads 
       let Q : Told → Told → Type 0 = λ x y. KeepsHolding limits.log w x y × IsSureOf limits.log (map text_of payloads) x y in
       let disk = goes-both (KeepsHolding limits.log w) (IsSureOf limits.log (map text_of payloads)) Q d e (λ x y r s. (r, s)) keeps (sure (λ no. cc no)) in
       WhereTold-map (seen d i o) (seen e i q) (Each Q (λ x y. y ≡ x) (λ x y. y ≡ x)) (MeansSo (Err stops.Memory))
-      (λ x y t begins. ends-memory limits fair w payloads room SinkFailed x begins y (t.disk.0 begins.holds) t.disk.1 t.left t.taken)
+      (λ x y t begins. ends-memory limits fair w payloads room mirrors SinkFailed x begins y (t.disk.0 begins.holds) t.disk.1 t.left t.taken)
       (seen-each d e i i o q Q (λ x y. y ≡ x) (λ x y. y ≡ x) (goes-told Q d e disk) (same-told i) put)
   load-stops stops.NotLoaded opens keeps sure calls is put =
       let Q : Told → Told → Type 0 = λ x y. KeepsHolding limits.log w x y × LoadCalls x y in
       let disk = goes-both (KeepsHolding limits.log w) LoadCalls Q d e (λ x y r s. (r, s)) keeps calls in
       WhereTold-map (seen d i o) (seen e i q) (Each Q (λ x y. y ≡ x) (PutsFault SinkFailed)) (MeansSo (Err stops.NotLoaded))
-      (λ x y t begins. ends-unloaded limits fair w payloads room SinkFailed x begins y (t.disk.0 begins.holds) t.disk.1 t.taken)
+      (λ x y t begins. ends-unloaded limits fair w payloads room mirrors SinkFailed x begins y (t.disk.0 begins.holds) t.disk.1 t.taken)
       (seen-each d e i i o q Q (λ x y. y ≡ x) (PutsFault SinkFailed) (goes-told Q d e disk) (same-told i) put)
   load-stops stops.NoLog opens keeps sure calls is put =
       let Q : Told → Told → Type 0 = λ x y. HoldAs limits.log x.bytes payloads w → ⊥ in

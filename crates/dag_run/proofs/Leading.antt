@@ -27,26 +27,29 @@ use Rattle.dag_run.specs.Demo.{IsReady, IsBehind, IsAnswered, LeadsOn, AllAnswer
 use Rattle.dag_run.specs.Lines.{LineReplies, LineLeaves}
 use Rattle.dag_run.specs.declared.stops.Stop.{Stop}
 use Rattle.dag_run.proofs.Doing.{text-short, short-silent, ready-line}
+use Rattle.remote_rules.specs.Mirror.{Mirror}
+use Rattle.dag_run.specs.Unasked.{StepBeside}
 use Rattle.dag_run.proofs.Runs.{run-silent, run-step, output-append}
+use Rattle.dag_run.proofs.Solo.{alone-beside}
 
 -- before the first line
 pub behind-nothing : (store : PlainStore) → Stands 0 store (start empty_world []) → IsBehind [] [] store
 behind-nothing store stands = record { last = start empty_world []; run = λ room. (refl, refl); stands = stands }
 
 -- one line
-pub leads-on : (SinkFailed : Type 0) (line : List ℕ) (store next : PlainStore) (payload : List ℕ) (clock : Option ℕ) (before now : List ℕ) → store.limits ≡ standard
-    → LineReplies SinkFailed store line payload clock (Ok next) before now → LeadsOn line store next before now
-leads-on SinkFailed line store next payload clock before now same told = λ lines replies h.
+pub leads-on : (left : List Mirror) (SinkFailed : Type 0) (line : List ℕ) (store next : PlainStore) (payload : List ℕ) (clock : Option ℕ) (before now : List ℕ) → store.limits ≡ standard
+    → LineReplies [] left SinkFailed store line payload clock (Ok next) before now → LeadsOn line store next before now
+leads-on left SinkFailed line store next payload clock before now same told = λ lines replies h.
     ⊎_elim
     (λ passed. (
       [],
-      λ heard. absurd (let no : true ≡ false = sym passed.0 ∙ heard in cc no),
+      λ heard. absurd (let no : true ≡ false = sym passed.1.0 ∙ heard in cc no),
       record {
         last = h.last;
-        run = λ room. subst (λ rs. Run standard (at_start empty_world [] room []) (lines ++ line ∷ []) rs (alone h.last room)) (sym (append-nil replies)) (run-silent standard (at_start empty_world [] room []) (alone h.last room) lines replies line (h.run room) passed.0);
-        stands = passed.2;
+        run = λ room. subst (λ rs. Run standard (at_start empty_world [] room []) (lines ++ line ∷ []) rs (alone h.last room)) (sym (append-nil replies)) (run-silent standard (at_start empty_world [] room []) (alone h.last room) lines replies line (h.run room) passed.1.0);
+        stands = passed.1.2;
       },
-      passed.3 ∙ sym (append-nil before),
+      passed.1.3 ∙ sym (append-nil before),
     ))
     (λ replied. (
       replied.1.0 ∷ [],
@@ -54,7 +57,7 @@ leads-on SinkFailed line store next payload clock before now same told = λ line
       record {
         last = replied.1.1;
         run = λ room. run-step standard (at_start empty_world [] room []) (alone h.last room) (alone replied.1.1 room) lines replies line replied.1.0 (h.run room) replied.0
-            (subst (λ m. StepAlone m h.last line replied.1.0 replied.1.1) same replied.1.2 room);
+            (subst (λ m. StepAlone m h.last line replied.1.0 replied.1.1) same (alone-beside store.limits left h.last line replied.1.0 replied.1.1 replied.1.2) room);
         stands = replied.1.4;
       },
       replied.1.5 ∙ ap (λ t. before ++ t) (sym (append-nil (reply_text replied.1.0))),
@@ -94,10 +97,11 @@ ready-next store payload clock (Ok next) d e ready same goes =
     (same ∙ ready.0, if_forth (LineLeaves store payload clock (Ok next)) (IsOnDisk store.log) (IsOnDisk next.log) d e (ready-line store next payload clock) goes ready.1)
 ready-next store payload clock (Err stop) d e ready same goes = tt
 
-pub leads-next : (SinkFailed : Type 0) (line : List ℕ) (store : PlainStore) (payload : List ℕ) (clock : Option ℕ) (r : Result PlainStore Stop) (before now : List ℕ) → store.limits ≡ standard
-    → LineReplies SinkFailed store line payload clock r before now → IfOk r (λ next. LeadsOn line store next before now)
-leads-next SinkFailed line store payload clock (Ok next) before now same told = leads-on SinkFailed line store next payload clock before now same told
-leads-next SinkFailed line store payload clock (Err stop) before now same told = tt
+pub leads-next : (mirrors left : List Mirror) (SinkFailed : Type 0) (line : List ℕ) (store : PlainStore) (payload : List ℕ) (clock : Option ℕ) (r : Result PlainStore Stop) (before now : List ℕ) → mirrors ≡ [] → store.limits ≡ standard
+    → LineReplies mirrors left SinkFailed store line payload clock r before now → IfOk r (λ next. LeadsOn line store next before now)
+leads-next mirrors left SinkFailed line store payload clock (Ok next) before now none same told =
+    leads-on left SinkFailed line store next payload clock before now same (subst (λ ms. LineReplies ms left SinkFailed store line payload clock (Ok next) before now) none told)
+leads-next mirrors left SinkFailed line store payload clock (Err stop) before now none same told = tt
 
 -- ---- the lines of the commits
 -- of all lines some were executed, and those are left

@@ -1,6 +1,9 @@
 pub mod Seeing
 pub mod Reading
 pub mod Runs
+pub mod Named
+pub mod Unasked
+pub mod UnaskedMeans
 pub mod Solo
 pub mod Staying
 pub mod Going

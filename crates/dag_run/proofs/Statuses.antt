@@ -9,18 +9,19 @@ use Rattle.line_io.specs.declared.lines.LineFault.TheVariants.{Read, Limit}
 use Rattle.batch_codec.specs.Payload.{Payload}
 use Rattle.change_rules.specs.declared.Limits.{Limits}
 use Rattle.change_rules.specs.Unlawful.{IsNoLog}
-use Rattle.step_rules.specs.State.{at_start}
+use Rattle.remote_rules.specs.Mirror.{Mirror}
 use Rattle.step_rules.specs.Reply.{Reply}
 use Rattle.run_rules.specs.Ends.{Streams, Done, NotLoaded, NoLog, NoMemory, EndsAs, status_of as end_status}
-use Rattle.run_rules.specs.Means.{Means, IsComplete, RefusesLog}
-use Rattle.run_rules.proofs.Matched.{run-answered}
+use Rattle.run_rules.specs.Means.{IsComplete, RefusesLog}
 use Rattle.outside.specs.Told.{WhereTold}
 use Rattle.outside.proofs.ToldLemmas.{WhereTold-map, WhereTold-both}
 use Rattle.disk_trait.specs.Calls.{Goes}
 use Rattle.disk_trait.proofs.Telling.{goes-told}
 use Rattle.dag_store.specs.Loading.{SameBytes}
 use Rattle.dag_run.specs.Seen.{Seen, seen, streams}
-use Rattle.dag_run.specs.Ends.{RunRefuses, StatusRefuses, EndRefuses, LoadRefuses}
+use Rattle.dag_run.specs.Ends.{Begins, RunRefuses, StatusMeans, StatusRefuses, StatusUnasked, EndRefuses, LoadRefuses}
+use Rattle.dag_run.specs.UnaskedEnds.{HasNoneToAsk, MeansUnasked}
+use Rattle.dag_run.proofs.UnaskedMeans.{means-of, none-failed}
 use Rattle.dag_run.proofs.Seeing.{seen-disk, seen-taken, seen-before}
 use Rattle.dag_run.specs.Stops.{end_of, stop_of, IsRunStatus, IsLineStop, IsLoadStop}
 use Rattle.dag_run.specs.declared.stops.Stop.{Stop}
@@ -99,14 +100,40 @@ ends-well (Err stops.Source) limit io DF SoF SiF lines more replies h d s o nd n
 ends-well (Err stops.Sink) limit io DF SoF SiF lines more replies h d s o nd ns never le = absurd (never (o refl))
 ends-well (Err stops.Limit) limit io DF SoF SiF lines more replies h d s o nd ns never le = absurd (let lt = h.0 in omega (arith, lt, le))
 
-pub complete : (end : Result Unit Stop) (limits : Limits) (w : World Name) (payloads : List Payload) (room : ℕ) (io : Streams) (DiskFailed SourceFailed SinkFailed : Type 0) (old new : Told) (changes : List ℕ)
-    (m : Means limits w payloads room [] [] io SinkFailed old new (end_of end) changes)
+pub complete : (end : Result Unit Stop) (limits : Limits) (w : World Name) (payloads : List Payload) (room : ℕ) (mirrors left : List Mirror) (io : Streams) (DiskFailed SourceFailed SinkFailed : Type 0) (old new : Told) (changes : List ℕ)
+    (m : MeansUnasked limits w payloads room mirrors left io SinkFailed old new (end_of end) changes)
     → ((end ≡ Err stops.NotLoaded) ⊎ (end ≡ Err stops.NotStored) → DiskFailed) → (end ≡ Err stops.Source → SourceFailed) → (end ≡ Err stops.Sink → SinkFailed)
-    → IsComplete limits [] [] io DiskFailed SourceFailed SinkFailed (end_of end) m.replies
-complete end limits w payloads room io DF SoF SiF old new changes m d s o = record {
+    → IsComplete limits mirrors left io DiskFailed SourceFailed SinkFailed (end_of end) m.replies
+complete end limits w payloads room mirrors left io DF SoF SiF old new changes m d s o = record {
   ends = ends-well end limits.input io DF SoF SiF m.lines m.more m.replies m.ends d s o;
-  answered = λ h n i. run-answered limits m.lines (at_start w payloads room []) m.last m.replies n m.run (inl tt) i;
+  answered = λ h n i. none-failed limits w payloads room mirrors left io SiF old new (end_of end) changes m n i;
 }
+
+-- the status of a run that asks no mirror, and of the definition's where none has to be asked
+pub status-means : (limits : Limits) (w : World Name) (payloads : List Payload) (room : ℕ) (mirrors left : List Mirror) (DiskFailed SourceFailed SinkFailed : Type 0) (status : ℕ) (changes : List ℕ) (before after : Seen) → HasNoneToAsk payloads w mirrors
+    → StatusUnasked limits w payloads room mirrors left DiskFailed SourceFailed SinkFailed status changes before after → StatusMeans limits w payloads room mirrors left DiskFailed SourceFailed SinkFailed status changes before after
+status-means limits w payloads room mirrors left DF SoF SiF status changes before after none (end, is, m, whole) =
+    (end, is, means-of limits w payloads room mirrors left (streams before after) SiF before.disk after.disk end changes none m, whole)
+
+pub told-means : (limits : Limits) (w : World Name) (payloads : List Payload) (room : ℕ) (mirrors left : List Mirror) (DiskFailed SourceFailed SinkFailed : Type 0) (status : ℕ) (changes : List ℕ) (a b : Option Seen) → HasNoneToAsk payloads w mirrors
+    → WhereTold a b (λ before after. Begins limits w payloads before → StatusUnasked limits w payloads room mirrors left DiskFailed SourceFailed SinkFailed status changes before after)
+    → WhereTold a b (λ before after. Begins limits w payloads before → StatusMeans limits w payloads room mirrors left DiskFailed SourceFailed SinkFailed status changes before after)
+told-means limits w payloads room mirrors left DF SoF SiF status changes a b none told =
+    WhereTold-map a b (λ x y. Begins limits w payloads x → StatusUnasked limits w payloads room mirrors left DF SoF SiF status changes x y) (λ x y. Begins limits w payloads x → StatusMeans limits w payloads room mirrors left DF SoF SiF status changes x y)
+    (λ x y h begins. status-means limits w payloads room mirrors left DF SoF SiF status changes x y none (h begins)) told
+
+-- from the end of a run to its status
+pub run-unasked : (limits : Limits) (w : World Name) (payloads : List Payload) (room : ℕ) (mirrors left : List Mirror) (DiskFailed SourceFailed SinkFailed : Type 0) (end : Result Unit Stop) (status : ℕ) (changes moments : List ℕ) (a b : Option Seen)
+    → status ≡ end_status (end_of end) → moments ≡ changes
+    → ((end ≡ Err stops.NotLoaded) ⊎ (end ≡ Err stops.NotStored) → DiskFailed) → (end ≡ Err stops.Source → SourceFailed) → (end ≡ Err stops.Sink → SinkFailed)
+    → WhereTold a b (λ before after. Begins limits w payloads before → MeansUnasked limits w payloads room mirrors left (streams before after) SinkFailed before.disk after.disk (end_of end) changes)
+    → WhereTold a b (λ before after. Begins limits w payloads before → StatusUnasked limits w payloads room mirrors left DiskFailed SourceFailed SinkFailed status moments before after)
+run-unasked limits w payloads room mirrors left DF SoF SiF end status changes moments a b is same disk source sink told =
+    WhereTold-map a b (λ x y. Begins limits w payloads x → MeansUnasked limits w payloads room mirrors left (streams x y) SiF x.disk y.disk (end_of end) changes) _
+    (λ x y h begins.
+    let m = h begins in
+    subst (λ l. StatusUnasked limits w payloads room mirrors left DF SoF SiF status l x y) (sym same)
+    (end_of end, is, m, complete end limits w payloads room mirrors left (streams x y) DF SoF SiF x.disk y.disk changes m disk source sink)) told
 
 -- ---- what is refused
 pub refuses-nothing : (limit : ℕ) (b : Option (List ℕ)) → IfSome b (λ bytes. RunRefuses limit bytes (Err stops.Memory))

@@ -8,12 +8,13 @@ use Rattle.disk_trait.specs.Images.{Told}
 use Rattle.batch_codec.specs.Payload.{Payload}
 use Rattle.change_rules.specs.declared.Limits.{Limits}
 use Rattle.change_rules.specs.Standard.{AreLimits}
+use Rattle.remote_rules.specs.Mirror.{Mirror}
 use Rattle.program_words.specs.Usage.{WritesNumber, IsUsage}
 use Rattle.program_words.specs.declared.usage.Mode.{Mode}
 use Rattle.program_words.specs.declared.usage.Mode.TheVariants.{Run, Demo}
 use Rattle.program_words.specs.declared.usage.Usage.{Usage}
 use Rattle.program_words.proofs.Exactly.{one-usage, no-usage}
-use Rattle.dag_run.specs.Ends.{Begins, StatusMeans, EndRefuses}
+use Rattle.dag_run.specs.Ends.{Begins, StatusUnasked, EndRefuses}
 use Rattle.dag_run.specs.Demo.{DemoMeans}
 use Rattle.dag_run.specs.Modes.{IsUsageOf, IsDemoOf, EndsAtOnce}
 use Rattle.dag_run.specs.Seen.{seen, streams}
@@ -28,17 +29,17 @@ only-memory words status usage (inl none) is = absurd (no-usage words usage none
 only-memory words status usage (inr seven) is = seven
 
 -- which is an end that a run may have
-pub once-means : (limits : Limits) → AreLimits limits → (words : List (List ℕ)) (status : ℕ) (changes : List ℕ) → EndsAtOnce words status → IsUsageOf Run words → changes ≡ []
-    → (w : World Name) (payloads : List Payload) (room : ℕ) (DiskFailed SourceFailed SinkFailed : Type 0) (d : Option Told) (i o : Option (List ℕ))
-    → WhereTold (seen d i o) (seen d i o) (λ before after. Begins limits w payloads before → StatusMeans limits w payloads room DiskFailed SourceFailed SinkFailed status changes before after)
-once-means limits fair words status changes once of none w payloads room DiskFailed SourceFailed SinkFailed d i o =
+pub once-unasked : (limits : Limits) → AreLimits limits → (words : List (List ℕ)) (status : ℕ) (changes : List ℕ) → EndsAtOnce words status → IsUsageOf Run words → changes ≡ []
+    → (w : World Name) (payloads : List Payload) (room : ℕ) (mirrors : List Mirror) (DiskFailed SourceFailed SinkFailed : Type 0) (d : Option Told) (i o : Option (List ℕ))
+    → WhereTold (seen d i o) (seen d i o) (λ before after. Begins limits w payloads before → StatusUnasked limits w payloads room mirrors mirrors DiskFailed SourceFailed SinkFailed status changes before after)
+once-unasked limits fair words status changes once of none w payloads room mirrors DiskFailed SourceFailed SinkFailed d i o =
     WhereTold-same (seen d i o) _ (λ x begins.
-    let m = ends-unread limits fair w payloads room SinkFailed x begins x refl refl refl in
-    subst (λ l. StatusMeans limits w payloads room DiskFailed SourceFailed SinkFailed status l x x) (sym none) (
+    let m = ends-unread limits fair w payloads room mirrors SinkFailed x begins x refl refl refl in
+    subst (λ l. StatusUnasked limits w payloads room mirrors mirrors DiskFailed SourceFailed SinkFailed status l x x) (sym none) (
       NoMemory,
       only-memory words status of.0 once of.1,
       m,
-      complete (Err stops.Memory) limits w payloads room (streams x x) DiskFailed SourceFailed SinkFailed x.disk x.disk [] m
+      complete (Err stops.Memory) limits w payloads room mirrors mirrors (streams x x) DiskFailed SourceFailed SinkFailed x.disk x.disk [] m
           (λ e. ⊎_elim (λ f. absurd (cc f)) (λ f. absurd (cc f)) e) (λ e. absurd (cc e)) (λ e. absurd (cc e)),
     ))
 

@@ -5,6 +5,7 @@ use Rattle.commit_graph.specs.World.{World}
 use Rattle.line_io.specs.Lines.{lines_of}
 use Rattle.batch_codec.specs.Payload.{Payload}
 use Rattle.change_rules.specs.declared.Limits.{Limits}
+use Rattle.remote_rules.specs.Mirror.{Mirror}
 use Rattle.run_rules.specs.Ends.{End, status_of}
 use Rattle.run_rules.specs.Means.{Means, IsComplete, RefusesLog}
 use Rattle.run_rules.specs.Premises.{Start}
@@ -14,6 +15,7 @@ use Rattle.dag_store.specs.Kept.{PlainStore}
 use Rattle.dag_store.specs.Stands.{Stands}
 use Rattle.dag_run.specs.Seen.{Seen, streams}
 use Rattle.dag_run.specs.Lines.{PutsFault}
+use Rattle.dag_run.specs.UnaskedEnds.{MeansUnasked}
 use Rattle.dag_run.specs.declared.stops.Stop.{Stop}
 use Rattle.dag_run.specs.declared.stops.Stop.TheVariants.{Memory, NoLog, NotLoaded}
 
@@ -21,12 +23,19 @@ use Rattle.dag_run.specs.declared.stops.Stop.TheVariants.{Memory, NoLog, NotLoad
 abbrev pub Begins : Limits → World Name → List Payload → Seen → Type 0
 Begins limits w payloads before = Start limits before.disk w payloads [] (lines_of limits.input before.left)
 
--- The status is that of an end of which this run means what a run has to, and it is complete. Its mirrors are none.
-abbrev pub StatusMeans : Limits → World Name → List Payload → ℕ → Type 0 → Type 0 → Type 0 → ℕ → List ℕ → Seen → Seen → Type 0
-StatusMeans limits w payloads room DiskFailed SourceFailed SinkFailed status changes before after =
+-- The status is that of an end of which this run, with these mirrors and those left, means what a run has to, and it is complete.
+abbrev pub StatusMeans : Limits → World Name → List Payload → ℕ → List Mirror → List Mirror → Type 0 → Type 0 → Type 0 → ℕ → List ℕ → Seen → Seen → Type 0
+StatusMeans limits w payloads room mirrors left DiskFailed SourceFailed SinkFailed status changes before after =
     (end : End) × (status ≡ status_of end)
-    × (m : Means limits w payloads room [] [] (streams before after) SinkFailed before.disk after.disk end changes)
-    × IsComplete limits [] [] (streams before after) DiskFailed SourceFailed SinkFailed end m.replies
+    × (m : Means limits w payloads room mirrors left (streams before after) SinkFailed before.disk after.disk end changes)
+    × IsComplete limits mirrors left (streams before after) DiskFailed SourceFailed SinkFailed end m.replies
+
+-- the same of a run that asks no mirror
+abbrev pub StatusUnasked : Limits → World Name → List Payload → ℕ → List Mirror → List Mirror → Type 0 → Type 0 → Type 0 → ℕ → List ℕ → Seen → Seen → Type 0
+StatusUnasked limits w payloads room mirrors left DiskFailed SourceFailed SinkFailed status changes before after =
+    (end : End) × (status ≡ status_of end)
+    × (m : MeansUnasked limits w payloads room mirrors left (streams before after) SinkFailed before.disk after.disk end changes)
+    × IsComplete limits mirrors left (streams before after) DiskFailed SourceFailed SinkFailed end m.replies
 
 -- Status 4 comes only where a read gives what is no log, and over such bytes always, unless a call of loading failed or memory was
 -- wanting before the first line.

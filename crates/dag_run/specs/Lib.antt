@@ -1,6 +1,8 @@
 pub mod Words
 pub mod Seen
 pub mod Alone
+pub mod Unasked
+pub mod UnaskedEnds
 pub mod Stops
 pub mod Replies
 pub mod Lines

@@ -1,18 +1,23 @@
 -- What one line does: to a store, to the state that it stands for, to the disk and to the sink.
-use Rattle.std.specs.Prelude.{◌≡◌, ◌⊎◌, ℕ, true, false, List, [], ◌∷◌, ◌++◌, Option, Some, None, Result, Ok, Err, take}
+use Rattle.std.specs.Prelude.{◌≡◌, ◌⊎◌, ℕ, true, false, List, [], ◌∷◌, ◌++◌, Option, Some, None, Result, Ok, Err, take, length, nat_lt}
+use Rattle.std.specs.Bool.{MatchBool}
 use Rattle.outside.specs.Told.{TookFront}
 use Rattle.disk_trait.specs.Images.{Told}
 use Rattle.line_io.specs.Lines.{is_silent}
 use Rattle.batch_codec.specs.Payload.{Payload}
 use Rattle.change_rules.specs.Change.{text_of}
+use Rattle.remote_rules.specs.Mirror.{Mirror}
 use Rattle.step_rules.specs.State.{Stored, worlds}
 use Rattle.step_rules.specs.Verb.{Verb}
-use Rattle.step_rules.specs.Reply.{Reply, reply_text}
+use Rattle.step_rules.specs.Reply.{Reply, Dropped, Refused, reply_text}
+use Rattle.step_rules.specs.declared.Refusal.TheVariants.{NoRemote}
+use Rattle.step_rules.specs.Step.{without}
 use Rattle.run_rules.specs.Ends.{disk_text}
 use Rattle.dag_store.specs.Kept.{PlainStore}
 use Rattle.dag_store.specs.Stands.{Stands}
 use Rattle.dag_store.specs.Flushes.{HasRoom, HasStored, CutShort}
-use Rattle.dag_run.specs.Alone.{CommandAlone, StepAlone}
+use Rattle.dag_run.specs.Alone.{CommandAlone}
+use Rattle.dag_run.specs.Unasked.{CommandBeside, StepBeside}
 use Rattle.dag_run.specs.declared.stops.Stop.{Stop}
 use Rattle.dag_run.specs.declared.stops.Stop.TheVariants.{Sink, NotStored}
 
@@ -54,22 +59,34 @@ Replies SinkFailed began st Does payload clock (Err NotStored) before now =
     (reply : Reply) × (next : Stored) × Does reply next × HasChanged st next payload × (clock ≡ None) × PutsFault SinkFailed before now
 Replies SinkFailed began st Does payload clock (Err _) before now = ⊥
 
--- of a session's command
+-- of a session's command, whatever the mirrors
 abbrev pub CommandReplies : Type 0 → PlainStore → ℕ → Verb → List ℕ → Option ℕ → Result PlainStore Stop → List ℕ → List ℕ → Type 0
 CommandReplies SinkFailed kept s verb payload clock result before now =
     (began : ℕ) (st : Stored) → Stands began kept st → Replies SinkFailed began st (CommandAlone kept.limits st s verb) payload clock result before now
+
+-- of one beside these mirrors, of which those are left
+abbrev pub RepliesBeside : List Mirror → List Mirror → Type 0 → PlainStore → ℕ → Verb → List ℕ → Option ℕ → Result PlainStore Stop → List ℕ → List ℕ → Type 0
+RepliesBeside mirrors left SinkFailed kept s verb payload clock result before now =
+    (began : ℕ) (st : Stored) → Stands began kept st → Replies SinkFailed began st (CommandBeside kept.limits mirrors left st s verb) payload clock result before now
+
+-- the mirror at this place goes, or there is none: what is told, and which mirrors are left
+abbrev pub DropsAt : ℕ → List Mirror → List Mirror → Reply → Type 0
+DropsAt k mirrors left reply =
+    MatchBool (nat_lt k (length mirrors))
+    ((reply ≡ Dropped (length (without k mirrors))) × (left ≡ without k mirrors))
+    ((reply ≡ Refused NoRemote) × (left ≡ mirrors))
 
 -- a silent line gets no reply and changes nothing
 abbrev pub IsPassed : ℕ → Stored → List ℕ → Option ℕ → Result PlainStore Stop → List ℕ → List ℕ → Type 0
 IsPassed began st line clock (Ok store) before now = (is_silent line ≡ true) × (clock ≡ None) × Stands began store st × (now ≡ before)
 IsPassed began st line clock (Err _) before now = ⊥
 
--- what a line is told
-abbrev pub LineReplies : Type 0 → PlainStore → List ℕ → List ℕ → Option ℕ → Result PlainStore Stop → List ℕ → List ℕ → Type 0
-LineReplies SinkFailed kept line payload clock result before now =
+-- what a line is told beside these mirrors, of which those are left
+abbrev pub LineReplies : List Mirror → List Mirror → Type 0 → PlainStore → List ℕ → List ℕ → Option ℕ → Result PlainStore Stop → List ℕ → List ℕ → Type 0
+LineReplies mirrors left SinkFailed kept line payload clock result before now =
     (began : ℕ) (st : Stored) → Stands began kept st
-    → IsPassed began st line clock result before now
-    ⊎ ((is_silent line ≡ false) × Replies SinkFailed began st (StepAlone kept.limits st line) payload clock result before now)
+    → ((left ≡ mirrors) × IsPassed began st line clock result before now)
+    ⊎ ((is_silent line ≡ false) × Replies SinkFailed began st (StepBeside kept.limits mirrors left st line) payload clock result before now)
 
 -- the log's own limit is that of the store
 abbrev pub IsLimited : PlainStore → Type 0

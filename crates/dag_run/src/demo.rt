@@ -20,6 +20,7 @@ use demo_input::{CommitLines, last_lines};
 use disk_memory::MemoryDisk;
 use disk_trait::Disk;
 use line_io::{Line, MemorySink, Sink};
+use mirror_set::Mirrors;
 use std::alloc::Global;
 
 /// The store of a new log.
@@ -47,8 +48,18 @@ fn answer<D: Disk>(
     ensures ready { IfOk result (λ next. IsReady next (D.told log.new)) }
     ensures leads { IfOk result (λ next. LeadsOn line.now store next replies.old.taken replies.new.taken) }
 {
+    let mut mirrors = Mirrors::new(Vec::new(alloc));
     let mut changes = Vec::new(alloc);
-    execute(alloc, store, log, &mut changes, Line::Text, line, replies)
+    execute(
+        alloc,
+        store,
+        log,
+        &mut mirrors,
+        &mut changes,
+        Line::Text,
+        line,
+        replies,
+    )
 }
 
 /// The store behind the lines that add and flush so many commits, over a new log. Nobody hears their replies.

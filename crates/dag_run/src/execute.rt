@@ -1,6 +1,6 @@
 //! What one line does.
 
-ghost use Rattle.std.specs.Prelude.{◌≡◌, ◌<◌, ◌≤◌, [], ℕ, List, Option, Err, length, IfErr, IfOk, IfSome, vec_capacity};
+ghost use Rattle.std.specs.Prelude.{◌≡◌, ◌<◌, ◌≤◌, [], ℕ, List, Option, Err, length, IfErr, IfOk, IfSome, map, vec_capacity};
 ghost use Rattle.outside.specs.Counts.{Rose};
 ghost use Rattle.outside.specs.Told.{WhereTold};
 ghost use Rattle.disk_trait.specs.Calls.{Goes};
@@ -10,7 +10,8 @@ ghost use Rattle.line_io.specs.Lines.{is_empty_or_comment};
 ghost use Rattle.step_rules.specs.Verb.{Flush as ToFlush};
 ghost use Rattle.command_lines.specs.Meant.{meant, HasFewParents};
 ghost use Rattle.dag_run.specs.Stops.{IsLineStop};
-ghost use Rattle.dag_run.specs.Lines.{changes_with, CommandReplies, LineReplies, LineLeaves};
+ghost use Rattle.command_lines.specs.Told.{told};
+ghost use Rattle.dag_run.specs.Lines.{changes_with, CommandReplies, DropsAt, LineReplies, LineLeaves, RepliesBeside};
 
 use crate::replies::{
     list, reply_of_add, reply_of_count, reply_of_id, reply_of_reload, tell, tell_fault,
@@ -21,6 +22,8 @@ use dag_store::{Flushed, Refusal, Store};
 use disk_trait::Disk;
 use id_groups::Name;
 use line_io::{Line, Sink};
+use mirror_set::Mirrors;
+use remote_trait::Remote;
 use std::alloc::Global;
 
 /// Whether a line that isn't too long gets no reply.
@@ -84,10 +87,22 @@ fn flush<D: Disk, O: Sink>(
     }
 }
 
+/// Drops the mirror at this place, and gives the reply.
+fn drop_mirror(mirrors: &mut Mirrors, place: u64) -> Reply
+    ensures { DropsAt place (map (λ b. (⟦<dyn Remote as Remote>⟧ b.vtable).shown b.value) mirrors.old.list.items) (map (λ b. (⟦<dyn Remote as Remote>⟧ b.vtable).shown b.value) mirrors.new.list.items) (told result) }
+{
+    if place >= u64::from(mirrors.len()) {
+        return Reply::Refused(Refusal::NoRemote);
+    }
+    mirrors.drop_at(place as u32);
+    Reply::Dropped(u64::from(mirrors.len()))
+}
+
 /// Executes a command and puts its reply.
 fn execute_command<D: Disk, O: Sink>(
     store: Store,
     log: &mut D,
+    mirrors: &mut Mirrors,
     changes: &mut Vec<u64>,
     command: &Command,
     output: &mut O,
@@ -95,9 +110,10 @@ fn execute_command<D: Disk, O: Sink>(
     requires session { command.now.session < 16 }
     requires few { HasFewParents (meant command.now.verb) }
     requires begins { IfSome (D.told log.old) (IsOnDisk store.log) }
-    ensures step { (payload : List ℕ) × (clock : Option ℕ) × (changes.new.items ≡ changes_with changes.old.items clock)
+    ensures step { let first = map (λ b. (⟦<dyn Remote as Remote>⟧ b.vtable).shown b.value) mirrors.old.list.items in let left = map (λ b. (⟦<dyn Remote as Remote>⟧ b.vtable).shown b.value) mirrors.new.list.items in
+        (payload : List ℕ) × (clock : Option ℕ) × (changes.new.items ≡ changes_with changes.old.items clock)
         × Goes (LineLeaves store payload clock result) (D.told log.old) (D.told log.new)
-        × WhereTold (O.taken output.old) (O.taken output.new) (CommandReplies (Rose (O.faults output.old) (O.faults output.new)) store command.now.session (meant command.now.verb) payload clock result) }
+        × WhereTold (O.taken output.old) (O.taken output.new) (RepliesBeside first left (Rose (O.faults output.old) (O.faults output.new)) store command.now.session (meant command.now.verb) payload clock result) }
     ensures limits { IfOk result (λ next. next.limits ≡ store.limits) }
     ensures stop { IfErr result IsLineStop }
     ensures disk { result ≡ Err Stop.NotStored → Rose (D.faults log.old) (D.faults log.new) }
@@ -138,8 +154,14 @@ fn execute_command<D: Disk, O: Sink>(
             let counts = store.levels();
             tell(store, &Reply::LevelSizes(counts), output)
         }
-        Verb::Mirrors => tell(store, &Reply::Counted(0), output),
-        Verb::DropAt(_) => tell(store, &Reply::Refused(Refusal::NoRemote), output),
+        Verb::Mirrors => {
+            let count = mirrors.len();
+            tell(store, &Reply::Counted(count as u64), output)
+        }
+        Verb::DropAt(place) => {
+            let reply = drop_mirror(mirrors, *place);
+            tell(store, &reply, output)
+        }
     }
 }
 
@@ -148,15 +170,17 @@ fn execute_text<D: Disk, O: Sink>(
     alloc: Global,
     store: Store,
     log: &mut D,
+    mirrors: &mut Mirrors,
     changes: &mut Vec<u64>,
     text: &[u8],
     output: &mut O,
 ) -> Result<Store, Stop>
     requires { IfSome (D.told log.old) (IsOnDisk store.log) }
-    ensures step { (payload : List ℕ) × (clock : Option ℕ) × (changes.new.items ≡ changes_with changes.old.items clock)
+    ensures step { let first = map (λ b. (⟦<dyn Remote as Remote>⟧ b.vtable).shown b.value) mirrors.old.list.items in let left = map (λ b. (⟦<dyn Remote as Remote>⟧ b.vtable).shown b.value) mirrors.new.list.items in
+        (payload : List ℕ) × (clock : Option ℕ) × (changes.new.items ≡ changes_with changes.old.items clock)
         × Goes (LineLeaves store payload clock result) (D.told log.old) (D.told log.new)
         × WhereTold (O.taken output.old) (O.taken output.new) (λ before now. length text.now ≤ 16384
-        → LineReplies (Rose (O.faults output.old) (O.faults output.new)) store text.now payload clock result before now) }
+        → LineReplies first left (Rose (O.faults output.old) (O.faults output.new)) store text.now payload clock result before now) }
     ensures limits { IfOk result (λ next. next.limits ≡ store.limits) }
     ensures stop { IfErr result IsLineStop }
     ensures disk { result ≡ Err Stop.NotStored → Rose (D.faults log.old) (D.faults log.new) }
@@ -168,7 +192,7 @@ fn execute_text<D: Disk, O: Sink>(
         return Ok(store);
     }
     match Command::parse(alloc, text) {
-        Ok(command) => execute_command(store, log, changes, &command, output),
+        Ok(command) => execute_command(store, log, mirrors, changes, &command, output),
         Err(CommandFault::Syntax) => tell(store, &Reply::NoCommand, output),
         Err(CommandFault::Memory) => tell(store, &Reply::Refused(Refusal::Memory), output),
     }
@@ -179,16 +203,18 @@ pub(crate) fn execute<D: Disk, O: Sink>(
     alloc: Global,
     store: Store,
     log: &mut D,
+    mirrors: &mut Mirrors,
     changes: &mut Vec<u64>,
     kind: Line,
     text: &[u8],
     output: &mut O,
 ) -> Result<Store, Stop>
     requires { IfSome (D.told log.old) (IsOnDisk store.log) }
-    ensures step { (payload : List ℕ) × (clock : Option ℕ) × (changes.new.items ≡ changes_with changes.old.items clock)
+    ensures step { let first = map (λ b. (⟦<dyn Remote as Remote>⟧ b.vtable).shown b.value) mirrors.old.list.items in let left = map (λ b. (⟦<dyn Remote as Remote>⟧ b.vtable).shown b.value) mirrors.new.list.items in
+        (payload : List ℕ) × (clock : Option ℕ) × (changes.new.items ≡ changes_with changes.old.items clock)
         × Goes (LineLeaves store payload clock result) (D.told log.old) (D.told log.new)
         × WhereTold (O.taken output.old) (O.taken output.new) (λ before now. (line : List ℕ) → IsLine kind text.now line
-        → LineReplies (Rose (O.faults output.old) (O.faults output.new)) store line payload clock result before now) }
+        → LineReplies first left (Rose (O.faults output.old) (O.faults output.new)) store line payload clock result before now) }
     ensures limits { IfOk result (λ next. next.limits ≡ store.limits) }
     ensures stop { IfErr result IsLineStop }
     ensures disk { result ≡ Err Stop.NotStored → Rose (D.faults log.old) (D.faults log.new) }
@@ -198,6 +224,6 @@ pub(crate) fn execute<D: Disk, O: Sink>(
 {
     match kind {
         Line::TooLong => tell(store, &Reply::LongLine, output),
-        Line::Text => execute_text(alloc, store, log, changes, text, output),
+        Line::Text => execute_text(alloc, store, log, mirrors, changes, text, output),
     }
 }

@@ -10,7 +10,6 @@ ghost use Rattle.gated_log.specs.Load.{IsSureOf, LoadCalls};
 ghost use Rattle.batch_codec.specs.Payload.{Payload};
 ghost use Rattle.change_rules.specs.Holding.{HoldAs};
 ghost use Rattle.change_rules.specs.Standard.{AreLimits, standard};
-ghost use Rattle.run_rules.specs.Means.{Means};
 ghost use Rattle.run_rules.specs.Ends.{status_of as end_status};
 ghost use Rattle.dag_store.specs.Loading.{KeepsHolding, IsLoadedStore, SameBytes};
 ghost use Rattle.program_words.specs.Usage.{IsUsage};
@@ -19,7 +18,8 @@ ghost use Rattle.dag_run.specs.Seen.{seen, streams};
 ghost use Rattle.dag_run.specs.Stops.{end_of, IsDemoStatus, IsLoadStop, IsRunStatus, IsStatus};
 ghost use Rattle.dag_run.specs.Lines.{PutsFault};
 ghost use Rattle.dag_run.specs.Demo.{DemoMeans};
-ghost use Rattle.dag_run.specs.Ends.{Begins, OpensRun, LoadPuts, LoadRefuses, RunRefuses, EndRefuses, StatusMeans, StatusRefuses};
+ghost use Rattle.dag_run.specs.Ends.{Begins, OpensRun, LoadPuts, LoadRefuses, RunRefuses, EndRefuses, StatusMeans, StatusRefuses, StatusUnasked};
+ghost use Rattle.dag_run.specs.UnaskedEnds.{HasNoneToAsk, MeansUnasked};
 
 use crate::demo::demo;
 use crate::execute::execute;
@@ -29,7 +29,9 @@ use crate::{Limits, Moments, Report};
 use dag_store::{LoadFault, Store};
 use disk_trait::Disk;
 use line_io::{Lines, Sink, Source};
+use mirror_set::Mirrors;
 use program_words::{Mode, Usage, WordsFault, read_words};
+use remote_trait::Remote;
 use std::alloc::Global;
 
 /// Loads the store of the log. Where the disk fails the line that tells of it is put.
@@ -73,18 +75,20 @@ fn run<D: Disk, I: Source, O: Sink>(
     alloc: Global,
     limits: Limits,
     log: &mut D,
+    mirrors: &mut Mirrors,
     input: &mut I,
     output: &mut O,
     changes: &mut Vec<u64>,
 ) -> Result<(), Stop>
     requires limits { AreLimits limits }
     requires none { changes.old.items ≡ [] }
-    ensures means { (w : World Name) (payloads : List Payload) (room : ℕ) → WhereTold (seen (D.told log.old) (I.left input.old) (O.taken output.old)) (seen (D.told log.new) (I.left input.new) (O.taken output.new))
+    ensures means { let first = map (λ b. (⟦<dyn Remote as Remote>⟧ b.vtable).shown b.value) mirrors.old.list.items in let left = map (λ b. (⟦<dyn Remote as Remote>⟧ b.vtable).shown b.value) mirrors.new.list.items in
+        (w : World Name) (payloads : List Payload) (room : ℕ) → WhereTold (seen (D.told log.old) (I.left input.old) (O.taken output.old)) (seen (D.told log.new) (I.left input.new) (O.taken output.new))
         (λ before after. Begins limits w payloads before
-        → Means limits w payloads room [] [] (streams before after) (Rose (O.faults output.old) (O.faults output.new)) before.disk after.disk (end_of result) changes.new.items) }
+        → MeansUnasked limits w payloads room first left (streams before after) (Rose (O.faults output.old) (O.faults output.new)) before.disk after.disk (end_of result) changes.new.items) }
     ensures refuses { IfSome (D.bytes log.old) (λ bytes. RunRefuses limits.log bytes result) }
     ensures unwritten { result ≡ Err Stop.NoLog → Goes SameBytes (D.told log.old) (D.told log.new) × (output.new ≡ output.old) }
-    ensures quiet { result ≡ Err Stop.Memory → (input.new ≡ input.old) × (output.new ≡ output.old) }
+    ensures quiet { result ≡ Err Stop.Memory → (input.new ≡ input.old) × (output.new ≡ output.old) × (mirrors.new ≡ mirrors.old) }
     ensures disk { (result ≡ Err Stop.NotLoaded) ⊎ (result ≡ Err Stop.NotStored) → Rose (D.faults log.old) (D.faults log.new) }
     ensures source { result ≡ Err Stop.Source → Rose (I.faults input.old) (I.faults input.new) }
     ensures sink { result ≡ Err Stop.Sink → Rose (O.faults output.old) (O.faults output.new) }
@@ -95,7 +99,16 @@ fn run<D: Disk, I: Source, O: Sink>(
     let mut lines = Lines::new(alloc, limits.input)?;
     let mut store = load(alloc, limits, log, output)?;
     'lines: while let Some(kind) = lines.next(input)? {
-        store = execute(alloc, store, log, changes, kind, lines.text(), output)?;
+        store = execute(
+            alloc,
+            store,
+            log,
+            mirrors,
+            changes,
+            kind,
+            lines.text(),
+            output,
+        )?;
     }
     Ok(())
 }
@@ -116,29 +129,36 @@ fn status(end: Result<(), Stop>) -> u8
     }
 }
 
-/// Answers the lines of the input over the log, within these limits. A reply is put before the next line is read.
+/// Answers the lines of the input over the log, within these limits. A reply is put before the next line is read. The mirrors are
+/// counted and dropped as the lines say, and none is asked: what would have to be asked is refused as where there is no mirror.
 pub fn run_lines<D: Disk, I: Source, O: Sink>(
     alloc: Global,
     limits: Limits,
     log: &mut D,
+    mirrors: &mut Mirrors,
     input: &mut I,
     output: &mut O,
 ) -> Report
     requires { AreLimits limits }
     ensures known { IsRunStatus result.status }
-    ensures means { (w : World Name) (payloads : List Payload) (room : ℕ) → WhereTold (seen (D.told log.old) (I.left input.old) (O.taken output.old)) (seen (D.told log.new) (I.left input.new) (O.taken output.new))
-        (λ before after. Begins limits w payloads before → StatusMeans limits w payloads room
+    ensures means { let first = map (λ b. (⟦<dyn Remote as Remote>⟧ b.vtable).shown b.value) mirrors.old.list.items in let left = map (λ b. (⟦<dyn Remote as Remote>⟧ b.vtable).shown b.value) mirrors.new.list.items in
+        (w : World Name) (payloads : List Payload) (room : ℕ) → HasNoneToAsk payloads w first → WhereTold (seen (D.told log.old) (I.left input.old) (O.taken output.old)) (seen (D.told log.new) (I.left input.new) (O.taken output.new))
+        (λ before after. Begins limits w payloads before → StatusMeans limits w payloads room first left
+        (Rose (D.faults log.old) (D.faults log.new)) (Rose (I.faults input.old) (I.faults input.new)) (Rose (O.faults output.old) (O.faults output.new)) result.status result.changes before after) }
+    ensures unasked { let first = map (λ b. (⟦<dyn Remote as Remote>⟧ b.vtable).shown b.value) mirrors.old.list.items in let left = map (λ b. (⟦<dyn Remote as Remote>⟧ b.vtable).shown b.value) mirrors.new.list.items in
+        (w : World Name) (payloads : List Payload) (room : ℕ) → WhereTold (seen (D.told log.old) (I.left input.old) (O.taken output.old)) (seen (D.told log.new) (I.left input.new) (O.taken output.new))
+        (λ before after. Begins limits w payloads before → StatusUnasked limits w payloads room first left
         (Rose (D.faults log.old) (D.faults log.new)) (Rose (I.faults input.old) (I.faults input.new)) (Rose (O.faults output.old) (O.faults output.new)) result.status result.changes before after) }
     ensures refuses { IfSome (D.bytes log.old) (λ bytes. StatusRefuses limits.log bytes result.status) }
     ensures no_log { WhereTold (seen (D.told log.old) (I.left input.old) (O.taken output.old)) (seen (D.told log.new) (I.left input.new) (O.taken output.new)) (EndRefuses limits result.status) }
     ensures unwritten { result.status ≡ 4 → Goes SameBytes (D.told log.old) (D.told log.new) × (output.new ≡ output.old) }
-    ensures quiet { result.status ≡ 7 → (input.new ≡ input.old) × (output.new ≡ output.old) }
+    ensures quiet { result.status ≡ 7 → (input.new ≡ input.old) × (output.new ≡ output.old) × (mirrors.new ≡ mirrors.old) }
     ensures disk { result.status ≡ 3 → Rose (D.faults log.old) (D.faults log.new) }
     ensures source { result.status ≡ 5 → Rose (I.faults input.old) (I.faults input.new) }
     ensures sink { result.status ≡ 6 → Rose (O.faults output.old) (O.faults output.new) }
 {
     let mut changes = Vec::new(alloc);
-    let end = run(alloc, limits, log, input, output, &mut changes);
+    let end = run(alloc, limits, log, mirrors, input, output, &mut changes);
     Report {
         status: status(end),
         changes: Moments::of(changes),
@@ -157,21 +177,28 @@ fn usage_of(alloc: Global, words: &[String]) -> Result<Usage, u8>
 }
 
 /// Runs the program over the words behind the `--`: answers the lines of the input over the log, within the program's limits, or
-/// those of a demonstration in memory, of which the last four replies are put. The spare disk isn't touched, and no disk, nor the input,
-/// by a demonstration.
+/// those of a demonstration in memory, of which the last four replies are put. No mirror is asked. The spare disk isn't touched, and
+/// no disk, nor the mirrors or the input, by a demonstration.
 pub fn top<D: Disk, I: Source, O: Sink>(
     alloc: Global,
     words: &[String],
     log: &mut D,
     spare: &mut D,
+    mirrors: &mut Mirrors,
     input: &mut I,
     output: &mut O,
 ) -> Report
     ensures known { IsStatus result.status }
     ensures usage { RefusesWords (map string_bytes words.now) result.status }
-    ensures means { (w : World Name) (payloads : List Payload) (room : ℕ) → IsUsageOf Mode.Run (map string_bytes words.now)
+    ensures means { let first = map (λ b. (⟦<dyn Remote as Remote>⟧ b.vtable).shown b.value) mirrors.old.list.items in let left = map (λ b. (⟦<dyn Remote as Remote>⟧ b.vtable).shown b.value) mirrors.new.list.items in
+        (w : World Name) (payloads : List Payload) (room : ℕ) → IsUsageOf Mode.Run (map string_bytes words.now) → HasNoneToAsk payloads w first
         → WhereTold (seen (D.told log.old) (I.left input.old) (O.taken output.old)) (seen (D.told log.new) (I.left input.new) (O.taken output.new))
-        (λ before after. Begins standard w payloads before → StatusMeans standard w payloads room
+        (λ before after. Begins standard w payloads before → StatusMeans standard w payloads room first left
+        (Rose (D.faults log.old) (D.faults log.new)) (Rose (I.faults input.old) (I.faults input.new)) (Rose (O.faults output.old) (O.faults output.new)) result.status result.changes before after) }
+    ensures unasked { let first = map (λ b. (⟦<dyn Remote as Remote>⟧ b.vtable).shown b.value) mirrors.old.list.items in let left = map (λ b. (⟦<dyn Remote as Remote>⟧ b.vtable).shown b.value) mirrors.new.list.items in
+        (w : World Name) (payloads : List Payload) (room : ℕ) → IsUsageOf Mode.Run (map string_bytes words.now)
+        → WhereTold (seen (D.told log.old) (I.left input.old) (O.taken output.old)) (seen (D.told log.new) (I.left input.new) (O.taken output.new))
+        (λ before after. Begins standard w payloads before → StatusUnasked standard w payloads room first left
         (Rose (D.faults log.old) (D.faults log.new)) (Rose (I.faults input.old) (I.faults input.new)) (Rose (O.faults output.old) (O.faults output.new)) result.status result.changes before after) }
     ensures refuses { IsUsageOf Mode.Run (map string_bytes words.now) → IfSome (D.bytes log.old) (λ bytes. StatusRefuses standard.log bytes result.status) }
     ensures no_log { IsUsageOf Mode.Run (map string_bytes words.now)
@@ -179,9 +206,9 @@ pub fn top<D: Disk, I: Source, O: Sink>(
     ensures demo { (size start : ℕ) → IsDemoOf size start (map string_bytes words.now)
         → WhereTold (O.taken output.old) (O.taken output.new) (DemoMeans size start result.status) }
     ensures aside { IsUsageOf Mode.Demo (map string_bytes words.now)
-        → IsDemoStatus result.status × (log.new ≡ log.old) × (input.new ≡ input.old) × (result.changes ≡ []) }
+        → IsDemoStatus result.status × (log.new ≡ log.old) × (mirrors.new ≡ mirrors.old) × (input.new ≡ input.old) × (result.changes ≡ []) }
     ensures unwritten { result.status ≡ 4 → Goes SameBytes (D.told log.old) (D.told log.new) × (output.new ≡ output.old) }
-    ensures quiet { (result.status ≡ 2) ⊎ (result.status ≡ 7) → (input.new ≡ input.old) × (output.new ≡ output.old) }
+    ensures quiet { (result.status ≡ 2) ⊎ (result.status ≡ 7) → (input.new ≡ input.old) × (output.new ≡ output.old) × (mirrors.new ≡ mirrors.old) }
     ensures untouched { result.status ≡ 2 → log.new ≡ log.old }
     ensures disk { result.status ≡ 3 → Rose (D.faults log.old) (D.faults log.new) }
     ensures source { result.status ≡ 5 → Rose (I.faults input.old) (I.faults input.new) }
@@ -193,7 +220,7 @@ pub fn top<D: Disk, I: Source, O: Sink>(
         Err(status) => return Report::idle(alloc, status),
     };
     match usage.mode {
-        Mode::Run => run_lines(alloc, Limits::standard(), log, input, output),
+        Mode::Run => run_lines(alloc, Limits::standard(), log, mirrors, input, output),
         Mode::Demo => Report::idle(alloc, demo(alloc, usage.size, usage.start, output)),
     }
 }

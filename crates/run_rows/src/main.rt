@@ -10,10 +10,13 @@ ghost use Rattle.std.specs.Prelude.{◌<◌};
 use dag_run::{Limits, Report, run_lines};
 use disk_memory::MemoryDisk;
 use line_io::{Line, LineFault, Lines, MemorySource, Sink, SinkFault, StdSink, StdSource};
+use mirror_set::Mirrors;
 use std::alloc::{AllocError, AllocFailed, Global};
 use std::io;
 use std::process::ExitCode;
 
+#[cfg(test)]
+mod mirror_tests;
 #[cfg(test)]
 mod tests;
 
@@ -72,7 +75,9 @@ fn end_of(alloc: Global, report: &Report, size: usize) -> Result<String, AllocEr
 fn run_case<O: Sink>(alloc: Global, case: &mut Case, output: &mut O) -> Result<(), Stop> {
     let mut disk = MemoryDisk::new(alloc, &case.log, &[], None)?;
     let mut input = MemorySource::new(alloc, &case.lines, 65_536, &[])?;
-    let report = run_lines(alloc, Limits::standard(), &mut disk, &mut input, output);
+    let mut none = Mirrors::new(Vec::new(alloc));
+    let limits = Limits::standard();
+    let report = run_lines(alloc, limits, &mut disk, &mut none, &mut input, output);
     let end = end_of(alloc, &report, disk.bytes().len())?;
     output.put(end.as_bytes())?;
     case.lines.clear();

@@ -3,10 +3,11 @@
 ghost use Rattle.std.specs.Prelude.{◌<◌, ◌≤◌};
 ghost use Rattle.change_rules.specs.Standard.{AreLimits};
 
-use dag_run::{Limits, run_lines, split_words, top};
+use dag_run::{Limits, Report, run_lines, split_words, top};
 use disk_memory::{Choice, Fill, MemoryDisk};
 use disk_trait::Disk;
-use line_io::{MemorySink, MemorySource};
+use line_io::{MemorySink, MemorySource, Sink, Source};
+use mirror_set::Mirrors;
 use std::alloc::{AllocError, Global};
 use std::test::Fail;
 
@@ -44,6 +45,20 @@ const THREE: &str = "0 add 00000000000000000000000000000000000000a1
 0 query all
 ";
 
+/// Answers the lines of an input over a disk, without mirrors.
+fn run_alone<D: Disk, I: Source, O: Sink>(
+    alloc: Global,
+    limits: Limits,
+    disk: &mut D,
+    input: &mut I,
+    output: &mut O,
+) -> Report
+    requires { AreLimits limits }
+{
+    let mut none = Mirrors::new(Vec::new(alloc));
+    run_lines(alloc, limits, disk, &mut none, input, output)
+}
+
 /// Answers the lines over a fresh disk, which come in pieces of so many bytes from a source that fails at these calls. The status,
 /// and how many bytes are left unread.
 fn answer(
@@ -59,7 +74,7 @@ fn answer(
 {
     let mut disk = MemoryDisk::new(alloc, &[], &[], None)?;
     let mut input = MemorySource::new(alloc, lines, cut, fails)?;
-    let report = run_lines(alloc, limits, &mut disk, &mut input, output);
+    let report = run_alone(alloc, limits, &mut disk, &mut input, output);
     Ok((report.status, input.left()))
 }
 
@@ -191,7 +206,7 @@ fn a_log_of_no_commits_in_turn_is_refused(rt: HostRuntime) -> Result<(), Fail> {
         let mut input = MemorySource::new(rt.alloc(), b"0 status\n", 9, &[])?;
         let mut output = MemorySink::new(rt.alloc(), &[])?;
         let limits = limits_of(9, 9, 9, limit, 9, 99);
-        let report = run_lines(rt.alloc(), limits, &mut disk, &mut input, &mut output);
+        let report = run_alone(rt.alloc(), limits, &mut disk, &mut input, &mut output);
         assert_eq!(rt; (report.status, report.changes.len()), (status, 0));
         assert_eq!(rt; output.bytes().len(), if status == 0 { 9 } else { 0 });
         assert_eq!(rt; disk.bytes(), bytes);
@@ -207,7 +222,7 @@ fn run_on(
     output: &mut MemorySink,
 ) -> Result<u8, AllocError> {
     let mut input = MemorySource::new(alloc, lines.as_bytes(), 100, &[])?;
-    Ok(run_lines(alloc, Limits::standard(), disk, &mut input, output).status)
+    Ok(run_alone(alloc, Limits::standard(), disk, &mut input, output).status)
 }
 
 #[test]
@@ -431,6 +446,7 @@ fn the_words_are_a_mode_and_its_options(rt: HostRuntime) -> Result<(), Fail> {
         let words = words_of(rt.alloc(), texts)?;
         let mut log = MemoryDisk::new(rt.alloc(), &[], &[], None)?;
         let mut spare = MemoryDisk::new(rt.alloc(), &[], &[], None)?;
+        let mut none = Mirrors::new(Vec::new(rt.alloc()));
         let mut input = MemorySource::new(rt.alloc(), b"0 status\n", 1, &[])?;
         let mut output = MemorySink::new(rt.alloc(), &[])?;
         let report = top(
@@ -438,6 +454,7 @@ fn the_words_are_a_mode_and_its_options(rt: HostRuntime) -> Result<(), Fail> {
             &words,
             &mut log,
             &mut spare,
+            &mut none,
             &mut input,
             &mut output,
         );
@@ -455,6 +472,7 @@ fn a_sink_that_fails_ends_a_demonstration(rt: HostRuntime) -> Result<(), Fail> {
     let words = words_of(rt.alloc(), &["demo", "--size", "3"])?;
     let mut log = MemoryDisk::new(rt.alloc(), &[], &[1], None)?;
     let mut spare = MemoryDisk::new(rt.alloc(), &[], &[], None)?;
+    let mut none = Mirrors::new(Vec::new(rt.alloc()));
     let mut input = MemorySource::new(rt.alloc(), b"0 status\n", 1, &[1])?;
     // The four replies have 24 bytes, of which the sink takes half.
     let mut output = MemorySink::new(rt.alloc(), &[1])?;
@@ -463,6 +481,7 @@ fn a_sink_that_fails_ends_a_demonstration(rt: HostRuntime) -> Result<(), Fail> {
         &words,
         &mut log,
         &mut spare,
+        &mut none,
         &mut input,
         &mut output,
     );

@@ -11,7 +11,8 @@ ghost use Rattle.commit_graph.specs.World.{World};
 ghost use Rattle.batch_codec.specs.Payload.{Payload};
 ghost use Rattle.change_rules.specs.Standard.{standard};
 ghost use Rattle.dag_run.specs.Seen.{seen};
-ghost use Rattle.dag_run.specs.Ends.{Begins, StatusMeans};
+ghost use Rattle.dag_run.specs.Ends.{Begins, StatusMeans, StatusUnasked};
+ghost use Rattle.dag_run.specs.UnaskedEnds.{HasNoneToAsk};
 ghost use Rattle.dag_run.specs.Demo.{DemoMeans};
 ghost use Rattle.dag_run.specs.Stops.{IsDemoStatus, IsStatus};
 ghost use Rattle.segdag.specs.Usage.{IsDemo, IsUsage, Refuses};
@@ -23,7 +24,9 @@ use dag_run::top;
 use disk_trait::Disk;
 use file_disk::FileDisk;
 use line_io::{Sink, Source, StdSink, StdSource};
+use mirror_set::Mirrors;
 use program_words::Mode;
+use remote_trait::Remote;
 use std::alloc::{AllocError, Global};
 use std::io::ErrorKind;
 use std::process::ExitCode;
@@ -42,25 +45,32 @@ const NO_MEMORY: u8 = 7;
 const NOT_OPENED: u8 = 9;
 
 /// Answers the lines of the input over the log, or those of a demonstration, where the words, the program's own name in front, are a
-/// usage, and gives the status.
+/// usage, and gives the status. No mirror is asked.
 fn answer<D: Disk, I: Source, O: Sink>(
     alloc: Global,
     words: &[String],
     log: &mut D,
     spare: &mut D,
+    mirrors: &mut Mirrors,
     input: &mut I,
     output: &mut O,
 ) -> u8
     requires { length words.now < 2 ^ 32 }
     ensures known { IsStatus result }
     ensures usage { Refuses (map string_bytes words.now) result }
-    ensures means { (w : World Name) (payloads : List Payload) (room : ℕ) → IsUsage Mode.Run (map string_bytes words.now)
+    ensures means { let first = map (λ b. (⟦<dyn Remote as Remote>⟧ b.vtable).shown b.value) mirrors.old.list.items in let left = map (λ b. (⟦<dyn Remote as Remote>⟧ b.vtable).shown b.value) mirrors.new.list.items in
+        (w : World Name) (payloads : List Payload) (room : ℕ) → IsUsage Mode.Run (map string_bytes words.now) → HasNoneToAsk payloads w first
         → WhereTold (seen (D.told log.old) (I.left input.old) (O.taken output.old)) (seen (D.told log.new) (I.left input.new) (O.taken output.new))
-        (λ before after. Begins standard w payloads before → (changes : List ℕ) × StatusMeans standard w payloads room
+        (λ before after. Begins standard w payloads before → (changes : List ℕ) × StatusMeans standard w payloads room first left
+        (Rose (D.faults log.old) (D.faults log.new)) (Rose (I.faults input.old) (I.faults input.new)) (Rose (O.faults output.old) (O.faults output.new)) result changes before after) }
+    ensures unasked { let first = map (λ b. (⟦<dyn Remote as Remote>⟧ b.vtable).shown b.value) mirrors.old.list.items in let left = map (λ b. (⟦<dyn Remote as Remote>⟧ b.vtable).shown b.value) mirrors.new.list.items in
+        (w : World Name) (payloads : List Payload) (room : ℕ) → IsUsage Mode.Run (map string_bytes words.now)
+        → WhereTold (seen (D.told log.old) (I.left input.old) (O.taken output.old)) (seen (D.told log.new) (I.left input.new) (O.taken output.new))
+        (λ before after. Begins standard w payloads before → (changes : List ℕ) × StatusUnasked standard w payloads room first left
         (Rose (D.faults log.old) (D.faults log.new)) (Rose (I.faults input.old) (I.faults input.new)) (Rose (O.faults output.old) (O.faults output.new)) result changes before after) }
     ensures demo { (size start : ℕ) → IsDemo size start (map string_bytes words.now) → WhereTold (O.taken output.old) (O.taken output.new) (DemoMeans size start result) }
-    ensures aside { IsUsage Mode.Demo (map string_bytes words.now) → IsDemoStatus result × (log.new ≡ log.old) × (input.new ≡ input.old) }
-    ensures quiet { (result ≡ 2) ⊎ (result ≡ 7) → (input.new ≡ input.old) × (output.new ≡ output.old) }
+    ensures aside { IsUsage Mode.Demo (map string_bytes words.now) → IsDemoStatus result × (log.new ≡ log.old) × (mirrors.new ≡ mirrors.old) × (input.new ≡ input.old) }
+    ensures quiet { (result ≡ 2) ⊎ (result ≡ 7) → (input.new ≡ input.old) × (output.new ≡ output.old) × (mirrors.new ≡ mirrors.old) }
     ensures untouched { result ≡ 2 → log.new ≡ log.old }
     ensures disk { result ≡ 3 → Rose (D.faults log.old) (D.faults log.new) }
     ensures source { result ≡ 5 → Rose (I.faults input.old) (I.faults input.new) }
@@ -70,7 +80,7 @@ fn answer<D: Disk, I: Source, O: Sink>(
     let Some(mode) = mode_of(words) else {
         return NO_USAGE;
     };
-    top(alloc, mode, log, spare, input, output).status
+    top(alloc, mode, log, spare, mirrors, input, output).status
 }
 
 /// The words, the program's own name in front; or the status where memory is wanting, or where one of them isn't UTF-8 text.
@@ -110,6 +120,7 @@ fn run_over(rt: &HostRuntime, words: &[String], path: &str) -> Result<u8, AllocE
 {
     let mut log = disk_at(rt, path, "")?;
     let mut spare = disk_at(rt, path, ".new")?;
+    let mut mirrors = Mirrors::new(Vec::new(rt.alloc()));
     let mut input = StdSource::new(rt.reader());
     let mut output = StdSink::new(io::writer(rt));
     let status = answer(
@@ -117,6 +128,7 @@ fn run_over(rt: &HostRuntime, words: &[String], path: &str) -> Result<u8, AllocE
         words,
         &mut log,
         &mut spare,
+        &mut mirrors,
         &mut input,
         &mut output,
     );

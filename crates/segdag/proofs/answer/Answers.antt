@@ -11,11 +11,18 @@ returns-clause-usage g c =
     subst (λ mode. MatchOption mode (c.top.result.status ≡ 2) (λ w. RefusesWords w c.top.result.status)) (sym c.in-Some.ensures) c.top.ensures.usage
 
 pub returns-clause-means : goal.returns-clause-means
-returns-clause-means g c = λ w payloads room used.
+returns-clause-means g c = λ w payloads room used none.
     let of = subst (λ mode. MatchOption mode ⊥ (IsUsageOf Run)) c.in-Some.ensures used in
     WhereTold-map (seen (g.D.Disk.told c.args.log.now) (g.I.Source.left c.args.input.now) (g.O.Sink.taken c.args.output.now))
     (seen (g.D.Disk.told c.top.new.log) (g.I.Source.left c.top.new.input) (g.O.Sink.taken c.top.new.output)) _ _
-    (λ before after means begins. (c.top.result.changes, means begins)) (c.top.ensures.means w payloads room of)
+    (λ before after means begins. (c.top.result.changes, means begins)) (c.top.ensures.means w payloads room of none)
+
+pub returns-clause-unasked : goal.returns-clause-unasked
+returns-clause-unasked g c = λ w payloads room used.
+    let of = subst (λ mode. MatchOption mode ⊥ (IsUsageOf Run)) c.in-Some.ensures used in
+    WhereTold-map (seen (g.D.Disk.told c.args.log.now) (g.I.Source.left c.args.input.now) (g.O.Sink.taken c.args.output.now))
+    (seen (g.D.Disk.told c.top.new.log) (g.I.Source.left c.top.new.input) (g.O.Sink.taken c.top.new.output)) _ _
+    (λ before after means begins. (c.top.result.changes, means begins)) (c.top.ensures.unasked w payloads room of)
 
 pub returns-clause-demo : goal.returns-clause-demo
 returns-clause-demo g c = λ size start used.
@@ -24,4 +31,4 @@ returns-clause-demo g c = λ size start used.
 pub returns-clause-aside : goal.returns-clause-aside
 returns-clause-aside g c = λ used.
     let aside = c.top.ensures.aside (subst (λ mode. MatchOption mode ⊥ (IsUsageOf Demo)) c.in-Some.ensures used) in
-    (aside.0, aside.1, aside.2)
+    (aside.0, aside.1, aside.2, aside.3)

@@ -1,4 +1,4 @@
-use Rattle.std.proofs.Common.{refl}
+use Rattle.std.proofs.Common.{refl, map, ap, ◌∙◌}
 use Rattle.outside.specs.Counts.{Rose}
 use Rattle.dag_run.proofs.Leading.{ready-next, leads-next}
 use Rattle.dag_run.proofs.demo.answer.Goals as goal
@@ -11,5 +11,5 @@ returns-clause-ready g c =
 pub returns-clause-leads : goal.returns-clause-leads
 returns-clause-leads g c =
     let step = c.execute.ensures.step in
-    leads-next (Rose c.args.replies.now.faults c.execute.new.output.faults) c.args.line.now c.args.store step.0 step.1 c.execute.result c.args.replies.now.taken c.execute.new.output.taken
-    c.requires.ready.0 (step.4 c.args.line.now (refl, c.requires.short))
+    leads-next _ _ (Rose c.args.replies.now.faults c.execute.new.output.faults) c.args.line.now c.args.store step.0 step.1 c.execute.result c.args.replies.now.taken c.execute.new.output.taken
+    (c.new-mirrors.ensures ∙ ap (map _) c.new.ensures.items) c.requires.ready.0 (step.4 c.args.line.now (refl, c.requires.short))

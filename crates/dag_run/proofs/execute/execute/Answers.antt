@@ -1,12 +1,12 @@
-use Rattle.std.proofs.Common.{◌≤◌, [], ℕ, List, None, length, refl, sym, subst}
+use Rattle.std.proofs.Common.{[], None, refl, subst}
 use Rattle.outside.specs.Counts.{Rose}
 use Rattle.outside.proofs.ToldLemmas.{WhereTold-map}
 use Rattle.line_io.specs.Next.{IsLine}
 use Rattle.line_io.specs.declared.lines.Line.{Line}
 use Rattle.step_rules.specs.Reply.{LongLine}
-use Rattle.dag_run.specs.Lines.{LineReplies, PutsReply}
+use Rattle.dag_run.specs.Lines.{PutsReply}
 use Rattle.dag_run.proofs.Solo.{long-step}
-use Rattle.dag_run.proofs.Doing.{still-goes, long-line, long-not-silent, line-told}
+use Rattle.dag_run.proofs.Doing.{still-goes, long-line, long-not-silent, line-as, line-told}
 use Rattle.dag_run.proofs.execute.execute.Goals as goal
 
 pub returns-in-TooLong-clause-step : goal.returns-in-TooLong-clause-step
@@ -19,11 +19,10 @@ returns-in-TooLong-clause-step g c =
       None,
       refl,
       still-goes store store [] r (g.D.Disk.told c.args.log.now) c.tell.ensures.same c.tell.ensures.stop refl,
-      WhereTold-map (g.O.Sink.taken c.args.output.now) (g.O.Sink.taken c.tell.new.output) (PutsReply store LongLine r)
-          (λ before now. (line : List ℕ) → IsLine c.args.kind text line → LineReplies failed store line [] None r before now)
+      WhereTold-map (g.O.Sink.taken c.args.output.now) (g.O.Sink.taken c.tell.new.output) (PutsReply store LongLine r) _
           (λ before now put line is.
           let long = long-line line (subst (λ (k : Line). IsLine k text line) c.in-TooLong.is is) in
-          line-told failed store line r LongLine before now (long-not-silent line long) (λ st. long-step store.limits st line long) put)
+          line-told _ failed store line r LongLine before now (long-not-silent line long) (λ st. long-step store.limits _ st line long) put)
           c.tell.ensures.bytes,
     )
 
@@ -38,10 +37,9 @@ returns-in-Text-clause-step g c =
       p.1,
       p.2,
       p.3,
-      WhereTold-map (g.O.Sink.taken c.args.output.now) (g.O.Sink.taken c.execute_text.new.output) (λ before now. length text ≤ 16384 → LineReplies failed store text p.0 p.1 r before now)
-          (λ before now. (line : List ℕ) → IsLine c.args.kind text line → LineReplies failed store line p.0 p.1 r before now)
+      WhereTold-map (g.O.Sink.taken c.args.output.now) (g.O.Sink.taken c.execute_text.new.output) _ _
           (λ before now h line is.
           let e = subst (λ (k : Line). IsLine k text line) c.in-Text.is is in
-          subst (λ l. LineReplies failed store l p.0 p.1 r before now) (sym e.0) (h e.1))
+          line-as _ _ failed store text line p.0 p.1 r before now e.0 (h e.1))
           p.4,
     )

@@ -22,10 +22,10 @@ returns-in-Ok-clause-step g c =
       p.1,
       p.2,
       p.3,
-      WhereTold-map (g.O.Sink.taken c.args.output.now) (g.O.Sink.taken c.execute_command.new.output) (CommandReplies failed store s verb p.0 p.1 r) (λ before now. length text ≤ 16384 → LineReplies failed store text p.0 p.1 r before now)
+      WhereTold-map (g.O.Sink.taken c.args.output.now) (g.O.Sink.taken c.execute_command.new.output) _ _
           (λ before now h le.
           let e = text-short text text (refl, le) in
-          line-of-command failed store s verb text p.0 p.1 r before now c.in-Ok.ensures.ok e.short (short-silent text text false e (sym c.is_comment.ensures ∙ c.if-is_comment.false)) h)
+          line-of-command _ _ failed store s verb text p.0 p.1 r before now c.in-Ok.ensures.ok e.short (short-silent text text false e (sym c.is_comment.ensures ∙ c.if-is_comment.false)) h)
           p.4,
     )
 
@@ -39,11 +39,11 @@ returns-in-Err-Syntax-clause-step g c =
       None,
       refl,
       still-goes store store [] r (g.D.Disk.told c.args.log.now) c.tell.ensures.same c.tell.ensures.stop refl,
-      WhereTold-map (g.O.Sink.taken c.args.output.now) (g.O.Sink.taken c.tell.new.output) (PutsReply store NoCommand r) (λ before now. length text ≤ 16384 → LineReplies failed store text [] None r before now)
+      WhereTold-map (g.O.Sink.taken c.args.output.now) (g.O.Sink.taken c.tell.new.output) (PutsReply store NoCommand r) _
           (λ before now put le.
           let e = text-short text text (refl, le) in
-          line-told failed store text r NoCommand before now (short-silent text text false e (sym c.is_comment.ensures ∙ c.if-is_comment.false))
-          (λ st. syntax-step store.limits st text e.short (c.in-Err-Syntax.ensures.syntax (ap Err c.in-Err-Syntax.field-0-is))) put)
+          line-told _ failed store text r NoCommand before now (short-silent text text false e (sym c.is_comment.ensures ∙ c.if-is_comment.false))
+          (λ st. syntax-step store.limits _ st text e.short (c.in-Err-Syntax.ensures.syntax (ap Err c.in-Err-Syntax.field-0-is))) put)
           c.tell.ensures.bytes,
     )
 
@@ -57,10 +57,10 @@ returns-in-Err-Memory-clause-step g c =
       None,
       refl,
       still-goes store store [] r (g.D.Disk.told c.args.log.now) c.tell-in-Err-Memory.ensures.same c.tell-in-Err-Memory.ensures.stop refl,
-      WhereTold-map (g.O.Sink.taken c.args.output.now) (g.O.Sink.taken c.tell-in-Err-Memory.new.output) (PutsReply store (Refused why.Memory) r) (λ before now. length text ≤ 16384 → LineReplies failed store text [] None r before now)
+      WhereTold-map (g.O.Sink.taken c.args.output.now) (g.O.Sink.taken c.tell-in-Err-Memory.new.output) (PutsReply store (Refused why.Memory) r) _
           (λ before now put le.
           let e = text-short text text (refl, le) in
-          line-told failed store text r (Refused why.Memory) before now (short-silent text text false e (sym c.is_comment.ensures ∙ c.if-is_comment.false))
-          (λ st. memory-step store.limits st text e.short (c.in-Err-Memory.ensures.memory (ap Err c.in-Err-Memory.field-0-is))) put)
+          line-told _ failed store text r (Refused why.Memory) before now (short-silent text text false e (sym c.is_comment.ensures ∙ c.if-is_comment.false))
+          (λ st. memory-step store.limits _ st text e.short (c.in-Err-Memory.ensures.memory (ap Err c.in-Err-Memory.field-0-is))) put)
           c.tell-in-Err-Memory.ensures.bytes,
     )

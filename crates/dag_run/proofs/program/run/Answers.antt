@@ -17,8 +17,8 @@ use Rattle.dag_run.specs.Lines.{LineLeaves, LineReplies}
 use Rattle.dag_run.specs.declared.stops.Stop.TheVariants as stops
 use Rattle.dag_run.proofs.Doing.{ready-line}
 use Rattle.dag_run.proofs.Seeing.{Each, seen-each, seen-step, sound-told, same-told, rose-since}
-use Rattle.dag_run.proofs.Going.{Going, going-start, going-line}
-use Rattle.dag_run.proofs.Ending.{RunMeans, ends-unread, going-end, going-fault, going-stop, load-stops}
+use Rattle.dag_run.proofs.Going.{going-begin, going-as, going-line}
+use Rattle.dag_run.proofs.Ending.{ends-unread, means-as, going-end, going-fault, going-stop, load-stops}
 use Rattle.dag_run.specs.Stops.{stop_of}
 use Rattle.dag_run.proofs.Statuses.{refuses-nothing, load-refuses, line-refuses, fault-no-log, stop-no-log, log-not-loaded}
 use Rattle.dag_run.proofs.program.run.Goals as goal
@@ -28,8 +28,8 @@ returns-in_err-lines-clause-means g c = λ w payloads room.
     let p = err_from_is_err_and c.from_residual.result c.from_residual.ensures.1 in
     let failed : Type 0 = Rose (g.O.Sink.faults c.args.output.now) (g.O.Sink.faults c.args.output.now) in
     rw (p.1, p.2, c.requires.none) (WhereTold-same (seen (g.D.Disk.told c.args.log.now) (g.I.Source.left c.args.input.now) (g.O.Sink.taken c.args.output.now))
-    (λ x y. Begins c.args.limits w payloads x → RunMeans c.args.limits w payloads room failed (Err stops.Memory) [] x y)
-    (λ x begins. ends-unread c.args.limits c.requires.limits w payloads room failed x begins x refl refl refl))
+    _
+    (λ x begins. ends-unread c.args.limits c.requires.limits w payloads room _ failed x begins x refl refl refl))
 
 pub returns-in_err-store-clause-means : goal.returns-in_err-store-clause-means
 returns-in_err-store-clause-means g c = λ w payloads room.
@@ -38,7 +38,7 @@ returns-in_err-store-clause-means g c = λ w payloads room.
     let stop = c.in_err-store.field-0.0 in
     let failed : Type 0 = Rose (g.O.Sink.faults c.args.output.now) (g.O.Sink.faults c.load.new.output) in
     let d = g.D.Disk.told c.args.log.now in let e = g.D.Disk.told c.load.new.log in
-    rw (p.1, p.2, c.requires.none) (load-stops limits c.requires.limits w payloads room failed d e (g.I.Source.left c.args.input.now) (g.O.Sink.taken c.args.output.now) (g.O.Sink.taken c.load.new.output) stop
+    rw (p.1, p.2, c.requires.none) (load-stops limits c.requires.limits w payloads room _ failed d e (g.I.Source.left c.args.input.now) (g.O.Sink.taken c.args.output.now) (g.O.Sink.taken c.load.new.output) stop
     (of_told (λ bytes. HoldAs limits.log bytes payloads w → OpensRun payloads w (Err stop)) (g.D.Disk.bytes c.args.log.now) d (g.met.D.Disk.tells c.args.log.now) (c.in_err-store.ensures.opens payloads w))
     (c.in_err-store.ensures.images w) (λ no. c.in_err-store.ensures.sure (λ e. no (cc e)) (map text_of payloads)) c.in_err-store.ensures.calls c.in_err-store.ensures.stop c.in_err-store.ensures.puts)
 
@@ -62,9 +62,9 @@ lines-init g c =
           let opens = of_told (λ bytes. HoldAs limits.log bytes payloads w → OpensRun payloads w (Ok store)) (g.D.Disk.bytes c.args.log.now) d (g.met.D.Disk.tells c.args.log.now) (c.in_ok-store.ensures.opens payloads w) in
           let disk = goes-from S Q F d e (λ x y f r. (f, r)) opens both in
           WhereTold-map (seen d i o) (seen e i q) (Each Q (λ x y. y ≡ x) (λ x y. y ≡ x)) _
-          (λ x y t begins. subst (λ r. Going limits w payloads room store c.args.changes.now.items r x y) (sym c.in_ok-lines.ensures)
-          (subst (λ cs. Going limits w payloads room store cs (new_reading limits.input) x y) (sym c.requires.none)
-          (going-start limits c.requires.limits w payloads room x begins store y c.in_ok-store.ensures.limits (t.disk.0 begins.read) (t.disk.1.0 begins.holds) t.disk.1.1.0 t.disk.1.1.1 t.left t.taken)))
+          (λ x y t begins.
+          going-begin limits c.requires.limits w payloads room _ x begins store y c.args.changes.now.items c.in_ok-lines.lines c.requires.none c.in_ok-lines.ensures
+          c.in_ok-store.ensures.limits (t.disk.0 begins.read) (t.disk.1.0 begins.holds) t.disk.1.1.0 t.disk.1.1.1 t.left t.taken)
           (seen-each d e i i o q Q (λ x y. y ≡ x) (λ x y. y ≡ x) (goes-told Q d e disk) (same-told i) c.in_ok-store.ensures.puts);
       lawful = c.in_ok-store.ensures.lawful;
       disk_later = search rules;
@@ -81,7 +81,7 @@ returns-in_err-kind-clause-means g c = λ w payloads room.
     let i = g.I.Source.left c.args.input.now in let j = g.I.Source.left c.lines.input in let k = g.I.Source.left c.next.new.source in
     let o = g.O.Sink.taken c.args.output.now in let q = g.O.Sink.taken c.lines.output in
     rw (p.1, p.2) (seen-step d e e i j k o q q _ _ (λ x y. (y ≡ x) × IsSound x) (λ x y. NextLine (Err fault) c.lines.lines x c.next.new.self y) (λ x y. y ≡ x)
-    (λ x y z a t begins. going-fault c.args.limits c.requires.limits w payloads room failed x begins c.lines.store c.lines.changes.items c.lines.lines c.next.new.self y z (a begins) fault t.disk.0 t.disk.1 t.taken t.left)
+    (λ x y z a t begins. going-fault c.args.limits c.requires.limits w payloads room _ failed x begins _ c.lines.store c.lines.changes.items c.lines.lines c.next.new.self y z (a begins) fault t.disk.0 t.disk.1 t.taken t.left)
     (c.lines.invariant.told w payloads room) (sound-told e (g.met.D.Disk.sound c.lines.log)) c.in_err-kind.ensures.line (same-told q))
 
 pub returns-in_err-store-2-clause-means : goal.returns-in_err-store-2-clause-means
@@ -99,11 +99,11 @@ returns-in_err-store-2-clause-means g c = λ w payloads room.
     let i = g.I.Source.left c.args.input.now in let j = g.I.Source.left c.lines.input in let k = g.I.Source.left c.next.new.source in
     let o = g.O.Sink.taken c.args.output.now in let q = g.O.Sink.taken c.lines.output in let r = g.O.Sink.taken c.execute.new.output in
     let L : List ℕ → List ℕ → Type 0 = λ x y. NextLine (Ok (Some kind)) old x new y × (IsReadOut old x → IsReadOut new y) in
-    let T : List ℕ → List ℕ → Type 0 = λ x y. (line : List ℕ) → IsLine kind c.text.result.now line → LineReplies here store line step.0 step.1 (Err stop) x y in
+    let T : List ℕ → List ℕ → Type 0 = λ x y. (line : List ℕ) → IsLine kind c.text.result.now line → LineReplies _ _ here store line step.0 step.1 (Err stop) x y in
     let left = WhereTold-both j k (λ x y. NextLine (Ok (Some kind)) old x new y) (λ x y. IsReadOut old x → IsReadOut new y) L (λ x y a b. (a, b)) (rw c.in-Some.is at c.in_ok-kind.ensures.line) c.in_ok-kind.ensures.end in
     rw (p.1, p.2) (seen-step d e f i j k o q r _ _ (LineLeaves store step.0 step.1 (Err stop)) L T
-    (λ x y z a t begins. subst (λ cs. RunMeans limits w payloads room failed (Err stop) cs x z) (sym step.2)
-    (going-stop limits c.requires.limits w payloads room failed x begins store c.lines.changes.items old new y z (a begins) kind step.0 step.1 c.lines.invariant.limits t.left.0 t.left.1 here
+    (λ x y z a t begins. means-as limits w payloads room _ _ failed (Err stop) _ _ x z step.2
+    (going-stop limits c.requires.limits w payloads room _ failed x begins _ store c.lines.changes.items old new y z (a begins) _ kind step.0 step.1 c.lines.invariant.limits t.left.0 t.left.1 here
     (rose-since (g.O.Sink.faults c.args.output.now) (g.O.Sink.faults c.lines.output) (g.O.Sink.faults c.execute.new.output) c.lines.invariant.sink_later) stop
     (λ l is. t.taken l (subst (λ text. IsLine kind text l) (sym c.text.ensures) is)) t.disk))
     (c.lines.invariant.told w payloads room) (goes-told (LineLeaves store step.0 step.1 (Err stop)) e f step.3) left step.4)
@@ -121,13 +121,13 @@ lines-preserved g c =
     let i = g.I.Source.left c.args.input.now in let j = g.I.Source.left c.lines.input in let k = g.I.Source.left c.next.new.source in
     let o = g.O.Sink.taken c.args.output.now in let q = g.O.Sink.taken c.lines.output in let r = g.O.Sink.taken c.execute.new.output in
     let L : List ℕ → List ℕ → Type 0 = λ x y. NextLine (Ok (Some kind)) old x new y × (IsReadOut old x → IsReadOut new y) in
-    let T : List ℕ → List ℕ → Type 0 = λ x y. (line : List ℕ) → IsLine kind c.text.result.now line → LineReplies here store line step.0 step.1 (Ok next) x y in
+    let T : List ℕ → List ℕ → Type 0 = λ x y. (line : List ℕ) → IsLine kind c.text.result.now line → LineReplies _ _ here store line step.0 step.1 (Ok next) x y in
     let left = WhereTold-both j k (λ x y. NextLine (Ok (Some kind)) old x new y) (λ x y. IsReadOut old x → IsReadOut new y) L (λ x y a b. (a, b)) (rw c.in-Some.is at c.in_ok-kind.ensures.line) c.in_ok-kind.ensures.end in record {
       limits = c.in_ok-store-2.ensures.limits ∙ c.lines.invariant.limits;
       ready = if_forth (LineLeaves store step.0 step.1 (Ok next)) (IsOnDisk store.log) (IsOnDisk next.log) e f (ready-line store next step.0 step.1) step.3 c.lines.invariant.ready;
       told = λ w payloads room. seen-step d e f i j k o q r _ _ (LineLeaves store step.0 step.1 (Ok next)) L T
-          (λ x y z a t begins. subst (λ cs. Going limits w payloads room next cs new x z) (sym step.2)
-          (going-line limits c.requires.limits w payloads room x y z begins store c.lines.changes.items old new kind step.0 step.1 c.lines.invariant.limits (a begins) t.left.0 t.left.1 next here
+          (λ x y z a t begins. going-as limits w payloads room _ _ next _ _ new x z step.2
+          (going-line limits c.requires.limits w payloads room _ _ _ x y z begins store c.lines.changes.items old new kind step.0 step.1 c.lines.invariant.limits (a begins) t.left.0 t.left.1 next here
           (λ l is. t.taken l (subst (λ text. IsLine kind text l) (sym c.text.ensures) is)) t.disk))
           (c.lines.invariant.told w payloads room) (goes-told (LineLeaves store step.0 step.1 (Ok next)) e f step.3) left step.4;
       lawful = c.lines.invariant.lawful;
@@ -147,7 +147,7 @@ returns-clause-means g c = λ w payloads room.
     let L : List ℕ → List ℕ → Type 0 = λ x y. NextLine (Ok None) old x new y × (IsReadOut old x → IsReadOut new y) in
     let left = WhereTold-both j k (λ x y. NextLine (Ok None) old x new y) (λ x y. IsReadOut old x → IsReadOut new y) L (λ x y a b. (a, b)) (rw c.in_default.is at c.in_ok-kind.ensures.line) c.in_ok-kind.ensures.end in
     seen-step d e e i j k o q q _ _ (λ x y. (y ≡ x) × IsSound x) L (λ x y. y ≡ x)
-    (λ x y z a t begins. going-end c.args.limits c.requires.limits w payloads room failed x begins c.lines.store c.lines.changes.items old new y z (a begins) t.disk.0 t.disk.1 t.taken t.left.0 (t.left.1 (a begins).reads.out ended))
+    (λ x y z a t begins. going-end c.args.limits c.requires.limits w payloads room _ failed x begins _ c.lines.store c.lines.changes.items old new y z (a begins) t.disk.0 t.disk.1 t.taken t.left.0 (t.left.1 (a begins).reads.out ended))
     (c.lines.invariant.told w payloads room) (sound-told e (g.met.D.Disk.sound c.lines.log)) left (same-told q)
 
 pub returns-in_err-lines-clause-refuses : goal.returns-in_err-lines-clause-refuses

@@ -1,4 +1,4 @@
-use Rattle.std.proofs.Common.{◌≡◌, ◌≤◌, ℕ, List, IfSome}
+use Rattle.std.proofs.Common.{◌≡◌, ◌≤◌, ℕ, List, map, IfSome}
 use Rattle.id_groups.specs.Name.{Name}
 use Rattle.commit_graph.specs.World.{World}
 use Rattle.outside.specs.Told.{WhereTold}
@@ -16,7 +16,7 @@ invariant-lines g l = record {
   limits : l.store.limits ≡ l.fn.limits;
   ready : IfSome (g.D.Disk.told l.log) (IsOnDisk l.store.log);
   told : (w : World Name) (payloads : List Payload) (room : ℕ) → WhereTold (seen (g.D.Disk.told l.fn.log) (g.I.Source.left l.fn.input) (g.O.Sink.taken l.fn.output)) (seen (g.D.Disk.told l.log) (g.I.Source.left l.input) (g.O.Sink.taken l.output))
-      (λ before after. Begins l.fn.limits w payloads before → Going l.fn.limits w payloads room l.store l.changes.items l.lines before after);
+      (λ before after. Begins l.fn.limits w payloads before → Going l.fn.limits w payloads room (map (λ b. (goal.Remote-dyn g (b.vtable, b.value)).shown b.value) l.fn.mirrors.list.items) (map (λ b. (goal.Remote-dyn g (b.vtable, b.value)).shown b.value) l.mirrors.list.items) l.store l.changes.items l.lines before after);
   lawful : IfSome (g.D.Disk.bytes l.fn.log) (λ bytes. IsNoLog l.fn.limits.log bytes → ⊥);
   disk_later : g.D.Disk.faults l.fn.log ≤ g.D.Disk.faults l.log;
   source_later : g.I.Source.faults l.fn.input ≤ g.I.Source.faults l.input;
