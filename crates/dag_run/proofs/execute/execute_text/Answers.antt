@@ -1,13 +1,28 @@
-use Rattle.std.proofs.Common.{◌≤◌, [], None, Err, false, length, refl, sym, ap, ◌∙◌}
+use Rattle.std.proofs.Common.{◌≤◌, [], None, Ok, Err, true, false, length, refl, sym, ap, ◌∙◌}
 use Rattle.outside.specs.Counts.{Rose}
-use Rattle.outside.proofs.ToldLemmas.{WhereTold-map}
+use Rattle.outside.proofs.ToldLemmas.{WhereTold-map, WhereTold-same}
 use Rattle.step_rules.specs.declared.Refusal.TheVariants as why
 use Rattle.step_rules.specs.Reply.{Refused, NoCommand}
 use Rattle.command_lines.specs.Meant.{meant}
 use Rattle.dag_run.specs.Lines.{CommandReplies, LineReplies, PutsReply}
 use Rattle.dag_run.proofs.Solo.{memory-step, syntax-step}
-use Rattle.dag_run.proofs.Doing.{still-goes, text-short, short-silent, line-of-command, line-told}
+use Rattle.dag_run.proofs.Doing.{still-goes, text-short, short-silent, line-of-command, line-told, line-passed}
 use Rattle.dag_run.proofs.execute.execute_text.Goals as goal
+
+pub returns-then-is_comment-clause-step : goal.returns-then-is_comment-clause-step
+returns-then-is_comment-clause-step g c =
+    let store = c.args.store in
+    let text = c.args.text.now in
+    let failed : Type 0 = Rose (g.O.Sink.faults c.args.output.now) (g.O.Sink.faults c.args.output.now) in (
+      [],
+      None,
+      refl,
+      still-goes store store [] (Ok store) (g.D.Disk.told c.args.log.now) refl tt refl,
+      WhereTold-same (g.O.Sink.taken c.args.output.now) _
+          (λ x le.
+          let e = text-short text text (refl, le) in
+          line-passed _ failed store text x (short-silent text text true e (sym c.is_comment.ensures ∙ c.if-is_comment.true))),
+    )
 
 pub returns-in-Ok-clause-step : goal.returns-in-Ok-clause-step
 returns-in-Ok-clause-step g c =
