@@ -1,7 +1,10 @@
+ghost use Rattle.std.specs.Prelude.{◌≤◌, ◌<◌, ◌^◌};
+
 use disk_memory::{Choice, Fill, MemoryDisk};
 use disk_trait::Disk;
 use gated_log::{Committed, LoadLog, Log};
 use std::alloc::{AllocError, Global};
+use std::process::Abort;
 use std::test::Fail;
 
 const LIMIT: u64 = 1000;
@@ -46,40 +49,107 @@ fn count_left(
     Ok(count_loaded(alloc, &mut later))
 }
 
-#[test]
-fn a_commit_of_88_bytes_is_acknowledged_at_16(rt: HostRuntime) -> Result<(), Fail> {
-    let alloc = rt.alloc();
-    let mut disk = MemoryDisk::new(alloc, &[], &[], None)?;
-    assert_eq!(rt; commit_zeros(alloc, &mut disk, 88)?, Some(16));
-    assert_eq!(rt; disk.bytes().len(), 98);
-    for moment in 0..17 {
-        for fill in [
-            Fill::Old,
-            Fill::New,
-            Fill::Byte(0),
-            Fill::Byte(1),
-            Fill::Byte(127),
-        ] {
-            for size in [0, 1, 50, 98] {
-                let count = count_left(alloc, &disk, moment, fill, size)?;
-                let is_right = if moment < 13 {
-                    count == 0
-                } else {
-                    count == 1 || (moment < 16 && count == 0)
-                };
-                assert!(rt; is_right, "{count} at {moment}");
-            }
+// Whether a crash at the moment leaves what is right, of loading an empty disk and of a commit: no payload before the gate
+// is written, and one once that is sure.
+fn leaves_right(
+    alloc: Global,
+    disk: &MemoryDisk,
+    moment: u64,
+    fill: Fill,
+) -> Result<bool, AllocError> {
+    for size in [0, 1, 50, 98] {
+        let count = count_left(alloc, disk, moment, fill, size)?;
+        let is_right = if moment < 13 {
+            count == 0
+        } else {
+            count == 1 || (moment < 16 && count == 0)
+        };
+        if !is_right {
+            return Ok(false);
         }
     }
-    assert_eq!(rt; count_left(alloc, &disk, 13, Fill::Old, 98)?, 0);
-    assert_eq!(rt; count_left(alloc, &disk, 13, Fill::New, 98)?, 1);
-    assert_eq!(rt; count_left(alloc, &disk, 15, Fill::Byte(127), 98)?, 0);
+    Ok(true)
+}
+
+// The same with each fill.
+fn leaves_right_at(alloc: Global, disk: &MemoryDisk, moment: u64) -> Result<bool, AllocError> {
+    for fill in [
+        Fill::Old,
+        Fill::New,
+        Fill::Byte(0),
+        Fill::Byte(1),
+        Fill::Byte(127),
+    ] {
+        if !leaves_right(alloc, disk, moment, fill)? {
+            return Ok(false);
+        }
+    }
+    Ok(true)
+}
+
+fn check_moments(rt: &impl Abort, alloc: Global, disk: &MemoryDisk) -> Result<(), AllocError> {
+    for moment in 0..17 {
+        assert!(rt; leaves_right_at(alloc, disk, moment)?, "{moment}");
+    }
     Ok(())
+}
+
+// What is left of the gate while it isn't sure.
+fn check_gate(rt: &impl Abort, alloc: Global, disk: &MemoryDisk) -> Result<(), AllocError> {
+    for (moment, fill, count) in [
+        (13, Fill::Old, 0),
+        (13, Fill::New, 1),
+        (15, Fill::Byte(127), 0),
+    ] {
+        assert_eq!(rt; count_left(alloc, disk, moment, fill, 98)?, count);
+    }
+    Ok(())
+}
+
+fn check_left(rt: &impl Abort, alloc: Global, disk: &MemoryDisk) -> Result<(), AllocError> {
+    assert_eq!(rt; disk.bytes().len(), 98);
+    check_moments(rt, alloc, disk)?;
+    check_gate(rt, alloc, disk)
+}
+
+#[test]
+fn a_commit_of_88_bytes_is_acknowledged_at_16(rt: HostRuntime) -> Result<(), Fail> {
+    let mut disk = MemoryDisk::new(rt.alloc(), &[], &[], None)?;
+    assert_eq!(rt; commit_zeros(rt.alloc(), &mut disk, 88)?, Some(16));
+    check_left(&rt, rt.alloc(), &disk)?;
+    Ok(())
+}
+
+// How many payloads the log of these bytes has, where it is only looked at.
+fn peeked(alloc: Global, bytes: &[u8], limit: u64) -> Result<Result<u32, LoadLog>, AllocError>
+    requires { (1 ≤ limit) × (limit ≤ 2 ^ 32) }
+{
+    let mut disk = MemoryDisk::new(alloc, bytes, &[], None)?;
+    Ok(Log::peek(alloc, &mut disk, limit).map(|log| log.batch_count()))
+}
+
+// The same where it is loaded.
+fn loaded(alloc: Global, bytes: &[u8], limit: u64) -> Result<Result<u32, LoadLog>, AllocError>
+    requires { (1 ≤ limit) × (limit ≤ 2 ^ 32) }
+{
+    let mut disk = MemoryDisk::new(alloc, bytes, &[], None)?;
+    Ok(Log::load(alloc, &mut disk, limit).map(|log| log.batch_count()))
+}
+
+// Whether both give what is wanted.
+fn gives(
+    alloc: Global,
+    bytes: &[u8],
+    limit: u64,
+    wanted: Result<u32, LoadLog>,
+) -> Result<bool, AllocError>
+    requires { (1 ≤ limit) × (limit ≤ 2 ^ 32) }
+{
+    Ok(peeked(alloc, bytes, limit)? == wanted && loaded(alloc, bytes, limit)? == wanted)
 }
 
 #[test]
 fn bytes_are_a_log_or_damaged(rt: HostRuntime) -> Result<(), Fail> {
-    let alloc = rt.alloc();
     let rows: [(&[u8], u64, Result<u32, LoadLog>); 8] = [
         (&[], 9, Ok(0)),
         (&[1], 9, Ok(0)),
@@ -99,57 +169,90 @@ fn bytes_are_a_log_or_damaged(rt: HostRuntime) -> Result<(), Fail> {
         ),
     ];
     for (bytes, limit, wanted) in rows {
-        let mut disk = MemoryDisk::new(alloc, bytes, &[], None)?;
-        let peeked = Log::peek(alloc, &mut disk, limit).map(|log| log.batch_count());
-        assert_eq!(rt; peeked, wanted);
-        let loaded = Log::load(alloc, &mut disk, limit).map(|log| log.batch_count());
-        assert_eq!(rt; loaded, wanted);
+        assert!(rt; gives(rt.alloc(), bytes, limit, wanted)?, "{wanted:?}");
     }
     Ok(())
+}
+
+// Whether a commit fails on the disk, whose call of this number is to fail, and a crash then leaves no payload, or at most
+// one from the gate's write on.
+fn is_cut_off(alloc: Global, disk: &mut MemoryDisk, call: u64) -> Result<bool, AllocError>
+    requires { (1 ≤ call) × (call < 9) }
+{
+    if commit_zeros(alloc, disk, 88)?.is_some() {
+        return Ok(false);
+    }
+    let greatest = if call < 7 { 0 } else { 1 };
+    for fill in [Fill::Old, Fill::New, Fill::Byte(1)] {
+        if count_left(alloc, disk, 2 * call, fill, 98)? > greatest {
+            return Ok(false);
+        }
+    }
+    Ok(true)
+}
+
+fn fails_at(alloc: Global, call: u64) -> Result<bool, AllocError>
+    requires { (1 ≤ call) × (call < 9) }
+{
+    let mut failing = MemoryDisk::new(alloc, &[], &[call], None)?;
+    is_cut_off(alloc, &mut failing, call)
+}
+
+fn stops_before(alloc: Global, call: u64) -> Result<bool, AllocError>
+    requires { (1 ≤ call) × (call < 9) }
+{
+    let mut stopped = MemoryDisk::new(alloc, &[], &[], Some(call - 1))?;
+    is_cut_off(alloc, &mut stopped, call)
 }
 
 // The calls are those of loading an empty disk, 1 to 4, and of the commit, 5 to 8.
 #[test]
 fn each_call_fails_in_turn(rt: HostRuntime) -> Result<(), Fail> {
-    let alloc = rt.alloc();
     for call in 1..9 {
-        let mut failing = MemoryDisk::new(alloc, &[], &[call], None)?;
-        assert_eq!(rt; commit_zeros(alloc, &mut failing, 88)?, None);
-        let mut stopped = MemoryDisk::new(alloc, &[], &[], Some(call - 1))?;
-        assert_eq!(rt; commit_zeros(alloc, &mut stopped, 88)?, None);
-        for fill in [Fill::Old, Fill::New, Fill::Byte(1)] {
-            let greatest = if call < 7 { 0 } else { 1 };
-            assert!(rt; count_left(alloc, &failing, 2 * call, fill, 98)? <= greatest);
-            assert!(rt; count_left(alloc, &stopped, 2 * call, fill, 98)? <= greatest);
-        }
+        assert!(rt; fails_at(rt.alloc(), call)?, "{call}");
+        assert!(rt; stops_before(rt.alloc(), call)?, "{call}");
     }
     Ok(())
 }
 
+// What a crash leaves within the last call of a first commit, which is cut off before it: the old gate, closed by another byte.
+fn crashed(alloc: Global) -> Result<Option<MemoryDisk>, AllocError> {
+    let mut disk = MemoryDisk::new(alloc, &[], &[], Some(7))?;
+    if commit_zeros(alloc, &mut disk, 88)?.is_some() || disk.clock() < 15 {
+        return Ok(None);
+    }
+    let choice = Choice {
+        moment: 15,
+        fill: Fill::Byte(127),
+        size: 98,
+    };
+    Ok(Some(disk.crash(&choice)?))
+}
+
+// Whether the log has the payloads of three and of four zeros, and room for one of 965 bytes and no more.
+fn has_both(log: &mut Log) -> bool {
+    if log.batch_count() != 2 || log.bytes().len() != 26 {
+        return false;
+    }
+    log.batch(1) == [0, 0, 0, 0].as_slice() && log.reserve(965).is_ok() && log.reserve(966).is_err()
+}
+
+fn is_loaded_with_both(alloc: Global, disk: &mut MemoryDisk) -> bool {
+    match Log::load(alloc, disk, LIMIT) {
+        Ok(mut log) => has_both(&mut log),
+        Err(_) => false,
+    }
+}
+
+// Whether commits of three and of four zeros are acknowledged at 14 and 28.
+fn commits_again(alloc: Global, disk: &mut MemoryDisk) -> Result<bool, AllocError> {
+    Ok(commit_zeros(alloc, disk, 3)? == Some(14) && commit_zeros(alloc, disk, 4)? == Some(28))
+}
+
 #[test]
 fn a_log_goes_on_after_a_crash(rt: HostRuntime) -> Result<(), Fail> {
-    let alloc = rt.alloc();
-    let mut disk = MemoryDisk::new(alloc, &[], &[], Some(7))?;
-    assert_eq!(rt; commit_zeros(alloc, &mut disk, 88)?, None);
-    if disk.clock() >= 15 {
-        let choice = Choice {
-            moment: 15,
-            fill: Fill::Byte(127),
-            size: 98,
-        };
-        let mut later = disk.crash(&choice)?;
-        assert_eq!(rt; commit_zeros(alloc, &mut later, 3)?, Some(14));
-        assert_eq!(rt; commit_zeros(alloc, &mut later, 4)?, Some(28));
-        let Ok(mut log) = Log::load(alloc, &mut later, LIMIT) else {
-            return Ok(());
-        };
-        assert_eq!(rt; log.batch_count(), 2);
-        assert_eq!(rt; log.bytes().len(), 26);
-        assert!(rt; log.reserve(965).is_ok());
-        assert!(rt; log.reserve(966).is_err());
-        if log.batch_count() == 2 {
-            assert_eq!(rt; log.batch(1), [0, 0, 0, 0].as_slice());
-        }
-    }
+    let mut later = crashed(rt.alloc())?.ok_or("the first commit is cut off at 15")?;
+    assert!(rt; commits_again(rt.alloc(), &mut later)?);
+    assert!(rt; is_loaded_with_both(rt.alloc(), &mut later));
     Ok(())
 }
