@@ -29,8 +29,8 @@ type Case = (
     Option<u64>,
 );
 
-/// The items of each case are numbered from 0: segments, names, heads.
-const CASES: [Case; 20] = [
+/// Clone data that break no rule.
+const LAWFUL: [Case; 4] = [
     ("nothing", &[], &[], &[], None),
     ("one head", &FORK, &NAMES, &[0x17], None),
     ("two heads", &TWO_HEADS, &MORE_NAMES, &[0x14, 0x17], None),
@@ -41,6 +41,10 @@ const CASES: [Case; 20] = [
         &[0x17],
         None,
     ),
+];
+
+/// Where a segment breaks a rule. The items of each case are numbered from 0: segments, names, heads.
+const SEGMENTS: [Case; 6] = [
     ("no id 0", &[(1, 4, &[])], &[(4, 0x14)], &[0x14], Some(0)),
     (
         "a gap",
@@ -77,6 +81,10 @@ const CASES: [Case; 20] = [
         &[0x17],
         Some(1),
     ),
+];
+
+/// Where a name does, or one is missing.
+const NAMED: [Case; 6] = [
     (
         "beyond the ids",
         &FORK,
@@ -119,6 +127,10 @@ const CASES: [Case; 20] = [
         &[0x14, 0x17],
         Some(6),
     ),
+];
+
+/// Where a head does, or one is missing.
+const HEADS: [Case; 4] = [
     ("a parent for a head", &FORK, &NAMES, &[0x16], Some(6)),
     ("a head too many", &FORK, &NAMES, &[0x17, 0x16], Some(7)),
     (
@@ -183,9 +195,43 @@ fn first_wrong(alloc: Global, cases: &[Case]) -> Result<Option<&'static str>, Al
     Ok(None)
 }
 
+/// The first of those that break no rule which is told otherwise.
+fn wrong_lawful(alloc: Global) -> Result<Option<&'static str>, AllocError> {
+    first_wrong(alloc, &LAWFUL)
+}
+
+/// The first of those with a broken segment.
+fn wrong_segments(alloc: Global) -> Result<Option<&'static str>, AllocError> {
+    first_wrong(alloc, &SEGMENTS)
+}
+
+/// The first of those with a broken or missing name.
+fn wrong_named(alloc: Global) -> Result<Option<&'static str>, AllocError> {
+    first_wrong(alloc, &NAMED)
+}
+
+/// The first of those with a broken or missing head.
+fn wrong_heads(alloc: Global) -> Result<Option<&'static str>, AllocError> {
+    first_wrong(alloc, &HEADS)
+}
+
+/// The first of all cases in which another item is told.
+fn wrong_case(alloc: Global) -> Result<Option<&'static str>, AllocError> {
+    let mut wrong = wrong_lawful(alloc)?;
+    if wrong.is_none() {
+        wrong = wrong_segments(alloc)?;
+    }
+    if wrong.is_none() {
+        wrong = wrong_named(alloc)?;
+    }
+    if wrong.is_none() {
+        wrong = wrong_heads(alloc)?;
+    }
+    Ok(wrong)
+}
+
 #[test]
 fn the_first_broken_item_is_told(rt: HostRuntime) -> Result<(), Fail> {
-    let wrong = first_wrong(rt.alloc(), &CASES)?;
-    assert_eq!(rt; wrong, None);
+    assert_eq!(rt; wrong_case(rt.alloc())?, None);
     Ok(())
 }
