@@ -123,34 +123,68 @@ fn levels_are_counted(rt: HostRuntime) -> Result<(), Fail> {
     Ok(())
 }
 
-/// How many commits the ladder of 35 has.
-const LADDER: u64 = 35;
+/// How many commits a ladder has, what is asked of it about which of them, how many ids the answer has, and how many look-ups
+/// it takes at most with levels. Without it takes more than twice as many.
+type Walked = (u64, Question, &'static [u64], &'static [u64], u64, u64);
 
-/// How many ancestors id 31 has, and how many look-ups they took.
-fn walk<T: SegmentTable>(alloc: Global, table: &T) -> Result<(u64, u64), AllocError> {
-    let found = ask(alloc, table, Question::Ancestors, &[Id::master(31)], &[])?;
+const WALKED: [Walked; 4] = [
+    (35, Question::Ancestors, &[31], &[], 32, 8),
+    (600, Question::Only, &[599], &[3], 596, 200),
+    (600, Question::Only, &[3], &[599], 0, 200),
+    (600, Question::Gca, &[599, 3], &[], 1, 200),
+];
+
+fn ids_of(alloc: Global, numbers: &[u64]) -> Result<Vec<Id>, AllocError> {
+    let mut ids = Vec::new(alloc);
+    for number in numbers {
+        ids.push(Id::master(*number % (1 << 32)))?;
+    }
+    Ok(ids)
+}
+
+/// How many ids the answer has, and how many look-ups it took.
+fn walk<T: SegmentTable>(
+    alloc: Global,
+    table: &T,
+    walked: Walked,
+) -> Result<(u64, u64), AllocError> {
+    let (_, question, first, second, _, _) = walked;
+    let one = ids_of(alloc, first)?;
+    let other = ids_of(alloc, second)?;
+    let found = ask(alloc, table, question, &one, &other)?;
     Ok((found.set.count(), found.steps))
 }
 
 /// The same with levels and without.
-fn walk_both(alloc: Global, sample: &LevelSample) -> Result<[(u64, u64); 2], AllocError> {
-    let with = walk(alloc, &sample.view(sample.count()))?;
-    let without = walk(alloc, &sample.flat(sample.count()))?;
+fn walk_both(
+    alloc: Global,
+    sample: &LevelSample,
+    walked: Walked,
+) -> Result<[(u64, u64); 2], AllocError> {
+    let with = walk(alloc, &sample.view(sample.count()), walked)?;
+    let without = walk(alloc, &sample.flat(sample.count()), walked)?;
     Ok([with, without])
 }
 
 /// The same of the ladder.
-fn walk_ladder(alloc: Global) -> Result<[(u64, u64); 2], FlatFault> {
-    let rows = draw_rows(alloc, Shape::Ladder, LADDER, 7)?;
-    let sample = grow(alloc, &rows, LADDER, 11)?;
-    let both = walk_both(alloc, &sample)?;
+fn walk_ladder(alloc: Global, walked: Walked) -> Result<[(u64, u64); 2], FlatFault> {
+    let (count, ..) = walked;
+    let rows = draw_rows(alloc, Shape::Ladder, count, 7)?;
+    let sample = grow(alloc, &rows, count, 11)?;
+    let both = walk_both(alloc, &sample, walked)?;
     Ok(both)
 }
 
 #[test]
 fn a_ladder_is_walked_in_a_few_steps(rt: HostRuntime) -> Result<(), Fail> {
-    let [with, without] = walk_ladder(rt.alloc())?;
-    assert!(rt; with.0 == 32 && with.1 <= 8, "{with:?}");
-    assert!(rt; without.0 == 32 && without.1 > 100, "{without:?}");
+    for walked in WALKED {
+        let (_, _, _, _, ids, most) = walked;
+        let [with, without] = walk_ladder(rt.alloc(), walked)?;
+        assert!(rt; with.0 == ids && with.1 <= most, "{walked:?} {with:?}");
+        assert!(rt;
+            without.0 == ids && without.1 > 2 * most,
+            "{walked:?} {without:?}"
+        );
+    }
     Ok(())
 }
