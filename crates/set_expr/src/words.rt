@@ -3,6 +3,7 @@
 ghost use Rattle.std.specs.Prelude.{◌≡◌, IfSome, IfNone};
 ghost use Rattle.set_expr.specs.Fronts.{head_text};
 ghost use Rattle.set_expr.specs.Spelling.{word_text, call_text, pair_text};
+ghost use Rattle.set_expr.specs.declared.words.Call.TheVariants.{Parents, Children, Ancestors, Descendants, Heads, Roots, Tips, Merges, Common, Gca};
 
 /// A set that one word names.
 #[derive(Clone, Copy, Debug, PartialEq, Eq)]
@@ -84,10 +85,10 @@ pub(crate) fn word_of(text: &[u8]) -> Option<Word>
     }
 }
 
-/// The call of one set whose word the text is.
-fn call_of(text: &[u8]) -> Option<Call>
+/// The call of one set whose word the text is, of those that go along parents.
+fn walk_of(text: &[u8]) -> Option<Call>
     ensures some { IfSome result (λ call. text.now ≡ call_text call) }
-    ensures none { IfNone result ((call : Call) → ¬ (text.now ≡ call_text call)) }
+    ensures none { IfNone result (¬ (text.now ≡ call_text Parents) × ¬ (text.now ≡ call_text Children) × ¬ (text.now ≡ call_text Ancestors) × ¬ (text.now ≡ call_text Descendants)) }
 {
     if text == b"parents".as_slice() {
         Some(Call::Parents)
@@ -97,7 +98,18 @@ fn call_of(text: &[u8]) -> Option<Call>
         Some(Call::Ancestors)
     } else if text == b"descendants".as_slice() {
         Some(Call::Descendants)
-    } else if text == b"heads".as_slice() {
+    } else {
+        None
+    }
+}
+
+/// The call of one set whose word the text is, of those that pick members or what all of them reach.
+fn pick_of(text: &[u8]) -> Option<Call>
+    ensures some { IfSome result (λ call. text.now ≡ call_text call) }
+    ensures none { IfNone result (¬ (text.now ≡ call_text Heads) × ¬ (text.now ≡ call_text Roots) × ¬ (text.now ≡ call_text Tips) × ¬ (text.now ≡ call_text Merges)
+        × ¬ (text.now ≡ call_text Common) × ¬ (text.now ≡ call_text Gca)) }
+{
+    if text == b"heads".as_slice() {
         Some(Call::Heads)
     } else if text == b"roots".as_slice() {
         Some(Call::Roots)
@@ -112,6 +124,20 @@ fn call_of(text: &[u8]) -> Option<Call>
     } else {
         None
     }
+}
+
+/// The call of one set whose word the text is.
+fn call_of(text: &[u8]) -> Option<Call>
+    ensures some { IfSome result (λ call. text.now ≡ call_text call) }
+    ensures none { IfNone result ((call : Call) → ¬ (text.now ≡ call_text call)) }
+{
+    if let Some(call) = walk_of(text) {
+        return Some(call);
+    }
+    if let Some(call) = pick_of(text) {
+        return Some(call);
+    }
+    None
 }
 
 /// The call of two sets whose word the text is.
