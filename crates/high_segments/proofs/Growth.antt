@@ -1,23 +1,22 @@
 -- Levels that are brought from those of some flat segments to those of more.
-use Rattle.std.proofs.Common.{◌≡◌, ℕ, zero, suc, ◌+◌, ◌-◌, ◌<◌, ◌≤◌, ◌^◌, ◌⊎◌, List, [], ◌∷◌, ◌++◌, length, take, drop, sym, subst, ap, ◌∙◌, arith, lit≤}
-use Rattle.std.specs.Prelude.{nat_lt}
+use Rattle.std.proofs.Common.{◌≡◌, ℕ, zero, suc, ◌+◌, ◌-◌, ◌<◌, ◌≤◌, ◌^◌, ◌⊎◌, List, [], ◌++◌, length, take, drop, sym, subst, ap, ◌∙◌, arith, lit≤}
 use Rattle.std.specs.List.{AllByRecursion}
-use Rattle.std.proofs.lemmas.Bool.{lt-ltb}
-use Rattle.std.proofs.lemmas.List.{length-append, length-drop, length-take, take-append-le, drop-append-le, take-append-drop, append-nil}
+use Rattle.std.proofs.lemmas.List.{length-append, length-drop, length-take, take-append-le, drop-append-le, take-append-drop}
 use Rattle.id_groups.specs.Lists.{IsIn}
 use Rattle.segment_codec.specs.Record.{Segment}
 use Rattle.segment_codec.specs.Table.{Follow}
 use Rattle.flat_segments.specs.Maximal.{begin_of}
-use Rattle.segment_rules.specs.Levels.{merged, groups, count_grouped, level_segments, parents_below, ascending}
+use Rattle.segment_rules.specs.Levels.{merged, groups, count_grouped, level_segments}
 use Rattle.segment_levels.specs.Kept.{PlainLevel, PlainGroups, segments_in, groups_in, IsAlone, IsLevelOf}
 use Rattle.segment_levels.specs.Sound.{IsSound}
 use Rattle.high_segments.specs.Growing.{AddsGroups, AreBelow, KeepsRun, IsLeft, MayBecome}
-use Rattle.segment_levels.proofs.Ascending.{all-from-in, ascend-same, ascending-ascends, ascending-in, in-ascending, in-kept, kept-in, in-left}
+use Rattle.segment_levels.proofs.Ascending.{all-from-in}
 use Rattle.segment_levels.proofs.Grouping.{count-most}
 use Rattle.segment_levels.proofs.Heading.{follow-drop, in-drop}
 use Rattle.segment_levels.proofs.Leveled.{IsHigh, one-end, leveled, level-high, level-more, count-more, next-begin, level-grows, groups-fewer, groups-end}
 use Rattle.high_segments.proofs.Places.{segments-length}
 use Rattle.high_segments.proofs.Holding.{each-stays}
+use Rattle.high_segments.proofs.Alone.{one-same}
 
 pub level-fewer : (flats : List Segment) (k : ℕ) → length (level_segments flats k) ≤ length flats
 level-fewer flats zero = let t = length-take (length flats - 1) flats in omega (arith, t)
@@ -25,16 +24,7 @@ level-fewer flats (suc k) = let a = groups-fewer (suc k) 0 (level_segments flats
 
 -- a segment of a level above 0 is its own group of one
 merged-alone : (flats : List Segment) (end level n : ℕ) (s : Segment) → IsHigh flats end level s → merged n s [] ≡ record s { level = n }
-merged-alone flats end level n s h =
-    let below = parents_below s.low (s ∷ []) in
-    let same : ascending below ≡ s.parents =
-    ascend-same 0 (ascending below) s.parents (ascending-ascends below) h.ascend
-    (λ p i. from p (kept-in (λ q. nat_lt q s.low) (s.parents ++ []) p (ascending-in below p i)))
-    (λ p i. in-ascending below p (in-kept (λ q. nat_lt q s.low) (s.parents ++ []) p (lt-ltb p s.low (h.good.below p i)) (in-left p s.parents [] i))) in
-    ap (λ z. (let q : Segment = record { low = s.low; high = s.high; level = n; parents = z } in q)) same
-  where
-    from : (p : ℕ) → IsIn p (s.parents ++ []) → IsIn p s.parents
-    from p i = subst (λ z. IsIn p z) (append-nil s.parents) i
+merged-alone flats end level n s h = one-same n s h.ascend (λ p i. h.good.below p i)
 
 module _ (old new : List Segment) (m : MayBecome old new) (j : ℕ) (below : PlainLevel) (left : IsLeft old new j below) (l : PlainGroups) (is : IsLevelOf old j l) where
   -- how many segments below are in groups already

@@ -8,7 +8,7 @@ ghost use Rattle.segment_codec.specs.Table.{segment_at};
 ghost use Rattle.flat_segments.specs.Runs.{slice_in, is_read};
 ghost use Rattle.segment_levels.specs.Kept.{PlainGroup, PlainGroups, groups_in, made_in, entry_of};
 ghost use Rattle.segment_levels.specs.Sound.{IsReadable, HasFront};
-ghost use Rattle.high_segments.specs.Growing.{DoRise, IsMarkOf, with_next};
+ghost use Rattle.high_segments.specs.Growing.{DoRise, IsMarkOf, reached, with_next};
 
 use crate::entry::Group;
 use crate::level::append;
@@ -236,6 +236,15 @@ impl KeptLevel {
         self.end = end;
         self.grouped += size;
         Ok(())
+    }
+
+    /// Goes on to an id with so many segments of the level below, of which no group is kept.
+    pub(crate) fn reach(&mut self, end: u64, size: usize)
+        requires { self.old.grouped + size < 2 ^ 64 }
+        ensures { self.new ≡ reached self.old end size }
+    {
+        self.end = end;
+        self.grouped += size;
     }
 
     /// Counts so many segments more.
