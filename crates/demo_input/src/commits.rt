@@ -1,7 +1,7 @@
 //! The lines, one behind the other.
 
-ghost use Rattle.std.specs.Prelude.{◌≡◌, ◌<◌, ◌≤◌, [], ◌∷◌, length, map, IfOk, IfSome, OnErr, MatchOption};
-ghost use Rattle.demo_input.specs.Lines.{is_flushed, commit_lines, last_lines};
+ghost use Rattle.std.specs.Prelude.{◌≡◌, ◌<◌, ◌≤◌, ◌++◌, [], ◌∷◌, length, map, IfOk, IfSome, OnOk, OnErr, MatchOption};
+ghost use Rattle.demo_input.specs.Lines.{ancestors_text, is_flushed, commit_lines, last_lines};
 
 use crate::drawing::number_for;
 use crate::text::{add_line, ancestors_line, flush_line, line_of};
@@ -79,15 +79,31 @@ impl CommitLines {
     }
 }
 
+/// Adds a line that has this text.
+fn push_text(alloc: Global, lines: &mut Vec<Vec<u8>>, text: &[u8]) -> Result<(), AllocError>
+    ensures { OnOk result (map (λ line. line.items) lines.new.items ≡ map (λ line. line.items) lines.old.items ++ text.now ∷ []) }
+{
+    lines.push(line_of(alloc, text)?)?;
+    Ok(())
+}
+
+/// Adds the line that counts the ancestors of a commit.
+fn push_ancestors(alloc: Global, lines: &mut Vec<Vec<u8>>, commit: u32) -> Result<(), AllocError>
+    ensures { OnOk result (map (λ line. line.items) lines.new.items ≡ map (λ line. line.items) lines.old.items ++ ancestors_text commit ∷ []) }
+{
+    lines.push(ancestors_line(alloc, commit)?)?;
+    Ok(())
+}
+
 /// The last four lines, whose replies are printed.
 pub fn last_lines(alloc: Global, size: u32) -> Result<Vec<Vec<u8>>, AllocError>
     requires { 1 ≤ size }
     ensures { IfOk result (λ lines. map (λ line. line.items) lines.items ≡ last_lines size) }
 {
     let mut lines = Vec::new(alloc);
-    lines.push(line_of(alloc, b"0 status")?)?;
-    lines.push(ancestors_line(alloc, size - 1)?)?;
-    lines.push(line_of(alloc, b"0 count merges(all)")?)?;
-    lines.push(line_of(alloc, b"0 count heads(all)")?)?;
+    push_text(alloc, &mut lines, b"0 status")?;
+    push_ancestors(alloc, &mut lines, size - 1)?;
+    push_text(alloc, &mut lines, b"0 count merges(all)")?;
+    push_text(alloc, &mut lines, b"0 count heads(all)")?;
     Ok(lines)
 }
