@@ -6,3 +6,4 @@ mod Merging
 mod Inserting
 mod Searching
 mod OneName
+mod Filters

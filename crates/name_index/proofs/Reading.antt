@@ -148,6 +148,6 @@ head-tested key k (y ∷ ys) next o l e c =
     )
 
 -- what a sort leaves in a vector of the same length
-pub items-back : (n : ℕ) (ws items : List Entry) → n ≡ length items → length ws ≡ length items → take n (ws ++ drop (length ws) items) ≡ ws
+pub items-back : {X : Type 0} (n : ℕ) (ws items : List X) → n ≡ length items → length ws ≡ length items → take n (ws ++ drop (length ws) items) ≡ ws
 items-back n ws items e l =
     ap (λ z. take n (ws ++ z)) (drop_all (length ws) items (omega arith)) ∙ ap (take n) (append-nil ws) ∙ take_all n ws (omega arith)

@@ -6,6 +6,7 @@
 #![tactic(auto)]
 
 mod entry;
+mod filter;
 mod index;
 mod laws;
 mod merge;

@@ -8,5 +8,5 @@ returns c = λ new stand same.
     let vector = c.in_ok-entries.entries in
     let sorted = c.sort_entries.new.entries in
     let long = c.sort_entries.ensures.len ∙ ap length c.deref_mut.ensures.value in
-    subst (λ es. Holds es new) (sym (items-back vector.len sorted vector.items vector.ok.0 long))
+    subst (λ es. Holds es new) (sym (c.of.ensures ∙ items-back vector.len sorted vector.items vector.ok.0 long))
     (sorted-holds c.args.stretch.now.at c.args.stretch.now.bytes.now c.deref_mut.result.now sorted new (c.deref_mut.ensures.value ∙ c.in_ok-entries.ensures new stand same) stand c.sort_entries.ensures.permutation c.sort_entries.ensures.ascending)
