@@ -67,6 +67,20 @@ fn check_distinct(alloc: Global, batch: &BatchRef<'_>) -> Result<(), MapFault>
     Ok(())
 }
 
+/// Where the names of a payload's other ids stand, which itself stands, or will stand, at the place `at`.
+fn other_names_of(batch: &BatchRef<'_>, at: u64) -> OtherNames
+    requires { at + length (payload_bytes 1 (payload_of batch.now)) < 2 ^ 63 }
+    ensures { result ≡ others_of (placed at batch.now) }
+{
+    batch.is_payload();
+    let names = batch.other_names();
+    OtherNames {
+        place: at + names.start(),
+        count: names.len(),
+        after: batch.after(),
+    }
+}
+
 /// Adds the names of a payload's other ids at the end.
 fn push_others(others: &mut Vec<OtherNames>, names: OtherNames) -> Result<(), AllocError>
     ensures { OnOk result (others.new.items ≡ others.old.items ++ names ∷ []) }
@@ -179,15 +193,9 @@ impl MapBuild {
         batch.is_payload();
         check_distinct(self.alloc, batch)?;
         let known = batch.known();
-        let names = batch.other_names();
         let part = Part::of_batch(self.alloc, batch, at + known.start(), self.known)?;
         push_part(&mut self.parts, part)?;
-        let others = OtherNames {
-            place: at + names.start(),
-            count: names.len(),
-            after: batch.after(),
-        };
-        push_others(&mut self.others, others)?;
+        push_others(&mut self.others, other_names_of(batch, at))?;
         self.masters = batch.after();
         self.known += u64::from(known.len());
         Ok(())

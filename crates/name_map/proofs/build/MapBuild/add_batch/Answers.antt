@@ -1,5 +1,4 @@
 use Rattle.std.proofs.Common.{◌+◌, ◌++◌, ◌∷◌, [], ℕ, List, length, ap, sym, ◌∙◌, arith, ◌≡◌}
-use Rattle.id_groups.specs.Name.{Name}
 use Rattle.batch_codec.specs.Payload.{Known}
 use Rattle.batch_codec.specs.Lent.{payload_of}
 use Rattle.name_map.specs.declared.build.OtherNames.{OtherNames}
@@ -7,7 +6,6 @@ use Rattle.name_map.specs.Part.{PlainPart}
 use Rattle.name_map.specs.Map.{part_of}
 use Rattle.name_map.specs.Adding.{placed}
 use Rattle.name_map.specs.Build.{PlainBuild, others_of}
-use Rattle.name_map.proofs.OtherNames.{others-room, others-is}
 use Rattle.name_map.proofs.More.{batch-start, batch-room, batch-counts, part-is}
 use Rattle.name_map.proofs.Building.{build-more}
 use Rattle.name_map.proofs.build.MapBuild.add_batch.Goals as goal
@@ -20,18 +18,18 @@ overflow_add-at c =
 pub of_batch-requires-clause-places : goal.of_batch-requires-clause-places
 of_batch-requires-clause-places c = batch-room c.args.at c.args.batch.now c.start.result c.is_payload.ensures.places c.is_payload.ensures.payload c.requires.room (c.start.ensures ∙ c.known-known.ensures.start)
 
-pub overflow_add-others : goal.overflow_add-others
-overflow_add-others c =
-    let start = c.start-2.ensures ∙ c.other_names-names.ensures.start ∙ c.is_payload.ensures.places.other_names in
-    let fit = others-room (payload_of c.args.batch.now) c.is_payload.ensures.payload in
-    let room = c.requires.room in
-    omega (arith, start, fit, room)
+pub of_batch-requires-clause-counts : goal.of_batch-requires-clause-counts
+of_batch-requires-clause-counts c =
+    let p = payload_of c.args.batch.now in
+    let most = c.is_payload.ensures.payload.counts.master in
+    let counts = batch-counts p c.self.inside.known c.self.inside.masters c.is_payload.ensures.payload c.self.invariant (c.requires.follows ∙ sym (ap (λ (m : PlainBuild). m.masters) c.self.view_is)) in
+    omega (arith, most, counts)
 
 pub invariant_of-self-2 : goal.invariant_of-self-2
 invariant_of-self-2 c =
     let p = payload_of c.args.batch.now in
     let counts = batch-counts p c.self.inside.known c.self.inside.masters c.is_payload.ensures.payload c.self.invariant (c.requires.follows ∙ sym (ap (λ (m : PlainBuild). m.masters) c.self.view_is)) in
-    let after = c.after-self-inside.ensures in let from = c.from.ensures in let len = c.len-2.ensures in
+    let after = c.after-self-inside.ensures in let from = c.from.ensures in let len = c.len.ensures in
     let size = ap (length {A = Known}) c.known-known.ensures.known in
     omega (arith, counts, after, from, len, size)
 
@@ -45,12 +43,10 @@ returns-clause-added c = λ added is.
     let rank = ap (λ (m : PlainBuild). m.known) view in
     let part = c.in_ok-part.ensures ∙ part-is c.self.inside.known (c.args.at + c.start.result) a (ap (λ (n : ℕ). c.args.at + n) start) ∙ ap (λ (n : ℕ). part_of n a) rank in
     let parts = c.in_ok-push_part.ensures.pushed ∙ ap (λ (m : PlainBuild). m.parts ++ c.in_ok-part.part ∷ []) view ∙ ap (λ (q : PlainPart). c.args.self.now.parts ++ q ∷ []) part in
-    let start2 = c.start-2.ensures ∙ c.other_names-names.ensures.start ∙ c.is_payload.ensures.places.other_names in
-    let other = others-is a (c.args.at + c.start-2.result) c.len.result c.after.result (ap (λ (n : ℕ). c.args.at + n) start2) (c.len.ensures ∙ ap (length {A = Name}) c.other_names-names.ensures.names) c.after.ensures in
     let others = c.in_ok-push_others.ensures
-    ∙ ap (λ (o : OtherNames). c.self.inside.others.items ++ o ∷ []) other
+    ∙ ap (λ (o : OtherNames). c.self.inside.others.items ++ o ∷ []) c.other_names_of.ensures
     ∙ ap (λ (m : PlainBuild). m.others ++ others_of a ∷ []) view in
     let size = ap (length {A = Known}) c.known-known.ensures.known in
-    let from = c.from.ensures in let len = c.len-2.ensures in
+    let from = c.from.ensures in let len = c.len.ensures in
     let new : PlainBuild = record { parts = c.push_part.new.parts.items; others = c.push_others.new.others.items; masters = c.after-self-inside.result; known = c.self.inside.known + c.from.result } in
     build-more c.args.self.now new added a is c.is_payload.ensures.payload c.requires.follows parts others c.after-self-inside.ensures (omega (arith, rank, from, len, size)) c.in_ok-check_distinct.ensures.ok
