@@ -1,4 +1,4 @@
-//! A filter of a run: bits that tell of most names that aren't there, by one word of memory.
+//! A filter of a run: bits that tell of most names that the run doesn't hold, by one word of memory.
 
 ghost use Rattle.std.specs.Prelude.{◌≡◌, ℕ, ◌/◌, ◌%◌, ◌^◌, length, true, IfOk};
 ghost use Rattle.name_index.specs.Filter.{PassAll, bit_of, lets_pass, mask_of, word_for};
@@ -7,14 +7,14 @@ use crate::entry::Entry;
 use std::alloc::{AllocError, Global};
 use std::marker::Model;
 
-/// A run of fewer entries has no filter: the search alone is as quick.
+/// Fewer entries have no filter: their run may still change in place, and a search in it is quick.
 const FEWEST: usize = 256;
 
-/// For so many entries the filter has a word of 64 bits.
+/// A filter has a word of 64 bits for so many entries. With two bits a front about one in thirty passes that isn't there.
 const ENTRIES_A_WORD: usize = 6;
 
-/// Which fronts may be among those of some entries. The leading half of a front tells its word, its last bits which bits it
-/// has there. Contracts see the words; where there are none, each front may be there.
+/// Which fronts may be among those of some entries. The leading half of a front tells its word, its last digits which two
+/// bits it has there. Contracts see the words; where there are none, each front may be there.
 #[derive(Drop)]
 pub(crate) struct Filter {
     words: Vec<u64>,
@@ -88,7 +88,7 @@ impl Filter {
         }
     }
 
-    /// A filter of the entries; for a few, and where memory lacks, it is the one that lets each front pass.
+    /// A filter of the entries. For a few, and for want of memory, it is the one that lets each front pass.
     pub(crate) fn of(alloc: Global, entries: &[Entry]) -> Filter
         ensures { PassAll result entries.now }
     {

@@ -234,7 +234,7 @@ impl NameIndex {
     }
 
     /// The place of the name, read from the bytes in which the names of the index stand; `None` exactly where it is
-    /// not held. A binary search in each run; places outside the bytes are read as no name.
+    /// not held. A search in each run whose filter lets the name pass; places outside the bytes are read as no name.
     pub fn find(&self, bytes: &[u8], name: NameRef<'_>) -> Option<u64>
         ensures { (all : List NamedPlace) → IsIndexOf self.now all → Stand bytes.now all → Finds all name.entry.bytes.now result }
     {
