@@ -247,11 +247,12 @@ impl NameIndex {
         ensures replaced { OnOk result (self.new ≡ take kept self.old ++ run ∷ []) }
         ensures unchanged { OnErr result (self.new ≡ self.old) }
     {
+        let filtered = run.with_filter(self.alloc);
         if kept == self.runs.len() {
-            self.runs.push(run)?;
+            self.runs.push(filtered)?;
             return Ok(());
         }
-        self.runs[kept] = run;
+        self.runs[kept] = filtered;
         self.runs.truncate(kept + 1);
         Ok(())
     }
@@ -261,7 +262,7 @@ impl NameIndex {
         requires { kept + 2 ≤ length self.old }
         ensures { self.new ≡ take kept self.old ++ merged ∷ run ∷ [] }
     {
-        self.runs[kept] = merged;
+        self.runs[kept] = merged.with_filter(self.alloc);
         self.runs[kept + 1] = run;
         self.runs.truncate(kept + 2);
     }
@@ -271,7 +272,7 @@ impl NameIndex {
         ensures { IfOk result (λ index. index ≡ run ∷ []) }
     {
         let mut runs = Vec::new(alloc);
-        runs.push(run)?;
+        runs.push(run.with_filter(alloc))?;
         Ok(NameIndex { alloc, runs })
     }
 
