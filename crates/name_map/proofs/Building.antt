@@ -1,5 +1,5 @@
 -- A map that is made of many payloads at once.
-use Rattle.std.proofs.Common.{◌≡◌, ◌<◌, ◌≤◌, ◌+◌, ◌*◌, ℕ, zero, suc, List, [], ◌∷◌, ◌++◌, map, length, take, get_or, Option, Some, None, is_some, true, false, true≢false, nat_eq, refl, sym, ap, ap₂, ◌∙◌, subst, inl, inr, ⊎_elim, arith}
+use Rattle.std.proofs.Common.{◌≡◌, ◌<◌, ◌≤◌, ◌+◌, ℕ, zero, suc, List, [], ◌∷◌, ◌++◌, map, length, take, get_or, Option, Some, None, is_some, true, false, true≢false, nat_eq, refl, sym, ap, ap₂, ◌∙◌, subst, inl, inr, ⊎_elim, arith}
 use Rattle.std.specs.Bool.{IsTrue}
 use Rattle.std.specs.List.{AllByRecursion, flat_map}
 use Rattle.std.proofs.lemmas.Bool.{cases_lt}
@@ -7,16 +7,16 @@ use Rattle.std.proofs.lemmas.Map.Views.{exact_unsigned_eq}
 use Rattle.std.proofs.lemmas.List.{length-append, length-map, append_assoc, append-nil, map-append, nil_from_length}
 use Rattle.id_groups.specs.Lists.{IsIn, AreDistinct}
 use Rattle.id_groups.specs.Name.{Name}
-use Rattle.batch_codec.specs.Payload.{Known, Payload, known_names, known_ids}
-use Rattle.batch_codec.specs.Grammar.{IsPayload, count_after}
+use Rattle.batch_codec.specs.Payload.{Known, Payload, known_names}
+use Rattle.batch_codec.specs.Grammar.{IsPayload}
 use Rattle.name_index.specs.Index.{NamedPlace, IsIndexOf, names_in, places_in}
 use Rattle.name_index.specs.declared.entry.Entry.{Entry}
 use Rattle.name_map.specs.declared.build.OtherNames.{OtherNames}
 use Rattle.name_map.specs.Part.{PlainPart}
 use Rattle.name_map.specs.Added.{Placed, AllStand, StandsAt, payloads_of, known_of, named_of, named_from, start_of, every, Follow}
-use Rattle.name_map.specs.Map.{PlainMap, IsMapOf, IsIdOf, part_of, parts_of, names_with}
+use Rattle.name_map.specs.Map.{IsMapOf, IsIdOf, part_of, parts_of, names_with}
 use Rattle.name_map.specs.Build.{PlainBuild, IsBuildOf, NamesFit, AreUnknown, MeetKnown, others_of, entry_places}
-use Rattle.name_map.proofs.Lists.{in-append, in-left, in-right, in-map, in-mapped, each-in, each-append, distinct-left, distinct-join, distinct-apart}
+use Rattle.name_map.proofs.Lists.{in-append, in-left, in-map, in-mapped, each-in, each-append, distinct-left, distinct-join, distinct-apart}
 use Rattle.name_map.proofs.Orders.{known-within, follow-at, follow-behind, front-below, follow-more, count-more, known-split}
 use Rattle.name_map.proofs.Standing.{names-known}
 use Rattle.name_map.proofs.Places.{named-places}

@@ -1,4 +1,4 @@
-use Rattle.std.proofs.Common.{◌∙◌, List, map, length, get_or, take_all, ap, subst, sym, arith}
+use Rattle.std.proofs.Common.{◌∙◌, List, length, get_or, take_all, ap, subst, arith}
 use Rattle.std.specs.List.{AllByRecursion}
 use Rattle.std.proofs.lemmas.List.{length-map}
 use Rattle.name_map.specs.declared.build.OtherNames.{OtherNames}

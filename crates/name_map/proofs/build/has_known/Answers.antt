@@ -1,4 +1,4 @@
-use Rattle.std.proofs.Common.{◌<◌, ℕ, [], None, get_or, ap, subst, sym, arith}
+use Rattle.std.proofs.Common.{◌<◌, ℕ, [], None, get_or, ap, subst, arith}
 use Rattle.name_map.specs.declared.build.OtherNames.{OtherNames}
 use Rattle.name_map.specs.Added.{known_of}
 use Rattle.name_map.specs.Map.{IsIdOf}

@@ -1,4 +1,4 @@
-use Rattle.std.proofs.Common.{◌+◌, ◌++◌, ◌∷◌, [], ℕ, List, length, ap, sym, ◌∙◌, arith, ◌≡◌}
+use Rattle.std.proofs.Common.{◌+◌, ◌++◌, ◌∷◌, [], ℕ, length, ap, sym, ◌∙◌, arith}
 use Rattle.batch_codec.specs.Payload.{Known}
 use Rattle.batch_codec.specs.Lent.{payload_of}
 use Rattle.name_map.specs.declared.build.OtherNames.{OtherNames}

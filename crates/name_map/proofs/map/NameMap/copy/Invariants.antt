@@ -1,5 +1,4 @@
 use Rattle.std.proofs.Common.{◌≡◌, take}
-use Rattle.name_map.specs.Map.{PlainMap}
 use Rattle.name_map.proofs.map.NameMap.copy.Given as goal
 
 abbrev pub invariant-parts : goal.invariant-parts

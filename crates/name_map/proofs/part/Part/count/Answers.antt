@@ -1,4 +1,4 @@
-use Rattle.std.proofs.Common.{List, ℕ, length, ap, sym, ◌∙◌}
+use Rattle.std.proofs.Common.{length, ap, sym, ◌∙◌}
 use Rattle.name_map.specs.Part.{PlainPart, ids_of}
 use Rattle.name_map.proofs.Ids.{upward-length}
 use Rattle.name_map.proofs.part.Part.count.Goals as goal
