@@ -30,7 +30,7 @@ use crate::session::Session;
 use crate::store::Store;
 use batch_codec::BatchRef;
 use disk_trait::Disk;
-use flush_rebuild::{Change, Limits, OthersTable, PendingRows, TableFault, Tables};
+use flush_rebuild::{Change, Limits, OthersTable, PendingRows, Tables};
 use gated_log::{Committed, Log, ReserveFault};
 use id_groups::Name;
 use std::alloc::{AllocError, Global};
@@ -149,11 +149,8 @@ fn add_payload(
     let bytes = log.bytes();
     let at = bytes.len() as u64 + 8;
     let session = stored_session(alloc, log.batch_count() + 1, &batch, at)?;
-    match tables.add_lawful(bytes, &batch, at) {
-        Ok(()) => Ok(session),
-        Err(TableFault::Memory) => Err(AllocError),
-        Err(TableFault::Unlawful) => unreachable!(),
-    }
+    tables.add_lawful(bytes, &batch, at)?;
+    Ok(session)
 }
 
 /// Takes the memory for a change: where nothing changes, the session is on the newest payloads without rows; or the log and the

@@ -1,5 +1,5 @@
 -- A payload that is added to the table of segments and to the map of names.
-use Rattle.std.proofs.Common.{◌≡◌, ◌<◌, ◌≤◌, ℕ, ◌+◌, ◌^◌, not, List, [], ◌∷◌, ◌++◌, map, length, take, filter, flat_map, Result, Ok, Err, refl, sym, ap, ap₂, ◌∙◌, subst, arith, length-append, lit≤}
+use Rattle.std.proofs.Common.{◌≡◌, ◌<◌, ◌≤◌, ℕ, ◌+◌, ◌^◌, not, List, [], ◌∷◌, ◌++◌, map, length, take, filter, flat_map, refl, sym, ap, ap₂, ◌∙◌, subst, arith, length-append, lit≤}
 use Rattle.std.specs.List.{AllByRecursion}
 use Rattle.std.proofs.lemmas.List.{map-append, length-map, take_at}
 use Rattle.std.proofs.lemmas.List.Elements.{filter-append}
@@ -14,12 +14,7 @@ use Rattle.flat_segments.specs.Placed.{Placed as PlacedSegment, placed, segments
 use Rattle.flat_segments.specs.Kept.{Kept, entry_of, kept_of, IsTableOf, MayExtend}
 use Rattle.flat_segments.proofs.Callers.{follow-few}
 use Rattle.name_map.specs.Added.{Placed, payloads_of}
-use Rattle.payload_tables.specs.Kept.{AreMastersOf, master_records, flat_fault}
-use Rattle.std.specs.Result.{IsErrAnd}
-use Rattle.flat_segments.specs.declared.fault.FlatFault.{FlatFault}
-use Rattle.flat_segments.specs.declared.fault.FlatFault.TheVariants.{BadSegment, Memory as FlatMemory}
-use Rattle.payload_tables.specs.declared.fault.TableFault.{TableFault}
-use Rattle.payload_tables.specs.declared.fault.TableFault.TheVariants.{Unlawful}
+use Rattle.payload_tables.specs.Kept.{AreMastersOf, master_records}
 use Rattle.payload_tables.proofs.Lists.{flat-snoc}
 use Rattle.payload_tables.proofs.Joined.{follow-once}
 use Rattle.segment_levels.specs.Kept.{Kept as KeptLevels}
@@ -85,23 +80,12 @@ kept-append : (xs ys : List PlacedSegment) → kept_of (xs ++ ys) ≡ kept_of xs
 kept-append xs ys = ap (map entry_of) (filter-append (λ (r : PlacedSegment). not (goes_on r.segment)) xs ys)
     ∙ map-append entry_of (filter (λ (r : PlacedSegment). not (goes_on r.segment)) xs) (filter (λ (r : PlacedSegment). not (goes_on r.segment)) ys)
 
+-- what the table had stands in front of what it has
+pub kept-front : (old new : Kept) (before more : List PlacedSegment) → IsTableOf old before → IsTableOf new (before ++ more) → take (length old.entries) new.entries ≡ old.entries
+kept-front old new before more is next =
+    ap (take (length old.entries)) (next.kept ∙ kept-append before more ∙ ap (λ l. l ++ kept_of more) (sym is.kept)) ∙ take_at old.entries (kept_of more) (length old.entries) refl
+
 -- what is taken back leaves the table as it was
-pub taken-back : (old new : Kept) (before more : List PlacedSegment) (len count : ℕ) → IsTableOf old before → IsTableOf new (before ++ more) → len ≡ length old.entries → count ≡ old.end
+pub cut-again : (old new : Kept) (len count : ℕ) → take (length old.entries) new.entries ≡ old.entries → len ≡ length old.entries → count ≡ old.end
     → ◌≡◌ {A = Kept} (record { entries = take len new.entries; end = count }) old
-taken-back old new before more len count is next e f =
-    ap₂ {C = Kept} (λ l n. record { entries = l; end = n })
-    (ap (take len) (next.kept ∙ kept-append before more ∙ ap (λ l. l ++ kept_of more) (sym is.kept)) ∙ take_at old.entries (kept_of more) len (sym e))
-    f
-
--- ---- faults handed on
-
-err-is : {T : Type 0} (r : Result T TableFault) (x y : TableFault) → IsErrAnd r (λ g. g ≡ x) → r ≡ Err y → x ≡ y
-err-is (Ok v) x y h e = absurd h
-err-is (Err g) x y h e = let same : g ≡ y = cc e in sym h ∙ same
-
-bad-of : (f : FlatFault) → flat_fault f ≡ Unlawful → (k : ℕ) × (f ≡ BadSegment k)
-bad-of (BadSegment k) e = (k, refl)
-bad-of FlatMemory e = absurd (cc e)
-
-pub flat-bad : {T : Type 0} (r : Result T TableFault) (f : FlatFault) → IsErrAnd r (λ g. g ≡ flat_fault f) → r ≡ Err Unlawful → (k : ℕ) × (f ≡ BadSegment k)
-flat-bad r f h e = bad-of f (err-is r (flat_fault f) Unlawful h e)
+cut-again old new len count front e f = ap₂ {C = Kept} (λ l n. record { entries = l; end = n }) (ap (λ n. take n new.entries) e ∙ front) f

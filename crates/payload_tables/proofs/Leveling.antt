@@ -16,14 +16,13 @@ use Rattle.flat_segments.specs.Maximal.{maximal}
 use Rattle.flat_segments.specs.Placed.{Placed as PlacedSegment, placed as placed_segments, segments_of}
 use Rattle.flat_segments.specs.Kept.{Kept, IsTableOf}
 use Rattle.flat_segments.proofs.Standing.{all-segments}
-use Rattle.segment_levels.specs.Kept.{Kept as KeptLevels, AreLevelsOf}
+use Rattle.segment_levels.specs.Kept.{AreLevelsOf}
 use Rattle.segment_levels.specs.Flats.{flats_of, extended}
 use Rattle.segment_levels.proofs.ByGraph.{maximal-of}
 use Rattle.high_segments.specs.Extending.{MayFollow}
 use Rattle.name_map.specs.Added.{Placed, AllStand, payloads_of, Follow as Following}
-use Rattle.name_map.specs.Map.{PlainMap}
 use Rattle.change_rules.specs.Tables.{StandFor}
-use Rattle.payload_tables.specs.Kept.{PlainTables, AreTablesOf, AreMastersOf, master_records}
+use Rattle.payload_tables.specs.Kept.{PlainTables, AreTablesOf, master_records}
 use Rattle.payload_tables.proofs.Joined.{listed-parents, followers-long}
 use Rattle.payload_tables.proofs.Standing.{masters-stand, masters-segments, placed-segments}
 use Rattle.payload_tables.proofs.Adding.{few-masters, are-records, masters-turn}
@@ -44,10 +43,6 @@ records-follow table added p bytes records is stand h e r =
       small = subst (λ n. place_behind n p.master ≤ 16777216) e (subst (λ n. n ≤ 16777216) (sym (follow-behind p.before p.after p.master h.cover.master)) h.counts.master);
       few = few-masters table added p is h e;
     }
-
-pub may-follow : (table : Kept) (levels : KeptLevels) (names : PlainMap) (added : List Placed) (p : Payload) (bytes records : List ℕ) → AreMastersOf table levels names added → AllStand bytes added
-    → IsPayload p → p.before ≡ table.end → records ≡ flat_map segment_bytes p.master → MayFollow table bytes records (master_records added) p.master
-may-follow table levels names added p bytes records b stand h e r = records-follow table added p bytes records b.flat stand h e r
 
 -- the flat segments of the table with more records
 pub extended-are : (old new : Kept) (before : List PlacedSegment) (at : ℕ) (segments : List Segment) → IsTableOf old before → IsTableOf new (before ++ placed_segments at segments)

@@ -1,27 +1,26 @@
 -- A row more among the pending ones.
-use Rattle.std.proofs.Common.{◌≡◌, ◌≢◌, ◌<◌, ◌≤◌, ◌^◌, ℕ, zero, suc, ◌+◌, List, [], ◌∷◌, ◌++◌, length, flat_map, take, drop, ◌-◌, Result, Ok, Err, Some, is_some, slice_get, get_or, true≢false, refl, sym, ap, ap₂, subst, ◌∙◌, arith, append-nil, length-append, lit≤}
+use Rattle.std.proofs.Common.{◌≡◌, ◌≢◌, ◌<◌, ◌≤◌, ◌^◌, ℕ, zero, suc, ◌+◌, List, [], ◌∷◌, ◌++◌, length, flat_map, drop, ◌-◌, Result, Ok, Err, Some, is_some, slice_get, get_or, true≢false, refl, sym, ap, ap₂, subst, ◌∙◌, arith, append-nil, length-append, lit≤}
 use Rattle.std.specs.List.{AllByRecursion}
 use Rattle.std.specs.Result.{OnOk}
-use Rattle.std.proofs.lemmas.List.{map-append, length-map, take_all}
+use Rattle.std.proofs.lemmas.List.{map-append, length-map}
 use Rattle.std.proofs.Math.Seq.{drop-append_seam}
 use Rattle.id_groups.specs.Name.{Name, IsName}
 use Rattle.id_groups.specs.Id.{other_id, id_end}
-use Rattle.segment_codec.specs.Record.{Segment, IsSegment, segment_bytes}
+use Rattle.segment_codec.specs.Number.{number_bytes}
+use Rattle.segment_codec.specs.Record.{Segment, IsSegment, segment_bytes, head_bytes}
 use Rattle.segment_codec.specs.Flat.{IsFlat}
 use Rattle.segment_codec.specs.Table.{Follow}
+use Rattle.segment_codec.proofs.Numbers.{number_last}
+use Rattle.segment_codec.proofs.Lengths.{flat-head, head-fits, behind-head}
 use Rattle.batch_codec.specs.Payload.{names_bytes}
 use Rattle.flat_segments.specs.Placed.{Placed, placed}
 use Rattle.flat_segments.specs.Kept.{Kept, IsSectionOf, MayPush}
-use Rattle.payload_tables.specs.Pending.{IdRow, PlainPending, HoldsRows, MayPushRow, FindsNames, segments_from, row_names, places_of}
+use Rattle.payload_tables.specs.Pending.{IdRow, PlainPending, HoldsRows, MayPushRow, FindsNames, IsRecordOf, row_segment, segments_from, row_names, places_of}
 use Rattle.flat_segments.proofs.Callers.{placed-stand}
 use Rattle.payload_tables.proofs.Joined.{get-map}
 use Rattle.payload_tables.proofs.Lists.{flat-snoc, all-append}
 use Rattle.payload_tables.proofs.Sectioning.{placed-snoc}
 use Rattle.payload_tables.proofs.Standing.{placed-segments}
-
--- the segment of a row
-abbrev pub row_segment : ℕ → List ℕ → Segment
-row_segment id parents = record { low = id; high = id; level = 0; parents = parents }
 
 pub row-is-segment : (id first count : ℕ) (parents : List ℕ) → id ≡ other_id (first + count) → first ≤ 65536 → MayPushRow first count parents → IsSegment (row_segment id parents)
 row-is-segment id first count parents e room m = record {
@@ -72,12 +71,27 @@ may-push section id first rows parents is e whole = record {
   begins = λ some. (let z = section-end section (other_id first) rows is some in omega (arith, z, e));
 }
 
--- the record is read back
-pub read-back : (old bytes all : List ℕ) (place n : ℕ) → place ≡ length old → all ≡ old ++ bytes → n ≡ length all → take (n - place) (drop place all) ≡ bytes ++ []
-read-back old bytes all place n e is size =
-    let rest : drop place all ≡ bytes = ap₂ (λ m l. drop m l) e is ∙ drop-append_seam old bytes in
-    let whole = ap (length {A = ℕ}) is in let sum = length-append old bytes in
-    ap (take (n - place)) rest ∙ take_all (n - place) bytes (omega (arith, e, size, whole, sum)) ∙ sym (append-nil bytes)
+-- the record is what was written behind the others
+pub record-behind : (old bytes all : List ℕ) (place : ℕ) → place ≡ length old → all ≡ old ++ bytes → drop place all ≡ bytes
+record-behind old bytes all place e is = ap₂ (λ m l. drop m l) e is ∙ drop-append_seam old bytes
+
+row-head : (id : ℕ) (parents : List ℕ) → IsSegment (row_segment id parents) → length (head_bytes (row_segment id parents)) ≡ 12
+row-head id parents whole =
+    let head = flat-head (row_segment id parents) (record { segment = whole; flat = refl }) in
+    let none : id - id ≡ 0 = omega arith in
+    let one = ap (λ n. length (number_bytes n)) none ∙ ap (length {A = ℕ}) (number_last 0 (let l : 0 < 128 = lit≤ tt in l)) in
+    omega (arith, head, one)
+
+-- the numbers of the parents stand behind the first twelve bytes of the record
+pub row-long : (id : ℕ) (parents bytes : List ℕ) → IsRecordOf id parents bytes → 12 ≤ length bytes
+row-long id parents bytes r =
+    let fits = head-fits (row_segment id parents) bytes [] (r.spelled ∙ sym (append-nil (segment_bytes (row_segment id parents)))) in
+    let head = row-head id parents r.whole in omega (arith, fits, head)
+
+pub row-numbers : (id : ℕ) (parents bytes : List ℕ) → IsRecordOf id parents bytes → drop 12 bytes ≡ flat_map number_bytes parents
+row-numbers id parents bytes r =
+    behind-head (row_segment id parents) bytes [] 12 (r.spelled ∙ sym (append-nil (segment_bytes (row_segment id parents)))) (sym (row-head id parents r.whole))
+    ∙ append-nil (flat_map number_bytes parents)
 
 pub on-ok-five : {X F : Type 0} {A B C D E P : Type 0} (r : Result X F) → OnOk r A → OnOk r B → OnOk r C → OnOk r D → OnOk r E → (A → B → C → D → E → P) → OnOk r P
 on-ok-five (Ok v) a b c d e f = f a b c d e

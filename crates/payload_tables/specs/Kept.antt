@@ -9,8 +9,6 @@ use Rattle.name_index.specs.Index.{NamedPlace, IsIndexOf}
 use Rattle.name_index.specs.declared.entry.Entry.{Entry}
 use Rattle.name_map.specs.Added.{Placed, payloads_of, names_from}
 use Rattle.name_map.specs.Map.{PlainMap, IsMapOf}
-use Rattle.flat_segments.specs.declared.fault.FlatFault.{FlatFault}
-use Rattle.flat_segments.specs.declared.fault.FlatFault.TheVariants.{BadSegment, Memory as FlatMemory}
 use Rattle.name_map.specs.declared.fault.MapFault.{MapFault}
 use Rattle.name_map.specs.declared.fault.MapFault.TheVariants.{Double, Memory as MapMemory}
 use Rattle.payload_tables.specs.declared.fault.TableFault.{TableFault}
@@ -83,6 +81,11 @@ pub record AreTablesOf (tables : PlainTables) (added : List Placed) : Type 0 whe
   pub heads : tables.heads ≡ remote_heads (payloads_of added)
   pub cloned : tables.cloned ≡ cloned_count (payloads_of added)
 
+-- the table has the master records of the payloads, and its levels are theirs
+pub record HaveMasters (table : Kept) (levels : KeptLevels) (added : List Placed) : Type 0 where
+  pub flat : IsTableOf table (master_records added)
+  pub levels_of : AreLevelsOf levels (flats_of table (master_records added))
+
 -- the table, its levels and the map are those of the payloads
 pub record AreMastersOf (table : Kept) (levels : KeptLevels) (map : PlainMap) (added : List Placed) : Type 0 where
   pub lawful : AreLawful [] (payloads_of added)
@@ -90,11 +93,7 @@ pub record AreMastersOf (table : Kept) (levels : KeptLevels) (map : PlainMap) (a
   pub levels_of : AreLevelsOf levels (flats_of table (master_records added))
   pub names : IsMapOf map added
 
--- the causes, as the tables tell them
-abbrev pub flat_fault : FlatFault → TableFault
-flat_fault (BadSegment k) = Unlawful
-flat_fault FlatMemory = Memory
-
+-- the cause, as the tables tell it
 abbrev pub map_fault : MapFault → TableFault
 map_fault Double = Unlawful
 map_fault MapMemory = Memory

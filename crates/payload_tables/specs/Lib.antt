@@ -3,3 +3,4 @@ pub mod Pending
 pub mod Sections
 pub mod Bases
 pub mod Build
+pub mod Extents

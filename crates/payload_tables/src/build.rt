@@ -1,9 +1,9 @@
 //! The tables of a log's payloads, made of all of them at once.
 
-ghost use Rattle.std.specs.Prelude.{◌≡◌, ◌<◌, ◌+◌, ◌^◌, ◌++◌, ◌∷◌, [], List, length, ◌↔◌, IsTrue, IfOk, OnOk, Err};
+ghost use Rattle.std.specs.Prelude.{◌≡◌, ◌<◌, ◌+◌, ◌^◌, ◌++◌, ◌∷◌, [], List, length, IfOk, OnOk, Err};
 ghost use Rattle.id_groups.specs.Lists.{AreDistinct};
 ghost use Rattle.batch_codec.specs.Lent.{payload_of};
-ghost use Rattle.batch_codec.specs.Grammar.{MayFollow, AreLawful, head_names};
+ghost use Rattle.batch_codec.specs.Grammar.{MayFollow, AreLawful};
 ghost use Rattle.batch_codec.specs.Payload.{payload_bytes, known_names};
 ghost use Rattle.flat_segments.specs.Kept.{IsTableOf};
 ghost use Rattle.segment_levels.specs.Flats.{flats_of};
@@ -15,17 +15,18 @@ ghost use Rattle.payload_tables.specs.declared.fault.TableFault.TheVariants.{Unl
 ghost use Rattle.payload_tables.specs.Kept.{AreTablesOf, master_records};
 ghost use Rattle.payload_tables.specs.Build.{IsBuildOf, ArePartsOf};
 
+use crate::brought::Brought;
 use crate::fault::TableFault;
-use crate::heads::{has_heads, heads_of};
-use crate::masters::extend_table;
+use crate::heads::check_place;
+use crate::masters::extend_segments;
 use crate::others::OthersTable;
-use crate::tables::{CLONE, Tables, keep_clone};
+use crate::tables::Tables;
 use batch_codec::BatchRef;
 use flat_segments::FlatTable;
 use high_segments::Levels;
 use id_groups::Name;
 use name_map::MapBuild;
-use std::alloc::{AllocError, Global};
+use std::alloc::Global;
 use std::marker::Model;
 
 /// What becomes the tables of payloads that are added in turn. Their names are looked at once, when all payloads are there, so
@@ -68,9 +69,7 @@ fn add_masters(
     ensures names { (added : List Placed) → ArePartsOf flat.old levels.old names.old added → OnOk result (AreNamesOf names.new (added ++ placed at batch.now ∷ [])) }
     ensures unlawful { result ≡ Err Unlawful → AreDistinct (known_names (payload_of batch.now) ++ (payload_of batch.now).other_names) → ⊥ }
 {
-    batch.is_payload();
-    let masters = batch.master_segments();
-    extend_table(flat, levels, bytes, masters.bytes(), at + masters.start())?;
+    extend_segments(flat, levels, bytes, batch, at)?;
     names.add_batch(batch, at)?;
     Ok(())
 }
@@ -91,20 +90,6 @@ impl TablesBuild {
         }
     }
 
-    /// Whether the payload keeps the rules of a clone, if it is one: it comes first, and its heads are those by its segments.
-    fn has_place(&self, batch: &BatchRef<'_>) -> Result<bool, AllocError>
-        ensures { (added : List Placed) → IsBuildOf self.now added → IfOk result (λ has. IsTrue has
-            ↔ ((payload_of batch.now).kind ≡ 2 → (added ≡ []) × ((payload_of batch.now).heads ≡ head_names (payload_of batch.now)))) }
-    {
-        if batch.kind() != CLONE {
-            return Ok(true);
-        }
-        if !self.names.is_empty() {
-            return Ok(false);
-        }
-        has_heads(self.alloc, batch)
-    }
-
     /// Adds a payload that stands, or will stand, at the place `at` in the log, where those that were added before stand in
     /// `bytes`. `Unlawful` comes only where it may not come behind these. What refused a payload is of no further use.
     pub fn add_batch(
@@ -120,14 +105,9 @@ impl TablesBuild {
             → MayFollow (payloads_of added) (payload_of batch.now) → ⊥ }
     {
         batch.is_payload();
-        if batch.before() != self.names.master_count() {
-            return Err(TableFault::Unlawful);
-        }
-        if !self.has_place(batch)? {
-            return Err(TableFault::Unlawful);
-        }
-        let others = OthersTable::read(self.alloc, batch, at)?;
-        let heads = heads_of(self.alloc, batch)?;
+        let is_first = self.names.is_empty();
+        check_place(self.alloc, batch, self.names.master_count(), is_first)?;
+        let brought = Brought::read(self.alloc, batch, at)?;
         add_masters(
             &mut self.flat,
             &mut self.levels,
@@ -136,14 +116,7 @@ impl TablesBuild {
             batch,
             at,
         )?;
-        self.others = others;
-        keep_clone(
-            &mut self.heads,
-            &mut self.cloned,
-            batch.kind(),
-            heads,
-            batch.after(),
-        );
+        brought.keep(batch, &mut self.others, &mut self.heads, &mut self.cloned);
         Ok(())
     }
 

@@ -1,6 +1,5 @@
 //! Why tables stay as they were.
 
-use flat_segments::FlatFault;
 use name_map::MapFault;
 use std::alloc::AllocError;
 
@@ -21,20 +20,6 @@ impl From<AllocError> for TableFault {
 
     fn from(_refused: AllocError) -> TableFault {
         TableFault::Memory
-    }
-}
-
-impl From<FlatFault> for TableFault {
-    ghost use Rattle.std.specs.Prelude.{◌≡◌};
-    ghost use Rattle.payload_tables.specs.Kept.{flat_fault};
-
-    ghost from_gives = { λ fault gives. gives ≡ flat_fault fault };
-
-    fn from(fault: FlatFault) -> TableFault {
-        match fault {
-            FlatFault::BadSegment(_) => TableFault::Unlawful,
-            FlatFault::Memory => TableFault::Memory,
-        }
     }
 }
 

@@ -1,6 +1,6 @@
 //! The heads of a clone, by its segments and its known names.
 
-ghost use Rattle.std.specs.Prelude.{◌≡◌, ◌<◌, ◌≤◌, ◌^◌, ◌&&◌, ◌++◌, ◌↔◌, [], ℕ, List, IsTrue, false, not, cond, replicate, filter, map, flat_map, length, slice_index_or, IfOk, OnOk, nat_eq};
+ghost use Rattle.std.specs.Prelude.{◌≡◌, ◌<◌, ◌≤◌, ◌^◌, ◌&&◌, ◌++◌, ◌↔◌, [], ℕ, List, IsTrue, false, not, cond, replicate, filter, map, flat_map, length, slice_index_or, IfOk, OnOk, Err, nat_eq};
 ghost use Rattle.std.specs.List.{AllByRecursion};
 ghost use Rattle.id_groups.specs.Lists.{is_in};
 ghost use Rattle.segment_codec.specs.Record.{Segment};
@@ -9,11 +9,16 @@ ghost use Rattle.batch_codec.specs.Payload.{names_bytes};
 ghost use Rattle.batch_codec.specs.Grammar.{head_names};
 ghost use Rattle.batch_codec.specs.Lent.{payload_of, knowns_of};
 ghost use Rattle.flat_segments.specs.Placed.{AreRecords};
+ghost use Rattle.payload_tables.specs.declared.fault.TableFault.TheVariants.{Unlawful};
 
+use crate::fault::TableFault;
 use batch_codec::{BatchRef, KnownSlice};
 use id_groups::{Id, Name, NameRef};
 use segment_codec::{Parents, read_segment};
 use std::alloc::{AllocError, Global};
+
+/// The kind of a clone's payload.
+pub(crate) const CLONE: u8 = 2;
 
 /// The highest ids of records, and the parents of all.
 #[derive(Drop)]
@@ -126,7 +131,7 @@ fn head_bytes(alloc: Global, batch: &BatchRef<'_>) -> Result<Vec<u8>, AllocError
 }
 
 /// Whether the heads of a clone's payload are those by its segments: the known names of the ids that are no parent of any id.
-pub(crate) fn has_heads(alloc: Global, batch: &BatchRef<'_>) -> Result<bool, AllocError>
+fn has_heads(alloc: Global, batch: &BatchRef<'_>) -> Result<bool, AllocError>
     requires { (payload_of batch.now).kind ≡ 2 }
     ensures { IfOk result (λ has. IsTrue has ↔ ((payload_of batch.now).heads ≡ head_names (payload_of batch.now))) }
 {
@@ -134,6 +139,41 @@ pub(crate) fn has_heads(alloc: Global, batch: &BatchRef<'_>) -> Result<bool, All
     let expected = head_bytes(alloc, batch)?;
     let heads = batch.heads();
     Ok(expected.as_slice() == heads.bytes())
+}
+
+/// Whether the payload keeps the rules of a clone, if it is one: it comes first, and its heads are those by its segments.
+fn has_place(alloc: Global, batch: &BatchRef<'_>, is_first: bool) -> Result<bool, AllocError>
+    ensures { IfOk result (λ has. IsTrue has
+        ↔ ((payload_of batch.now).kind ≡ 2 → IsTrue is_first × ((payload_of batch.now).heads ≡ head_names (payload_of batch.now)))) }
+{
+    if batch.kind() != CLONE {
+        return Ok(true);
+    }
+    if !is_first {
+        return Ok(false);
+    }
+    has_heads(alloc, batch)
+}
+
+/// Refuses a payload that doesn't begin with the id behind so many master ids, and a clone that breaks a rule of its own.
+pub(crate) fn check_place(
+    alloc: Global,
+    batch: &BatchRef<'_>,
+    masters: u64,
+    is_first: bool,
+) -> Result<(), TableFault>
+    ensures place { OnOk result (((payload_of batch.now).before ≡ masters)
+        × ((payload_of batch.now).kind ≡ 2 → IsTrue is_first × ((payload_of batch.now).heads ≡ head_names (payload_of batch.now)))) }
+    ensures unlawful { result ≡ Err Unlawful → (payload_of batch.now).before ≡ masters
+        → ((payload_of batch.now).kind ≡ 2 → IsTrue is_first × ((payload_of batch.now).heads ≡ head_names (payload_of batch.now))) → ⊥ }
+{
+    if batch.before() != masters {
+        return Err(TableFault::Unlawful);
+    }
+    if !has_place(alloc, batch, is_first)? {
+        return Err(TableFault::Unlawful);
+    }
+    Ok(())
 }
 
 /// The heads that a payload lists.

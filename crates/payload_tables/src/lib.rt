@@ -3,6 +3,7 @@
 //! What is kept of a log's payloads and of pending rows, and the world that a session sees by them.
 
 mod base;
+mod brought;
 mod build;
 mod fault;
 mod heads;

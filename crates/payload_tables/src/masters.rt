@@ -15,23 +15,27 @@ ghost use Rattle.name_map.specs.Added.{Placed, AllStand, payloads_of};
 ghost use Rattle.name_map.specs.Adding.{placed};
 ghost use Rattle.name_map.specs.Map.{IsMapOf, names_with};
 ghost use Rattle.payload_tables.specs.declared.fault.TableFault.TheVariants.{Unlawful};
-ghost use Rattle.payload_tables.specs.Kept.{AreMastersOf, master_records};
+ghost use Rattle.flat_segments.specs.Kept.{Kept};
+ghost use Rattle.segment_levels.specs.Kept.{Kept as KeptLevels};
+ghost use Rattle.payload_tables.specs.Kept.{AreMastersOf, HaveMasters, master_records};
+ghost use Rattle.payload_tables.specs.Extents.{IsExtentOf, IsFront};
 
 use crate::fault::TableFault;
 use batch_codec::BatchRef;
-use flat_segments::FlatTable;
-use high_segments::Levels;
+use flat_segments::{FlatFault, FlatTable};
+use high_segments::{Levels, LevelsMark};
 use name_map::NameMap;
+use std::alloc::AllocError;
 
 /// Adds records to the table and brings its levels to those of the table with them. The levels come first, since they are
 /// brought on from the table as it was. Want of memory changes neither.
-pub(crate) fn extend_table(
+fn extend_table(
     flat: &mut FlatTable,
     levels: &mut Levels,
     bytes: &[u8],
     records: &[u8],
     at: u64,
-) -> Result<(), TableFault>
+) -> Result<(), AllocError>
     requires records { MayExtend levels.old flat.old bytes.now records.now }
     requires place { at + length records.now < 2 ^ 63 }
     ensures table { OnOk result ((before : List PlacedSegment) (segments : List Segment) → MayFollow flat.old bytes.now records.now before segments
@@ -39,18 +43,67 @@ pub(crate) fn extend_table(
     ensures levels { OnOk result ((before : List PlacedSegment) (segments : List Segment) → MayFollow flat.old bytes.now records.now before segments
         → AreLevelsOf levels.old (flats_of flat.old before) → AreLevelsOf levels.new (flats_of flat.new (before ++ placed_segments at segments))) }
     ensures front { OnOk result (AllFront levels.old.levels levels.new.levels) }
-    ensures taken { (result ≡ Err Unlawful) → ⊥ }
     ensures unchanged { OnErr result ((flat.new ≡ flat.old) × (levels.new ≡ levels.old)) }
 {
     let mark = levels.mark();
     levels.extend(flat, bytes, records)?;
     match flat.extend(bytes, records, at) {
         Ok(()) => Ok(()),
-        Err(fault) => {
+        Err(FlatFault::Memory) => {
             levels.cut_back(&mark);
-            Err(TableFault::from(fault))
+            Err(AllocError)
         }
+        Err(FlatFault::BadSegment(_)) => unreachable!(),
     }
+}
+
+/// Adds the master records of a payload, which begin with the id behind those of the table, to the table and its levels, where the
+/// payloads that were added before stand in `bytes`. Want of memory changes neither.
+pub(crate) fn extend_segments(
+    flat: &mut FlatTable,
+    levels: &mut Levels,
+    bytes: &[u8],
+    batch: &BatchRef<'_>,
+    at: u64,
+) -> Result<(), AllocError>
+    requires room { at + length (payload_bytes 1 (payload_of batch.now)) < 2 ^ 63 }
+    requires table { (added : List Placed) × HaveMasters flat.old levels.old added × AllStand bytes.now added }
+    requires follows { (payload_of batch.now).before ≡ flat.old.end }
+    ensures rows { (added : List Placed) → HaveMasters flat.old levels.old added → AllStand bytes.now added → OnOk result (HaveMasters flat.new levels.new (added ++ placed at batch.now ∷ [])) }
+    ensures front { OnOk result (IsFront flat.old levels.old flat.new levels.new) }
+    ensures unchanged { OnErr result ((flat.new ≡ flat.old) × (levels.new ≡ levels.old)) }
+{
+    batch.is_payload();
+    let masters = batch.master_segments();
+    extend_table(flat, levels, bytes, masters.bytes(), at + masters.start())?;
+    Ok(())
+}
+
+/// How much a table and its levels had.
+#[derive(Drop)]
+pub(crate) struct Extent {
+    len: usize,
+    count: u64,
+    levels: LevelsMark,
+}
+
+/// How much the table and its levels have.
+fn extent_of(flat: &FlatTable, levels: &Levels) -> Extent
+    ensures { IsExtentOf result flat.now levels.now }
+{
+    Extent {
+        len: flat.len(),
+        count: flat.count(),
+        levels: levels.mark(),
+    }
+}
+
+/// Takes back what was added to the table and its levels since they had so much.
+fn cut_back(flat: &mut FlatTable, levels: &mut Levels, extent: &Extent)
+    ensures { (old : Kept) (row : KeptLevels) → IsExtentOf extent.now old row → IsFront old row flat.old levels.old → (flat.new ≡ old) × (levels.new ≡ row) }
+{
+    flat.cut_back(extent.len, extent.count);
+    levels.cut_back(&extent.levels);
 }
 
 /// Adds a payload to all three, where those that were added before stand in `bytes`. A refusal changes none: what the table
@@ -76,17 +129,12 @@ pub(crate) fn extend_masters(
         → AreDistinct (names_with (payloads_of added) (payload_of batch.now)) → ⊥ }
     ensures unchanged { OnErr result ((flat.new ≡ flat.old) × (levels.new ≡ levels.old) × (names.new ≡ names.old)) }
 {
-    batch.is_payload();
-    let len = flat.len();
-    let count = flat.count();
-    let mark = levels.mark();
-    let masters = batch.master_segments();
-    extend_table(flat, levels, bytes, masters.bytes(), at + masters.start())?;
+    let extent = extent_of(flat, levels);
+    extend_segments(flat, levels, bytes, batch, at)?;
     match names.add_batch(bytes, batch, at) {
         Ok(()) => Ok(()),
         Err(fault) => {
-            flat.cut_back(len, count);
-            levels.cut_back(&mark);
+            cut_back(flat, levels, &extent);
             Err(TableFault::from(fault))
         }
     }
@@ -101,7 +149,7 @@ pub(crate) fn extend_lawful(
     bytes: &[u8],
     batch: &BatchRef<'_>,
     at: u64,
-) -> Result<(), TableFault>
+) -> Result<(), AllocError>
     requires room { at + length (payload_bytes 1 (payload_of batch.now)) < 2 ^ 63 }
     requires tables { (added : List Placed) × AreMastersOf flat.old levels.old names.old added × AllStand bytes.now added }
     requires follows { (payload_of batch.now).before ≡ names.old.masters }
@@ -111,21 +159,15 @@ pub(crate) fn extend_lawful(
         → OnOk result (AreLevelsOf levels.new (flats_of flat.new (master_records (added ++ placed at batch.now ∷ [])))) }
     ensures names { (added : List Placed) → AreMastersOf flat.old levels.old names.old added → AllStand bytes.now added
         → AreDistinct (names_with (payloads_of added) (payload_of batch.now)) → OnOk result (IsMapOf names.new (added ++ placed at batch.now ∷ [])) }
-    ensures taken { result ≡ Err Unlawful → ⊥ }
     ensures unchanged { OnErr result ((flat.new ≡ flat.old) × (levels.new ≡ levels.old) × (names.new ≡ names.old)) }
 {
-    batch.is_payload();
-    let len = flat.len();
-    let end = flat.count();
-    let mark = levels.mark();
-    let masters = batch.master_segments();
-    extend_table(flat, levels, bytes, masters.bytes(), at + masters.start())?;
+    let extent = extent_of(flat, levels);
+    extend_segments(flat, levels, bytes, batch, at)?;
     match names.add_new(bytes, batch, at) {
         Ok(()) => Ok(()),
-        Err(refused) => {
-            flat.cut_back(len, end);
-            levels.cut_back(&mark);
-            Err(TableFault::from(refused))
+        Err(AllocError) => {
+            cut_back(flat, levels, &extent);
+            Err(AllocError)
         }
     }
 }

@@ -8,9 +8,9 @@ ghost use Rattle.flat_segments.specs.Kept.{IsSectionOf, MayPush};
 ghost use Rattle.std.specs.List.{AllByRecursion};
 ghost use Rattle.id_groups.specs.Name.{Name as NameBytes, IsName};
 ghost use Rattle.batch_codec.specs.Payload.{names_bytes};
-ghost use Rattle.payload_tables.specs.Pending.{IdRow, HoldsRows, MayPushRow, FindsRow, FindsNames};
+ghost use Rattle.payload_tables.specs.Pending.{IdRow, HoldsRows, MayPushRow, FindsRow, FindsNames, IsRecordOf, row_segment};
 
-use crate::piece::piece;
+use crate::piece::{copied, piece};
 use flat_segments::Section;
 use id_groups::{Id, Name, NameRef};
 use name_index::{IndexFault, NameIndex};
@@ -136,6 +136,19 @@ fn add_parts(
     added
 }
 
+/// How many bytes of a row's record stand before the numbers of its parents: the flags, the level, its id in eight bytes, the
+/// span, and how many parents there are, which is at most eight.
+const BEFORE_PARENTS: usize = 12;
+
+/// The segment of a row's record. What is known of it isn't read.
+fn segment_of_row<'a>(written: &'a [u8], id: Id) -> SegmentRef<'a>
+    requires { (parents : List ℕ) × IsRecordOf id parents written.now }
+    ensures { (parents : List ℕ) → IsRecordOf id parents written.now → segment_of result ≡ row_segment id parents }
+{
+    let (_, numbers) = written.split_at(BEFORE_PARENTS);
+    SegmentRef::flat(id, id, numbers)
+}
+
 /// The parents of the record at the place.
 fn parents_of(records: &[u8], place: u64) -> Option<Parents<'_>>
     requires { place ≤ length records.now }
@@ -174,9 +187,8 @@ impl PendingRows {
         let id = Id::other(self.first + self.places.len() as u64);
         let place = self.records.len();
         write_segment(&mut self.records, id, id, 0, parents)?;
-        let Some((segment, _)) = read_segment(&self.records[place..]) else {
-            return Ok(());
-        };
+        let (_, written) = self.records.split_at(place);
+        let segment = segment_of_row(written, id);
         let added = add_parts(
             &mut self.places,
             &mut self.names,
@@ -192,18 +204,23 @@ impl PendingRows {
         added
     }
 
+    /// What the rows are found by once more: the section and the index.
+    fn copy_found(&self, alloc: Global) -> Result<(Section, NameIndex), AllocError>
+        ensures { IfOk result (λ copy. (copy.0 ≡ self.now.section) × (copy.1 ≡ self.now.index)) }
+    {
+        let section = self.section.copy(alloc)?;
+        let index = self.index.copy(alloc)?;
+        Ok((section, index))
+    }
+
     /// The same rows once more.
     pub fn copy(&self, alloc: Global) -> Result<PendingRows, AllocError>
         ensures { IfOk result (λ copy. copy ≡ self.now) }
     {
-        let mut records = Vec::with_capacity(alloc, self.records.len())?;
-        records.extend_from_slice(&self.records)?;
-        let mut places = Vec::with_capacity(alloc, self.places.len())?;
-        places.extend_from_slice(&self.places)?;
-        let mut names = Vec::with_capacity(alloc, self.names.len())?;
-        names.extend_from_slice(&self.names)?;
-        let section = self.section.copy(alloc)?;
-        let index = self.index.copy(alloc)?;
+        let records = copied(alloc, &self.records)?;
+        let places = copied(alloc, &self.places)?;
+        let names = copied(alloc, &self.names)?;
+        let (section, index) = self.copy_found(alloc)?;
         Ok(PendingRows {
             first: self.first,
             records,

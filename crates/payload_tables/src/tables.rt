@@ -2,13 +2,13 @@
 
 ghost use Rattle.std.specs.Prelude.{◌≡◌, ◌<◌, ◌+◌, ◌^◌, ◌++◌, ◌∷◌, [], List, length, ◌↔◌, IsTrue, IfOk, OnOk, OnErr, Err};
 ghost use Rattle.batch_codec.specs.Lent.{payload_of};
-ghost use Rattle.batch_codec.specs.Grammar.{MayFollow, head_names};
+ghost use Rattle.batch_codec.specs.Grammar.{MayFollow};
 ghost use Rattle.name_map.specs.Added.{Placed, AllStand, payloads_of};
 ghost use Rattle.name_map.specs.Adding.{placed};
 ghost use Rattle.batch_codec.specs.Payload.{payload_bytes};
 ghost use Rattle.payload_tables.specs.declared.fault.TableFault.TheVariants.{Unlawful};
 ghost use Rattle.segment_levels.specs.Kept.{AreLevelsOf};
-ghost use Rattle.payload_tables.specs.Kept.{AreTablesOf, by_kind};
+ghost use Rattle.payload_tables.specs.Kept.{AreTablesOf};
 ghost use Rattle.payload_tables.specs.Bases.{IsBaseOf};
 ghost use Rattle.id_groups.specs.Name.{Name as NameBytes, same_name};
 ghost use Rattle.commit_graph.specs.World.{World};
@@ -17,10 +17,12 @@ ghost use Rattle.segment_rules.specs.Flat.{flat_segments_of};
 ghost use Rattle.change_rules.specs.Tables.{StandFor, remote_heads, cloned_count};
 
 use crate::base::BaseRef;
+use crate::brought::Brought;
 use crate::fault::TableFault;
-use crate::heads::{has_heads, heads_of};
+use crate::heads::check_place;
 use crate::masters::{extend_lawful, extend_masters};
 use crate::others::OthersTable;
+use crate::piece::copied;
 use batch_codec::BatchRef;
 use flat_segments::FlatTable;
 use high_segments::Levels;
@@ -28,9 +30,6 @@ use id_groups::Name;
 use name_map::NameMap;
 use std::alloc::{AllocError, Global};
 use std::marker::Model;
-
-/// The kind of a clone's payload.
-pub(crate) const CLONE: u8 = 2;
 
 /// What is kept of the payloads of a log: the segments of all master ids with their levels, their names, and the other ids of
 /// the newest payload. Contracts see what is kept; of which payloads, `AreTablesOf` says.
@@ -51,23 +50,6 @@ impl Model for Tables {
     ghost Value = { PlainTables };
 
     ghost view = { λ t. record { flat = t.flat; levels = t.levels; names = t.names; others = t.others; heads = t.heads.items; cloned = t.cloned } };
-}
-
-/// Keeps what a clone brings: its heads, and how many commits came.
-pub(crate) fn keep_clone(
-    heads: &mut Vec<Name>,
-    cloned: &mut u64,
-    kind: u8,
-    own_heads: Vec<Name>,
-    own_count: u64,
-)
-    ensures heads { heads.new.items ≡ by_kind kind own_heads.items heads.old.items }
-    ensures cloned { cloned.new ≡ by_kind kind own_count cloned.old }
-{
-    if kind == CLONE {
-        *heads = own_heads;
-        *cloned = own_count;
-    }
 }
 
 impl Tables {
@@ -93,21 +75,6 @@ impl Tables {
         self.names.master_count() == 0 && self.others.count() == 0
     }
 
-    /// Whether the payload keeps the rules of a clone, if it is one: it comes first, and its heads are those by its segments.
-    fn has_place(&self, batch: &BatchRef<'_>) -> Result<bool, AllocError>
-        requires { (added : List Placed) × AreTablesOf self.now added }
-        ensures { (added : List Placed) → AreTablesOf self.now added → IfOk result (λ has. IsTrue has
-            ↔ ((payload_of batch.now).kind ≡ 2 → (added ≡ []) × ((payload_of batch.now).heads ≡ head_names (payload_of batch.now)))) }
-    {
-        if batch.kind() != CLONE {
-            return Ok(true);
-        }
-        if !self.is_empty() {
-            return Ok(false);
-        }
-        has_heads(self.alloc, batch)
-    }
-
     /// Adds a payload that stands, or will stand, at the place `at` in the log, where those that were added before stand in
     /// `bytes`. `Unlawful` comes exactly where it may not come behind these. A refusal changes nothing.
     pub fn add_batch(
@@ -124,14 +91,9 @@ impl Tables {
         ensures unchanged { OnErr result (self.new ≡ self.old) }
     {
         batch.is_payload();
-        if batch.before() != self.names.master_count() {
-            return Err(TableFault::Unlawful);
-        }
-        if !self.has_place(batch)? {
-            return Err(TableFault::Unlawful);
-        }
-        let others = OthersTable::read(self.alloc, batch, at)?;
-        let heads = heads_of(self.alloc, batch)?;
+        let is_first = self.is_empty();
+        check_place(self.alloc, batch, self.names.master_count(), is_first)?;
+        let brought = Brought::read(self.alloc, batch, at)?;
         extend_masters(
             &mut self.flat,
             &mut self.levels,
@@ -140,14 +102,7 @@ impl Tables {
             batch,
             at,
         )?;
-        self.others = others;
-        keep_clone(
-            &mut self.heads,
-            &mut self.cloned,
-            batch.kind(),
-            heads,
-            batch.after(),
-        );
+        brought.keep(batch, &mut self.others, &mut self.heads, &mut self.cloned);
         Ok(())
     }
 
@@ -158,17 +113,15 @@ impl Tables {
         bytes: &[u8],
         batch: &BatchRef<'_>,
         at: u64,
-    ) -> Result<(), TableFault>
+    ) -> Result<(), AllocError>
         requires room { at + length (payload_bytes 1 (payload_of batch.now)) < 2 ^ 63 }
         requires lawful { (added : List Placed) × AreTablesOf self.old added × AllStand bytes.now added × MayFollow (payloads_of added) (payload_of batch.now) }
         ensures added { (added : List Placed) → AreTablesOf self.old added → AllStand bytes.now added → MayFollow (payloads_of added) (payload_of batch.now)
             → OnOk result (AreTablesOf self.new (added ++ placed at batch.now ∷ [])) }
-        ensures taken { result ≡ Err Unlawful → ⊥ }
         ensures unchanged { OnErr result (self.new ≡ self.old) }
     {
         batch.is_payload();
-        let newest = OthersTable::read(self.alloc, batch, at)?;
-        let heads = heads_of(self.alloc, batch)?;
+        let brought = Brought::read(self.alloc, batch, at)?;
         extend_lawful(
             &mut self.flat,
             &mut self.levels,
@@ -177,14 +130,7 @@ impl Tables {
             batch,
             at,
         )?;
-        self.others = newest;
-        keep_clone(
-            &mut self.heads,
-            &mut self.cloned,
-            batch.kind(),
-            heads,
-            batch.after(),
-        );
+        brought.keep(batch, &mut self.others, &mut self.heads, &mut self.cloned);
         Ok(())
     }
 
@@ -211,16 +157,23 @@ impl Tables {
         &self.names
     }
 
-    /// The same tables once more.
-    pub fn copy(&self, alloc: Global) -> Result<Tables, AllocError>
-        ensures { IfOk result (λ copy. copy ≡ self.now) }
+    /// What is kept of the master ids once more: the table, its levels and the names.
+    fn copy_masters(&self, alloc: Global) -> Result<(FlatTable, Levels, NameMap), AllocError>
+        ensures { IfOk result (λ copy. (copy.0 ≡ self.now.flat) × (copy.1 ≡ self.now.levels) × (copy.2 ≡ self.now.names)) }
     {
         let flat = self.flat.copy(alloc)?;
         let levels = self.levels.copy(alloc)?;
         let names = self.names.copy(alloc)?;
+        Ok((flat, levels, names))
+    }
+
+    /// The same tables once more.
+    pub fn copy(&self, alloc: Global) -> Result<Tables, AllocError>
+        ensures { IfOk result (λ copy. copy ≡ self.now) }
+    {
+        let heads = copied(alloc, &self.heads)?;
         let others = self.others.copy(alloc)?;
-        let mut heads = Vec::with_capacity(alloc, self.heads.len())?;
-        heads.extend_from_slice(&self.heads)?;
+        let (flat, levels, names) = self.copy_masters(alloc)?;
         Ok(Tables {
             alloc,
             flat,

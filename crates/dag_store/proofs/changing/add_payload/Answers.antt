@@ -16,12 +16,12 @@ add_lawful-requires-clause-lawful c =
     let same = c.in-Some.ensures.only r.1 r.3.whole r.4 in
     (r.0, r.2.tables_of, subst (λ b. AllStand b r.0) (sym c.bytes-bytes.ensures.bytes) r.2.stand, subst (MayFollow (payloads_of r.0)) (sym same) r.3)
 
-pub returns-in-Ok-clause-added : goal.returns-in-Ok-clause-added
-returns-in-Ok-clause-added c = λ added last v m e.
+pub returns-clause-added : goal.returns-clause-added
+returns-clause-added c = λ added last v m e.
     let same = c.in-Some.ensures.only last m.whole e in
     let n = c.batch_count.ensures in let l = count-added c.args.log.now c.args.tables.now added v in
     let is = behind-is c.args.log.now added last (payload_of c.in-Some.batch) (length c.bytes-bytes.result.now + 8) (ap (λ b. length b + 8) c.bytes-bytes.ensures.bytes) same in (
-      subst (AreTablesOf c.add_lawful.new.self) is (c.in-Ok.ensures.added added v.tables_of (subst (λ b. AllStand b added) (sym c.bytes-bytes.ensures.bytes) v.stand) (subst (MayFollow (payloads_of added)) (sym same) m)),
+      subst (AreTablesOf c.add_lawful.new.self) is (c.in_ok-add_lawful.ensures.added added v.tables_of (subst (λ b. AllStand b added) (sym c.bytes-bytes.ensures.bytes) v.stand) (subst (MayFollow (payloads_of added)) (sym same) m)),
       subst (λ l. IsOnNewest l c.in_ok-session.session) is
           (c.in_ok-session.ensures added (subst (MayFollow (payloads_of added)) (sym same) m) (omega (arith, n, l))),
     )

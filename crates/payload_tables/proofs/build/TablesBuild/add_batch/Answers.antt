@@ -1,10 +1,12 @@
-use Rattle.std.proofs.Common.{◌∙◌, ℕ, Err, ap, sym, subst}
+use Rattle.std.proofs.Common.{◌∙◌, Err, ap, sym, subst}
 use Rattle.batch_codec.specs.Lent.{payload_of}
 use Rattle.name_map.specs.Added.{payloads_of}
 use Rattle.name_map.specs.Adding.{placed}
-use Rattle.payload_tables.specs.Kept.{by_kind}
+use Rattle.payload_tables.specs.Kept.{PlainOthers, AreOthersOf, by_kind}
 use Rattle.payload_tables.specs.Build.{PlainBuild, ArePartsOf}
 use Rattle.payload_tables.proofs.Building.{build-more, fault-same, own-names}
+use Rattle.payload_tables.proofs.Following.{clone-rule}
+use Rattle.name_map.specs.Build.{IsBuildOf as AreNamesOf}
 use Rattle.payload_tables.proofs.build.TablesBuild.add_batch.Goals as goal
 
 pub returns-in_err-add_masters-clause-unlawful : goal.returns-in_err-add_masters-clause-unlawful
@@ -12,19 +14,25 @@ returns-in_err-add_masters-clause-unlawful c = λ added b stand e may.
     let fault = fault-same c.from_residual-in_err-add_masters.result c.in_err-add_masters.field-0.0 c.from_residual-in_err-add_masters.ensures.1 e in
     c.in_err-add_masters.ensures.unlawful (ap Err fault) (own-names (payloads_of added) (payload_of c.args.batch.now) may)
 
+pub returns-in_err-check_place-clause-unlawful : goal.returns-in_err-check_place-clause-unlawful
+returns-in_err-check_place-clause-unlawful c = λ added b stand e may.
+    let fault = fault-same c.from_residual.result c.in_err-check_place.field-0.0 c.from_residual.ensures.1 e in
+    let names = subst (λ (z : PlainBuild). AreNamesOf z.names added) (sym c.self.view_is) b.parts.names_of in
+    c.in_err-check_place.ensures.unlawful (ap Err fault)
+    (may.count ∙ sym names.masters ∙ sym c.master_count.ensures)
+    (λ k. let r = clone-rule added (payload_of c.args.batch.now) may k in ((c.is_empty-is_first.ensures added names).1 r.0, r.1))
+
 pub returns-clause-added : goal.returns-clause-added
 returns-clause-added c = λ added b stand.
     let p = payload_of c.args.batch.now in
     let parts = subst (λ (z : PlainBuild). ArePartsOf z.flat z.levels z.names added) (sym c.self.view_is) b.parts in
     build-more c.args.self.now _ added (placed c.args.at c.args.batch.now) b c.is_payload.ensures.payload
-    ((c.in_ok-has_place.ensures added b).0 c.if-not-branch.false)
+    (λ e. let h = c.in_ok-check_place.ensures.place.1 e in ((c.is_empty-is_first.ensures added parts.names_of).0 h.0, h.1))
     (record {
       flat = c.in_ok-add_masters.ensures.table added parts stand;
       levels_of = c.in_ok-add_masters.ensures.levels added parts stand;
       names_of = c.in_ok-add_masters.ensures.names added parts;
     })
-    c.in_ok-others.ensures
-    (c.keep_clone.ensures.heads ∙ ap (λ k. by_kind k c.in_ok-heads.heads.items c.self.inside.heads.items) c.kind.ensures ∙ ap (λ l. by_kind p.kind l c.self.inside.heads.items) c.in_ok-heads.ensures
-    ∙ ap (λ (z : PlainBuild). by_kind p.kind p.heads z.heads) c.self.view_is)
-    (c.keep_clone.ensures.cloned ∙ ap (λ k. by_kind k c.after.result c.self.inside.cloned) c.kind.ensures ∙ ap (λ (n : ℕ). by_kind p.kind n c.self.inside.cloned) c.after.ensures
-    ∙ ap (λ (z : PlainBuild). by_kind p.kind p.after z.cloned) c.self.view_is)
+    (λ d. subst (λ (o : PlainOthers). AreOthersOf o (placed c.args.at c.args.batch.now)) (sym c.keep.ensures.others) (c.in_ok-brought.ensures.others d))
+    (c.keep.ensures.heads ∙ ap (λ l. by_kind p.kind l c.self.inside.heads.items) c.in_ok-brought.ensures.heads ∙ ap (λ (z : PlainBuild). by_kind p.kind p.heads z.heads) c.self.view_is)
+    (c.keep.ensures.cloned ∙ ap (λ (z : PlainBuild). by_kind p.kind p.after z.cloned) c.self.view_is)

@@ -1,7 +1,7 @@
-use Rattle.std.proofs.Common.{◌∙◌, ℕ, ap, sym, subst}
+use Rattle.std.proofs.Common.{◌∙◌, ap, sym, subst}
 use Rattle.batch_codec.specs.Lent.{payload_of}
 use Rattle.name_map.specs.Adding.{placed}
-use Rattle.payload_tables.specs.Kept.{PlainTables, AreMastersOf, by_kind}
+use Rattle.payload_tables.specs.Kept.{PlainTables, PlainOthers, AreMastersOf, AreOthersOf, by_kind}
 use Rattle.payload_tables.proofs.Following.{tables-more, clone-rule}
 use Rattle.payload_tables.proofs.tables.Tables.add_lawful.Goals as goal
 
@@ -17,8 +17,7 @@ returns-clause-added c = λ added t stand f.
     subst (λ (z : PlainTables). AreMastersOf z.flat z.levels z.names added) (sym c.self.view_is) (record { lawful = t.lawful; flat = t.flat; levels_of = t.levels; names = t.names }) in
     tables-more c.args.self.now _ added (placed c.args.at c.args.batch.now) t c.is_payload.ensures.payload
     (f.count ∙ sym t.names.masters) (clone-rule added p f)
-    (c.in_ok-extend_lawful.ensures.table added masters stand) (c.in_ok-extend_lawful.ensures.levels added masters stand) (c.in_ok-extend_lawful.ensures.names added masters stand f.distinct) f.distinct c.in_ok-newest.ensures
-    (c.keep_clone.ensures.heads ∙ ap (λ k. by_kind k c.in_ok-heads.heads.items c.self.inside.heads.items) c.kind.ensures ∙ ap (λ l. by_kind p.kind l c.self.inside.heads.items) c.in_ok-heads.ensures
-    ∙ ap (λ (z : PlainTables). by_kind p.kind p.heads z.heads) c.self.view_is)
-    (c.keep_clone.ensures.cloned ∙ ap (λ k. by_kind k c.after.result c.self.inside.cloned) c.kind.ensures ∙ ap (λ (n : ℕ). by_kind p.kind n c.self.inside.cloned) c.after.ensures
-    ∙ ap (λ (z : PlainTables). by_kind p.kind p.after z.cloned) c.self.view_is)
+    (c.in_ok-extend_lawful.ensures.table added masters stand) (c.in_ok-extend_lawful.ensures.levels added masters stand) (c.in_ok-extend_lawful.ensures.names added masters stand f.distinct) f.distinct
+    (λ d. subst (λ (o : PlainOthers). AreOthersOf o (placed c.args.at c.args.batch.now)) (sym c.keep.ensures.others) (c.in_ok-brought.ensures.others d))
+    (c.keep.ensures.heads ∙ ap (λ l. by_kind p.kind l c.self.inside.heads.items) c.in_ok-brought.ensures.heads ∙ ap (λ (z : PlainTables). by_kind p.kind p.heads z.heads) c.self.view_is)
+    (c.keep.ensures.cloned ∙ ap (λ (z : PlainTables). by_kind p.kind p.after z.cloned) c.self.view_is)

@@ -1,0 +1,53 @@
+//! What a payload brings beside its master ids.
+
+ghost use Rattle.std.specs.Prelude.{◌≡◌, ◌<◌, ◌+◌, ◌^◌, length, IfOk};
+ghost use Rattle.id_groups.specs.Lists.{AreDistinct};
+ghost use Rattle.batch_codec.specs.Lent.{payload_of};
+ghost use Rattle.batch_codec.specs.Payload.{payload_bytes};
+ghost use Rattle.name_map.specs.Adding.{placed};
+ghost use Rattle.payload_tables.specs.Kept.{AreOthersOf, by_kind};
+
+use crate::heads::{CLONE, heads_of};
+use crate::others::OthersTable;
+use batch_codec::BatchRef;
+use id_groups::Name;
+use std::alloc::{AllocError, Global};
+
+/// The other ids of a payload, and the heads that it lists.
+#[derive(Drop)]
+pub(crate) struct Brought {
+    others: OthersTable,
+    heads: Vec<Name>,
+}
+
+impl Brought {
+    /// What the payload brings, which stands, or will stand, at the place `at` in the log.
+    pub(crate) fn read(alloc: Global, batch: &BatchRef<'_>, at: u64) -> Result<Brought, AllocError>
+        requires { at + length (payload_bytes 1 (payload_of batch.now)) < 2 ^ 63 }
+        ensures others { IfOk result (λ brought. AreDistinct (payload_of batch.now).other_names → AreOthersOf brought.others (placed at batch.now)) }
+        ensures heads { IfOk result (λ brought. brought.heads.items ≡ (payload_of batch.now).heads) }
+    {
+        let others = OthersTable::read(alloc, batch, at)?;
+        let heads = heads_of(alloc, batch)?;
+        Ok(Brought { others, heads })
+    }
+
+    /// Keeps the other ids; of a clone also its heads, and how many commits came.
+    pub(crate) fn keep(
+        self,
+        batch: &BatchRef<'_>,
+        others: &mut OthersTable,
+        heads: &mut Vec<Name>,
+        cloned: &mut u64,
+    )
+        ensures others { others.new ≡ self.others }
+        ensures heads { heads.new.items ≡ by_kind (payload_of batch.now).kind self.heads.items heads.old.items }
+        ensures cloned { cloned.new ≡ by_kind (payload_of batch.now).kind (payload_of batch.now).after cloned.old }
+    {
+        *others = self.others;
+        if batch.kind() == CLONE {
+            *heads = self.heads;
+            *cloned = batch.after();
+        }
+    }
+}
