@@ -2,17 +2,8 @@
 use Rattle.std.proofs.Common.{◌≡◌, ◌<◌, ◌≤◌, ℕ, suc, ◌+◌, ◌-◌, ◌*◌, List, [], ◌∷◌, ◌++◌, length, map, take, drop, get_or, sym, ap, ap₂, ◌∙◌, append_assoc, arith}
 use Rattle.std.proofs.lemmas.List.{take_more, map-append, length-map, length-take-le}
 use Rattle.id_groups.specs.Name.{Name}
-use Rattle.segment_codec.specs.Record.{Segment}
 use Rattle.batch_codec.specs.Payload.{Known}
-use Rattle.flush_rebuild.specs.Flat.{Span}
-use Rattle.flush_rebuild.specs.Moves.{flat_record}
 use Rattle.change_rules.specs.Change.{known_from}
-
-pub run-more : (front : List Segment) (runs : List Span) (i : ℕ) (r : Span) (s : Segment) → i < length runs → r ≡ get_or runs i r → s ≡ flat_record r
-    → (front ++ map flat_record (take i runs)) ++ s ∷ [] ≡ front ++ map flat_record (take (i + 1) runs)
-run-more front runs i r s lt e f =
-    ap (λ z. (front ++ map flat_record (take i runs)) ++ z ∷ []) (f ∙ ap flat_record e) ∙ append_assoc front (map flat_record (take i runs)) (flat_record (get_or runs i r) ∷ [])
-    ∙ ap (λ l. front ++ l) (sym (ap (map flat_record) (take_more runs i r lt) ∙ map-append flat_record (take i runs) (get_or runs i r ∷ [])))
 
 known-last : (n : ℕ) (xs : List Name) (x : Name) → known_from n (xs ++ x ∷ []) ≡ known_from n xs ++ record { id = n + length xs; name = x } ∷ []
 known-last n [] x = ap (λ k. record { id = k; name = x } ∷ []) (let z : n ≡ n + 0 = omega arith in z)

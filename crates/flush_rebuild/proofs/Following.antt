@@ -1,8 +1,8 @@
 -- The tables that follow a flush stand for the world after it.
-use Rattle.std.proofs.Common.{◌≡◌, ◌<◌, ◌≤◌, ℕ, ◌+◌, Bool, true, false, ◌⊎◌, inl, inr, List, [], ◌∷◌, ◌++◌, length, Option, Some, None, is_some, Result, Ok, Err, refl, sym, ap, subst, ◌∙◌, ⊎_elim, arith, true≢false, if◌then◌else◌, length-append}
+use Rattle.std.proofs.Common.{◌≡◌, ◌<◌, ◌≤◌, ℕ, ◌+◌, Bool, true, false, List, [], ◌∷◌, ◌++◌, length, Option, Some, None, is_some, Result, Ok, Err, refl, sym, ap, subst, ◌∙◌, ⊎_elim, arith, true≢false, if◌then◌else◌, length-append}
 use Rattle.std.specs.Prelude.{IfOk}
 use Rattle.std.proofs.lemmas.List.{map-append}
-use Rattle.id_groups.specs.Lists.{IsIn, is_in, AreAllIn}
+use Rattle.id_groups.specs.Lists.{is_in, AreAllIn}
 use Rattle.id_groups.specs.Name.{Name, IsName, same_name}
 use Rattle.id_groups.proofs.Names.{same_name-exact, same_name-self}
 use Rattle.id_groups.proofs.Listing.{found}
@@ -20,7 +20,6 @@ use Rattle.change_rules.proofs.Lawful.{change-follows}
 use Rattle.change_rules.proofs.Changes.{change-stands}
 use Rattle.payload_tables.specs.Kept.{PlainTables, AreTablesOf}
 use Rattle.payload_tables.specs.Pending.{PlainPending}
-use Rattle.payload_tables.proofs.Lists.{names-length}
 use Rattle.flush_rebuild.specs.declared.plan.Change.{Change}
 use Rattle.flush_rebuild.specs.declared.fault.PlanFault.{PlanFault}
 use Rattle.flush_rebuild.specs.Plans.{MayFlush, IsPlanOf, IsChangeOf, IsStorable, MayBeStored, first_unknown, unknown_fault, first_of, size_refusal, flush_refusal}

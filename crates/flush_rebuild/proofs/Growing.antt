@@ -1,14 +1,13 @@
 -- Flat segments, one id after another.
-use Rattle.std.proofs.Common.{◌≡◌, ◌<◌, ℕ, zero, suc, ◌+◌, ◌^◌, Bool, true, false, List, [], ◌∷◌, ◌++◌, length, map, take, set, get_or, refl, sym, ap, ◌∙◌, if◌then◌else◌, arith, nat_eq}
+use Rattle.std.proofs.Common.{◌≡◌, ◌<◌, ℕ, zero, suc, ◌+◌, ◌^◌, Bool, true, false, List, [], ◌∷◌, ◌++◌, length, map, take, drop, get_or, refl, sym, ap, subst, ◌∙◌, if◌then◌else◌, append-nil, append_assoc, arith, nat_eq}
 use Rattle.std.specs.Cmp.Lexicographic.{pointwise}
-use Rattle.std.proofs.lemmas.List.{take_more, map-append, length-map, length-take-le}
+use Rattle.std.proofs.lemmas.List.{take_more, map-append, length-map, length-take-le, take-append-drop}
 use Rattle.std.specs.List.{AllByRecursion}
 use Rattle.id_groups.specs.Id.{other_id}
 use Rattle.segment_codec.specs.Record.{Segment}
 use Rattle.segment_codec.specs.Table.{IsLawful, parents_at}
 use Rattle.segment_codec.proofs.Tables.{parent-below}
 use Rattle.commit_graph.proofs.Naming.{all-each}
-use Rattle.commit_graph.proofs.Places.{chosen, left-out}
 use Rattle.flush_rebuild.specs.Flat.{Span, single, with_id, flat_segments}
 use Rattle.flush_rebuild.specs.Moves.{grown}
 
@@ -19,34 +18,6 @@ any-default (x ∷ xs) (suc i) a b lt = any-default xs i a b (omega (arith, lt))
 
 ending : Span → ℕ → Span
 ending s id = record { low = s.low; high = id; parents = s.parents }
-
-grown-at : (runs : List Span) (i id : ℕ) (ps : List ℕ) (s : Span) → i + 1 ≡ length runs → s ≡ get_or runs i s → pointwise nat_eq ps (s.high ∷ []) ≡ true
-    → set runs i (record { low = s.low; high = id; parents = s.parents }) ≡ grown runs id ps
-grown-at [] i id ps s e f t = absurd (omega (arith, e))
-grown-at (r ∷ []) zero id ps s e f t =
-    ap (λ (z : Span). record { low = z.low; high = id; parents = z.parents } ∷ []) f
-    ∙ sym (chosen (pointwise nat_eq ps (r.high ∷ [])) (record { low = r.low; high = id; parents = r.parents } ∷ []) (r ∷ single id ps ∷ []) (ap (λ (z : Span). pointwise nat_eq ps (z.high ∷ [])) (sym f) ∙ t))
-grown-at (r ∷ []) (suc i) id ps s e f t = absurd (omega (arith, e))
-grown-at (r ∷ q ∷ more) zero id ps s e f t = absurd (omega (arith, e))
-grown-at (r ∷ q ∷ more) (suc i) id ps s e f t = ap (λ l. r ∷ l) (grown-at (q ∷ more) i id ps s (omega (arith, e)) f t)
-
-pub grown-last : (runs : List Span) (i id : ℕ) (ps : List ℕ) (s t : Span) → i + 1 ≡ length runs → s ≡ get_or runs i s → t ≡ get_or runs i t → pointwise nat_eq ps (s.high ∷ []) ≡ true
-    → set runs i (record { low = t.low; high = id; parents = t.parents }) ≡ grown runs id ps
-grown-last runs i id ps s t e f g test =
-    ap (λ (z : Span). set runs i (record { low = z.low; high = id; parents = z.parents })) (g ∙ any-default runs i t s (omega (arith, e)) ∙ sym f) ∙ grown-at runs i id ps s e f test
-
-pub grown-more : (runs : List Span) (i id : ℕ) (ps : List ℕ) (s : Span) → i + 1 ≡ length runs → s ≡ get_or runs i s → pointwise nat_eq ps (s.high ∷ []) ≡ false
-    → runs ++ single id ps ∷ [] ≡ grown runs id ps
-grown-more [] i id ps s e f t = absurd (omega (arith, e))
-grown-more (r ∷ []) zero id ps s e f t =
-    sym (left-out (pointwise nat_eq ps (r.high ∷ [])) (record { low = r.low; high = id; parents = r.parents } ∷ []) (r ∷ single id ps ∷ []) (ap (λ (z : Span). pointwise nat_eq ps (z.high ∷ [])) (sym f) ∙ t))
-grown-more (r ∷ []) (suc i) id ps s e f t = absurd (omega (arith, e))
-grown-more (r ∷ q ∷ more) zero id ps s e f t = absurd (omega (arith, e))
-grown-more (r ∷ q ∷ more) (suc i) id ps s e f t = ap (λ l. r ∷ l) (grown-more (q ∷ more) i id ps s (omega (arith, e)) f t)
-
-pub grown-none : (runs : List Span) (id : ℕ) (ps : List ℕ) → length runs ≡ 0 → runs ++ single id ps ∷ [] ≡ grown runs id ps
-grown-none [] id ps e = refl
-grown-none (r ∷ runs) id ps e = absurd (omega (arith, e))
 
 -- The segments of one id more are those with it behind them.
 
@@ -84,9 +55,6 @@ with-grown id last ps qs (q ∷ more) r = by_test (pointwise nat_eq r.parents (i
     by_test true = refl
     by_test false = refl
 
-first-two : (id last : ℕ) (ps qs : List ℕ) → last ≡ id + 1 → with_id id ps (single last qs ∷ []) ≡ grown (single id ps ∷ []) last qs
-first-two id last ps qs e = refl
-
 pub flat-grown : (first last : ℕ) (ps : List (List ℕ)) (q : List ℕ) → last ≡ first + length ps → flat_segments first (ps ++ q ∷ []) ≡ grown (flat_segments first ps) last q
 flat-grown first last [] q e = ap (λ n. single n q ∷ []) (let f : first ≡ last = omega (arith, e) in f)
 flat-grown first last (p ∷ ps) q e =
@@ -107,3 +75,56 @@ runs-next first last f numbers i runs lt e h =
 
 pub below-parents : (flats : List Segment) → IsLawful flats → (k n : ℕ) → k < n → AllByRecursion (λ p. p < 2 ^ 56 + n) (parents_at flats (other_id k))
 below-parents flats lawful k n lt = all-each (λ p. p < 2 ^ 56 + n) (parents_at flats (other_id k)) (λ p i. let b = (parent-below flats lawful (other_id k) p i).0 in omega (arith, b, lt))
+
+-- The last of the segments goes on by an id, or another begins behind it.
+pub grown-on : (done : List Span) (s : Span) (id : ℕ) (ps : List ℕ) → pointwise nat_eq ps (s.high ∷ []) ≡ true → grown (done ++ s ∷ []) id ps ≡ done ++ record { low = s.low; high = id; parents = s.parents } ∷ []
+grown-on [] s id ps e = grown-one s id ps true e
+grown-on (r ∷ []) s id ps e = ap (λ l. r ∷ l) (grown-one s id ps true e)
+grown-on (r ∷ t ∷ done) s id ps e = ap (λ l. r ∷ l) (grown-on (t ∷ done) s id ps e)
+
+pub grown-off : (done : List Span) (s : Span) (id : ℕ) (ps : List ℕ) → pointwise nat_eq ps (s.high ∷ []) ≡ false → grown (done ++ s ∷ []) id ps ≡ (done ++ s ∷ []) ++ single id ps ∷ []
+grown-off [] s id ps e = grown-one s id ps false e
+grown-off (r ∷ []) s id ps e = ap (λ l. r ∷ l) (grown-one s id ps false e)
+grown-off (r ∷ t ∷ done) s id ps e = ap (λ l. r ∷ l) (grown-off (t ∷ done) s id ps e)
+
+-- segments before the last stay whatever comes behind
+grown-behind : (done : List Span) (t : Span) (tail : List Span) (last : ℕ) (q : List ℕ) → (u : Span) × (us : List Span) × (grown (done ++ t ∷ tail) last q ≡ done ++ u ∷ us)
+grown-behind [] t [] last q = by_test (pointwise nat_eq q (t.high ∷ [])) refl
+  where
+    by_test : (b : Bool) → pointwise nat_eq q (t.high ∷ []) ≡ b → (u : Span) × (us : List Span) × (grown (t ∷ []) last q ≡ u ∷ us)
+    by_test true e = (record { low = t.low; high = last; parents = t.parents }, [], grown-one t last q true e)
+    by_test false e = (t, single last q ∷ [], grown-one t last q false e)
+grown-behind [] t (v ∷ tail) last q = (t, grown (v ∷ tail) last q, refl)
+grown-behind (r ∷ []) t tail last q = let g = grown-behind [] t tail last q in (g.0, g.1, ap (λ l. r ∷ l) g.2)
+grown-behind (r ∷ s ∷ done) t tail last q = let g = grown-behind (s ∷ done) t tail last q in (g.0, g.1, ap (λ l. r ∷ l) g.2)
+
+stays-front : (more : List (List ℕ)) (first : ℕ) (ps : List (List ℕ)) (done : List Span) (t : Span) (tail : List Span) → flat_segments first ps ≡ done ++ t ∷ tail
+    → (u : Span) × (us : List Span) × (flat_segments first (ps ++ more) ≡ done ++ u ∷ us)
+stays-front [] first ps done t tail e = (t, tail, ap (flat_segments first) (append-nil ps) ∙ e)
+stays-front (q ∷ more) first ps done t tail e =
+    let g = grown-behind done t tail (first + length ps) q in
+    let r = stays-front more first (ps ++ q ∷ []) done g.0 g.1 (flat-grown first (first + length ps) ps q refl ∙ ap (λ l. grown l (first + length ps) q) e ∙ g.2) in
+    (r.0, r.1, ap (flat_segments first) (sym (append_assoc ps (q ∷ []) more)) ∙ r.2)
+
+pub in-front : (P : Span → Type 0) (done : List Span) (s : Span) (xs : List Span) → AllByRecursion P ((done ++ s ∷ []) ++ xs) → P s
+in-front P [] s xs h = h.0
+in-front P (r ∷ done) s xs h = in-front P done s xs h.1
+
+pub last-in : (P : Span → Type 0) (done : List Span) (s : Span) → AllByRecursion P (done ++ s ∷ []) → P s
+last-in P [] s h = h.0
+last-in P (r ∷ done) s h = last-in P done s h.1
+
+-- a segment from which the next number doesn't go on is one of all
+pub run-segment : (P : Span → Type 0) (first : ℕ) (f : ℕ → List ℕ) (numbers : List ℕ) (i : ℕ) (done : List Span) (run : Span) → i < length numbers
+    → flat_segments first (map f (take i numbers)) ≡ done ++ run ∷ [] → pointwise nat_eq (f (get_or numbers i 0)) (run.high ∷ []) ≡ false
+    → AllByRecursion P (flat_segments first (map f numbers)) → P run
+run-segment P first f numbers i done run lt e test all =
+    let next = sym (runs-next first (first + i) f numbers i (flat_segments first (map f (take i numbers))) lt refl refl)
+    ∙ ap (λ l. grown l (first + i) (f (get_or numbers i 0))) e ∙ grown-off done run (first + i) (f (get_or numbers i 0)) test in
+    let r = stays-front (map f (drop (i + 1) numbers)) first (map f (take (i + 1) numbers)) (done ++ run ∷ []) (single (first + i) (f (get_or numbers i 0))) [] next in
+    let whole = sym (map-append f (take (i + 1) numbers) (drop (i + 1) numbers)) ∙ ap (map f) (take-append-drop (i + 1) numbers) in
+    in-front P done run (r.0 ∷ r.1) (subst (AllByRecursion P) (sym (ap (flat_segments first) whole) ∙ r.2) all)
+
+pub first-run : (first : ℕ) (f : ℕ → List ℕ) (numbers : List ℕ) → 0 < length numbers → flat_segments first (map f (take 1 numbers)) ≡ single first (f (get_or numbers 0 0)) ∷ []
+first-run first f [] lt = absurd (omega (arith, lt))
+first-run first f (k ∷ ks) lt = refl

@@ -21,3 +21,5 @@ pub mod LeftSoFar
 pub mod Stepping
 pub mod OnWorlds
 pub mod Following
+pub mod RowLemmas
+pub mod Changing

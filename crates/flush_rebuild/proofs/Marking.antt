@@ -15,7 +15,7 @@ use Rattle.commit_graph.proofs.Naming.{all-each}
 use Rattle.assign_ids.specs.Numbers.{AreBelow}
 use Rattle.assign_ids.proofs.NumberLemmas.{same-self, same-exact}
 use Rattle.name_map.specs.Part.{upward}
-use Rattle.flush_rebuild.specs.Moves.{node_of, nodes_in, rest_of, moved_id}
+use Rattle.flush_rebuild.specs.Moves.{node_of, rest_of, moved_id}
 use Rattle.flush_rebuild.proofs.Moving.{upward-below, below-filter}
 
 or-false : (b : Bool) → (b || false) ≡ b
@@ -93,11 +93,6 @@ upward-next first (suc n) m e = ap (upward first) e ∙ ap (λ l. first ∷ l) (
 
 pub nodes-next : (ids : List ℕ) (i x : ℕ) → i < length ids → x ≡ get_or ids i x → map node_of (take (i + 1) ids) ≡ map node_of (take i ids) ++ node_of x ∷ []
 nodes-next ids i x lt e = ap (map node_of) (take_more ids i x lt) ∙ map-append node_of (take i ids) (get_or ids i x ∷ []) ∙ ap (λ z. map node_of (take i ids) ++ node_of z ∷ []) (sym e)
-
-pub rows-next : (flats : List Segment) (k : ℕ) → nodes_in flats (k + 1) ≡ nodes_in flats k ++ map node_of (parents_at flats (other_id k)) ∷ []
-rows-next flats k = ap (map (λ j. map node_of (parents_at flats (other_id j)))) (upward-next 0 k (k + 1) (omega arith))
-    ∙ map-append (λ j. map node_of (parents_at flats (other_id j))) (upward 0 k) ((0 + k) ∷ [])
-    ∙ ap (λ j. nodes_in flats k ++ map node_of (parents_at flats (other_id j)) ∷ []) (let z : 0 + k ≡ k = omega arith in z)
 
 pub filter-next : (test : ℕ → Bool) (k : ℕ) → filter test (upward 0 (k + 1)) ≡ filter test (upward 0 k) ++ cond (test k) (k ∷ []) []
 filter-next test k = ap (filter test) (upward-next 0 k (k + 1) (omega arith)) ∙ filter-append test (upward 0 k) ((0 + k) ∷ [])

@@ -22,6 +22,7 @@ use Rattle.change_rules.specs.Tables.{StandFor, newest, other_names_in}
 use Rattle.payload_tables.specs.Kept.{PlainTables, AreTablesOf}
 use Rattle.payload_tables.specs.Pending.{IdRow, PlainPending, row_names, segments_from}
 use Rattle.flush_rebuild.specs.Plans.{MayMove}
+use Rattle.flush_rebuild.specs.Facts.{MoveFacts}
 use Rattle.name_map.specs.Added.{Placed, AllStand, payloads_of}
 use Rattle.flat_segments.specs.Placed.{Placed as PlacedSegment, placed}
 use Rattle.payload_tables.proofs.Basing.{table-end, base-others}
@@ -143,16 +144,6 @@ module _ (w : World Name) (rows : List (Row Name)) (whole : IsWorld (with_pendin
   new-others-rows = others-rows view whole small parents (name_at bytes) parents-are no-parents names-are heads known
 
 -- What the code has of a session, for a world that it may stand for.
-pub record MoveFacts (tables : PlainTables) (bytes : List ℕ) (pending : PlainPending) (numbers : List ℕ) (flats : List Segment) (names : List ℕ) (n before : ℕ) (w : World Name) (rows : List (Row Name)) (heads : List Name) : Type 0 where
-  pub may : MayMove tables bytes pending numbers w rows heads
-  pub segments : AreSegmentsOf (with_pending w rows) flats
-  pub names_are : names ≡ names_bytes (names_of (w.others ++ rows))
-  pub n_is : n ≡ length (w.others ++ rows)
-  pub before_is : before ≡ length w.master
-  pub small : length w.master ≤ 16777216
-  pub names_whole : AllByRecursion IsName (names_of (w.others ++ rows))
-  pub few : length (w.others ++ rows) ≤ 131072
-
 names-of-rows : (v : World Name) (rows : List (Row Name)) → row_names (map (id_row v) rows) ≡ names_of rows
 names-of-rows v [] = refl
 names-of-rows v (r ∷ rows) = ap (λ l. r.name ∷ l) (names-of-rows v rows)

@@ -17,7 +17,8 @@ use Rattle.change_rules.specs.Tables.{StandFor}
 use Rattle.payload_tables.specs.Bases.{ArePending, AreSegmentsOf}
 use Rattle.flush_rebuild.specs.Plans.{MayMove, over, first_of, length_with, size_refusal}
 use Rattle.payload_tables.proofs.Adding.{masters-fit}
-use Rattle.flush_rebuild.proofs.Planning.{MoveFacts, move-facts}
+use Rattle.flush_rebuild.specs.Facts.{MoveFacts}
+use Rattle.flush_rebuild.proofs.Planning.{move-facts}
 
 pub over-none : (limit m : ℕ) (which : Limit) → over limit m which ≡ None → m ≤ limit
 over-none limit m which e = ⊎_elim (λ le. le) (λ lt. absurd (true≢false (ap is_some (sym (ap (λ b. if b then Some (Full which limit) else None) (lt-ltb limit m lt)) ∙ e)))) (le-or-lt m limit)

@@ -41,7 +41,8 @@ use Rattle.change_rules.specs.Tables.{StandFor}
 use Rattle.payload_tables.specs.Bases.{MayBase, MayView, ArePending, id_row}
 use Rattle.payload_tables.proofs.Lists.{names-length}
 use Rattle.flush_rebuild.proofs.Moving.{by-numbers}
-use Rattle.flush_rebuild.proofs.Planning.{placed-long, segments-long, new-master-rows, new-others-rows, MoveFacts, listed-older, numbers-below, order-is, below-order, change-is, new-master, new-others}
+use Rattle.flush_rebuild.specs.Facts.{MoveFacts}
+use Rattle.flush_rebuild.proofs.Planning.{placed-long, segments-long, new-master-rows, new-others-rows, listed-older, numbers-below, order-is, below-order, change-is, new-master, new-others}
 
 module _ (tables : PlainTables) (bytes : List ℕ) (pending : PlainPending) (numbers : List ℕ) (flats : List Segment) (names : List ℕ) (n before : ℕ) (w : World Name) (rows : List (Row Name)) (heads : List Name)
     (f : MoveFacts tables bytes pending numbers flats names n before w rows heads) where

@@ -25,7 +25,7 @@ use Rattle.payload_tables.proofs.Lists.{names-length}
 use Rattle.change_rules.proofs.Flushes.{flush-grows, flush-keeps, name-in}
 use Rattle.change_rules.proofs.Lawful.{change-follows, history-distinct}
 use Rattle.payload_tables.proofs.Lists.{distinct-parts}
-use Rattle.flush_rebuild.proofs.Planning.{MoveFacts}
+use Rattle.flush_rebuild.specs.Facts.{MoveFacts}
 use Rattle.flush_rebuild.proofs.Sizing.{moving, next, next-named, Changes, f-change, f-some, f-same}
 
 names-of-known : (n : ℕ) (names : List Name) → map (λ k. k.name) (known_from n names) ≡ names

@@ -1,5 +1,5 @@
 -- The sections that were built are those of the change by numbers.
-use Rattle.std.proofs.Common.{◌≡◌, ◌<◌, ◌≤◌, ℕ, ◌+◌, ◌-◌, ◌^◌, List, [], ◌∷◌, length, map, slice_index, get_or, sym, ap, ap₂, ◌∙◌, ⊎_elim, arith}
+use Rattle.std.proofs.Common.{◌≡◌, ◌<◌, ◌≤◌, ℕ, ◌+◌, ◌-◌, ◌^◌, List, [], ◌∷◌, length, map, slice_index, get_or, refl, sym, ap, ap₂, subst, ◌∙◌, ⊎_elim, append-nil, arith}
 use Rattle.std.specs.List.{AllByRecursion}
 use Rattle.id_groups.specs.Name.{Name}
 use Rattle.id_groups.specs.Id.{is_master_id, other_id}
@@ -13,7 +13,12 @@ use Rattle.flush_rebuild.specs.Flat.{Span, flat_segments}
 use Rattle.flush_rebuild.specs.Moves.{flat_record}
 use Rattle.change_rules.specs.Change.{known_from}
 use Rattle.flush_rebuild.specs.Moves.{new_id, moved_id, moved_parents, rest_of, name_at, change_in}
+use Rattle.id_groups.specs.declared.id.Group.TheVariants.{Master, Others}
+use Rattle.batch_codec.specs.Building.{Building, IsBuilt}
+use Rattle.flush_rebuild.specs.Rows.{table_rows}
+use Rattle.flush_rebuild.specs.Sections.{with_spans}
 use Rattle.flush_rebuild.proofs.Moving.{map-in, map-below}
+use Rattle.flush_rebuild.proofs.RowLemmas.{rows-of}
 
 module _ (ids : List ℕ) (before n : ℕ) (order : List ℕ) (are : (k : ℕ) → k < n → get_or ids k 0 ≡ moved_id before n order (other_id k)) where
   new-is : (p : ℕ) → p < 2 ^ 56 + n → new_id ids p ≡ moved_id before n order p
@@ -70,3 +75,17 @@ pub spans-are : (flats : List Segment) → IsLawful flats → (ids deref : List 
     → spans ≡ flat_segments first (moved_parents before n order (λ k. parents_at flats (other_id k)) ks)
 spans-are flats lawful ids deref before n first order ks spans are below d e =
     e ∙ ap (λ l. flat_segments first (map (λ k. map (new_id l) (parents_at flats (other_id k))) ks)) d ∙ ap (flat_segments first) (parents-new ids before n order are flats lawful ks below)
+
+-- the same over the rows that were read of the table
+pub spans-of : (flats : List Segment) → IsLawful flats → (graph : List (List ℕ)) (ids deref : List ℕ) (before n first : ℕ) (order ks : List ℕ) → graph ≡ table_rows flats n
+    → ((k : ℕ) → k < n → get_or ids k 0 ≡ moved_id before n order (other_id k)) → AreBelow n ks → deref ≡ ids
+    → flat_segments first (map (λ k. map (new_id deref) (get_or graph k [])) ks) ≡ flat_segments first (moved_parents before n order (λ k. parents_at flats (other_id k)) ks)
+spans-of flats lawful graph ids deref before n first order ks g are below d =
+    ap (flat_segments first) (rows-of (map (new_id deref)) flats n graph ks g below) ∙ spans-are flats lawful ids deref before n first order ks _ are below d refl
+
+-- before any segment is added
+pub no-masters : (b : Building) (p : Payload) → IsBuilt b p → IsBuilt b (with_spans Master p [])
+no-masters b p is = subst (λ l. IsBuilt b (record p { master = l })) (sym (append-nil p.master)) is
+
+pub no-others : (b : Building) (p : Payload) → IsBuilt b p → IsBuilt b (with_spans Others p [])
+no-others b p is = subst (λ l. IsBuilt b (record p { others = l })) (sym (append-nil p.others)) is

@@ -4,3 +4,6 @@ pub mod Plans
 pub mod Asked
 pub mod Rebasing
 pub mod Following
+pub mod Rows
+pub mod Facts
+pub mod Sections

@@ -1,24 +1,24 @@
 //! The sections of a payload from runs and names.
 
-ghost use Rattle.std.specs.Prelude.{◌≡◌, ◌<◌, ◌≤◌, ◌+◌, ◌*◌, ◌^◌, ◌++◌, List, map, take, drop, length, IfOk, OnOk};
+ghost use Rattle.std.specs.Prelude.{◌≡◌, ◌<◌, ◌≤◌, ◌+◌, ◌*◌, ◌^◌, ◌++◌, [], List, map, take, drop, length, slice_index_or, IfOk, OnOk};
 ghost use Rattle.std.specs.List.{AllByRecursion};
-ghost use Rattle.segment_codec.specs.Record.{IsSegment};
+ghost use Rattle.segment_codec.specs.Record.{Segment, IsSegment};
 ghost use Rattle.batch_codec.specs.Payload.{Payload as PlainPayload, payload_bytes};
 ghost use Rattle.batch_codec.specs.Grammar.{IsPayload};
 ghost use Rattle.batch_codec.specs.Building.{IsBuilt};
 ghost use Rattle.assign_ids.specs.Numbers.{AreBelow};
 ghost use Rattle.flush_rebuild.specs.Moves.{flat_record};
 ghost use Rattle.change_rules.specs.Change.{known_from};
-ghost use Rattle.segment_codec.specs.Table.{parents_at};
-ghost use Rattle.id_groups.specs.Id.{other_id};
+ghost use Rattle.segment_codec.specs.Table.{IsLawful};
 ghost use Rattle.flush_rebuild.specs.Flat.{flat_segments};
 ghost use Rattle.flush_rebuild.specs.Moves.{name_at, new_id, rest_of, change_in};
+ghost use Rattle.flush_rebuild.specs.Rows.{table_rows, AreRowsBelow};
 
+use crate::graph::Graph;
 use crate::numbers::ids_of;
-use crate::runs::{Run, runs_of};
+use crate::runs::{Run, add_runs};
 use batch_codec::BatchBuild;
-use id_groups::{FIRST_OTHER, Id, NameRef};
-use segment_codec::SegmentTable;
+use id_groups::{FIRST_OTHER, Group, Id, NameRef};
 use std::alloc::{AllocError, Global};
 
 /// The kind of a flush's payload.
@@ -56,30 +56,6 @@ impl<'a> Names<'a> {
         }
         piece(self.pending, 20 * (k - self.count) as usize)
     }
-}
-
-/// Adds these runs of master ids.
-pub(crate) fn add_masters(build: &mut BatchBuild, runs: &[Run]) -> Result<(), AllocError>
-    requires { AllByRecursion (λ s. IsSegment (flat_record s)) runs.now }
-    ensures built { OnOk result ((p : PlainPayload) → IsBuilt build.old p → IsBuilt build.new (record p { master = p.master ++ map flat_record runs.now })) }
-    ensures count { build.new.other_count ≡ build.old.other_count }
-{
-    'runs: for run in runs {
-        build.segment(run.low, run.high, &run.parents)?;
-    }
-    Ok(())
-}
-
-/// Adds these runs of other ids.
-pub(crate) fn add_others(build: &mut BatchBuild, runs: &[Run]) -> Result<(), AllocError>
-    requires { AllByRecursion (λ s. IsSegment (flat_record s)) runs.now }
-    ensures built { OnOk result ((p : PlainPayload) → IsBuilt build.old p → IsBuilt build.new (record p { others = p.others ++ map flat_record runs.now })) }
-    ensures count { build.new.other_count ≡ build.old.other_count }
-{
-    'runs: for run in runs {
-        build.other_segment(run.low, run.high, &run.parents)?;
-    }
-    Ok(())
 }
 
 /// Adds the master ids from the first on, with the names of these numbers.
@@ -122,78 +98,110 @@ pub(crate) fn add_other_names(
 
 /// Adds the records and the known names of these numbers, which have the master ids from `before` on. `ids` has the new id of
 /// each number.
-fn add_master_section<T: SegmentTable>(
-    alloc: Global,
+fn add_master_section(
     build: &mut BatchBuild,
-    table: &T,
+    graph: &Graph,
     names: &Names<'_>,
     ids: &[Id],
     order: &[u32],
     before: u64,
+    run: &mut Run,
 ) -> Result<(), AllocError>
+    requires rows { AreRowsBelow (length ids.now) graph.now }
     requires names { AreBelow (names.now.count + names.now.more) order.now }
-    requires ids { AreBelow (length ids.now) order.now }
     requires room { before + length order.now ≤ 2 ^ 56 }
-    requires records { AllByRecursion (λ s. IsSegment (flat_record s)) (flat_segments before (map (λ k. map (new_id ids.now) (parents_at (T.flats table.now) (other_id k))) order.now)) }
+    requires records { AllByRecursion (λ s. IsSegment (flat_record s)) (flat_segments before (map (λ k. map (new_id ids.now) (slice_index_or graph.now k [])) order.now)) }
     ensures built { OnOk result ((p : PlainPayload) → IsBuilt build.old p → IsBuilt build.new (record p {
-      master = p.master ++ map flat_record (flat_segments before (map (λ k. map (new_id ids.now) (parents_at (T.flats table.now) (other_id k))) order.now));
+      master = p.master ++ map flat_record (flat_segments before (map (λ k. map (new_id ids.now) (slice_index_or graph.now k [])) order.now));
       known = p.known ++ known_from before (map (name_at (names.now.stored.now ++ names.now.pending.now)) order.now);
     })) }
     ensures count { build.new.other_count ≡ build.old.other_count }
 {
-    let runs = runs_of(alloc, table, ids, order, before)?;
-    add_masters(build, &runs)?;
+    add_runs(build, Group::Master, graph, ids, order, before, run)?;
     add_known(build, names, order, before)?;
     Ok(())
 }
 
 /// Adds the records and the names of these numbers, which are all that stay outside master, and counts them. `ids` has the new
 /// id of each number.
-fn add_others_section<T: SegmentTable>(
-    alloc: Global,
+fn add_others_section(
     build: &mut BatchBuild,
-    table: &T,
+    graph: &Graph,
     names: &Names<'_>,
     ids: &[Id],
     rest: &[u32],
+    run: &mut Run,
 ) -> Result<(), AllocError>
+    requires rows { AreRowsBelow (length ids.now) graph.now }
     requires names { AreBelow (names.now.count + names.now.more) rest.now }
     requires few { length rest.now < 2 ^ 32 }
-    requires ids { AreBelow (length ids.now) rest.now }
-    requires records { AllByRecursion (λ s. IsSegment (flat_record s)) (flat_segments (2 ^ 56) (map (λ k. map (new_id ids.now) (parents_at (T.flats table.now) (other_id k))) rest.now)) }
+    requires records { AllByRecursion (λ s. IsSegment (flat_record s)) (flat_segments (2 ^ 56) (map (λ k. map (new_id ids.now) (slice_index_or graph.now k [])) rest.now)) }
     ensures built { OnOk result ((p : PlainPayload) → IsBuilt build.old p → IsBuilt build.new (record p {
-      others = p.others ++ map flat_record (flat_segments (2 ^ 56) (map (λ k. map (new_id ids.now) (parents_at (T.flats table.now) (other_id k))) rest.now));
+      others = p.others ++ map flat_record (flat_segments (2 ^ 56) (map (λ k. map (new_id ids.now) (slice_index_or graph.now k [])) rest.now));
       other_names = p.other_names ++ map (name_at (names.now.stored.now ++ names.now.pending.now)) rest.now;
     })) }
     ensures count { OnOk result (build.new.other_count ≡ length rest.now) }
 {
-    let runs = runs_of(alloc, table, ids, rest, FIRST_OTHER)?;
-    add_others(build, &runs)?;
+    add_runs(build, Group::Others, graph, ids, rest, FIRST_OTHER, run)?;
     add_other_names(build, names, rest)?;
     build.other_count(rest.len() as u32)?;
     Ok(())
 }
 
-/// The payload of a flush in which the numbers of the order move behind so many master ids.
-pub(crate) fn payload_of<T: SegmentTable>(
+/// Adds the sections of the numbers that move and of the rest. `ids` has the new id of each.
+fn add_sections(
     alloc: Global,
-    table: &T,
+    build: &mut BatchBuild,
+    graph: &Graph,
+    names: &Names<'_>,
+    ids: &[Id],
+    before: u64,
+    order: &[u32],
+    rest: &[u32],
+) -> Result<(), AllocError>
+    requires rows { AreRowsBelow (length ids.now) graph.now }
+    requires order { AreBelow (names.now.count + names.now.more) order.now }
+    requires rest { AreBelow (names.now.count + names.now.more) rest.now }
+    requires room { before + length order.now ≤ 2 ^ 56 }
+    requires few { length rest.now < 2 ^ 32 }
+    requires master { AllByRecursion (λ s. IsSegment (flat_record s)) (flat_segments before (map (λ k. map (new_id ids.now) (slice_index_or graph.now k [])) order.now)) }
+    requires others { AllByRecursion (λ s. IsSegment (flat_record s)) (flat_segments (2 ^ 56) (map (λ k. map (new_id ids.now) (slice_index_or graph.now k [])) rest.now)) }
+    ensures built { OnOk result ((p : PlainPayload) → IsBuilt build.old p → IsBuilt build.new (record p {
+      master = p.master ++ map flat_record (flat_segments before (map (λ k. map (new_id ids.now) (slice_index_or graph.now k [])) order.now));
+      known = p.known ++ known_from before (map (name_at (names.now.stored.now ++ names.now.pending.now)) order.now);
+      others = p.others ++ map flat_record (flat_segments (2 ^ 56) (map (λ k. map (new_id ids.now) (slice_index_or graph.now k [])) rest.now));
+      other_names = p.other_names ++ map (name_at (names.now.stored.now ++ names.now.pending.now)) rest.now;
+    })) }
+    ensures count { OnOk result (build.new.other_count ≡ length rest.now) }
+{
+    let mut run = Run::blank(alloc);
+    add_master_section(build, graph, names, ids, order, before, &mut run)?;
+    add_others_section(build, graph, names, ids, rest, &mut run)?;
+    Ok(())
+}
+
+/// The payload of a flush in which the numbers of the order move behind so many master ids.
+pub(crate) fn payload_of(
+    alloc: Global,
+    graph: &Graph,
     names: &Names<'_>,
     before: u64,
     order: &[u32],
     rest: &[u32],
 ) -> Result<Vec<u8>, AllocError>
     requires numbers { names.now.count + names.now.more < 2 ^ 32 }
+    requires room { before + length order.now ≤ 2 ^ 56 }
     requires order { AreBelow (names.now.count + names.now.more) order.now }
     requires rest { rest.now ≡ rest_of (names.now.count + names.now.more) order.now }
-    requires payload { IsPayload (change_in (T.flats table.now) (names.now.stored.now ++ names.now.pending.now) before (names.now.count + names.now.more) order.now) }
-    ensures { IfOk result (λ payload. payload.items
-        ≡ payload_bytes 1 (change_in (T.flats table.now) (names.now.stored.now ++ names.now.pending.now) before (names.now.count + names.now.more) order.now)) }
+    requires payload { (flats : List Segment) × IsLawful flats × (graph.now ≡ table_rows flats (names.now.count + names.now.more))
+        × IsPayload (change_in flats (names.now.stored.now ++ names.now.pending.now) before (names.now.count + names.now.more) order.now) }
+    ensures { (flats : List Segment) → IsLawful flats → graph.now ≡ table_rows flats (names.now.count + names.now.more)
+        → IsPayload (change_in flats (names.now.stored.now ++ names.now.pending.now) before (names.now.count + names.now.more) order.now)
+        → IfOk result (λ payload. payload.items ≡ payload_bytes 1 (change_in flats (names.now.stored.now ++ names.now.pending.now) before (names.now.count + names.now.more) order.now)) }
 {
     let after = before + order.len() as u64;
     let ids = ids_of(alloc, before, names.count + names.more, order, rest)?;
     let mut build = BatchBuild::new(alloc, FLUSH, before, after)?;
-    add_master_section(alloc, &mut build, table, names, &ids, order, before)?;
-    add_others_section(alloc, &mut build, table, names, &ids, rest)?;
+    add_sections(alloc, &mut build, graph, names, &ids, before, order, rest)?;
     build.finish()
 }

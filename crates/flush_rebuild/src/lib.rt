@@ -5,6 +5,7 @@
 mod building;
 mod fault;
 mod flush;
+mod graph;
 mod laws;
 mod numbers;
 mod plan;

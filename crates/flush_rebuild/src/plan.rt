@@ -8,23 +8,26 @@ ghost use Rattle.commit_graph.specs.Ids.{id_in};
 ghost use Rattle.flush_rebuild.specs.declared.fault.PlanFault.TheVariants.{Memory};
 ghost use Rattle.assign_ids.specs.Numbers.{AreBelow, HaveOlderParents, others_of, order_of};
 ghost use Rattle.change_rules.specs.Flush.{flushed};
-ghost use Rattle.flush_rebuild.specs.Moves.{node_of, nodes_in, rest_of};
+ghost use Rattle.batch_codec.specs.Grammar.{AreLawful};
+ghost use Rattle.change_rules.specs.Tables.{StandFor};
+ghost use Rattle.flush_rebuild.specs.Facts.{IsMove};
+ghost use Rattle.flush_rebuild.specs.Moves.{node_of, rest_of};
 ghost use Rattle.payload_tables.specs.Bases.{ArePending};
 ghost use Rattle.payload_tables.specs.Pending.{IdRow, HoldsRows};
 ghost use Rattle.change_rules.specs.Standard.{AreLimits};
 ghost use Rattle.flush_rebuild.specs.Plans.{MayLook, MayFind, stored_id, unknown_fault, first_unknown, MayFlush, MayMove, flush_refusal, size_refusal, over, IsPlanOf, IsChangeOf, MayBeStored};
 ghost use Rattle.flush_rebuild.specs.Asked.{MayPlan};
-ghost use Rattle.name_map.specs.Added.{Placed};
+ghost use Rattle.name_map.specs.Added.{Placed, payloads_of};
 ghost use Rattle.id_groups.specs.Id.{other_id};
 
 use crate::building::{Names, payload_of};
 use crate::fault::PlanFault;
-use crate::numbers::{graph_of, rest};
+use crate::graph::{Graph, graph_of};
+use crate::numbers::rest;
 use assign_ids::place;
 use change_rules::{Limit, Limits};
 use id_groups::{FIRST_OTHER, Id, Name};
 use payload_tables::{OthersTable, PendingRows, Tables};
-use segment_codec::SegmentTable;
 use std::alloc::{AllocError, Global};
 use std::marker::Model;
 
@@ -100,23 +103,66 @@ struct Moves {
     rest: Vec<u32>,
 }
 
-/// What moves where these numbers are the heads, over a table with n other ids.
-fn moves_of<T: SegmentTable>(
-    alloc: Global,
-    table: &T,
-    n: u32,
-    numbers: &[u32],
-) -> Result<Moves, AllocError>
-    requires older { HaveOlderParents (λ k. slice_index_or (nodes_in (T.flats table.now) n) k []) }
+/// What moves where these numbers are the heads, by the parents of the n numbers.
+fn moves_of(alloc: Global, graph: &Graph, n: u32, numbers: &[u32]) -> Result<Moves, AllocError>
+    requires older { HaveOlderParents (λ k. slice_index_or (map (map node_of) graph.now) k []) }
     requires numbers { AreBelow n numbers.now }
-    requires order { AreBelow n (order_of (λ k. slice_index_or (nodes_in (T.flats table.now) n) k []) n numbers.now) }
-    ensures order { IfOk result (λ moves. moves.order.items ≡ order_of (λ k. slice_index_or (nodes_in (T.flats table.now) n) k []) n numbers.now) }
-    ensures rest { IfOk result (λ moves. moves.rest.items ≡ rest_of n (order_of (λ k. slice_index_or (nodes_in (T.flats table.now) n) k []) n numbers.now)) }
+    requires order { AreBelow n (order_of (λ k. slice_index_or (map (map node_of) graph.now) k []) n numbers.now) }
+    ensures order { IfOk result (λ moves. moves.order.items ≡ order_of (λ k. slice_index_or (map (map node_of) graph.now) k []) n numbers.now) }
+    ensures rest { IfOk result (λ moves. moves.rest.items ≡ rest_of n moves.order.items) }
 {
-    let graph = graph_of(alloc, table, n)?;
-    let order = place(alloc, &graph, numbers)?;
+    let order = place(alloc, graph, numbers)?;
     let rest = rest(alloc, n, &order)?;
     Ok(Moves { order, rest })
+}
+
+/// The change in which these numbers move behind so many master ids, with a log of so many bytes.
+fn change_of(
+    alloc: Global,
+    names: &Names<'_>,
+    graph: &Graph,
+    moves: &Moves,
+    before: u64,
+    log: u64,
+    limits: Limits,
+) -> Result<Change, PlanFault>
+    requires limits { AreLimits limits }
+    requires log { log ≤ 2 ^ 32 }
+    requires few { before ≤ 2 ^ 56 }
+    requires world { (w : World NameBytes) × (rows : List (Row NameBytes)) × (heads : List NameBytes)
+        × IsMove (names.now.stored.now ++ names.now.pending.now) (names.now.count + names.now.more) names.now.more before log graph.now moves.now.order.items moves.now.rest.items w rows heads }
+    ensures worlds { (w : World NameBytes) (rows : List (Row NameBytes)) (heads : List NameBytes) (payload : List ℕ)
+        → IsMove (names.now.stored.now ++ names.now.pending.now) (names.now.count + names.now.more) names.now.more before log graph.now moves.now.order.items moves.now.rest.items w rows heads
+        → IsChangeOf w (flushed same_name (with_pending w rows) heads) payload
+        → MatchResult result
+        (λ plan. (size_refusal limits log (flushed same_name (with_pending w rows) heads) payload ≡ None) × IsPlanOf plan w (flushed same_name (with_pending w rows) heads) payload)
+        (λ fault. (fault ≡ Memory) ⊎ (size_refusal limits log (flushed same_name (with_pending w rows) heads) payload ≡ Some fault)) }
+    ensures stored { (w : World NameBytes) (rows : List (Row NameBytes)) (heads : List NameBytes) (added : List Placed)
+        → IsMove (names.now.stored.now ++ names.now.pending.now) (names.now.count + names.now.more) names.now.more before log graph.now moves.now.order.items moves.now.rest.items w rows heads
+        → AreLawful [] (payloads_of added) → StandFor (payloads_of added) w → IfOk result (MayBeStored limits log added) }
+{
+    let master = before + moves.order.len() as u64;
+    let others = moves.rest.len() as u64;
+    check(Limit::Others, others, u64::from(limits.others))?;
+    check(Limit::Master, master, u64::from(limits.master))?;
+    if moves.order.is_empty() && names.more == 0 {
+        return Ok(Change {
+            payload: Payload {
+                bytes: Vec::new(alloc),
+            },
+            master,
+            others,
+            same: true,
+        });
+    }
+    let payload = payload_of(alloc, graph, names, before, &moves.order, &moves.rest)?;
+    check(Limit::Log, log + 9 + payload.len() as u64, limits.log)?;
+    Ok(Change {
+        payload: Payload { bytes: payload },
+        master,
+        others,
+        same: false,
+    })
 }
 
 /// The plan where all heads are there, by the numbers of those that aren't in master.
@@ -143,34 +189,11 @@ fn plan_moves(
     let view = base.view(pending);
     let names = names_of(bytes, tables.others(), pending);
     let n = names.count + names.more;
-    let Moves { order, rest } = moves_of(alloc, &view, n, numbers)?;
+    let graph = graph_of(alloc, &view, n)?;
+    let moves = moves_of(alloc, &graph, n, numbers)?;
     let before = tables.master_count();
-    let master = before + order.len() as u64;
-    let others = rest.len() as u64;
-    check(Limit::Others, others, u64::from(limits.others))?;
-    check(Limit::Master, master, u64::from(limits.master))?;
-    if order.is_empty() && names.more == 0 {
-        return Ok(Change {
-            payload: Payload {
-                bytes: Vec::new(alloc),
-            },
-            master,
-            others,
-            same: true,
-        });
-    }
-    let payload = payload_of(alloc, &view, &names, before, &order, &rest)?;
-    check(
-        Limit::Log,
-        bytes.len() as u64 + 9 + payload.len() as u64,
-        limits.log,
-    )?;
-    Ok(Change {
-        payload: Payload { bytes: payload },
-        master,
-        others,
-        same: false,
-    })
+    let log = bytes.len() as u64;
+    change_of(alloc, &names, &graph, &moves, before, log, limits)
 }
 
 /// The id of a head in a session's view: the one that was found in the stored world, or that of a pending row.

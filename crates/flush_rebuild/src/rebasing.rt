@@ -173,8 +173,42 @@ fn add_id(ids: &mut Vec<Id>, id: Id) -> Result<(), AllocError>
     Ok(())
 }
 
-/// Puts the pending rows that the newest world doesn't have behind `left`, which has none yet; `none` has none either.
+/// Puts the pending rows that the newest world doesn't have behind `left`, which has none yet, and the id of each pending row
+/// behind `ids`, which has none either. `none` has no rows.
 fn rebase_rows(
+    alloc: Global,
+    tables: &Tables,
+    bytes: &[u8],
+    base: &BaseRef<'_>,
+    pending: &PendingRows,
+    found: &[Option<Id>],
+    none: &PendingRows,
+    left: &mut PendingRows,
+    ids: &mut Vec<Id>,
+) -> Result<(), PlanFault>
+    requires rebase { (added before : List Placed) × MayRebaseOn tables.now bytes.now base.now pending.now found.now added before }
+    requires none { HoldsRows none.now [] × (none.now.first ≡ tables.now.others.count) }
+    requires left { HoldsRows left.old [] × (left.old.first ≡ tables.now.others.count) }
+    requires ids { ids.old.items ≡ [] }
+    ensures worlds { (w old : World NameBytes) (rows : List (Row NameBytes)) → MayRebase tables.now bytes.now base.now pending.now found.now w old rows
+        → MatchResult result
+        (λ done. (first_conflict same_name w rows ≡ None) × ArePending w left.new (left_of same_name w rows))
+        (λ fault. (fault ≡ Memory) ⊎ (conflict_fault (first_conflict same_name w rows) ≡ Some fault)) }
+    ensures left { (added before : List Placed) → MayRebaseOn tables.now bytes.now base.now pending.now found.now added before → OnOk result (MayStore left.new added) }
+{
+    let newest = tables.newest(bytes);
+    let view = newest.view(none);
+    'rows: for i in 0..pending.len() {
+        let name = pending.name(i).to_name();
+        let moved = row_parents(alloc, &newest, base, pending, i, ids)?;
+        let id = rebase_row(alloc, &view, &name, &moved, found[i as usize], left)?;
+        add_id(ids, id)?;
+    }
+    Ok(())
+}
+
+/// Puts the pending rows that the newest world doesn't have behind `left`, which has none yet; `none` has none either.
+fn add_left(
     alloc: Global,
     tables: &Tables,
     bytes: &[u8],
@@ -193,15 +227,10 @@ fn rebase_rows(
         (λ fault. (fault ≡ Memory) ⊎ (conflict_fault (first_conflict same_name w rows) ≡ Some fault)) }
     ensures left { (added before : List Placed) → MayRebaseOn tables.now bytes.now base.now pending.now found.now added before → OnOk result (MayStore left.new added) }
 {
-    let newest = tables.newest(bytes);
-    let view = newest.view(none);
     let mut ids = Vec::with_capacity(alloc, found.len())?;
-    'rows: for i in 0..pending.len() {
-        let name = pending.name(i).to_name();
-        let moved = row_parents(alloc, &newest, base, pending, i, &ids)?;
-        let id = rebase_row(alloc, &view, &name, &moved, found[i as usize], left)?;
-        add_id(&mut ids, id)?;
-    }
+    rebase_rows(
+        alloc, tables, bytes, base, pending, found, none, left, &mut ids,
+    )?;
     Ok(())
 }
 
@@ -228,7 +257,7 @@ pub fn rebase(
     let others = u64::from(tables.others().count());
     let none = PendingRows::empty(alloc, others);
     let mut left = PendingRows::empty(alloc, others);
-    rebase_rows(
+    add_left(
         alloc, tables, bytes, &base, pending, found, &none, &mut left,
     )?;
     Ok(left)

@@ -1,4 +1,4 @@
-use Rattle.std.proofs.Common.{◌≤◌, ◌∙◌, ap, arith}
+use Rattle.std.proofs.Common.{◌∙◌, ap, arith}
 use Rattle.payload_tables.specs.Kept.{PlainOthers}
 use Rattle.flush_rebuild.proofs.Sizing.{err-match}
 use Rattle.flush_rebuild.proofs.Stepping.{tables-count, tables-few}
@@ -18,6 +18,6 @@ empty-left-requires c =
     let few = tables-few c.args.tables.now c.args.bytes.now c.requires.0 m.tables_of m.stand in
     omega (arith, e, few)
 
-pub returns-in_err-rebase_rows-clause-worlds : goal.returns-in_err-rebase_rows-clause-worlds
-returns-in_err-rebase_rows-clause-worlds c = λ w old rows f.
-    err-match c.from_residual.result c.in_err-rebase_rows.field-0.0 _ _ c.from_residual.ensures.1 (c.in_err-rebase_rows.ensures.worlds w old rows f)
+pub returns-in_err-add_left-clause-worlds : goal.returns-in_err-add_left-clause-worlds
+returns-in_err-add_left-clause-worlds c = λ w old rows f.
+    err-match c.from_residual.result c.in_err-add_left.field-0.0 _ _ c.from_residual.ensures.1 (c.in_err-add_left.ensures.worlds w old rows f)

@@ -1,16 +1,15 @@
-use Rattle.std.proofs.Common.{◌<◌, ◌≤◌, ◌+◌, ◌∙◌, inl, inr, ⊎_elim, [], map, take, length, ap, sym, subst, arith}
+use Rattle.std.proofs.Common.{◌<◌, ◌≤◌, ◌+◌, ◌∙◌, inl, inr, ⊎_elim, [], map, take, length, sym, subst, arith}
 use Rattle.std.specs.List.{AllByRecursion, AllZip}
 use Rattle.id_groups.specs.Id.{other_id}
 use Rattle.high_segments.specs.Views.{flats_in}
 use Rattle.commit_graph.specs.World.{with_pending}
-use Rattle.payload_tables.specs.Kept.{PlainOthers}
 use Rattle.payload_tables.specs.Bases.{id_row}
 use Rattle.payload_tables.proofs.Rows.{get-below, count-rows}
 use Rattle.flush_rebuild.specs.Rebasing.{IsMoved, Disagrees}
 use Rattle.flush_rebuild.proofs.Sizing.{err-match}
 use Rattle.flush_rebuild.proofs.LeftSoFar.{LeftSoFar}
 use Rattle.flush_rebuild.proofs.Rebased.{LeftIn}
-use Rattle.flush_rebuild.proofs.Stepping.{found-under, get-is, rebased-as, tables-count, tables-few, no-rows-viewed, first-left, parents-under, moved-few, some-few, moved-under, so-far-more, stored-left}
+use Rattle.flush_rebuild.proofs.Stepping.{found-under, get-is, rebased-as, tables-count, no-rows-viewed, first-left, parents-under, moved-few, some-few, moved-under, so-far-more, stored-left}
 use Rattle.flush_rebuild.proofs.OnWorlds.{first-before, none-pending, segments-in, world-start, world-end, rows-long, row-of, found-in, no-parent-lost, world-more, world-fault}
 use Rattle.flush_rebuild.proofs.rebasing.rebase_rows.Goals as goal
 
@@ -22,9 +21,9 @@ view-view-requires c =
 
 pub rows-init : goal.rows-init
 rows-init c = (
-  λ added before m. subst (λ q. LeftSoFar added [] q c.args.left.now) (sym c.in_ok-ids.ensures.items)
+  λ added before m. subst (λ q. LeftSoFar added [] q c.args.left.now) (sym c.requires.ids)
       (first-left added c.args.left.now (c.requires.left.1 ∙ tables-count c.args.tables.now c.args.bytes.now added m.tables_of m.stand) c.requires.left.0),
-  λ w old rows f. subst (λ q. LeftIn w rows [] q c.args.left.now) (sym c.in_ok-ids.ensures.items)
+  λ w old rows f. subst (λ q. LeftIn w rows [] q c.args.left.now) (sym c.requires.ids)
       (world-start c.args.tables.now c.args.bytes.now c.args.base.now c.args.pending.now c.args.found.now w old rows f c.args.left.now (c.requires.left.1 ∙ tables-count c.args.tables.now c.args.bytes.now f.added f.tables_of f.stand) c.requires.left.0),
 )
 
@@ -53,7 +52,7 @@ returns-in_err-moved-clause-worlds c = λ w old rows f.
     let lt = c.rows-test.true in
     let long = c.len-i-end.ensures.len (map (id_row (with_pending old rows)) rows) f.pending_rows.held in
     let r = row-of c.args.tables.now c.args.bytes.now c.args.base.now c.args.pending.now c.args.found.now w old rows f c.rows.i (omega (arith, lt, long)) in
-    err-match c.from_residual-in_err-moved.result c.in_err-moved.field-0.0 _ _ c.from_residual-in_err-moved.ensures.1
+    err-match c.from_residual.result c.in_err-moved.field-0.0 _ _ c.from_residual.ensures.1
     (⊎_elim (λ e. inl e) (λ d. absurd (no-parent-lost c.args.tables.now c.args.bytes.now c.args.base.now c.args.pending.now c.args.found.now w old rows f d.1 d.3))
     (c.in_err-moved.ensures f.added f.before (map (id_row (with_pending old rows)) rows) (id_row (with_pending old rows) r.0) n f.base_of (first-before c.args.tables.now c.args.bytes.now c.args.base.now c.args.pending.now c.args.found.now w old rows f) f.pending_rows.held r.2))
 

@@ -1,7 +1,7 @@
 use Rattle.std.proofs.Common.{◌∙◌, ◌++◌, ◌∷◌, [], List, ap₂, sym}
 use Rattle.assign_ids.specs.declared.graph.Node.{Node}
 use Rattle.flush_rebuild.proofs.Marking.{nodes-next}
-use Rattle.flush_rebuild.proofs.numbers.nodes.Goals as goal
+use Rattle.flush_rebuild.proofs.graph.nodes.Goals as goal
 
 pub ids-preserved : goal.ids-preserved
 ids-preserved c =

@@ -1,0 +1,82 @@
+-- What a move means for the worlds, in the words of the code.
+use Rattle.std.proofs.Common.{◌≡◌, ◌<◌, ◌≤◌, ℕ, ◌+◌, ◌⊎◌, true, false, List, [], length, sym, ap, subst, ◌∙◌, ⊎_elim, inl, inr, arith}
+use Rattle.id_groups.specs.Name.{Name, same_name}
+use Rattle.commit_graph.specs.World.{Row, World, with_pending}
+use Rattle.batch_codec.specs.Payload.{payload_bytes}
+use Rattle.batch_codec.specs.Grammar.{IsPayload, AreLawful}
+use Rattle.assign_ids.specs.Numbers.{AreBelow}
+use Rattle.name_map.specs.Added.{Placed, payloads_of}
+use Rattle.change_rules.specs.declared.Limits.{Limits}
+use Rattle.change_rules.specs.Flush.{flushed}
+use Rattle.change_rules.specs.Standard.{AreLimits}
+use Rattle.change_rules.specs.Tables.{StandFor}
+use Rattle.flush_rebuild.specs.declared.plan.Change.{Change}
+use Rattle.flush_rebuild.specs.Moves.{rest_of, change_in}
+use Rattle.flush_rebuild.specs.Plans.{IsChangeOf, MayBeStored}
+use Rattle.flush_rebuild.specs.Facts.{IsMove}
+use Rattle.flush_rebuild.proofs.Sizing.{moving, f-order, f-master, f-others, f-same, f-lawful, f-written, f-differs, Changes, pending-count}
+use Rattle.flush_rebuild.proofs.Storing as storing
+
+module _ (names : List ℕ) (n more before log : ℕ) (graph : List (List ℕ)) (order rest : List ℕ) (w : World Name) (rows : List (Row Name)) (heads : List Name)
+    (m : IsMove names n more before log graph order rest w rows heads) where
+  abbrev pub new : World Name
+  new = flushed same_name (with_pending w rows) heads
+
+  abbrev moves : List ℕ
+  moves = moving m.tables m.bytes m.pending m.numbers m.flats names n before w rows heads m.facts
+
+  order-moves : order ≡ moves
+  order-moves = m.order_is
+
+  pub order-below : AreBelow n order
+  order-below = subst (AreBelow n) (sym order-moves) (f-order m.tables m.bytes m.pending m.numbers m.flats names n before w rows heads m.facts)
+
+  pub master-size : before + length order ≡ length new.master
+  master-size = ap (λ (l : List ℕ). before + length l) order-moves ∙ sym (f-master m.tables m.bytes m.pending m.numbers m.flats names n before w rows heads m.facts)
+
+  pub others-size : length rest ≡ length new.others
+  others-size = ap (length {A = ℕ}) m.rest_is ∙ ap (λ (l : List ℕ). length (rest_of n l)) order-moves ∙ sym (f-others m.tables m.bytes m.pending m.numbers m.flats names n before w rows heads m.facts)
+
+  pending-size : more ≡ length rows
+  pending-size = m.pending_is ∙ pending-count w m.pending rows m.facts.may.pending_rows
+
+  pub n-few : n ≤ 131072
+  n-few = let i = m.facts.n_is in let f = m.facts.few in omega (arith, i, f)
+
+  -- something moves, or is pending
+  abbrev pub DoesChange : Type 0
+  DoesChange = (0 < length order) ⊎ (0 < more)
+
+  changes-of : DoesChange → Changes m.tables m.bytes m.pending m.numbers m.flats names n before w rows heads m.facts
+  changes-of c = ⊎_elim (λ a. inl (subst (λ (l : List ℕ). 0 < length l) order-moves a)) (λ b. inr (subst (λ k. 0 < k) pending-size b)) c
+
+  pub same-world : length order ≡ 0 → more ≡ 0 → new ≡ w
+  same-world a b = f-same m.tables m.bytes m.pending m.numbers m.flats names n before w rows heads m.facts (ap (length {A = ℕ}) (sym order-moves) ∙ a) (sym pending-size ∙ b)
+
+  pub differs : DoesChange → new ≡ w → ⊥
+  differs c = f-differs m.tables m.bytes m.pending m.numbers m.flats names n before w rows heads m.facts (changes-of c)
+
+  change-order : change_in m.flats names before n order ≡ change_in m.flats names before n moves
+  change-order = ap (change_in m.flats names before n) order-moves
+
+  pub payload-lawful : (limits : Limits) → AreLimits limits → length rest ≤ limits.others → before + length order ≤ limits.master → DoesChange → IsPayload (change_in m.flats names before n order)
+  payload-lawful limits l lo lm c =
+      subst IsPayload (sym change-order)
+      (f-lawful m.tables m.bytes m.pending m.numbers m.flats names n before w rows heads m.facts limits l (length rest) (before + length order) lo lm others-size master-size (changes-of c))
+
+  pub payload-written : (payload : List ℕ) → IsChangeOf w new payload → DoesChange → payload ≡ payload_bytes 1 (change_in m.flats names before n order)
+  payload-written payload h c =
+      f-written m.tables m.bytes m.pending m.numbers m.flats names n before w rows heads m.facts payload h (changes-of c) ∙ ap (payload_bytes 1) (sym change-order)
+
+  module _ (added : List Placed) (lawful : AreLawful [] (payloads_of added)) (stand : StandFor (payloads_of added) w) (limits : Limits) (change : Change) where
+    pub stays : length order ≡ 0 → more ≡ 0 → change.payload ≡ [] → change.same ≡ true → change.master ≡ before + length order → change.others ≡ length rest
+        → change.master ≤ limits.master → change.others ≤ limits.others → MayBeStored limits log added change
+    stays a b payload same ma ot lm lo =
+        storing.stays m.tables m.bytes m.pending m.numbers m.flats names n before w rows heads m.facts added lawful stand limits log change
+        (ap (length {A = ℕ}) (sym order-moves) ∙ a) (sym pending-size ∙ b) payload same (ma ∙ master-size) (ot ∙ others-size) lm lo
+
+    pub changes : AreLimits limits → DoesChange → change.payload ≡ payload_bytes 1 (change_in m.flats names before n order) → change.same ≡ false → change.master ≡ before + length order → change.others ≡ length rest
+        → change.master ≤ limits.master → change.others ≤ limits.others → log + 9 + length change.payload ≤ limits.log → MayBeStored limits log added change
+    changes l c payload same ma ot lm lo fits =
+        storing.changes m.tables m.bytes m.pending m.numbers m.flats names n before w rows heads m.facts added lawful stand limits log change l
+        (changes-of c) (payload ∙ ap (payload_bytes 1) change-order) same (ma ∙ master-size) (ot ∙ others-size) lm lo fits
