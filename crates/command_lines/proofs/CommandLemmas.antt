@@ -1,11 +1,12 @@
 -- What the parts of a command's text say of the whole.
-use Rattle.std.proofs.Common.{◌≡◌, ◌<◌, ℕ, List, [], ◌∷◌, ◌++◌, ◌⊎◌, inl, inr, length, get_or, refl, sym, ◌∙◌, ap, subst, arith, codes, decimal, Option, Some, None, Ok, Err, true, nat_eq, append-nil}
-use Rattle.std.specs.Prelude.{IsTrue, IfOk, if◌then◌else◌}
+use Rattle.std.proofs.Common.{◌≡◌, ◌==◌, ◌<◌, ◌+◌, take, drop, ℕ, List, [], ◌∷◌, ◌++◌, ◌⊎◌, inl, inr, length, refl, sym, ◌∙◌, ap, subst, arith, codes, decimal, Option, Some, None, Ok, Err, true, nat_eq, append-nil}
+use Rattle.std.specs.Prelude.{IsTrue, IfOk, if◌then◌else◌, position}
 use Rattle.std.specs.Cmp.Lexicographic.{pointwise}
 use Rattle.std.specs.declared.result.Result.{Result}
-use Rattle.std.specs.List.{AllZip, remove}
+use Rattle.std.specs.List.{AllZip}
 use Rattle.std.proofs.lemmas.Slice.Zip.{AllZip-long}
 use Rattle.outside.specs.Parts.{HasNone, split_at}
+use Rattle.outside.proofs.PartsLemmas.{position-none, position-some, split-part, split-rest}
 use Rattle.id_groups.specs.Name.{Name, SpellsName, name_of}
 use Rattle.id_groups.proofs.Names.{name_of-spelled}
 use Rattle.set_expr.proofs.Marks.{part-same}
@@ -248,17 +249,50 @@ no-word front behind none verb h = none h.0 h.1
 pub no-name : (args : List ℕ) (word : Word) → word ≡ words.Id → None ≡ name_of args → FitsNone word (Some args)
 no-name args word is none = subst (λ w. FitsNone w (Some args)) (sym is) (λ name h. let e = name_of-spelled args name h in cc (none ∙ e))
 
--- the first item, and the list without it
-pub first-and-rest : {X : Type 0} (xs : List X) (d : X) → 0 < length xs → xs ≡ get_or xs 0 d ∷ remove xs 0
-first-and-rest [] d h = absurd (omega (arith, h))
-first-and-rest (x ∷ xs) d h = refl
+-- the words of arguments are the one before the first blank, and those behind it
+words-cut : (args : List ℕ) (len : ℕ) → Some len ≡ position (λ b. b == 32) args → split_at 32 args ≡ take len args ∷ split_at 32 (drop (len + 1) args)
+words-cut args len at =
+    let found = position-some 32 args len (sym at) in
+    ap (split_at 32) found.whole ∙ split-part 32 (take len args) (drop (len + 1) args) found.part
 
--- more words than an add has names
-pub too-many : (args : List ℕ) (names : List Name) → AreNames args names → 9 < length names → FitsNone words.Add (Some args)
-too-many args names zip many name parents few h =
-    let long = AllZip-long SpellsName (split_at 32 args) names zip in
-    let same = AllZip-long SpellsName (split_at 32 args) (name ∷ parents) h in
-    omega (arith, long, same, many, few)
+-- a name, and the names behind it
+module _ (args : List ℕ) (len : ℕ) (at : Some len ≡ position (λ b. b == 32) args) (front rest : List ℕ) (before : front ≡ take len args) (behind : rest ≡ drop (len + 1) args) where
+  cut : split_at 32 args ≡ front ∷ split_at 32 rest
+  cut = words-cut args len at ∙ ap (λ w. w ∷ split_at 32 (drop (len + 1) args)) (sym before) ∙ ap (λ t. front ∷ split_at 32 t) (sym behind)
+
+  pub name-and-more : (name : Name) (parents : List Name) → SpellsName front name → AreNames rest parents → AreNames args (name ∷ parents)
+  name-and-more name parents first more = subst (λ l. AllZip SpellsName l (name ∷ parents)) (sym cut) (first, more)
+
+  cut-names : (name : Name) (parents : List Name) → AreNames args (name ∷ parents) → SpellsName front name × AreNames rest parents
+  cut-names name parents zip = subst (λ l. AllZip SpellsName l (name ∷ parents)) cut zip
+
+  -- the first word is no name
+  pub no-first : None ≡ name_of front → FitsNone words.Add (Some args)
+  no-first none name parents few zip = let e = name_of-spelled front name (cut-names name parents zip).0 in cc (none ∙ e)
+
+  -- the others aren't names
+  pub no-more : ((names : List Name) → ¬ (AreNames rest names)) → FitsNone words.Add (Some args)
+  no-more none name parents few zip = none parents (cut-names name parents zip).1
+
+  -- they are more than an add has
+  pub too-many : (names : List Name) → AreNames rest names → 8 < length names → FitsNone words.Add (Some args)
+  too-many names all many name parents few zip =
+      let long = AllZip-long SpellsName (split_at 32 rest) names all in
+      let same = AllZip-long SpellsName (split_at 32 rest) parents (cut-names name parents zip).1 in
+      omega (arith, long, same, many, few)
+
+-- one word without a blank is all that there is
+module _ (text : List ℕ) (at : position (λ b. b == 32) text ≡ None) where
+  one-piece : split_at 32 text ≡ text ∷ []
+  one-piece = split-rest 32 text (position-none 32 text at)
+
+  pub one-name : (name : Name) → SpellsName text name → AreNames text (name ∷ [])
+  one-name name h = subst (λ l. AllZip SpellsName l (name ∷ [])) (sym one-piece) (h, tt)
+
+  pub no-root : None ≡ name_of text → FitsNone words.Add (Some text)
+  no-root none name parents few zip =
+      let h = subst (λ l. AllZip SpellsName l (name ∷ parents)) one-piece zip in
+      let e = name_of-spelled text name h.0 in cc (none ∙ e)
 
 -- a fault that is handed on is the same
 pub same-fault : {T E : Type 0} (r : Result T E) (x y z : E) → r ≡ Err x → x ≡ y → r ≡ Err z → y ≡ z

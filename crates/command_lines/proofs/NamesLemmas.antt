@@ -62,6 +62,10 @@ digits-no-blank (c ∷ text) h = (none-blank c (h 0 0 (omega arith)), digits-no-
 pub name-no-blank : (text : List ℕ) (name : Name) → SpellsName text name → HasNone 32 text
 name-no-blank text name h = digits-no-blank text (decode_of-ok text name h.1).1
 
+-- and there are 40 of them
+pub name-long : (text : List ℕ) (name : Name) → SpellsName text name → length text ≡ 40
+name-long text name h = let size = (decode_of-ok text name h.1).2 in omega (arith, size, h.0)
+
 -- words without blanks, with blanks between them, are split into the words
 pub split-words : (word : List ℕ) (words : List (List ℕ)) (names : List Name) → AllZip SpellsName (word ∷ words) names
     → split_at 32 (word ++ more_words words) ≡ word ∷ words

@@ -1,9 +1,9 @@
 -- Prefixes, blanks and numbers of a line.
-use Rattle.std.proofs.Common.{◌≡◌, ◌==◌, ◌<◌, ◌+◌, ◌^◌, ℕ, List, [], ◌∷◌, ◌++◌, take, drop, refl, sym, ◌∙◌, ap, subst, arith, decimal, Some, None, true, false, true≢false}
+use Rattle.std.proofs.Common.{◌≡◌, ◌==◌, ◌<◌, ◌≤◌, ◌+◌, ◌-◌, ◌^◌, ℕ, length, get_or, List, [], ◌∷◌, ◌++◌, take, drop, refl, sym, ◌∙◌, ap, subst, arith, decimal, Some, None, true, false, true≢false}
 use Rattle.std.specs.Prelude.{position, Bool, not, ◌&&◌}
 use Rattle.std.specs.Char.{digit_value}
 use Rattle.std.specs.Str.Parse.{AllDigits}
-use Rattle.std.proofs.lemmas.Fmt.{decimal_is_IsNumeral, decimal_injective}
+use Rattle.std.proofs.lemmas.Fmt.{decimal_is_IsNumeral, decimal_injective, decimal_digit}
 use Rattle.std.proofs.lemmas.Bool.{ne_eqb}
 use Rattle.outside.specs.Parts.{HasNone}
 use Rattle.outside.proofs.PartsLemmas.{position-none, position-some}
@@ -66,3 +66,11 @@ false-of false h = refl
 pub clear : (text : List ℕ) → is_clear 32 text ≡ true → HasNone 32 text
 clear [] h = tt
 clear (b ∷ bs) h = let p = and_true (not (b == 32)) (is_clear 32 bs) h in (false-of (b == 32) p.0, clear bs p.1)
+
+-- one digit is the decimal of its value
+pub one-digit : (text : List ℕ) (n : ℕ) → 1 ≤ length text → length text < 2 → 48 ≤ get_or text 0 0 → get_or text 0 0 < 58 → n ≡ get_or text 0 0 - 48 → (n < 2 ^ 64) × (text ≡ decimal n)
+one-digit [] n some short low high is = absurd (omega (arith, some))
+one-digit (d ∷ e ∷ more) n some short low high is = absurd (omega (arith, short))
+one-digit (d ∷ []) n some short low high is =
+    let same : 48 + n ≡ d = omega (arith, low, is) in
+    (omega (arith, high, is), ap (λ (x : ℕ). x ∷ []) (sym same) ∙ sym (decimal_digit n (omega (arith, high, is))))

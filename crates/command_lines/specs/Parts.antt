@@ -23,6 +23,15 @@ word_text words.Levels = codes "levels"
 word_text words.Mirrors = codes "mirrors"
 word_text words.DropAt = codes "drop"
 
+-- the word of a verb that isn't a question
+abbrev pub IsChange : Word → Type 0
+IsChange words.Add = ⊤
+IsChange words.Flush = ⊤
+IsChange words.Reload = ⊤
+IsChange words.Discard = ⊤
+IsChange words.DropAt = ⊤
+IsChange _ = ⊥
+
 -- the word of a verb that is built
 abbrev pub verb_word : Verb → Option Word
 verb_word (Add name parents) = Some words.Add

@@ -1,4 +1,5 @@
 -- What a reply of the code tells.
+use Rattle.std.specs.Prelude.{ℕ, List, codes}
 use Rattle.step_rules.specs.Reply.{Reply, Added, Old, Flushed, Reloaded, Discarded, Counted, Identified, Sizes, LevelSizes, Dropped, Refused, NoCommand, LongLine}
 use Rattle.command_lines.specs.declared.reply.Reply.{Reply as Given}
 use Rattle.command_lines.specs.declared.reply.Reply.TheVariants as given
@@ -18,3 +19,16 @@ told (given.Dropped count) = Dropped count
 told (given.Refused refusal) = Refused refusal
 told given.NoCommand = NoCommand
 told given.LongLine = LongLine
+
+-- the words that its line begins with
+abbrev pub reply_head : Given → List ℕ
+reply_head (given.Added id) = codes "ok added"
+reply_head (given.Old id) = codes "ok old"
+reply_head (given.Flushed counts) = codes "ok flushed"
+reply_head (given.Reloaded count) = codes "ok reloaded"
+reply_head (given.Discarded count) = codes "ok discarded"
+reply_head (given.Dropped count) = codes "ok dropped"
+reply_head (given.Refused refusal) = codes "err"
+reply_head given.NoCommand = codes "err syntax"
+reply_head given.LongLine = codes "err line 16384"
+reply_head _ = codes "ok"

@@ -1,6 +1,6 @@
 //! Commands, and the lines that spell them.
 
-ghost use Rattle.std.specs.Prelude.{◌≡◌, ◌==◌, ◌++◌, [], ◌∷◌, ◌<◌, ◌≤◌, length, List, ℕ, Some, None, decimal, position, IfOk, IfSome, IfNone, IsTrue, OnOk};
+ghost use Rattle.std.specs.Prelude.{◌≡◌, ◌==◌, ◌++◌, ◌∷◌, ◌<◌, ◌≤◌, length, List, ℕ, Some, None, decimal, position, IfOk, IfSome, IfNone, IsTrue};
 ghost use Rattle.std.specs.List.{AllZip};
 ghost use Rattle.outside.specs.Parts.{split_at};
 ghost use Rattle.id_groups.specs.Name.{Name as NameBytes, SpellsName};
@@ -19,6 +19,9 @@ use std::alloc::{AllocError, Global};
 
 /// How many parents a row has at most.
 const MAX_PARENTS: usize = 8;
+
+/// The length of a name's digits and the blank behind them.
+const NAME_AND_BLANK: usize = 41;
 
 /// How many sessions there are.
 const SESSIONS: u64 = 16;
@@ -93,34 +96,38 @@ impl From<ExprFault> for CommandFault {
     }
 }
 
-fn push_name(names: &mut Vec<Name>, name: Name) -> Result<(), AllocError>
-    ensures { OnOk result (names.new.items ≡ names.old.items ++ name ∷ []) }
-{
-    names.push(name)?;
-    Ok(())
-}
-
 /// The names that the words of a text spell, one blank between two words.
 fn parse_names(alloc: Global, text: &[u8]) -> Result<Vec<Name>, CommandFault>
     ensures ok { IfOk result (λ names. AllZip SpellsName (split_at 32 text.now) names.items) }
-    ensures some { IfOk result (λ names. 0 < length names.items) }
     ensures syntax { result ≡ Err CommandFault.Syntax
         → (names : List NameBytes) → ¬ (AllZip SpellsName (split_at 32 text.now) names) }
 {
-    let mut names = Vec::new(alloc);
+    let mut names = Vec::with_capacity(alloc, text.len() / NAME_AND_BLANK + 1)?;
     let mut rest = text;
     'words: while let Some(len) = blank(rest) {
         let Some(name) = Name::from_hex(&rest[..len]) else {
             return Err(CommandFault::Syntax);
         };
-        push_name(&mut names, name)?;
+        names.push_reserved(name);
         rest = &rest[len + 1..];
     }
     let Some(name) = Name::from_hex(rest) else {
         return Err(CommandFault::Syntax);
     };
-    push_name(&mut names, name)?;
+    names.push_reserved(name);
     Ok(names)
+}
+
+/// The row without parents that the one argument of an `add` spells.
+fn parse_root(alloc: Global, text: &[u8]) -> Result<Verb, CommandFault>
+    requires { position (λ b. b == 32) text.now ≡ None }
+    ensures ok { IfOk result (λ verb. HasWord Word.Add (Some text.now) (meant verb)) }
+    ensures syntax { result ≡ Err CommandFault.Syntax → FitsNone Word.Add (Some text.now) }
+{
+    match Name::from_hex(text) {
+        Some(name) => Ok(Verb::Add(name, NameList::new(Vec::new(alloc)))),
+        None => Err(CommandFault::Syntax),
+    }
 }
 
 /// The row that the arguments of `add` spell.
@@ -128,12 +135,17 @@ fn parse_add(alloc: Global, args: &[u8]) -> Result<Verb, CommandFault>
     ensures ok { IfOk result (λ verb. HasWord Word.Add (Some args.now) (meant verb)) }
     ensures syntax { result ≡ Err CommandFault.Syntax → FitsNone Word.Add (Some args.now) }
 {
-    let mut names = parse_names(alloc, args)?;
-    if names.len() > MAX_PARENTS + 1 {
+    let Some(len) = blank(args) else {
+        return parse_root(alloc, args);
+    };
+    let Some(name) = Name::from_hex(&args[..len]) else {
+        return Err(CommandFault::Syntax);
+    };
+    let parents = parse_names(alloc, &args[len + 1..])?;
+    if parents.len() > MAX_PARENTS {
         return Err(CommandFault::Syntax);
     }
-    let name = names.remove(0);
-    Ok(Verb::Add(name, NameList::new(names)))
+    Ok(Verb::Add(name, NameList::new(parents)))
 }
 
 /// The verb that the word and its arguments spell.

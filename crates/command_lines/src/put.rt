@@ -1,13 +1,14 @@
 //! Replies as they are written: a reply of one line by one `put`, and what may be long in blocks.
 
-ghost use Rattle.std.specs.Prelude.{◌≡◌, ◌≤◌, ◌+◌, length, MatchResult, OnOk};
+ghost use Rattle.std.specs.Prelude.{◌≡◌, ◌≤◌, ◌+◌, ◌++◌, [], ◌∷◌, ℕ, List, length, decimal, MatchResult, OnOk};
 ghost use Rattle.outside.specs.Counts.{HasCause};
 ghost use Rattle.outside.specs.Told.{WhereTold, TookFront, Puts};
+ghost use Rattle.id_groups.specs.Id.{id_text};
 ghost use Rattle.run_rules.specs.Ends.{disk_text};
-ghost use Rattle.step_rules.specs.Reply.{LevelSizes, reply_text};
+ghost use Rattle.step_rules.specs.Reply.{Flushed, LevelSizes, reply_text, words_text};
 ghost use Rattle.dag_store.specs.Names.{names_left};
-ghost use Rattle.command_lines.specs.Sending.{Sends, listed_text};
-ghost use Rattle.command_lines.specs.Told.{told};
+ghost use Rattle.command_lines.specs.Sending.{Sends, lines_text, listed_text};
+ghost use Rattle.command_lines.specs.Told.{reply_head, told};
 
 use crate::Reply;
 use crate::reply_line::{
@@ -15,7 +16,8 @@ use crate::reply_line::{
     sizes_line,
 };
 use arrayvec::ArrayVec;
-use dag_store::{LevelCounts, Names};
+use dag_store::{Counts, LevelCounts, Names};
+use id_groups::Id;
 use line_io::{Sink, SinkFault};
 
 /// How many bytes of a long answer are put at once.
@@ -47,6 +49,23 @@ fn make_room<O: Sink>(block: &mut ArrayVec<u8, BLOCK>, output: &mut O) -> Result
     Ok(())
 }
 
+/// Puts the line behind those that wait in the block.
+fn put_behind<O: Sink>(
+    block: &mut ArrayVec<u8, BLOCK>,
+    line: &ArrayVec<u8, LINE>,
+    output: &mut O,
+) -> Result<(), SinkFault>
+    requires { length line.now.items ≤ 64 }
+    ensures bytes { MatchResult result
+        (λ _. (waits : List ℕ) × (block.new.items ≡ waits ++ line.now.items) × WhereTold (O.taken output.old) (O.taken output.new) (Sends block.old.items waits))
+        (λ _. WhereTold (O.taken output.old) (O.taken output.new) (TookFront block.old.items)) }
+    ensures cause { HasCause (O.faults output.old) (O.faults output.new) result }
+{
+    make_room(block, output)?;
+    push_piece(block, line.as_slice());
+    Ok(())
+}
+
 /// Puts the sizes of levels.
 fn put_levels<O: Sink>(output: &mut O, counts: &LevelCounts) -> Result<(), SinkFault>
     ensures bytes { Puts (O.taken output.old) (O.taken output.new) result (reply_text (LevelSizes counts.now)) }
@@ -70,12 +89,67 @@ pub fn put_names<O: Sink>(output: &mut O, names: Names<'_>, count: u64) -> Resul
 {
     let mut block = ArrayVec::new();
     for name in names {
-        make_room(&mut block, output)?;
-        push_piece(&mut block, line_of(&name.to_name().to_hex()).as_slice());
+        put_behind(&mut block, &line_of(&name.to_name().to_hex()), output)?;
     }
-    make_room(&mut block, output)?;
-    push_piece(&mut block, number_line(b"ok", count).as_slice());
+    put_behind(&mut block, &number_line(b"ok", count), output)?;
     output.put(block.as_slice())
+}
+
+/// Puts the line of these words alone.
+fn put_words<O: Sink>(output: &mut O, words: &[u8]) -> Result<(), SinkFault>
+    requires { length words.now ≤ 40 }
+    ensures bytes { Puts (O.taken output.old) (O.taken output.new) result (lines_text (words.now ∷ [])) }
+    ensures cause { HasCause (O.faults output.old) (O.faults output.new) result }
+{
+    put_line(output, &line_of(words))
+}
+
+/// Puts the line with a number behind the words.
+fn put_number<O: Sink>(output: &mut O, head: &[u8], number: u64) -> Result<(), SinkFault>
+    requires { length head.now ≤ 40 }
+    ensures bytes { Puts (O.taken output.old) (O.taken output.new) result (lines_text (words_text head.now (decimal number ∷ []) ∷ [])) }
+    ensures cause { HasCause (O.faults output.old) (O.faults output.new) result }
+{
+    put_line(output, &number_line(head, number))
+}
+
+/// Puts the line with an id behind the words.
+fn put_id<O: Sink>(output: &mut O, head: &[u8], id: Id) -> Result<(), SinkFault>
+    requires { length head.now ≤ 40 }
+    ensures bytes { Puts (O.taken output.old) (O.taken output.new) result (lines_text (words_text head.now (id_text id ∷ []) ∷ [])) }
+    ensures cause { HasCause (O.faults output.old) (O.faults output.new) result }
+{
+    put_line(output, &id_line(head, id))
+}
+
+/// Puts the line of a world that was stored.
+fn put_flushed<O: Sink>(output: &mut O, counts: &Counts) -> Result<(), SinkFault>
+    ensures bytes { Puts (O.taken output.old) (O.taken output.new) result (reply_text (Flushed counts.now.master counts.now.others)) }
+    ensures cause { HasCause (O.faults output.old) (O.faults output.new) result }
+{
+    put_line(
+        output,
+        &pair_line(b"ok flushed", counts.master, counts.others),
+    )
+}
+
+/// The words in front of a reply's line.
+fn reply_words(reply: &Reply) -> &'static [u8]
+    ensures text { result.now ≡ reply_head reply.now }
+    ensures short { length result.now ≤ 40 }
+{
+    match reply {
+        Reply::Added(_) => b"ok added",
+        Reply::Old(_) => b"ok old",
+        Reply::Flushed(_) => b"ok flushed",
+        Reply::Reloaded(_) => b"ok reloaded",
+        Reply::Discarded(_) => b"ok discarded",
+        Reply::Dropped(_) => b"ok dropped",
+        Reply::Refused(_) => b"err",
+        Reply::NoCommand => b"err syntax",
+        Reply::LongLine => b"err line 16384",
+        _ => b"ok",
+    }
 }
 
 /// Puts the reply, one that isn't an answer of names.
@@ -83,27 +157,18 @@ pub fn put_reply<O: Sink>(reply: &Reply, output: &mut O) -> Result<(), SinkFault
     ensures bytes { Puts (O.taken output.old) (O.taken output.new) result (reply_text (told reply.now)) }
     ensures cause { HasCause (O.faults output.old) (O.faults output.new) result }
 {
+    let words = reply_words(reply);
     match reply {
-        Reply::Added(id) => put_line(output, &id_line(b"ok added", *id)),
-        Reply::Old(id) => put_line(output, &id_line(b"ok old", *id)),
-        Reply::Flushed(counts) => put_line(
-            output,
-            &pair_line(b"ok flushed", counts.master, counts.others),
-        ),
-        Reply::Reloaded(rows) => {
-            put_line(output, &number_line(b"ok reloaded", u64::from(*rows)))
+        Reply::Added(id) | Reply::Old(id) | Reply::Identified(id) => put_id(output, words, *id),
+        Reply::Flushed(counts) => put_flushed(output, counts),
+        Reply::Reloaded(rows) | Reply::Discarded(rows) => {
+            put_number(output, words, u64::from(*rows))
         }
-        Reply::Discarded(rows) => {
-            put_line(output, &number_line(b"ok discarded", u64::from(*rows)))
-        }
-        Reply::Counted(count) => put_line(output, &number_line(b"ok", *count)),
-        Reply::Identified(id) => put_line(output, &id_line(b"ok", *id)),
+        Reply::Counted(number) | Reply::Dropped(number) => put_number(output, words, *number),
         Reply::Sizes(counts) => put_line(output, &sizes_line(counts)),
         Reply::LevelSizes(counts) => put_levels(output, counts),
-        Reply::Dropped(left) => put_line(output, &number_line(b"ok dropped", *left)),
         Reply::Refused(refusal) => put_line(output, &refusal_line(refusal)),
-        Reply::NoCommand => put_line(output, &line_of(b"err syntax")),
-        Reply::LongLine => put_line(output, &line_of(b"err line 16384")),
+        Reply::NoCommand | Reply::LongLine => put_words(output, words),
     }
 }
 

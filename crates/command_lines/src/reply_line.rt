@@ -4,7 +4,7 @@ ghost use Rattle.std.specs.Prelude.{◌≡◌, ◌≤◌, ◌+◌, ◌++◌, [],
 ghost use Rattle.id_groups.specs.Id.{id_text};
 ghost use Rattle.id_groups.specs.Name.{hex_text};
 ghost use Rattle.step_rules.specs.Reply.{limit_text, refusal_text, words_text};
-ghost use Rattle.command_lines.specs.Sending.{lines_text};
+ghost use Rattle.command_lines.specs.Sending.{lines_text, refusal_head};
 
 use arrayvec::ArrayVec;
 use dag_store::{Counts, Limit, Refusal};
@@ -154,32 +154,56 @@ fn limit_word(limit: Limit) -> &'static [u8]
     }
 }
 
+/// The words in front of a refusal's line.
+fn refusal_words(refusal: &Refusal) -> &'static [u8]
+    ensures text { result.now ≡ refusal_head refusal.now }
+    ensures short { length result.now ≤ 40 }
+{
+    match refusal {
+        Refusal::Unknown(_) => b"err unknown",
+        Refusal::Twice(_) => b"err twice",
+        Refusal::Differs(_) => b"err differs",
+        Refusal::Conflict(_) => b"err conflict",
+        Refusal::Lost(_) => b"err lost",
+        Refusal::InMaster(_) => b"err master",
+        Refusal::Emptied(_) => b"err empty",
+        Refusal::Full(_, _) => b"err full",
+        Refusal::Answer(_) => b"err answer",
+        Refusal::NotEmpty(_, _) => b"err not-empty",
+        Refusal::Pending(_) => b"err pending",
+        Refusal::NoRemote => b"err no-remote",
+        Refusal::Remote(_) => b"err remote",
+        Refusal::MismatchPath(_, _) => b"err mismatch path",
+        Refusal::MismatchNames(_, _) => b"err mismatch names",
+        Refusal::MismatchClone(_) => b"err mismatch clone",
+        Refusal::MismatchRow(_) => b"err mismatch row",
+        Refusal::Memory => b"err memory",
+    }
+}
+
 /// The line of a refusal.
 pub(crate) fn refusal_line(refusal: &Refusal) -> ArrayVec<u8, LINE>
     ensures { result.items ≡ lines_text (refusal_text refusal.now ∷ []) }
 {
+    let words = refusal_words(refusal);
     match refusal {
-        Refusal::Unknown(name) => name_line(b"err unknown", name),
-        Refusal::Twice(name) => name_line(b"err twice", name),
-        Refusal::Differs(name) => name_line(b"err differs", name),
-        Refusal::Conflict(name) => name_line(b"err conflict", name),
-        Refusal::Lost(name) => name_line(b"err lost", name),
-        Refusal::InMaster(name) => name_line(b"err master", name),
-        Refusal::Emptied(rows) => number_line(b"err empty", *rows),
-        Refusal::Full(limit, most) => counted_line(b"err full", limit_word(*limit), *most),
-        Refusal::Answer(count) => number_line(b"err answer", *count),
-        Refusal::NotEmpty(master, others) => pair_line(b"err not-empty", *master, *others),
-        Refusal::Pending(rows) => number_line(b"err pending", u64::from(*rows)),
-        Refusal::NoRemote => line_of(b"err no-remote"),
-        Refusal::Remote(mirrors) => number_line(b"err remote", u64::from(*mirrors)),
-        Refusal::MismatchPath(from, back) => {
-            counted_line(b"err mismatch path", &from.to_hex(), *back)
-        }
+        Refusal::Unknown(name)
+        | Refusal::Twice(name)
+        | Refusal::Differs(name)
+        | Refusal::Conflict(name)
+        | Refusal::Lost(name)
+        | Refusal::InMaster(name) => name_line(words, name),
+        Refusal::Emptied(count)
+        | Refusal::Answer(count)
+        | Refusal::MismatchClone(count)
+        | Refusal::MismatchRow(count) => number_line(words, *count),
+        Refusal::Pending(count) | Refusal::Remote(count) => number_line(words, u64::from(*count)),
+        Refusal::Full(limit, most) => counted_line(words, limit_word(*limit), *most),
+        Refusal::NotEmpty(master, others) => pair_line(words, *master, *others),
+        Refusal::MismatchPath(from, back) => counted_line(words, &from.to_hex(), *back),
         Refusal::MismatchNames(asked, got) => {
-            pair_line(b"err mismatch names", u64::from(*asked), u64::from(*got))
+            pair_line(words, u64::from(*asked), u64::from(*got))
         }
-        Refusal::MismatchClone(item) => number_line(b"err mismatch clone", *item),
-        Refusal::MismatchRow(id) => number_line(b"err mismatch row", *id),
-        Refusal::Memory => line_of(b"err memory"),
+        Refusal::NoRemote | Refusal::Memory => line_of(words),
     }
 }

@@ -2,7 +2,7 @@
 
 ghost use Rattle.std.specs.Prelude.{◌≡◌, ◌==◌, ◌^◌, ◌<◌, ℕ, position, IfSome, IfNone};
 ghost use Rattle.set_expr.specs.Spelling.{SpellsNumber};
-ghost use Rattle.command_lines.specs.Parts.{word_text};
+ghost use Rattle.command_lines.specs.Parts.{IsChange, word_text};
 
 use itoa::Buffer;
 use memchr::memchr;
@@ -47,6 +47,17 @@ pub(crate) fn number_of(text: &[u8]) -> Option<u64>
     ensures some { IfSome result (SpellsNumber text.now) }
     ensures none { IfNone result ((n : ℕ) → ¬ (SpellsNumber text.now n)) }
 {
+    match text {
+        [digit] if digit.is_ascii_digit() => Some(u64::from(*digit - b'0')),
+        _ => printed_number(text),
+    }
+}
+
+/// The same for a text of any length, by printing what is read.
+fn printed_number(text: &[u8]) -> Option<u64>
+    ensures some { IfSome result (SpellsNumber text.now) }
+    ensures none { IfNone result ((n : ℕ) → ¬ (SpellsNumber text.now n)) }
+{
     let Ok(digits) = str::from_utf8(text) else {
         return None;
     };
@@ -61,10 +72,10 @@ pub(crate) fn number_of(text: &[u8]) -> Option<u64>
     }
 }
 
-/// The verb's word that the text is.
-pub(crate) fn word_of(text: &[u8]) -> Option<Word>
+/// The word of a change that the text is.
+fn change_of(text: &[u8]) -> Option<Word>
     ensures some { IfSome result (λ word. text.now ≡ word_text word) }
-    ensures none { IfNone result ((word : Word) → ¬ (text.now ≡ word_text word)) }
+    ensures none { IfNone result ((word : Word) → IsChange word → ¬ (text.now ≡ word_text word)) }
 {
     if text == b"add".as_slice() {
         Some(Word::Add)
@@ -74,7 +85,19 @@ pub(crate) fn word_of(text: &[u8]) -> Option<Word>
         Some(Word::Reload)
     } else if text == b"discard".as_slice() {
         Some(Word::Discard)
-    } else if text == b"query".as_slice() {
+    } else if text == b"drop".as_slice() {
+        Some(Word::DropAt)
+    } else {
+        None
+    }
+}
+
+/// The word of a question that the text is.
+fn question_of(text: &[u8]) -> Option<Word>
+    ensures some { IfSome result (λ word. text.now ≡ word_text word) }
+    ensures none { IfNone result ((word : Word) → ¬ (IsChange word) → ¬ (text.now ≡ word_text word)) }
+{
+    if text == b"query".as_slice() {
         Some(Word::Query)
     } else if text == b"count".as_slice() {
         Some(Word::Count)
@@ -86,9 +109,18 @@ pub(crate) fn word_of(text: &[u8]) -> Option<Word>
         Some(Word::Levels)
     } else if text == b"mirrors".as_slice() {
         Some(Word::Mirrors)
-    } else if text == b"drop".as_slice() {
-        Some(Word::DropAt)
     } else {
         None
+    }
+}
+
+/// The verb's word that the text is.
+pub(crate) fn word_of(text: &[u8]) -> Option<Word>
+    ensures some { IfSome result (λ word. text.now ≡ word_text word) }
+    ensures none { IfNone result ((word : Word) → ¬ (text.now ≡ word_text word)) }
+{
+    match change_of(text) {
+        Some(word) => Some(word),
+        None => question_of(text),
     }
 }
