@@ -1,6 +1,6 @@
 //! The demonstration: command lines that the program makes itself, answered in memory.
 
-ghost use Rattle.std.specs.Prelude.{◌≡◌, ◌≤◌, ℕ, List, [], IfOk, Some, length, map};
+ghost use Rattle.std.specs.Prelude.{◌≡◌, ◌≤◌, ℕ, List, [], IfOk, OnOk, Some, length, map};
 ghost use Rattle.std.specs.List.{AllByRecursion};
 ghost use Rattle.outside.specs.Counts.{Rose};
 ghost use Rattle.outside.specs.Told.{WhereTold};
@@ -62,7 +62,27 @@ fn answer<D: Disk>(
     )
 }
 
-/// The store behind the lines that add and flush so many commits, over a new log. Nobody hears their replies.
+/// Executes all the lines of commits. Nobody hears their replies.
+fn answer_commits<D: Disk>(
+    alloc: Global,
+    store: Store,
+    log: &mut D,
+    lines: &mut CommitLines,
+    unheard: &mut MemorySink,
+) -> Result<Store, Stop>
+    requires ready { IsReady store (D.told log.old) }
+    requires begins { IsBehind [] [] store }
+    ensures ready { IfOk result (λ next. IsReady next (D.told log.new)) }
+    ensures behind { IfOk result (λ next. (earlier : List Reply) × IsBehind lines.old earlier next) }
+{
+    let mut store = store;
+    'commits: while let Some(line) = lines.next_line(alloc)? {
+        store = answer(alloc, store, log, &line, unheard)?;
+    }
+    Ok(store)
+}
+
+/// The store behind the lines that add and flush so many commits, over a new log.
 fn add_commits<D: Disk>(alloc: Global, log: &mut D, size: u32, start: u64) -> Result<Store, Stop>
     requires { D.told log.old ≡ Some (fresh_disk []) }
     ensures ready { IfOk result (λ store. IsReady store (D.told log.new)) }
@@ -70,11 +90,28 @@ fn add_commits<D: Disk>(alloc: Global, log: &mut D, size: u32, start: u64) -> Re
 {
     let mut unheard = MemorySink::new(alloc, &[])?;
     let mut lines = CommitLines::new(size, start);
-    let mut store = new_store(alloc, log)?;
-    'commits: while let Some(line) = lines.next_line(alloc)? {
-        store = answer(alloc, store, log, &line, &mut unheard)?;
+    let store = new_store(alloc, log)?;
+    answer_commits(alloc, store, log, &mut lines, &mut unheard)
+}
+
+/// Executes lines that each get a reply, which goes to this sink.
+fn ask_all<D: Disk>(
+    alloc: Global,
+    store: Store,
+    log: &mut D,
+    lines: &[Vec<u8>],
+    replies: &mut MemorySink,
+) -> Result<(), Stop>
+    requires ready { IsReady store (D.told log.old) }
+    requires answered { AllByRecursion IsAnswered (map (λ line. line.items) lines.now) }
+    requires none { replies.old.taken ≡ [] }
+    ensures { OnOk result (AllAnswered (map (λ line. line.items) lines.now) store replies.new.taken) }
+{
+    let mut store = store;
+    'lines: for line in lines {
+        store = answer(alloc, store, log, line, replies)?;
     }
-    Ok(store)
+    Ok(())
 }
 
 /// Executes lines that each get a reply, and gives these.
@@ -89,22 +126,33 @@ fn ask<D: Disk>(
     ensures { IfOk result (λ sink. AllAnswered (map (λ line. line.items) lines.now) store sink.taken) }
 {
     let mut replies = MemorySink::new(alloc, &[])?;
-    let mut store = store;
-    'lines: for line in lines {
-        store = answer(alloc, store, log, line, &mut replies)?;
-    }
+    ask_all(alloc, store, log, lines, &mut replies)?;
     Ok(replies)
 }
 
-/// The replies to the last four lines of a demonstration.
+/// The replies to the last four lines of a demonstration over a new log.
+fn replies_over<D: Disk>(
+    alloc: Global,
+    log: &mut D,
+    size: u32,
+    start: u64,
+) -> Result<MemorySink, Stop>
+    requires size { 1 ≤ size }
+    requires new { D.told log.old ≡ Some (fresh_disk []) }
+    ensures { IfOk result (λ sink. (replies : List Reply) × AreLastReplies size start replies × (sink.taken ≡ output_of replies)) }
+{
+    let store = add_commits(alloc, log, size, start)?;
+    let lines = last_lines(alloc, size)?;
+    ask(alloc, store, log, &lines)
+}
+
+/// The replies to the last four lines of a demonstration in memory.
 fn last_replies(alloc: Global, size: u32, start: u64) -> Result<MemorySink, Stop>
     requires { 1 ≤ size }
     ensures { IfOk result (λ sink. (replies : List Reply) × AreLastReplies size start replies × (sink.taken ≡ output_of replies)) }
 {
     let mut log = MemoryDisk::new(alloc, &[], &[], None)?;
-    let store = add_commits(alloc, &mut log, size, start)?;
-    let lines = last_lines(alloc, size)?;
-    ask(alloc, store, &mut log, &lines)
+    replies_over(alloc, &mut log, size, start)
 }
 
 /// Answers the lines of so many commits, whose parents are drawn from this number on, in memory, and puts the replies to the last

@@ -1,13 +1,12 @@
 use Rattle.std.proofs.Common.{length}
-use Rattle.demo_input.specs.Lines.{commit_lines}
 use Rattle.dag_run.specs.Demo.{IsReady}
 use Rattle.dag_run.proofs.Leading.{AddsOn}
-use Rattle.dag_run.proofs.demo.add_commits.Given as goal
+use Rattle.dag_run.proofs.demo.answer_commits.Given as goal
 
 abbrev pub invariant-commits : goal.invariant-commits
 invariant-commits g l = record {
   ready : IsReady l.store (g.D.Disk.told l.log);
-  adds : AddsOn (commit_lines l.fn.size l.fn.start) l.lines l.store;
+  adds : AddsOn l.fn.lines l.lines l.store;
 }
 
 abbrev pub decreases-commits : goal.decreases-commits

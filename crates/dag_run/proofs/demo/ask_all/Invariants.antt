@@ -1,7 +1,7 @@
 use Rattle.std.proofs.Common.{map, take}
 use Rattle.dag_run.specs.Demo.{IsReady}
 use Rattle.dag_run.proofs.Leading.{AsksOn}
-use Rattle.dag_run.proofs.demo.ask.Given as goal
+use Rattle.dag_run.proofs.demo.ask_all.Given as goal
 
 abbrev pub invariant-lines : goal.invariant-lines
 invariant-lines g l = record {

@@ -1,14 +1,14 @@
-use Rattle.std.proofs.Common.{rules, ◌≡◌, ◌≤◌, [], map, take, length, sym, ap, subst, subst₂, arith}
+use Rattle.std.proofs.Common.{rules, ◌≡◌, ◌≤◌, [], map, take, length, sym, subst, arith}
 use Rattle.std.proofs.lemmas.List.{take_all}
 use Rattle.line_io.specs.Lines.{longest_line}
-use Rattle.dag_run.specs.Demo.{IsReady, IsAnswered, LeadsOn}
+use Rattle.dag_run.specs.Demo.{IsAnswered, LeadsOn}
 use Rattle.dag_run.proofs.Leading.{AsksOn, asks-start, asks-next, asks-end, map-more, all-at}
-use Rattle.dag_run.proofs.demo.ask.Goals as goal
+use Rattle.dag_run.proofs.demo.ask_all.Goals as goal
 
 pub lines-init : goal.lines-init
 lines-init g c = record {
-  ready = subst (λ s. IsReady s (g.D.Disk.told c.args.log.now)) (sym c.store.view_is) c.requires.ready;
-  asks = subst₂ (λ s bytes. AsksOn c.args.store [] s bytes) (sym c.store.view_is) (sym (ap (λ sink. sink.taken) c.in_ok-replies.ensures)) (asks-start c.args.store);
+  ready = c.requires.ready;
+  asks = subst (λ bytes. AsksOn c.args.store [] c.args.store bytes) (sym c.requires.none) (asks-start c.args.store);
 }
 
 pub answer-requires-clause-short : goal.answer-requires-clause-short
