@@ -3,6 +3,7 @@
 ghost use Rattle.std.specs.Prelude.{◌≡◌, ◌⊎◌, ◌<◌, ◌≤◌, ℕ, List, [], ◌∷◌, Err, IfErr, IfOk, IfSome, MatchResult, OnOk, length, map, string_bytes};
 ghost use Rattle.outside.specs.Counts.{Rose};
 ghost use Rattle.outside.specs.Told.{WhereTold};
+ghost use Rattle.line_io.specs.Reading.{new_reading};
 ghost use Rattle.id_groups.specs.Name.{Name};
 ghost use Rattle.commit_graph.specs.World.{World};
 ghost use Rattle.disk_trait.specs.Calls.{Goes};
@@ -70,7 +71,51 @@ fn load<D: Disk, O: Sink>(
     }
 }
 
-/// Reads the lines of the input and puts the reply to each before the next is read.
+/// Loads the store, and answers all lines. The reply to each is put before the next is read.
+fn answer_all<D: Disk, I: Source, O: Sink>(
+    alloc: Global,
+    limits: Limits,
+    log: &mut D,
+    mirrors: &mut Mirrors,
+    lines: &mut Lines,
+    input: &mut I,
+    output: &mut O,
+    changes: &mut Vec<u64>,
+) -> Result<(), Stop>
+    requires limits { AreLimits limits }
+    requires none { changes.old.items ≡ [] }
+    requires new { lines.old ≡ new_reading limits.input }
+    ensures means { let first = map (λ b. (⟦<dyn Remote as Remote>⟧ b.vtable).shown b.value) mirrors.old.list.items in let left = map (λ b. (⟦<dyn Remote as Remote>⟧ b.vtable).shown b.value) mirrors.new.list.items in
+        (w : World Name) (payloads : List Payload) (room : ℕ) → WhereTold (seen (D.told log.old) (I.left input.old) (O.taken output.old)) (seen (D.told log.new) (I.left input.new) (O.taken output.new))
+        (λ before after. Begins limits w payloads before
+        → MeansUnasked limits w payloads room first left (streams before after) (Rose (O.faults output.old) (O.faults output.new)) before.disk after.disk (end_of result) changes.new.items) }
+    ensures refuses { IfSome (D.bytes log.old) (λ bytes. RunRefuses limits.log bytes result) }
+    ensures unwritten { result ≡ Err Stop.NoLog → Goes SameBytes (D.told log.old) (D.told log.new) × (output.new ≡ output.old) }
+    ensures quiet { result ≡ Err Stop.Memory → (input.new ≡ input.old) × (output.new ≡ output.old) × (mirrors.new ≡ mirrors.old) }
+    ensures disk { (result ≡ Err Stop.NotLoaded) ⊎ (result ≡ Err Stop.NotStored) → Rose (D.faults log.old) (D.faults log.new) }
+    ensures source { result ≡ Err Stop.Source → Rose (I.faults input.old) (I.faults input.new) }
+    ensures sink { result ≡ Err Stop.Sink → Rose (O.faults output.old) (O.faults output.new) }
+    ensures disk_later { D.faults log.old ≤ D.faults log.new }
+    ensures source_later { I.faults input.old ≤ I.faults input.new }
+    ensures sink_later { O.faults output.old ≤ O.faults output.new }
+{
+    let mut store = load(alloc, limits, log, output)?;
+    'lines: while let Some(kind) = lines.next(input)? {
+        store = execute(
+            alloc,
+            store,
+            log,
+            mirrors,
+            changes,
+            kind,
+            lines.text(),
+            output,
+        )?;
+    }
+    Ok(())
+}
+
+/// Answers the lines of the input, with room to read them.
 fn run<D: Disk, I: Source, O: Sink>(
     alloc: Global,
     limits: Limits,
@@ -97,20 +142,9 @@ fn run<D: Disk, I: Source, O: Sink>(
     ensures sink_later { O.faults output.old ≤ O.faults output.new }
 {
     let mut lines = Lines::new(alloc, limits.input)?;
-    let mut store = load(alloc, limits, log, output)?;
-    'lines: while let Some(kind) = lines.next(input)? {
-        store = execute(
-            alloc,
-            store,
-            log,
-            mirrors,
-            changes,
-            kind,
-            lines.text(),
-            output,
-        )?;
-    }
-    Ok(())
+    answer_all(
+        alloc, limits, log, mirrors, &mut lines, input, output, changes,
+    )
 }
 
 /// The status of an end.

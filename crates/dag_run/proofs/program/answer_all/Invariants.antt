@@ -9,7 +9,7 @@ use Rattle.change_rules.specs.Unlawful.{IsNoLog}
 use Rattle.dag_run.specs.Seen.{seen}
 use Rattle.dag_run.specs.Ends.{Begins}
 use Rattle.dag_run.proofs.Going.{Going}
-use Rattle.dag_run.proofs.program.run.Given as goal
+use Rattle.dag_run.proofs.program.answer_all.Given as goal
 
 abbrev pub invariant-lines : goal.invariant-lines
 invariant-lines g l = record {
