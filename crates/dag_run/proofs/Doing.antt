@@ -21,7 +21,7 @@ use Rattle.dag_store.specs.Stands.{Stands}
 use Rattle.dag_store.specs.Flushes.{HasRoom, HasStored}
 use Rattle.dag_run.specs.Alone.{CommandAlone}
 use Rattle.dag_run.specs.Unasked.{CommandBeside, StepBeside}
-use Rattle.dag_run.specs.Lines.{Changes, HasChanged, PutsReply, IsLimited, Replies, CommandReplies, RepliesBeside, DropsAt, LineReplies, LineLeaves}
+use Rattle.dag_run.specs.Lines.{Changes, HasChanged, PutsReply, IsLimited, Replies, CommandReplies, RepliesBeside, DoesBeside, DropsAt, LineReplies, LineLeaves}
 use Rattle.dag_run.specs.declared.stops.Stop.{Stop}
 use Rattle.dag_run.specs.declared.stops.Stop.TheVariants as stops
 use Rattle.dag_run.proofs.Solo.{lone-alone, inside-beside, counts-beside, drops-beside, refuses-beside, command-step}
@@ -233,38 +233,37 @@ told-beside mirrors SinkFailed kept s verb asked payload clock r o p e i h =
     replies-map SinkFailed began st (CommandAlone kept.limits st s verb) (CommandBeside kept.limits mirrors mirrors st s verb) payload clock r before now
     (λ reply next. inside-beside kept.limits mirrors st s verb reply next i) (told began st stands)) h)
 
--- a command that calls no disk
-pub quiet-command : (SinkFailed : Type 0) (old new : PlainStore) (s : ℕ) (verb asked : Verb) (r : Result PlainStore Stop) (reply : Reply) (d : Option Told) (o p : Option (List ℕ)) → asked ≡ verb → IsInside verb
-    → IfOk r (λ next. next ≡ new) → IfErr r (λ stop. stop ≡ stops.Sink) → HasRoom old.log new.log → DoesSo old new s verb reply → WhereTold o p (PutsReply new reply r)
-    → Goes (LineLeaves old [] None r) d d × ((mirrors : List Mirror) → WhereTold o p (RepliesBeside mirrors mirrors SinkFailed old s asked [] None r))
-quiet-command SinkFailed old new s verb asked r reply d o p e i same stop room does put = (
-  still-goes old new [] r d same stop room,
-  λ mirrors. told-beside mirrors SinkFailed old s verb asked [] None r o p e i (command-told SinkFailed old new s verb [] None r reply o p does put),
-)
+-- a command that calls no disk, nor a mirror
+pub does-beside : (mirrors : List Mirror) (old new : PlainStore) (s : ℕ) (verb asked : Verb) (reply : Reply) → asked ≡ verb → IsInside verb → DoesSo old new s verb reply → DoesBeside mirrors mirrors old new s asked reply
+does-beside mirrors old new s verb asked reply e i does =
+    subst (λ v. DoesBeside mirrors mirrors old new s v reply) (sym e)
+    (λ began st h. let d = does began st h in (d.0, inside-beside old.limits mirrors st s verb reply d.0 i d.1, d.2, d.3))
 
--- a command on the mirrors
-mirrors-told : (mirrors left : List Mirror) (SinkFailed : Type 0) (kept : PlainStore) (s : ℕ) (verb asked : Verb) (r : Result PlainStore Stop) (reply : Reply) (o p : Option (List ℕ)) → asked ≡ verb
-    → ((st : Stored) → CommandBeside kept.limits mirrors left st s verb reply st) → WhereTold o p (PutsReply kept reply r) → WhereTold o p (RepliesBeside mirrors left SinkFailed kept s asked [] None r)
-mirrors-told mirrors left SinkFailed kept s verb asked r reply o p e does put =
-    subst (λ v. WhereTold o p (RepliesBeside mirrors left SinkFailed kept s v [] None r)) (sym e)
-    (WhereTold-map o p (PutsReply kept reply r) (RepliesBeside mirrors left SinkFailed kept s verb [] None r)
-    (λ before now is began st stands. told-replies SinkFailed began st (CommandBeside kept.limits mirrors left st s verb) [] None r reply st kept before now is (does st) (refl, refl) stands) put)
+-- one on the mirrors
+on-mirrors : (mirrors left : List Mirror) (kept : PlainStore) (s : ℕ) (verb asked : Verb) (reply : Reply) → asked ≡ verb → ((st : Stored) → CommandBeside kept.limits mirrors left st s verb reply st) → DoesBeside mirrors left kept kept s asked reply
+on-mirrors mirrors left kept s verb asked reply e does = subst (λ v. DoesBeside mirrors left kept kept s v reply) (sym e) (λ began st h. (st, does st, (refl, refl), h))
 
-pub counts-told : (mirrors : List Mirror) (count : ℕ) (SinkFailed : Type 0) (kept : PlainStore) (s : ℕ) (asked : Verb) (r : Result PlainStore Stop) (o p : Option (List ℕ)) → asked ≡ CountMirrors → count ≡ length mirrors
-    → WhereTold o p (PutsReply kept (Counted count) r) → WhereTold o p (RepliesBeside mirrors mirrors SinkFailed kept s asked [] None r)
-counts-told mirrors count SinkFailed kept s asked r o p e is put =
-    mirrors-told mirrors mirrors SinkFailed kept s CountMirrors asked r (Counted (length mirrors)) o p e (λ st. counts-beside kept.limits mirrors st s)
-    (subst (λ n. WhereTold o p (PutsReply kept (Counted n) r)) is put)
+pub counts-does : (mirrors : List Mirror) (count : ℕ) (kept : PlainStore) (s : ℕ) (asked : Verb) → asked ≡ CountMirrors → count ≡ length mirrors → DoesBeside mirrors mirrors kept kept s asked (Counted count)
+counts-does mirrors count kept s asked e is =
+    subst (λ n. DoesBeside mirrors mirrors kept kept s asked (Counted n)) (sym is) (on-mirrors mirrors mirrors kept s CountMirrors asked (Counted (length mirrors)) e (λ st. counts-beside kept.limits mirrors st s))
 
-pub drops-told : (mirrors left : List Mirror) (k : ℕ) (reply : Reply) (SinkFailed : Type 0) (kept : PlainStore) (s : ℕ) (asked : Verb) (r : Result PlainStore Stop) (o p : Option (List ℕ)) → asked ≡ Drop k → DropsAt k mirrors left reply
-    → WhereTold o p (PutsReply kept reply r) → WhereTold o p (RepliesBeside mirrors left SinkFailed kept s asked [] None r)
-drops-told mirrors left k reply SinkFailed kept s asked r o p e drops put =
-    mirrors-told mirrors left SinkFailed kept s (Drop k) asked r reply o p e (λ st. by_test st (nat_lt k (length mirrors)) refl drops) put
+pub drops-does : (mirrors left : List Mirror) (k : ℕ) (reply : Reply) (kept : PlainStore) (s : ℕ) (asked : Verb) → asked ≡ Drop k → DropsAt k mirrors left reply → DoesBeside mirrors left kept kept s asked reply
+drops-does mirrors left k reply kept s asked e drops =
+    on-mirrors mirrors left kept s (Drop k) asked reply e (λ st. by_test st (nat_lt k (length mirrors)) refl drops)
   where
     by_test : (st : Stored) (b : Bool) → nat_lt k (length mirrors) ≡ b → MatchBool b ((reply ≡ Dropped (length (without k mirrors))) × (left ≡ without k mirrors)) ((reply ≡ Refused why.NoRemote) × (left ≡ mirrors))
         → CommandBeside kept.limits mirrors left st s (Drop k) reply st
     by_test st true t d = subst₂ (λ m told. CommandBeside kept.limits mirrors m st s (Drop k) told st) (sym d.1) (sym d.0) (drops-beside kept.limits mirrors st s k t)
     by_test st false t d = subst₂ (λ m told. CommandBeside kept.limits mirrors m st s (Drop k) told st) (sym d.1) (sym d.0) (refuses-beside kept.limits mirrors st s k t)
+
+-- its one line is put
+pub brief-told : (mirrors left : List Mirror) (SinkFailed : Type 0) (old new : PlainStore) (s : ℕ) (verb : Verb) (r : Result PlainStore Stop) (reply : Reply) (o p : Option (List ℕ)) → DoesBeside mirrors left old new s verb reply
+    → WhereTold o p (PutsReply new reply r) → WhereTold o p (RepliesBeside mirrors left SinkFailed old s verb [] None r)
+brief-told mirrors left SinkFailed old new s verb r reply o p does put =
+    WhereTold-map o p (PutsReply new reply r) (RepliesBeside mirrors left SinkFailed old s verb [] None r)
+    (λ before now is began st stands.
+    let d = does began st stands in
+    told-replies SinkFailed began st (CommandBeside old.limits mirrors left st s verb) [] None r reply d.0 new before now is d.1 d.2 d.3) put
 
 -- ---- what each line does
 pub line-of-command : (mirrors left : List Mirror) (SinkFailed : Type 0) (kept : PlainStore) (s : ℕ) (verb : Verb) (line payload : List ℕ) (clock : Option ℕ) (r : Result PlainStore Stop) (before now : List ℕ) → SpellsCommand line s verb → is_too_long line ≡ false → is_silent line ≡ false

@@ -1,5 +1,5 @@
 -- Commands and lines of which no mirror is asked.
-use Rattle.std.proofs.Common.{ℕ, ◌≡◌, inl, inr, true, false, List, [], None, length, nat_lt, refl, subst}
+use Rattle.std.proofs.Common.{ℕ, ◌≡◌, inl, inr, true, false, List, [], None, length, nat_lt, refl, sym, subst}
 use Rattle.line_io.specs.Lines.{is_too_long}
 use Rattle.change_rules.specs.declared.Limits.{Limits}
 use Rattle.remote_rules.specs.Mirror.{Mirror}
@@ -15,6 +15,9 @@ use Rattle.run_rules.specs.Grammar.{SpellsCommand}
 use Rattle.run_rules.specs.Run.{Step}
 use Rattle.dag_run.specs.Alone.{alone, CommandAlone, StepAlone}
 use Rattle.dag_run.specs.Unasked.{beside, CommandBeside, StepBeside}
+use Rattle.dag_run.specs.Replies.{reply_of_fault}
+use Rattle.command_lines.specs.declared.command.CommandFault.{CommandFault}
+use Rattle.command_lines.specs.declared.command.CommandFault.TheVariants as faults
 use Rattle.dag_run.proofs.Unasked.{to-step, step-left}
 
 -- what is stored alone decides a command
@@ -39,11 +42,21 @@ module _ (limits : Limits) (mirrors : List Mirror) (st : Stored) (line : List �
   pub command-step : (left : List Mirror) (s : ℕ) (verb : Verb) (reply : Reply) (next : Stored) → SpellsCommand line s verb → is_too_long line ≡ false → CommandBeside limits mirrors left st s verb reply next → StepBeside limits mirrors left st line reply next
   command-step left s verb reply next spells short step room = rw short (inl (s, verb, spells, step room))
 
-  pub syntax-step : is_too_long line ≡ false → ((s : ℕ) (verb : Verb) → SpellsCommand line s verb → ⊥) → StepBeside limits mirrors mirrors st line NoCommand st
+  syntax-step : is_too_long line ≡ false → ((s : ℕ) (verb : Verb) → SpellsCommand line s verb → ⊥) → StepBeside limits mirrors mirrors st line NoCommand st
   syntax-step short none room = rw short (inr (inl (none, refl, refl)))
 
-  pub memory-step : is_too_long line ≡ false → ((s : ℕ) (verb : Verb) → SpellsCommand line s verb → MayWantMemory verb) → StepBeside limits mirrors mirrors st line (Refused why.Memory) st
+  memory-step : is_too_long line ≡ false → ((s : ℕ) (verb : Verb) → SpellsCommand line s verb → MayWantMemory verb) → StepBeside limits mirrors mirrors st line (Refused why.Memory) st
   memory-step short may room = rw short (inr (inr (may, refl, refl)))
+
+  -- a line that can't be read
+  pub fault-step : (fault : CommandFault) (reply : Reply) → is_too_long line ≡ false → reply ≡ reply_of_fault fault → (fault ≡ faults.Syntax → (s : ℕ) (verb : Verb) → SpellsCommand line s verb → ⊥)
+      → (fault ≡ faults.Memory → (s : ℕ) (verb : Verb) → SpellsCommand line s verb → MayWantMemory verb) → StepBeside limits mirrors mirrors st line reply st
+  fault-step fault reply short e none may = subst (λ r. StepBeside limits mirrors mirrors st line r st) (sym e) (by_fault fault none may)
+    where
+      by_fault : (fault : CommandFault) → (fault ≡ faults.Syntax → (s : ℕ) (verb : Verb) → SpellsCommand line s verb → ⊥) → (fault ≡ faults.Memory → (s : ℕ) (verb : Verb) → SpellsCommand line s verb → MayWantMemory verb)
+          → StepBeside limits mirrors mirrors st line (reply_of_fault fault) st
+      by_fault faults.Syntax none may = syntax-step short (none refl)
+      by_fault faults.Memory none may = memory-step short (may refl)
 
   pub long-step : is_too_long line ≡ true → StepBeside limits mirrors mirrors st line LongLine st
   long-step long room = rw long (refl, refl)

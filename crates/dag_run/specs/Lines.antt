@@ -1,5 +1,5 @@
 -- What one line does: to a store, to the state that it stands for, to the disk and to the sink.
-use Rattle.std.specs.Prelude.{◌≡◌, ◌⊎◌, ℕ, true, false, List, [], ◌∷◌, ◌++◌, Option, Some, None, Result, Ok, Err, take, length, nat_lt}
+use Rattle.std.specs.Prelude.{◌≡◌, ◌⊎◌, ℕ, true, false, List, [], ◌∷◌, ◌++◌, Option, Some, None, Result, Ok, Err, take, length, nat_lt, ⊤}
 use Rattle.std.specs.Bool.{MatchBool}
 use Rattle.outside.specs.Told.{TookFront}
 use Rattle.disk_trait.specs.Images.{Told}
@@ -8,7 +8,7 @@ use Rattle.batch_codec.specs.Payload.{Payload}
 use Rattle.change_rules.specs.Change.{text_of}
 use Rattle.remote_rules.specs.Mirror.{Mirror}
 use Rattle.step_rules.specs.State.{Stored, worlds}
-use Rattle.step_rules.specs.Verb.{Verb}
+use Rattle.step_rules.specs.Verb.{Verb, Flush, Query}
 use Rattle.step_rules.specs.Reply.{Reply, Dropped, Refused, reply_text}
 use Rattle.step_rules.specs.declared.Refusal.TheVariants.{NoRemote}
 use Rattle.step_rules.specs.Step.{without}
@@ -68,6 +68,18 @@ CommandReplies SinkFailed kept s verb payload clock result before now =
 abbrev pub RepliesBeside : List Mirror → List Mirror → Type 0 → PlainStore → ℕ → Verb → List ℕ → Option ℕ → Result PlainStore Stop → List ℕ → List ℕ → Type 0
 RepliesBeside mirrors left SinkFailed kept s verb payload clock result before now =
     (began : ℕ) (st : Stored) → Stands began kept st → Replies SinkFailed began st (CommandBeside kept.limits mirrors left st s verb) payload clock result before now
+
+-- a command that is answered by one line and leaves the disk
+abbrev pub IsBrief : Verb → Type 0
+IsBrief (Flush heads) = ⊥
+IsBrief (Query e) = ⊥
+IsBrief _ = ⊤
+
+-- its reply comes with a state that the store stands for afterwards, beside these mirrors, of which those are left
+abbrev pub DoesBeside : List Mirror → List Mirror → PlainStore → PlainStore → ℕ → Verb → Reply → Type 0
+DoesBeside mirrors left old new s verb reply =
+    (began : ℕ) (st : Stored) → Stands began old st
+    → (next : Stored) × CommandBeside old.limits mirrors left st s verb reply next × Changes None st next [] × Stands began new next
 
 -- the mirror at this place goes, or there is none: what is told, and which mirrors are left
 abbrev pub DropsAt : ℕ → List Mirror → List Mirror → Reply → Type 0

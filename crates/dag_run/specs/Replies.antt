@@ -3,7 +3,10 @@ use Rattle.std.specs.Prelude.{ℕ, Result, Ok, Err, length}
 use Rattle.span_set.specs.Members.{ids_of}
 use Rattle.set_query.specs.declared.evaluation.Answer.{Answer}
 use Rattle.step_rules.specs.declared.Refusal.{Refusal}
-use Rattle.step_rules.specs.Reply.{Reply, Added as IsAdded, Old as IsOld, Reloaded, Counted, Identified, Refused}
+use Rattle.step_rules.specs.declared.Refusal.TheVariants as why
+use Rattle.step_rules.specs.Reply.{Reply, Added as IsAdded, Old as IsOld, Reloaded, Counted, Identified, Refused, NoCommand}
+use Rattle.command_lines.specs.declared.command.CommandFault.{CommandFault}
+use Rattle.command_lines.specs.declared.command.CommandFault.TheVariants.{Syntax, Memory}
 use Rattle.dag_store.specs.declared.replies.Added.{Added}
 use Rattle.dag_store.specs.declared.replies.Added.TheVariants.{New, Old}
 
@@ -26,3 +29,7 @@ reply_of_id (Err refusal) = Refused refusal
 abbrev pub reply_of_count : Result Answer Refusal → Reply
 reply_of_count (Ok answer) = Counted (length (ids_of answer.set))
 reply_of_count (Err refusal) = Refused refusal
+
+abbrev pub reply_of_fault : CommandFault → Reply
+reply_of_fault Syntax = NoCommand
+reply_of_fault Memory = Refused why.Memory

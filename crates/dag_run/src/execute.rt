@@ -1,6 +1,6 @@
 //! What one line does.
 
-ghost use Rattle.std.specs.Prelude.{◌≡◌, ◌<◌, ◌≤◌, [], ℕ, List, Option, Err, length, IfErr, IfOk, IfSome, map, vec_capacity};
+ghost use Rattle.std.specs.Prelude.{◌≡◌, ◌<◌, ◌≤◌, [], ℕ, List, Option, Err, length, IfErr, IfOk, IfSome, false, map, vec_capacity};
 ghost use Rattle.outside.specs.Counts.{Rose};
 ghost use Rattle.outside.specs.Told.{WhereTold};
 ghost use Rattle.disk_trait.specs.Calls.{Goes};
@@ -8,16 +8,17 @@ ghost use Rattle.gated_log.specs.Holding.{IsOnDisk};
 ghost use Rattle.line_io.specs.Next.{IsLine};
 ghost use Rattle.line_io.specs.Lines.{is_empty_or_comment};
 ghost use Rattle.step_rules.specs.Verb.{Flush as ToFlush};
+ghost use Rattle.dag_store.specs.Flushes.{HasRoom};
 ghost use Rattle.command_lines.specs.Meant.{meant, HasFewParents};
 ghost use Rattle.dag_run.specs.Stops.{IsLineStop};
 ghost use Rattle.command_lines.specs.Told.{told};
-ghost use Rattle.dag_run.specs.Lines.{changes_with, CommandReplies, DropsAt, LineReplies, LineLeaves, RepliesBeside};
+ghost use Rattle.dag_run.specs.Lines.{changes_with, CommandReplies, DoesBeside, DropsAt, IsBrief, LineReplies, LineLeaves, RepliesBeside};
 
 use crate::replies::{
-    list, reply_of_add, reply_of_count, reply_of_id, reply_of_reload, tell, tell_fault,
+    list, reply_of_add, reply_of_count, reply_of_id, reply_of_reload, tell, tell_fault, tell_unread,
 };
 use crate::stops::Stop;
-use command_lines::{Command, CommandFault, Reply, Verb};
+use command_lines::{Command, Reply, Verb};
 use dag_store::{Flushed, Refusal, Store};
 use disk_trait::Disk;
 use id_groups::Name;
@@ -98,6 +99,29 @@ fn drop_mirror(mirrors: &mut Mirrors, place: u64) -> Reply
     Reply::Dropped(u64::from(mirrors.len()))
 }
 
+/// Does what a command asks for that neither stores nor lists, and gives the reply.
+fn reply_of(store: &mut Store, mirrors: &mut Mirrors, s: u8, verb: &Verb) -> Reply
+    requires session { s < 16 }
+    requires few { HasFewParents (meant verb.now) }
+    requires brief { IsBrief (meant verb.now) }
+    ensures does { DoesBeside (map (λ b. (⟦<dyn Remote as Remote>⟧ b.vtable).shown b.value) mirrors.old.list.items) (map (λ b. (⟦<dyn Remote as Remote>⟧ b.vtable).shown b.value) mirrors.new.list.items) store.old store.new s (meant verb.now) (told result) }
+    ensures room { HasRoom store.old.log store.new.log }
+    ensures limits { store.new.limits ≡ store.old.limits }
+{
+    match verb {
+        Verb::Add(name, parents) => reply_of_add(store.add(s, name, parents.names())),
+        Verb::Reload => reply_of_reload(store.reload(s)),
+        Verb::Discard => Reply::Discarded(store.discard(s)),
+        Verb::Count(expr) => reply_of_count(store.count(s, expr)),
+        Verb::Id(name) => reply_of_id(store.id(s, name)),
+        Verb::Status => Reply::Sizes(store.status(s)),
+        Verb::Levels => Reply::LevelSizes(store.levels()),
+        Verb::Mirrors => Reply::Counted(u64::from(mirrors.len())),
+        Verb::DropAt(place) => drop_mirror(mirrors, *place),
+        Verb::Flush(_) | Verb::Query(_) => unreachable!(),
+    }
+}
+
 /// Executes a command and puts its reply.
 fn execute_command<D: Disk, O: Sink>(
     store: Store,
@@ -124,48 +148,16 @@ fn execute_command<D: Disk, O: Sink>(
     let s = command.session;
     let mut store = store;
     match &command.verb {
-        Verb::Add(name, parents) => {
-            let answer = store.add(s, name, parents.names());
-            tell(store, &reply_of_add(answer), output)
-        }
         Verb::Flush(heads) => flush(store, log, changes, s, heads.names(), output),
-        Verb::Reload => {
-            let answer = store.reload(s);
-            tell(store, &reply_of_reload(answer), output)
-        }
-        Verb::Discard => {
-            let count = store.discard(s);
-            tell(store, &Reply::Discarded(count), output)
-        }
         Verb::Query(expr) => list(store, s, expr, output),
-        Verb::Count(expr) => {
-            let answer = store.count(s, expr);
-            tell(store, &reply_of_count(answer), output)
-        }
-        Verb::Id(name) => {
-            let answer = store.id(s, name);
-            tell(store, &reply_of_id(answer), output)
-        }
-        Verb::Status => {
-            let counts = store.status(s);
-            tell(store, &Reply::Sizes(counts), output)
-        }
-        Verb::Levels => {
-            let counts = store.levels();
-            tell(store, &Reply::LevelSizes(counts), output)
-        }
-        Verb::Mirrors => {
-            let count = mirrors.len();
-            tell(store, &Reply::Counted(count as u64), output)
-        }
-        Verb::DropAt(place) => {
-            let reply = drop_mirror(mirrors, *place);
+        verb => {
+            let reply = reply_of(&mut store, mirrors, s, verb);
             tell(store, &reply, output)
         }
     }
 }
 
-/// Executes a line that isn't too long.
+/// Executes a line that isn't too long and gets a reply.
 fn execute_text<D: Disk, O: Sink>(
     alloc: Global,
     store: Store,
@@ -175,7 +167,8 @@ fn execute_text<D: Disk, O: Sink>(
     text: &[u8],
     output: &mut O,
 ) -> Result<Store, Stop>
-    requires { IfSome (D.told log.old) (IsOnDisk store.log) }
+    requires begins { IfSome (D.told log.old) (IsOnDisk store.log) }
+    requires heard { is_empty_or_comment text.now ≡ false }
     ensures step { let first = map (λ b. (⟦<dyn Remote as Remote>⟧ b.vtable).shown b.value) mirrors.old.list.items in let left = map (λ b. (⟦<dyn Remote as Remote>⟧ b.vtable).shown b.value) mirrors.new.list.items in
         (payload : List ℕ) × (clock : Option ℕ) × (changes.new.items ≡ changes_with changes.old.items clock)
         × Goes (LineLeaves store payload clock result) (D.told log.old) (D.told log.new)
@@ -188,13 +181,9 @@ fn execute_text<D: Disk, O: Sink>(
     ensures sink { result ≡ Err Stop.Sink → Rose (O.faults output.old) (O.faults output.new) }
     ensures sink_later { O.faults output.old ≤ O.faults output.new }
 {
-    if is_comment(text) {
-        return Ok(store);
-    }
     match Command::parse(alloc, text) {
         Ok(command) => execute_command(store, log, mirrors, changes, &command, output),
-        Err(CommandFault::Syntax) => tell(store, &Reply::NoCommand, output),
-        Err(CommandFault::Memory) => tell(store, &Reply::Refused(Refusal::Memory), output),
+        Err(fault) => tell_unread(store, fault, output),
     }
 }
 
@@ -224,6 +213,7 @@ pub(crate) fn execute<D: Disk, O: Sink>(
 {
     match kind {
         Line::TooLong => tell(store, &Reply::LongLine, output),
+        Line::Text if is_comment(text) => Ok(store),
         Line::Text => execute_text(alloc, store, log, mirrors, changes, text, output),
     }
 }

@@ -13,10 +13,10 @@ ghost use Rattle.dag_store.specs.Stands.{Stands};
 ghost use Rattle.dag_store.specs.Steps.{AreIdsOf};
 ghost use Rattle.command_lines.specs.Told.{told};
 ghost use Rattle.dag_run.specs.Lines.{CommandReplies, PutsReply, PutsFault};
-ghost use Rattle.dag_run.specs.Replies.{reply_of_add, reply_of_added, reply_of_reload, reply_of_id, reply_of_count};
+ghost use Rattle.dag_run.specs.Replies.{reply_of_add, reply_of_added, reply_of_reload, reply_of_id, reply_of_count, reply_of_fault};
 
 use crate::stops::Stop;
-use command_lines::{Reply, put_disk_fault, put_names, put_reply};
+use command_lines::{CommandFault, Reply, put_disk_fault, put_names, put_reply};
 use dag_store::{Added, Answer, Expr, Found, Refusal, Store};
 use id_groups::Id;
 use line_io::Sink;
@@ -71,6 +71,16 @@ pub(crate) fn reply_of_count(answer: Result<Answer, Refusal>) -> Reply
     }
 }
 
+/// What a line is told that can't be read.
+fn reply_of_fault(fault: CommandFault) -> Reply
+    ensures { told result ≡ reply_of_fault fault }
+{
+    match fault {
+        CommandFault::Syntax => Reply::NoCommand,
+        CommandFault::Memory => Reply::Refused(Refusal::Memory),
+    }
+}
+
 /// Puts the reply of a line, and hands the store back.
 pub(crate) fn tell<O: Sink>(store: Store, reply: &Reply, output: &mut O) -> Result<Store, Stop>
     ensures bytes { WhereTold (O.taken output.old) (O.taken output.new) (PutsReply store (told reply.now) result) }
@@ -80,6 +90,20 @@ pub(crate) fn tell<O: Sink>(store: Store, reply: &Reply, output: &mut O) -> Resu
 {
     put_reply(reply, output)?;
     Ok(store)
+}
+
+/// Puts the reply of a line that can't be read, and hands the store back.
+pub(crate) fn tell_unread<O: Sink>(
+    store: Store,
+    fault: CommandFault,
+    output: &mut O,
+) -> Result<Store, Stop>
+    ensures bytes { WhereTold (O.taken output.old) (O.taken output.new) (PutsReply store (reply_of_fault fault) result) }
+    ensures same { IfOk result (λ next. next ≡ store) }
+    ensures stop { IfErr result (λ stop. stop ≡ Stop.Sink) }
+    ensures cause { HasCause (O.faults output.old) (O.faults output.new) result }
+{
+    tell(store, &reply_of_fault(fault), output)
 }
 
 /// Puts the names of an answer, and hands the store back.

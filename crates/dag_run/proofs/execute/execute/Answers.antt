@@ -1,12 +1,12 @@
-use Rattle.std.proofs.Common.{[], None, refl, subst}
+use Rattle.std.proofs.Common.{[], None, Ok, true, refl, sym, subst, ◌∙◌}
 use Rattle.outside.specs.Counts.{Rose}
-use Rattle.outside.proofs.ToldLemmas.{WhereTold-map}
+use Rattle.outside.proofs.ToldLemmas.{WhereTold-map, WhereTold-same}
 use Rattle.line_io.specs.Next.{IsLine}
 use Rattle.line_io.specs.declared.lines.Line.{Line}
 use Rattle.step_rules.specs.Reply.{LongLine}
 use Rattle.dag_run.specs.Lines.{PutsReply}
 use Rattle.dag_run.proofs.Solo.{long-step}
-use Rattle.dag_run.proofs.Doing.{still-goes, long-line, long-not-silent, line-as, line-told}
+use Rattle.dag_run.proofs.Doing.{still-goes, text-short, short-silent, long-line, long-not-silent, line-as, line-passed, line-told}
 use Rattle.dag_run.proofs.execute.execute.Goals as goal
 
 pub returns-in-TooLong-clause-step : goal.returns-in-TooLong-clause-step
@@ -26,8 +26,8 @@ returns-in-TooLong-clause-step g c =
           c.tell.ensures.bytes,
     )
 
-pub returns-in-Text-clause-step : goal.returns-in-Text-clause-step
-returns-in-Text-clause-step g c =
+pub returns-in-Text-2-clause-step : goal.returns-in-Text-2-clause-step
+returns-in-Text-2-clause-step g c =
     let store = c.args.store in
     let text = c.args.text.now in
     let p = c.execute_text.ensures.step in
@@ -39,7 +39,22 @@ returns-in-Text-clause-step g c =
       p.3,
       WhereTold-map (g.O.Sink.taken c.args.output.now) (g.O.Sink.taken c.execute_text.new.output) _ _
           (λ before now h line is.
-          let e = subst (λ (k : Line). IsLine k text line) c.in-Text.is is in
+          let e = subst (λ (k : Line). IsLine k text line) c.in-Text-2.is is in
           line-as _ _ failed store text line p.0 p.1 r before now e.0 (h e.1))
           p.4,
+    )
+
+pub returns-in-Text-clause-step : goal.returns-in-Text-clause-step
+returns-in-Text-clause-step g c =
+    let store = c.args.store in
+    let text = c.args.text.now in
+    let failed : Type 0 = Rose (g.O.Sink.faults c.args.output.now) (g.O.Sink.faults c.args.output.now) in (
+      [],
+      None,
+      refl,
+      still-goes store store [] (Ok store) (g.D.Disk.told c.args.log.now) refl tt refl,
+      WhereTold-same (g.O.Sink.taken c.args.output.now) _
+          (λ x line is.
+          let e = text-short text line (subst (λ k. IsLine k text line) c.in-Text.is is) in
+          line-passed _ failed store line x (short-silent text line true e (sym c.is_comment.ensures ∙ c.if-is_comment.true))),
     )
