@@ -68,12 +68,17 @@ fn has_close(index: &NameIndex, bytes: &[u8]) -> bool {
         && index.find(&[], NameRef::over(&name_of(7, 3))).is_none()
 }
 
+/// Whether an index takes the close names and has them.
+fn holds_close(alloc: Global, bytes: &[u8]) -> Result<bool, AllocError> {
+    let mut index = NameIndex::empty(alloc);
+    let taken = takes(alloc, &mut index, &[], bytes, &[0, 20, 40, 60, 80])?;
+    Ok(taken && has_close(&index, bytes))
+}
+
 #[test]
 fn close_names_are_told_apart(rt: HostRuntime) -> Result<(), Fail> {
     let bytes = names_of(rt.alloc(), &CLOSE)?;
-    let mut index = NameIndex::empty(rt.alloc());
-    let taken = takes(rt.alloc(), &mut index, &[], &bytes, &[0, 20, 40, 60, 80])?;
-    assert!(rt; taken && has_close(&index, &bytes));
+    assert!(rt; holds_close(rt.alloc(), &bytes)?);
     Ok(())
 }
 
@@ -108,12 +113,19 @@ fn are_all_behind(alloc: Global, index: &mut NameIndex, held: &[u8]) -> Result<b
     Ok(true)
 }
 
+/// Whether the index takes that one, and those behind it as it is wanted.
+fn takes_behind(alloc: Global, index: &mut NameIndex) -> Result<bool, AllocError> {
+    let held = name_of(7, 3);
+    if !takes(alloc, index, &[], &held, &[0])? {
+        return Ok(false);
+    }
+    are_all_behind(alloc, index, &held)
+}
+
 #[test]
 fn a_name_stands_once(rt: HostRuntime) -> Result<(), Fail> {
-    let held = name_of(7, 3);
     let mut index = NameIndex::empty(rt.alloc());
-    assert!(rt; takes(rt.alloc(), &mut index, &[], &held, &[0])?);
-    assert!(rt; are_all_behind(rt.alloc(), &mut index, &held)?);
+    assert!(rt; takes_behind(rt.alloc(), &mut index)?);
     Ok(())
 }
 
@@ -148,12 +160,16 @@ fn has_first(index: &NameIndex, bytes: &[u8], total: u64) -> bool {
     true
 }
 
+/// Whether an index has all 1,082 names of many inserts.
+fn holds_all(alloc: Global) -> Result<bool, AllocError> {
+    let mut index = NameIndex::empty(alloc);
+    let mut bytes: Vec<u8> = Vec::new(alloc);
+    let total = fill(alloc, &mut index, &mut bytes)?;
+    Ok(total == Some(1082) && has_first(&index, &bytes, 1082))
+}
+
 #[test]
 fn all_are_found_behind_many_inserts(rt: HostRuntime) -> Result<(), Fail> {
-    let mut index = NameIndex::empty(rt.alloc());
-    let mut bytes: Vec<u8> = Vec::new(rt.alloc());
-    let total = fill(rt.alloc(), &mut index, &mut bytes)?;
-    assert_eq!(rt; total, Some(1082));
-    assert!(rt; has_first(&index, &bytes, 1082));
+    assert!(rt; holds_all(rt.alloc())?);
     Ok(())
 }

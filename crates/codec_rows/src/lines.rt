@@ -40,6 +40,17 @@ fn spell_all(
     Ok(())
 }
 
+/// What `spell_all` says of the lines.
+fn spelled_lines(
+    alloc: Global,
+    lines: &mut Lines,
+    source: &mut MemorySource,
+) -> Result<Vec<u8>, AllocError> {
+    let mut spelled = Vec::new(alloc);
+    spell_all(lines, source, &mut spelled)?;
+    Ok(spelled)
+}
+
 /// The lines of an input, and how it ends.
 fn spelled(
     alloc: Global,
@@ -52,9 +63,7 @@ fn spelled(
 {
     let mut source = MemorySource::new(alloc, input, cut, fails)?;
     let mut lines = Lines::new(alloc, limit)?;
-    let mut spelled = Vec::new(alloc);
-    spell_all(&mut lines, &mut source, &mut spelled)?;
-    Ok(spelled)
+    spelled_lines(alloc, &mut lines, &mut source)
 }
 
 /// Whether the input has these lines and this end.

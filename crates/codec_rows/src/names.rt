@@ -193,12 +193,17 @@ fn has_hundred(map: &NameMap, log: &[u8]) -> bool {
         && map.known_below(1 << 60) == 495
 }
 
+/// Whether a map has the names of a hundred flushes that were added to it.
+fn holds_hundred(alloc: Global) -> Result<bool, AllocError> {
+    let mut map = NameMap::empty(alloc);
+    let mut log: Vec<u8> = Vec::new(alloc);
+    let distinct = add_hundred(alloc, &mut map, &mut log)?;
+    Ok(distinct && has_hundred(&map, &log))
+}
+
 #[test]
 fn names_are_found_both_ways(rt: HostRuntime) -> Result<(), Fail> {
-    let mut map = NameMap::empty(rt.alloc());
-    let mut log: Vec<u8> = Vec::new(rt.alloc());
-    assert!(rt; add_hundred(rt.alloc(), &mut map, &mut log)?);
-    assert!(rt; has_hundred(&map, &log));
+    assert!(rt; holds_hundred(rt.alloc())?);
     Ok(())
 }
 
@@ -211,13 +216,25 @@ fn has_clone(map: &NameMap, log: &[u8]) -> bool {
         && has(map, log, 4, 5, 3)
 }
 
+/// Adds a clone and a flush of one id behind it. Whether the names are distinct.
+fn add_clone(alloc: Global, map: &mut NameMap, log: &mut Vec<u8>) -> Result<bool, AllocError> {
+    if !add_payload(map, log, &MERGE)? {
+        return Ok(false);
+    }
+    add_flush(alloc, map, log, &[name_of(5)], &[])
+}
+
+/// Whether a map has the names of the clone and the flush that were added to it.
+fn holds_clone(alloc: Global) -> Result<bool, AllocError> {
+    let mut map = NameMap::empty(alloc);
+    let mut log: Vec<u8> = Vec::new(alloc);
+    let distinct = add_clone(alloc, &mut map, &mut log)?;
+    Ok(distinct && has_clone(&map, &log))
+}
+
 #[test]
 fn a_clone_leaves_ids_out(rt: HostRuntime) -> Result<(), Fail> {
-    let mut map = NameMap::empty(rt.alloc());
-    let mut log: Vec<u8> = Vec::new(rt.alloc());
-    assert!(rt; add_payload(&mut map, &mut log, &MERGE)?);
-    assert!(rt; add_flush(rt.alloc(), &mut map, &mut log, &[name_of(5)], &[])?);
-    assert!(rt; has_clone(&map, &log));
+    assert!(rt; holds_clone(rt.alloc())?);
     Ok(())
 }
 
@@ -274,12 +291,17 @@ fn are_told_apart(alloc: Global, map: &mut NameMap, log: &mut Vec<u8>) -> Result
     Ok(true)
 }
 
+/// Whether those flushes are taken that may be, and a map has their names.
+fn holds_told_apart(alloc: Global) -> Result<bool, AllocError> {
+    let mut map = NameMap::empty(alloc);
+    let mut log: Vec<u8> = Vec::new(alloc);
+    let told = are_told_apart(alloc, &mut map, &mut log)?;
+    Ok(told && has(&map, &log, 1, 2, 1))
+}
+
 #[test]
 fn double_names_are_refused(rt: HostRuntime) -> Result<(), Fail> {
-    let mut map = NameMap::empty(rt.alloc());
-    let mut log: Vec<u8> = Vec::new(rt.alloc());
-    assert!(rt; are_told_apart(rt.alloc(), &mut map, &mut log)?);
-    assert!(rt; has(&map, &log, 1, 2, 1));
+    assert!(rt; holds_told_apart(rt.alloc())?);
     Ok(())
 }
 
@@ -314,14 +336,24 @@ fn add_all(
     Ok(true)
 }
 
+/// How many known names the map has with the flushes, which are added in turn.
+fn count_added(
+    alloc: Global,
+    map: &mut NameMap,
+    log: &mut Vec<u8>,
+    flushes: &[Numbers],
+) -> Result<Option<u64>, AllocError> {
+    if !add_all(alloc, map, log, flushes)? {
+        return Ok(None);
+    }
+    Ok(Some(map.known_below(1 << 60)))
+}
+
 /// How many known names a map has to which the flushes are added in turn.
 fn count_in_turn(alloc: Global, flushes: &[Numbers]) -> Result<Option<u64>, AllocError> {
     let mut map = NameMap::empty(alloc);
     let mut log: Vec<u8> = Vec::new(alloc);
-    if !add_all(alloc, &mut map, &mut log, flushes)? {
-        return Ok(None);
-    }
-    Ok(Some(map.known_below(1 << 60)))
+    count_added(alloc, &mut map, &mut log, flushes)
 }
 
 /// Adds the payload behind the log's end to what becomes a map. Whether it is taken; `None` where it is no payload that may

@@ -143,11 +143,16 @@ fn put_chain(build: &mut BatchBuild) -> Result<(), AllocError>
     Ok(())
 }
 
+/// The payload that becomes of the parts of `CHAIN`.
+fn built_chain(alloc: Global) -> Result<Vec<u8>, AllocError> {
+    let mut build = BatchBuild::new(alloc, 1, 0, 0)?;
+    put_chain(&mut build)?;
+    build.finish()
+}
+
 #[test]
 fn a_flush_of_others_is_built(rt: HostRuntime) -> Result<(), Fail> {
-    let mut build = BatchBuild::new(rt.alloc(), 1, 0, 0)?;
-    put_chain(&mut build)?;
-    let bytes = build.finish()?;
+    let bytes = built_chain(rt.alloc())?;
     assert_eq!(rt; bytes.as_slice(), CHAIN.as_slice());
     Ok(())
 }
@@ -166,11 +171,16 @@ fn put_fork(build: &mut BatchBuild) -> Result<(), AllocError>
     Ok(())
 }
 
+/// The payload that becomes of the parts of `FORK`.
+fn built_fork(alloc: Global) -> Result<Vec<u8>, AllocError> {
+    let mut build = BatchBuild::new(alloc, 1, 0, 2)?;
+    put_fork(&mut build)?;
+    build.finish()
+}
+
 #[test]
 fn a_flush_is_built(rt: HostRuntime) -> Result<(), Fail> {
-    let mut build = BatchBuild::new(rt.alloc(), 1, 0, 2)?;
-    put_fork(&mut build)?;
-    let bytes = build.finish()?;
+    let bytes = built_fork(rt.alloc())?;
     assert_eq!(rt; bytes.as_slice(), FORK.as_slice());
     Ok(())
 }
@@ -187,11 +197,16 @@ fn put_clone(build: &mut BatchBuild) -> Result<(), AllocError>
     Ok(())
 }
 
+/// The payload that becomes of the parts of `CLONE`.
+fn built_clone(alloc: Global) -> Result<Vec<u8>, AllocError> {
+    let mut build = BatchBuild::new(alloc, 2, 0, 10)?;
+    put_clone(&mut build)?;
+    build.finish()
+}
+
 #[test]
 fn a_clone_is_built(rt: HostRuntime) -> Result<(), Fail> {
-    let mut build = BatchBuild::new(rt.alloc(), 2, 0, 10)?;
-    put_clone(&mut build)?;
-    let bytes = build.finish()?;
+    let bytes = built_clone(rt.alloc())?;
     assert_eq!(rt; bytes.as_slice(), CLONE.as_slice());
     Ok(())
 }

@@ -237,27 +237,47 @@ fn push_three(out: &mut Vec<u8>) -> Result<(usize, usize), AllocError> {
     Ok((second, third))
 }
 
+/// Whether the three batches of the log, of which two begin at these places, make the table of the graph.
+fn are_whole(alloc: Global, log: &[u8], second: usize, third: usize) -> Result<bool, FlatFault> {
+    let mut table = FlatTable::empty(alloc);
+    add(&mut table, log, 1, second.saturating_sub(1), 0)?;
+    add(&mut table, log, second, third.saturating_sub(second), 1000)?;
+    add(
+        &mut table,
+        log,
+        third,
+        log.len().saturating_sub(third),
+        2000,
+    )?;
+    Ok(is_whole(&table, log))
+}
+
 #[test]
 fn a_graph_in_three_batches(rt: HostRuntime) -> Result<(), Fail> {
     let mut log = Vec::new(rt.alloc());
     let (second, third) = push_three(&mut log)?;
-    let end = log.len();
-    let mut table = FlatTable::empty(rt.alloc());
-    add(&mut table, &log, 1, second.saturating_sub(1), 0)?;
-    add(&mut table, &log, second, third.saturating_sub(second), 1000)?;
-    add(&mut table, &log, third, end.saturating_sub(third), 2000)?;
-    assert!(rt; is_whole(&table, &log));
+    assert!(rt; are_whole(rt.alloc(), &log, second, third)?);
     Ok(())
+}
+
+/// The graph in one batch behind a first byte.
+fn push_one_batch(out: &mut Vec<u8>) -> Result<(), AllocError> {
+    out.push(0)?;
+    push_batch(out, 0, 200)
+}
+
+/// Whether the one batch of the log makes the table of the graph.
+fn is_whole_at_once(alloc: Global, log: &[u8]) -> Result<bool, FlatFault> {
+    let mut table = FlatTable::empty(alloc);
+    add(&mut table, log, 1, log.len().saturating_sub(1), 0)?;
+    Ok(is_whole(&table, log))
 }
 
 #[test]
 fn a_graph_in_one_batch(rt: HostRuntime) -> Result<(), Fail> {
     let mut log = Vec::new(rt.alloc());
-    log.push(0)?;
-    push_batch(&mut log, 0, 200)?;
-    let mut table = FlatTable::empty(rt.alloc());
-    add(&mut table, &log, 1, log.len().saturating_sub(1), 0)?;
-    assert!(rt; is_whole(&table, &log));
+    push_one_batch(&mut log)?;
+    assert!(rt; is_whole_at_once(rt.alloc(), &log)?);
     Ok(())
 }
 
@@ -400,6 +420,22 @@ fn are_joined(
     is_joined(&table.view(log, 4).join(others, some, pending, more))
 }
 
+/// Whether the sections of these two records are joined behind the table, as `is_joined` wants it.
+fn are_joined_behind(
+    alloc: Global,
+    table: &FlatTable,
+    log: &[u8],
+    some: &[u8],
+    more: &[u8],
+) -> Result<bool, FlatFault>
+    requires table { (records : List Placed) × IsTableOf table.now records × Stand log.now records }
+    requires four { 4 ≤ table.now.end }
+{
+    let others = pushed(alloc, some, FIRST_OTHER)?;
+    let pending = pushed(alloc, more, others.end())?;
+    Ok(are_joined(table, log, &others, some, &pending, more))
+}
+
 #[test]
 fn sections_are_joined(rt: HostRuntime) -> Result<(), Fail> {
     let log: [u8; 12] = [1, 0, 0, 0, 0, 0, 0, 0, 0, 3, 3, 0];
@@ -410,8 +446,6 @@ fn sections_are_joined(rt: HostRuntime) -> Result<(), Fail> {
     ];
     let mut table = FlatTable::empty(rt.alloc());
     add(&mut table, &log, 0, 12, 0)?;
-    let others = pushed(rt.alloc(), &some, FIRST_OTHER)?;
-    let pending = pushed(rt.alloc(), &more, others.end())?;
-    assert!(rt; table.count() >= 4 && are_joined(&table, &log, &others, &some, &pending, &more));
+    assert!(rt; table.count() >= 4 && are_joined_behind(rt.alloc(), &table, &log, &some, &more)?);
     Ok(())
 }
