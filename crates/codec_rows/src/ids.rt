@@ -24,8 +24,8 @@ fn is_read(text: &[u8]) -> bool {
 
 #[test]
 fn names_are_read_in_either_case(rt: HostRuntime) -> Result<(), Fail> {
-    for (text, wanted) in TEXTS {
-        assert!(rt; is_read(text) == wanted);
+    for (text, wanted) in &TEXTS {
+        assert!(rt; is_read(text) == *wanted);
     }
     assert_eq!(rt;
         name().to_hex().as_slice(),

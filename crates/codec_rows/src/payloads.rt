@@ -95,14 +95,19 @@ const CHANGED: [(&[u8], usize, u8, bool); 22] = [
     (&MERGE, 58, 0, false),
 ];
 
+/// The first byte of these, with its place, by which something else becomes of a payload than it is wanted.
+fn first_wrong(alloc: Global) -> Result<Option<(u8, usize)>, AllocError> {
+    for (payload, place, value, is_payload) in &CHANGED {
+        if is_read(alloc, payload, *place, *value)? != *is_payload {
+            return Ok(Some((*value, *place)));
+        }
+    }
+    Ok(None)
+}
+
 #[test]
 fn each_rule_is_tested(rt: HostRuntime) -> Result<(), Fail> {
-    for (payload, place, value, is_payload) in CHANGED {
-        assert!(rt;
-            is_read(rt.alloc(), payload, place, value)? == is_payload,
-            "{value} at {place}"
-        );
-    }
+    assert_eq!(rt; first_wrong(rt.alloc())?, None);
     Ok(())
 }
 

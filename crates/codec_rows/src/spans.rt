@@ -94,34 +94,45 @@ fn algebra_agrees_with_lists(rt: HostRuntime) -> Result<(), Fail> {
     Ok(())
 }
 
+/// How many are taken of the ids 1, 2, 3, 7, N0 and N1, and which come then.
+const GREATEST: [(u64, &[u8]); 5] = [
+    (0, &[]),
+    (1, &[11]),
+    (4, &[11, 10, 7, 3]),
+    (6, &[11, 10, 7, 3, 2, 1]),
+    (u64::MAX, &[11, 10, 7, 3, 2, 1]),
+];
+
+/// Whether those are the so many greatest ids of the set.
+fn has_greatest(alloc: Global, set: &IdSet, n: u64, taken: &[u8]) -> Result<bool, AllocError> {
+    Ok(has_only(&set.take_greatest(alloc, n)?, taken))
+}
+
 #[test]
 fn the_greatest_come_first(rt: HostRuntime) -> Result<(), Fail> {
-    let alloc = rt.alloc();
-    let set = set_of(alloc, &[1, 2, 3, 7, 10, 11])?;
-    for (n, taken) in [
-        (0, [].as_slice()),
-        (1, &[11]),
-        (4, &[11, 10, 7, 3]),
-        (6, &[11, 10, 7, 3, 2, 1]),
-        (u64::MAX, &[11, 10, 7, 3, 2, 1]),
-    ] {
-        assert!(rt; has_only(&set.take_greatest(alloc, n)?, taken));
+    let set = set_of(rt.alloc(), &[1, 2, 3, 7, 10, 11])?;
+    for (n, taken) in &GREATEST {
+        assert!(rt; has_greatest(rt.alloc(), &set, *n, taken)?);
     }
     Ok(())
 }
 
+/// The last id of the master group, and all of the other group.
+fn put_both_groups(set: &mut IdSet) -> Result<(), AllocError> {
+    set.insert_span(IdSpan::single(Id::master((1 << 56) - 1)))?;
+    set.insert_span(IdSpan {
+        low: Id::other(0),
+        high: Id::other((1 << 56) - 1),
+    })
+}
+
 #[test]
 fn spans_meet_within_their_group(rt: HostRuntime) -> Result<(), Fail> {
-    let alloc = rt.alloc();
     let last = Id::master((1 << 56) - 1);
     let first = Id::other(0);
     let end = Id::other((1 << 56) - 1);
-    let mut set = IdSet::empty(alloc);
-    set.insert_span(IdSpan::single(last))?;
-    set.insert_span(IdSpan {
-        low: first,
-        high: end,
-    })?;
+    let mut set = IdSet::empty(rt.alloc());
+    put_both_groups(&mut set)?;
     assert_eq!(rt;
         set.spans(),
         [
@@ -136,10 +147,8 @@ fn spans_meet_within_their_group(rt: HostRuntime) -> Result<(), Fail> {
     Ok(())
 }
 
-#[test]
-fn a_span_joins_those_that_it_meets(rt: HostRuntime) -> Result<(), Fail> {
-    let alloc = rt.alloc();
-    let mut low = IdSet::empty(alloc);
+/// Puts spans of which the last meets those before it.
+fn put_meeting(low: &mut IdSet) -> Result<(), AllocError> {
     for (from, to) in [
         (20, 29),
         (10, 15),
@@ -155,6 +164,13 @@ fn a_span_joins_those_that_it_meets(rt: HostRuntime) -> Result<(), Fail> {
             high: Id::master(to),
         })?;
     }
+    Ok(())
+}
+
+#[test]
+fn a_span_joins_those_that_it_meets(rt: HostRuntime) -> Result<(), Fail> {
+    let mut low = IdSet::empty(rt.alloc());
+    put_meeting(&mut low)?;
     assert_eq!(rt;
         low.spans(),
         [IdSpan {

@@ -125,15 +125,17 @@ fn add(table: &mut FlatTable, log: &[u8], at: usize, len: usize, most: u32) -> R
     table.extend(log, records, at as u64)
 }
 
-/// Whether the segment gives the id the parents that it has in the graph.
-fn has_parents(segment: SegmentRef<'_>, id: u8) -> bool {
-    let mut given = segment.parents();
+/// Whether the id goes on in the segment from the one before it, in the graph too.
+fn goes_on(segment: SegmentRef<'_>, id: u8) -> bool {
     let number = u64::from(id);
-    if segment.low().number() != number {
-        return segment.low().number() < number
-            && number <= segment.high().number()
-            && matches!(parents_of(id), Parents::Before);
-    }
+    segment.low().number() < number
+        && number <= segment.high().number()
+        && matches!(parents_of(id), Parents::Before)
+}
+
+/// Whether these are the parents that the first id of a segment has in the graph.
+fn are_parents(parents: SegmentParents<'_>, id: u8) -> bool {
+    let mut given = parents;
     let first = given.next().map(|parent| parent.number());
     let second = given.next().map(|parent| parent.number());
     match parents_of(id) {
@@ -144,6 +146,14 @@ fn has_parents(segment: SegmentRef<'_>, id: u8) -> bool {
             first == Some(u64::from(one)) && second == Some(u64::from(two)) && given.next() == None
         }
     }
+}
+
+/// Whether the segment gives the id the parents that it has in the graph.
+fn has_parents(segment: SegmentRef<'_>, id: u8) -> bool {
+    if segment.low().number() != u64::from(id) {
+        return goes_on(segment, id);
+    }
+    are_parents(segment.parents(), id)
 }
 
 /// Whether the id is found with its parents in a segment below a count, by two look-ups.
@@ -348,17 +358,23 @@ fn pushed(alloc: Global, bytes: &[u8], low: u64) -> Result<Section, FlatFault>
     Ok(section)
 }
 
+/// The end of a section of the record, which stands at the last place.
+fn end_at_last(alloc: Global, bytes: &[u8]) -> Result<u64, FlatFault> {
+    let Some((segment, _)) = read_segment(bytes) else {
+        return Err(FlatFault::Memory);
+    };
+    if segment.level() != 0 || segment.low().number() != FIRST_OTHER {
+        return Err(FlatFault::Memory);
+    }
+    let mut section = Section::empty(alloc);
+    section.push(segment, u64::MAX)?;
+    Ok(section.end())
+}
+
 #[test]
 fn a_place_beyond_all_bytes(rt: HostRuntime) -> Result<(), Fail> {
     let bytes: [u8; 12] = [1, 0, 1, 0, 0, 0, 0, 0, 0, 6, 6, 0];
-    let Some((segment, _)) = read_segment(&bytes) else {
-        return Err("the record is read".into());
-    };
-    let mut section = Section::empty(rt.alloc());
-    if segment.level() == 0 && segment.low().number() == FIRST_OTHER {
-        section.push(segment, u64::MAX)?;
-    }
-    assert_eq!(rt; section.end(), FIRST_OTHER + 7);
+    assert_eq!(rt; end_at_last(rt.alloc(), &bytes)?, FIRST_OTHER + 7);
     Ok(())
 }
 
