@@ -1,5 +1,4 @@
-use Rattle.std.proofs.Common.{arith, rules}
-use Rattle.std.proofs.lemmas.Grind.{common_steps}
+use Rattle.std.proofs.Common.{rules}
 use Rattle.command_lines.proofs.TextLemmas.{one-digit}
 use Rattle.command_lines.proofs.words.number_of.Goals as goal
 

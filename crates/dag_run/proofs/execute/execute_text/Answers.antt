@@ -1,8 +1,8 @@
-use Rattle.std.proofs.Common.{◌≤◌, [], None, Ok, Err, true, false, length, refl, sym, ap, ◌∙◌}
+use Rattle.std.proofs.Common.{[], None, Err, false, refl, ap}
 use Rattle.outside.specs.Counts.{Rose}
 use Rattle.outside.proofs.ToldLemmas.{WhereTold-map}
 use Rattle.command_lines.specs.Meant.{meant}
-use Rattle.dag_run.specs.Lines.{CommandReplies, LineReplies, PutsReply}
+use Rattle.dag_run.specs.Lines.{PutsReply}
 use Rattle.dag_run.specs.Replies.{reply_of_fault}
 use Rattle.dag_run.proofs.Solo.{fault-step}
 use Rattle.dag_run.proofs.Doing.{still-goes, text-short, short-silent, line-of-command, line-told}

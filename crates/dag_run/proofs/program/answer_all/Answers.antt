@@ -1,26 +1,25 @@
-use Rattle.std.proofs.Common.{ℕ, ◌≡◌, List, [], map, Some, None, Ok, Err, rules, refl, sym, ap, subst, ◌∙◌}
+use Rattle.std.proofs.Common.{ℕ, ◌≡◌, List, map, Some, None, Ok, Err, rules, sym, ap, subst, ◌∙◌}
 use Rattle.std.proofs.lemmas.Result.{err_from_is_err_and}
 use Rattle.outside.specs.Counts.{Rose}
-use Rattle.outside.proofs.ToldLemmas.{WhereTold-map, WhereTold-same, WhereTold-both}
+use Rattle.outside.proofs.ToldLemmas.{WhereTold-map, WhereTold-both}
 use Rattle.disk_trait.specs.Images.{Told, IsSound}
 use Rattle.disk_trait.proofs.Telling.{goes-both, goes-from, goes-new, goes-told, if_forth, of_told}
 use Rattle.gated_log.specs.Holding.{IsOnDisk}
 use Rattle.gated_log.specs.Load.{IsSureOf}
 use Rattle.line_io.specs.Next.{NextLine, IsLine, IsReadOut}
-use Rattle.line_io.specs.Reading.{new_reading}
 use Rattle.change_rules.specs.Change.{text_of}
 use Rattle.change_rules.specs.Holding.{HoldAs}
 use Rattle.dag_store.specs.Loading.{KeepsHolding, IsLoadedStore}
 use Rattle.dag_run.specs.Seen.{seen}
-use Rattle.dag_run.specs.Ends.{Begins, OpensRun}
+use Rattle.dag_run.specs.Ends.{OpensRun}
 use Rattle.dag_run.specs.Lines.{LineLeaves, LineReplies}
 use Rattle.dag_run.specs.declared.stops.Stop.TheVariants as stops
 use Rattle.dag_run.proofs.Doing.{ready-line}
 use Rattle.dag_run.proofs.Seeing.{Each, seen-each, seen-step, sound-told, same-told, rose-since}
 use Rattle.dag_run.proofs.Going.{going-begin, going-as, going-line}
-use Rattle.dag_run.proofs.Ending.{ends-unread, means-as, going-end, going-fault, going-stop, load-stops}
+use Rattle.dag_run.proofs.Ending.{means-as, going-end, going-fault, going-stop, load-stops}
 use Rattle.dag_run.specs.Stops.{stop_of}
-use Rattle.dag_run.proofs.Statuses.{refuses-nothing, load-refuses, line-refuses, fault-no-log, stop-no-log, log-not-loaded}
+use Rattle.dag_run.proofs.Statuses.{load-refuses, line-refuses, fault-no-log, stop-no-log, log-not-loaded}
 use Rattle.dag_run.proofs.program.answer_all.Goals as goal
 
 pub returns-in_err-store-clause-means : goal.returns-in_err-store-clause-means
