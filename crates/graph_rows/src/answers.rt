@@ -75,9 +75,14 @@ fn members_are_listed(rt: HostRuntime) -> Result<(), Fail> {
     check(&rt, rt.alloc(), &world, &OVER_A_DAY)
 }
 
+/// Puts the commits of the other group behind the line. Whether they may come.
+fn put_others(world: &mut World) -> Result<bool, AllocError> {
+    Ok(put(world, [3, 2, 0])? && put(world, [6, 3, 5])?)
+}
+
 #[test]
 fn others_stand_before_master(rt: HostRuntime) -> Result<(), Fail> {
     let mut world = master(&rt, rt.alloc(), &LOWER_LINE)?.expect(&rt, "the line is a history");
-    assert!(rt; put(&mut world, [3, 2, 0])? && put(&mut world, [6, 3, 5])?);
+    assert!(rt; put_others(&mut world)?);
     check(&rt, rt.alloc(), &world, &OVER_BOTH_GROUPS)
 }
