@@ -219,6 +219,17 @@ fn asked<T: SegmentTable>(
     Ok(Some(names))
 }
 
+/// The names in the answer of an expression; `None` where the table hasn't an id that is asked for.
+fn names_of<T: SegmentTable>(
+    alloc: Global,
+    table: &T,
+    masters: usize,
+    expr: &Expr,
+) -> Result<Option<Vec<u8>>, AllocError> {
+    let ids = ids_in(alloc, masters, expr)?;
+    asked(alloc, table, masters, expr, &ids)
+}
+
 /// The last bytes of the names in the answer over a table of a graph with so many master commits; `None` where the table hasn't
 /// an id that is asked for.
 pub fn evaluated<T: SegmentTable>(
@@ -228,6 +239,5 @@ pub fn evaluated<T: SegmentTable>(
     text: &[u8],
 ) -> Result<Option<Vec<u8>>, ExprFault> {
     let expr = parsed(alloc, text)?;
-    let ids = ids_in(alloc, masters, &expr)?;
-    Ok(asked(alloc, table, masters, &expr, &ids)?)
+    Ok(names_of(alloc, table, masters, &expr)?)
 }
