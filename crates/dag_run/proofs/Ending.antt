@@ -31,6 +31,7 @@ use Rattle.dag_run.specs.Seen.{Seen, streams}
 use Rattle.dag_run.specs.Unasked.{beside, RunUnasked, StepBeside}
 use Rattle.dag_run.specs.UnaskedEnds.{MeansUnasked, LeavesUnasked}
 use Rattle.dag_run.specs.Ends.{Begins}
+use Rattle.dag_run.specs.Between.{Reads, Going}
 use Rattle.dag_run.specs.Stops.{stop_of, end_of}
 use Rattle.dag_run.specs.Lines.{changes_with, PutsFault, IsLimited, Replies, LineReplies, LineLeaves, StoresOn}
 use Rattle.dag_run.specs.declared.stops.Stop.{Stop}
@@ -47,8 +48,7 @@ use Rattle.dag_run.specs.Seen.{seen}
 use Rattle.dag_run.specs.Ends.{OpensRun, LoadPuts}
 use Rattle.dag_run.specs.Stops.{IsLoadStop}
 use Rattle.dag_run.proofs.Seeing.{Each, seen-each, same-told}
-use Rattle.dag_run.proofs.Reading.{Reads}
-use Rattle.dag_run.proofs.Going.{Going, prefixes, fresh-prefixes, stays-line, read-on, run-on}
+use Rattle.dag_run.proofs.Going.{prefixes, fresh-prefixes, stays-line, read-on, run-on}
 use Rattle.dag_run.proofs.Staying.{stopped-there, stopped-loaded, stopped-loading, stopped-short, short-sure, bytes-now, log-of}
 
 -- what a run ends as means what a run has to

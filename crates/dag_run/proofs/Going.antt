@@ -27,22 +27,12 @@ use Rattle.dag_run.specs.Seen.{Seen}
 use Rattle.dag_run.specs.Alone.{alone}
 use Rattle.dag_run.specs.Unasked.{beside, RunUnasked, StepBeside}
 use Rattle.dag_run.specs.Ends.{Begins}
+use Rattle.dag_run.specs.Between.{Reads, Stays, Going}
 use Rattle.dag_run.specs.Lines.{changes_with, Changes, Replies, IsPassed, LineReplies, LineLeaves, StoresOn}
-use Rattle.dag_run.proofs.Reading.{Reads, reads-start, reads-line}
+use Rattle.dag_run.proofs.Reading.{reads-start, reads-line}
 use Rattle.dag_run.proofs.Runs.{output-append}
 use Rattle.dag_run.proofs.Unasked.{bare-run, unasked-silent, unasked-step}
-use Rattle.dag_run.proofs.Staying.{Stays, stays-start, stays-stored, stays-same, log-of}
-
--- These lines were answered, all replies were put, and the store stands for the run's last state, beside the mirrors that are left.
-pub record Going (limits : Limits) (w : World Name) (payloads : List Payload) (room : ℕ) (mirrors left : List Mirror) (store : PlainStore) (changes : List ℕ) (reading : Reading) (before after : Seen) : Type 0 where
-  pub lines : List (List ℕ)
-  pub reads : Reads limits.input lines before.left reading after.left
-  pub replies : List Reply
-  pub last : Stored
-  pub run : RunUnasked limits (at_start w payloads room mirrors) lines replies (beside left last room)
-  pub out : after.taken ≡ before.taken ++ output_of replies
-  pub stands : Stands (length payloads) store last
-  pub stays : Stays limits w payloads changes last before.disk after.disk
+use Rattle.dag_run.proofs.Staying.{stays-start, stays-stored, stays-same, log-of}
 
 -- by the changes that there are
 pub going-as : (limits : Limits) (w : World Name) (payloads : List Payload) (room : ℕ) (mirrors left : List Mirror) (store : PlainStore) (changes others : List ℕ) (reading : Reading) (before after : Seen) → others ≡ changes

@@ -4,19 +4,8 @@ use Rattle.line_io.specs.Lines.{lines_of, whole_lines}
 use Rattle.line_io.specs.Reading.{Reading, new_reading, is_over, lines_left, whole_left}
 use Rattle.line_io.specs.Next.{NextLine, IsReadOut}
 use Rattle.line_io.specs.declared.lines.Line.{Line}
+use Rattle.dag_run.specs.Between.{Reads}
 use Rattle.line_io.proofs.LinesLemmas.{lines_left-new, whole_left-new, is_over-new}
-
--- The lines that were answered, of an input of these bytes: what is left of it gives the lines to come, and, until the
--- end was seen, the bytes given have these lines and those that are held.
-pub record Reads (limit : ℕ) (done : List (List ℕ)) (before : List ℕ) (reading : Reading) (after : List ℕ) : Type 0 where
-  pub all : lines_of limit before ≡ done ++ lines_left reading after
-  pub given : List ℕ
-  pub split : before ≡ given ++ after
-  pub whole : reading.ended ≡ false → (more : List ℕ) → whole_lines limit (given ++ more) ≡ done ++ whole_left reading more
-  -- whether the input is too long
-  pub over : is_over reading after ≡ nat_lt limit (length before)
-  -- where the source came to its end, none of its bytes is left
-  pub out : IsReadOut reading after
 
 pub reads-start : (limit : ℕ) (before : List ℕ) → Reads limit [] before (new_reading limit) before
 reads-start limit before = record {

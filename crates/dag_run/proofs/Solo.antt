@@ -1,5 +1,6 @@
 -- Commands and lines of which no mirror is asked.
-use Rattle.std.proofs.Common.{ℕ, ◌≡◌, inl, inr, true, false, List, [], None, length, nat_lt, refl, sym, subst}
+use Rattle.std.proofs.Common.{ℕ, ◌≡◌, inl, inr, true, false, List, [], None, Ok, Err, IfOk, MatchResult, length, nat_lt, refl, sym, ap, subst}
+use Rattle.std.specs.declared.result.Result.{Result}
 use Rattle.line_io.specs.Lines.{is_too_long}
 use Rattle.change_rules.specs.declared.Limits.{Limits}
 use Rattle.remote_rules.specs.Mirror.{Mirror}
@@ -15,10 +16,16 @@ use Rattle.run_rules.specs.Grammar.{SpellsCommand}
 use Rattle.run_rules.specs.Run.{Step}
 use Rattle.dag_run.specs.Alone.{alone, CommandAlone, StepAlone}
 use Rattle.dag_run.specs.Unasked.{beside, CommandBeside, StepBeside}
-use Rattle.dag_run.specs.Replies.{reply_of_fault}
+use Rattle.dag_run.specs.Replies.{IsUnreadFor, reply_of_fault}
 use Rattle.command_lines.specs.declared.command.CommandFault.{CommandFault}
 use Rattle.command_lines.specs.declared.command.CommandFault.TheVariants as faults
 use Rattle.dag_run.proofs.Unasked.{to-step, step-left}
+
+-- what was read of a text, by cases
+pub read-of : {C : Type 0} (Spells : C → Type 0) (text : List ℕ) (result : Result C CommandFault) → IfOk result Spells → (result ≡ Err faults.Syntax → (s : ℕ) (verb : Verb) → SpellsCommand text s verb → ⊥)
+    → (result ≡ Err faults.Memory → (s : ℕ) (verb : Verb) → SpellsCommand text s verb → MayWantMemory verb) → MatchResult result Spells (IsUnreadFor text)
+read-of Spells text (Ok command) ok none may = ok
+read-of Spells text (Err fault) ok none may = record { syntax = λ e. none (ap Err e); memory = λ e. may (ap Err e) }
 
 -- what is stored alone decides a command
 pub lone-alone : (limits : Limits) (st : Stored) (s : ℕ) (verb : Verb) (reply : Reply) (next : Stored) → IsInside verb → LoneStep limits st s verb reply next → CommandAlone limits st s verb reply next

@@ -1,5 +1,5 @@
 -- From the end of a run to its status, and which logs are refused.
-use Rattle.std.proofs.Common.{ℕ, ◌≡◌, ◌≤◌, ◌⊎◌, inl, inr, ⊎_elim, List, [], length, Option, Some, None, Ok, Err, IfSome, refl, sym, subst, ◌∙◌, arith}
+use Rattle.std.proofs.Common.{ℕ, ◌≡◌, ◌≤◌, ◌⊎◌, inl, inr, ⊎_elim, List, [], length, Option, Some, None, Ok, Err, IfSome, IfErr, refl, sym, subst, ◌∙◌, arith}
 use Rattle.std.specs.declared.result.Result.{Result}
 use Rattle.id_groups.specs.Name.{Name}
 use Rattle.commit_graph.specs.World.{World}
@@ -23,7 +23,7 @@ use Rattle.dag_run.specs.Ends.{Begins, RunRefuses, StatusMeans, StatusRefuses, S
 use Rattle.dag_run.specs.UnaskedEnds.{HasNoneToAsk, MeansUnasked}
 use Rattle.dag_run.proofs.UnaskedMeans.{means-of, none-failed}
 use Rattle.dag_run.proofs.Seeing.{seen-disk, seen-taken, seen-before}
-use Rattle.dag_run.specs.Stops.{end_of, stop_of, IsRunStatus, IsLineStop, IsLoadStop}
+use Rattle.dag_run.specs.Stops.{end_of, stop_of, IsAnswerStop, IsRunStatus, IsLineStop, IsLoadStop}
 use Rattle.dag_run.specs.declared.stops.Stop.{Stop}
 use Rattle.dag_run.specs.declared.stops.Stop.TheVariants as stops
 
@@ -154,12 +154,21 @@ pub line-refuses : (limit : ℕ) (b : Option (List ℕ)) (result : Result Unit S
 line-refuses limit None result never h = tt
 line-refuses limit (Some bytes) result never h = (λ e. absurd (never e), λ n. absurd (h n))
 
-pub fault-no-log : (fault : LineFault) → ◌≡◌ {A = Result Unit Stop} (Err (stop_of fault)) (Err stops.NoLog) → ⊥
-fault-no-log Read e = cc e
-fault-no-log Limit e = cc e
+pub answer-never : (result : Result Unit Stop) (stop : Stop) → IfErr result IsAnswerStop → (IsAnswerStop stop → ⊥) → result ≡ Err stop → ⊥
+answer-never result stop is never e = never (subst (λ r. IfErr r IsAnswerStop) e is)
 
-pub stop-no-log : (stop : Stop) → IsLineStop stop → ◌≡◌ {A = Result Unit Stop} (Err stop) (Err stops.NoLog) → ⊥
-stop-no-log stop is e = let same : stop ≡ stops.NoLog = cc e in subst IsLineStop same is
+pub fault-answers : (fault : LineFault) → IsAnswerStop (stop_of fault)
+fault-answers Read = tt
+fault-answers Limit = tt
+
+pub line-answers : (stop : Stop) → IsLineStop stop → IsAnswerStop stop
+line-answers stops.Sink is = tt
+line-answers stops.NotStored is = tt
+line-answers stops.Memory is = absurd is
+line-answers stops.NoLog is = absurd is
+line-answers stops.NotLoaded is = absurd is
+line-answers stops.Source is = absurd is
+line-answers stops.Limit is = absurd is
 
 pub log-not-loaded : (stop : Stop) → stop ≡ stops.NoLog → stop ≡ stops.NotLoaded → ⊥
 log-not-loaded stop e f = let same : stops.NoLog ≡ stops.NotLoaded = sym e ∙ f in cc same

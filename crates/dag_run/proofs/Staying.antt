@@ -25,6 +25,7 @@ use Rattle.dag_store.specs.Kept.{PlainStore}
 use Rattle.dag_store.specs.Flushes.{HasStored, CutShort}
 use Rattle.dag_store.specs.Loading.{IsLoadedStore}
 use Rattle.dag_run.specs.Lines.{HasChanged, IsLimited}
+use Rattle.dag_run.specs.Between.{Stays}
 
 pub last-push : (at : ℕ) (xs : List ℕ) (x : ℕ) → last_of at (xs ++ x ∷ []) ≡ x
 last-push at [] x = refl
@@ -76,15 +77,6 @@ module _ (limits : Limits) (w : World Name) (payloads : List Payload) (old new :
     ascend = λ k le. absurd (omega (arith, le));
     ended = tt;
   }
-
--- The disk goes on from change to change: all that was stored is on it now.
-pub record Stays (limits : Limits) (w : World Name) (payloads : List Payload) (changes : List ℕ) (last : Stored) (old new : Told) : Type 0 where
-  pub stored : length changes ≡ length last.past
-  pub stopped : Stopped limits.log w payloads changes last old new
-  pub sure : stopped.sure ≡ moment_of old + 2
-  pub calls : moment_of new ≡ last_of (loaded_at old) changes
-  pub begun : moment_of old + 2 ≤ moment_of new
-  pub has : HasPayloads limits.log new (map text_of last.payloads)
 
 loaded-clock : (store : PlainStore) (old new : Told) → IsLoadedStore store old new → moment_of new ≡ loaded_at old
 loaded-clock store old new h = by_length (nat_le (length old.bytes) 1) refl

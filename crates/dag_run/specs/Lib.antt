@@ -7,5 +7,6 @@ pub mod Stops
 pub mod Replies
 pub mod Lines
 pub mod Ends
+pub mod Between
 pub mod Demo
 pub mod Modes

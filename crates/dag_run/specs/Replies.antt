@@ -1,10 +1,13 @@
 -- The replies that the store's answers are.
-use Rattle.std.specs.Prelude.{ℕ, Result, Ok, Err, length}
+use Rattle.std.specs.Prelude.{ℕ, ◌≡◌, List, Result, Ok, Err, length}
 use Rattle.span_set.specs.Members.{ids_of}
 use Rattle.set_query.specs.declared.evaluation.Answer.{Answer}
 use Rattle.step_rules.specs.declared.Refusal.{Refusal}
 use Rattle.step_rules.specs.declared.Refusal.TheVariants as why
 use Rattle.step_rules.specs.Reply.{Reply, Added as IsAdded, Old as IsOld, Reloaded, Counted, Identified, Refused, NoCommand}
+use Rattle.step_rules.specs.Verb.{Verb}
+use Rattle.step_rules.specs.Step.{MayWantMemory}
+use Rattle.run_rules.specs.Grammar.{SpellsCommand}
 use Rattle.command_lines.specs.declared.command.CommandFault.{CommandFault}
 use Rattle.command_lines.specs.declared.command.CommandFault.TheVariants.{Syntax, Memory}
 use Rattle.dag_store.specs.declared.replies.Added.{Added}
@@ -33,3 +36,8 @@ reply_of_count (Err refusal) = Refused refusal
 abbrev pub reply_of_fault : CommandFault → Reply
 reply_of_fault Syntax = NoCommand
 reply_of_fault Memory = Refused why.Memory
+
+-- why a text is read as no command: it spells none, or the memory for one was wanting
+pub record IsUnreadFor (text : List ℕ) (fault : CommandFault) : Type 0 where
+  pub syntax : fault ≡ Syntax → (s : ℕ) (verb : Verb) → SpellsCommand text s verb → ⊥
+  pub memory : fault ≡ Memory → (s : ℕ) (verb : Verb) → SpellsCommand text s verb → MayWantMemory verb

@@ -47,6 +47,14 @@ IsLoadStop stops.NoLog = ⊤
 IsLoadStop stops.NotLoaded = ⊤
 IsLoadStop _ = ⊥
 
+-- what may stop it while lines are answered
+abbrev pub IsAnswerStop : Stop → Type 0
+IsAnswerStop stops.Sink = ⊤
+IsAnswerStop stops.NotStored = ⊤
+IsAnswerStop stops.Source = ⊤
+IsAnswerStop stops.Limit = ⊤
+IsAnswerStop _ = ⊥
+
 -- the statuses of a run over lines
 abbrev pub IsRunStatus : ℕ → Type 0
 IsRunStatus status = IsTrue (list_any (λ known. known == status) (0 ∷ 3 ∷ 4 ∷ 5 ∷ 6 ∷ 7 ∷ 8 ∷ []))

@@ -1,6 +1,6 @@
 //! What one line does.
 
-ghost use Rattle.std.specs.Prelude.{◌≡◌, ◌<◌, ◌≤◌, [], ℕ, List, Option, Err, length, IfErr, IfOk, IfSome, false, map, vec_capacity};
+ghost use Rattle.std.specs.Prelude.{◌≡◌, ◌<◌, ◌≤◌, [], ℕ, List, Option, Err, length, IfErr, IfOk, IfSome, MatchResult, false, map, vec_capacity};
 ghost use Rattle.outside.specs.Counts.{Rose};
 ghost use Rattle.outside.specs.Told.{WhereTold};
 ghost use Rattle.disk_trait.specs.Calls.{Goes};
@@ -8,17 +8,19 @@ ghost use Rattle.gated_log.specs.Holding.{IsOnDisk};
 ghost use Rattle.line_io.specs.Next.{IsLine};
 ghost use Rattle.line_io.specs.Lines.{is_empty_or_comment};
 ghost use Rattle.step_rules.specs.Verb.{Flush as ToFlush};
+ghost use Rattle.run_rules.specs.Grammar.{SpellsCommand};
 ghost use Rattle.dag_store.specs.Flushes.{HasRoom};
 ghost use Rattle.command_lines.specs.Meant.{meant, HasFewParents};
 ghost use Rattle.dag_run.specs.Stops.{IsLineStop};
 ghost use Rattle.command_lines.specs.Told.{told};
+ghost use Rattle.dag_run.specs.Replies.{IsUnreadFor};
 ghost use Rattle.dag_run.specs.Lines.{changes_with, CommandReplies, DoesBeside, DropsAt, IsBrief, LineReplies, LineLeaves, RepliesBeside};
 
 use crate::replies::{
     list, reply_of_add, reply_of_count, reply_of_id, reply_of_reload, tell, tell_fault, tell_unread,
 };
 use crate::stops::Stop;
-use command_lines::{Command, Reply, Verb};
+use command_lines::{Command, CommandFault, Reply, Verb};
 use dag_store::{Flushed, Refusal, Store};
 use disk_trait::Disk;
 use id_groups::Name;
@@ -157,6 +159,37 @@ fn execute_command<D: Disk, O: Sink>(
     }
 }
 
+/// Executes what was read of a line that gets a reply.
+fn execute_parsed<D: Disk, O: Sink>(
+    store: Store,
+    log: &mut D,
+    mirrors: &mut Mirrors,
+    changes: &mut Vec<u64>,
+    parsed: &Result<Command, CommandFault>,
+    output: &mut O,
+) -> Result<Store, Stop>
+    requires session { IfOk parsed.now (λ command. command.session < 16) }
+    requires few { IfOk parsed.now (λ command. HasFewParents (meant command.verb)) }
+    requires begins { IfSome (D.told log.old) (IsOnDisk store.log) }
+    ensures step { let first = map (λ b. (⟦<dyn Remote as Remote>⟧ b.vtable).shown b.value) mirrors.old.list.items in let left = map (λ b. (⟦<dyn Remote as Remote>⟧ b.vtable).shown b.value) mirrors.new.list.items in
+        (payload : List ℕ) × (clock : Option ℕ) × (changes.new.items ≡ changes_with changes.old.items clock)
+        × Goes (LineLeaves store payload clock result) (D.told log.old) (D.told log.new)
+        × WhereTold (O.taken output.old) (O.taken output.new) (λ before now. (text : List ℕ) → is_empty_or_comment text ≡ false → length text ≤ 16384
+        → MatchResult parsed.now (λ command. SpellsCommand text command.session (meant command.verb)) (IsUnreadFor text)
+        → LineReplies first left (Rose (O.faults output.old) (O.faults output.new)) store text payload clock result before now) }
+    ensures limits { IfOk result (λ next. next.limits ≡ store.limits) }
+    ensures stop { IfErr result IsLineStop }
+    ensures disk { result ≡ Err Stop.NotStored → Rose (D.faults log.old) (D.faults log.new) }
+    ensures disk_later { D.faults log.old ≤ D.faults log.new }
+    ensures sink { result ≡ Err Stop.Sink → Rose (O.faults output.old) (O.faults output.new) }
+    ensures sink_later { O.faults output.old ≤ O.faults output.new }
+{
+    match parsed {
+        Ok(command) => execute_command(store, log, mirrors, changes, command, output),
+        Err(fault) => tell_unread(store, *fault, output),
+    }
+}
+
 /// Executes a line that isn't too long and gets a reply.
 fn execute_text<D: Disk, O: Sink>(
     alloc: Global,
@@ -181,10 +214,8 @@ fn execute_text<D: Disk, O: Sink>(
     ensures sink { result ≡ Err Stop.Sink → Rose (O.faults output.old) (O.faults output.new) }
     ensures sink_later { O.faults output.old ≤ O.faults output.new }
 {
-    match Command::parse(alloc, text) {
-        Ok(command) => execute_command(store, log, mirrors, changes, &command, output),
-        Err(fault) => tell_unread(store, fault, output),
-    }
+    let parsed = Command::parse(alloc, text);
+    execute_parsed(store, log, mirrors, changes, &parsed, output)
 }
 
 /// Executes a line, puts its reply, if it gets one, and hands the store back. Where the disk failed the line that tells of it is put.

@@ -3,23 +3,27 @@
 ghost use Rattle.std.specs.Prelude.{◌≡◌, ◌⊎◌, ◌<◌, ◌≤◌, ℕ, List, [], ◌∷◌, Err, IfErr, IfOk, IfSome, MatchResult, OnOk, length, map, string_bytes};
 ghost use Rattle.outside.specs.Counts.{Rose};
 ghost use Rattle.outside.specs.Told.{WhereTold};
-ghost use Rattle.line_io.specs.Reading.{new_reading};
+ghost use Rattle.line_io.specs.Reading.{budget, new_reading};
 ghost use Rattle.id_groups.specs.Name.{Name};
 ghost use Rattle.commit_graph.specs.World.{World};
 ghost use Rattle.disk_trait.specs.Calls.{Goes};
 ghost use Rattle.gated_log.specs.Load.{IsSureOf, LoadCalls};
+ghost use Rattle.gated_log.specs.Holding.{IsOnDisk};
 ghost use Rattle.batch_codec.specs.Payload.{Payload};
 ghost use Rattle.change_rules.specs.Holding.{HoldAs};
 ghost use Rattle.change_rules.specs.Standard.{AreLimits, standard};
+ghost use Rattle.change_rules.specs.declared.Limits.{Limits as OfRun};
+ghost use Rattle.remote_rules.specs.Mirror.{Mirror};
 ghost use Rattle.run_rules.specs.Ends.{status_of as end_status};
 ghost use Rattle.dag_store.specs.Loading.{KeepsHolding, IsLoadedStore, SameBytes};
 ghost use Rattle.program_words.specs.Usage.{IsUsage};
 ghost use Rattle.dag_run.specs.Modes.{EndsAtOnce, IsDemoOf, IsUsageOf, RefusesWords};
-ghost use Rattle.dag_run.specs.Seen.{seen, streams};
-ghost use Rattle.dag_run.specs.Stops.{end_of, IsDemoStatus, IsLoadStop, IsRunStatus, IsStatus};
+ghost use Rattle.dag_run.specs.Seen.{Seen, seen, streams};
+ghost use Rattle.dag_run.specs.Stops.{end_of, IsAnswerStop, IsDemoStatus, IsLoadStop, IsRunStatus, IsStatus};
 ghost use Rattle.dag_run.specs.Lines.{PutsFault};
 ghost use Rattle.dag_run.specs.Demo.{DemoMeans};
 ghost use Rattle.dag_run.specs.Ends.{Begins, OpensRun, LoadPuts, LoadRefuses, RunRefuses, EndRefuses, StatusMeans, StatusRefuses, StatusUnasked};
+ghost use Rattle.dag_run.specs.Between.{Going, TurnMeans};
 ghost use Rattle.dag_run.specs.UnaskedEnds.{HasNoneToAsk, MeansUnasked};
 
 use crate::demo::demo;
@@ -71,7 +75,87 @@ fn load<D: Disk, O: Sink>(
     }
 }
 
-/// Loads the store, and answers all lines. The reply to each is put before the next is read.
+/// Reads a line, answers it and hands the store back; or `None` where the input is at its end.
+fn answer_next<D: Disk, I: Source, O: Sink>(
+    alloc: Global,
+    store: Store,
+    log: &mut D,
+    mirrors: &mut Mirrors,
+    lines: &mut Lines,
+    input: &mut I,
+    output: &mut O,
+    changes: &mut Vec<u64>,
+) -> Result<Option<Store>, Stop>
+    requires ready { IfSome (D.told log.old) (IsOnDisk store.log) }
+    ensures means { let here = map (λ b. (⟦<dyn Remote as Remote>⟧ b.vtable).shown b.value) mirrors.old.list.items in let left = map (λ b. (⟦<dyn Remote as Remote>⟧ b.vtable).shown b.value) mirrors.new.list.items in
+        (limits : OfRun) (w : World Name) (payloads : List Payload) (room : ℕ) (first : List Mirror) (faults : ℕ) → AreLimits limits → store.limits ≡ limits → faults ≤ O.faults output.old
+        → WhereTold (seen (D.told log.old) (I.left input.old) (O.taken output.old)) (seen (D.told log.new) (I.left input.new) (O.taken output.new))
+        (λ now after. (before : Seen) → Begins limits w payloads before
+        → Going limits w payloads room first here store changes.old.items lines.old before now
+        → TurnMeans limits w payloads room first left changes.new.items lines.new (Rose faults (O.faults output.new)) result before after) }
+    ensures limits { IfOk result (λ next. IfSome next (λ kept. kept.limits ≡ store.limits)) }
+    ensures ready { IfOk result (λ next. IfSome next (λ kept. IfSome (D.told log.new) (IsOnDisk kept.log))) }
+    ensures less { IfOk result (λ next. IfSome next (λ kept. budget lines.new < budget lines.old)) }
+    ensures stop { IfErr result IsAnswerStop }
+    ensures disk { result ≡ Err Stop.NotStored → Rose (D.faults log.old) (D.faults log.new) }
+    ensures source { result ≡ Err Stop.Source → Rose (I.faults input.old) (I.faults input.new) }
+    ensures sink { result ≡ Err Stop.Sink → Rose (O.faults output.old) (O.faults output.new) }
+    ensures disk_later { D.faults log.old ≤ D.faults log.new }
+    ensures source_later { I.faults input.old ≤ I.faults input.new }
+    ensures sink_later { O.faults output.old ≤ O.faults output.new }
+{
+    let Some(kind) = lines.next(input)? else {
+        return Ok(None);
+    };
+    let next = execute(
+        alloc,
+        store,
+        log,
+        mirrors,
+        changes,
+        kind,
+        lines.text(),
+        output,
+    )?;
+    Ok(Some(next))
+}
+
+/// Answers all lines over the store. The reply to each is put before the next is read.
+fn answer_lines<D: Disk, I: Source, O: Sink>(
+    alloc: Global,
+    store: Store,
+    log: &mut D,
+    mirrors: &mut Mirrors,
+    lines: &mut Lines,
+    input: &mut I,
+    output: &mut O,
+    changes: &mut Vec<u64>,
+) -> Result<(), Stop>
+    requires ready { IfSome (D.told log.old) (IsOnDisk store.log) }
+    ensures means { let here = map (λ b. (⟦<dyn Remote as Remote>⟧ b.vtable).shown b.value) mirrors.old.list.items in let left = map (λ b. (⟦<dyn Remote as Remote>⟧ b.vtable).shown b.value) mirrors.new.list.items in
+        (limits : OfRun) (w : World Name) (payloads : List Payload) (room : ℕ) (first : List Mirror) (faults : ℕ) → AreLimits limits → store.limits ≡ limits → faults ≤ O.faults output.old
+        → WhereTold (seen (D.told log.old) (I.left input.old) (O.taken output.old)) (seen (D.told log.new) (I.left input.new) (O.taken output.new))
+        (λ now after. (before : Seen) → Begins limits w payloads before
+        → Going limits w payloads room first here store changes.old.items lines.old before now
+        → MeansUnasked limits w payloads room first left (streams before after) (Rose faults (O.faults output.new)) before.disk after.disk (end_of result) changes.new.items) }
+    ensures stop { IfErr result IsAnswerStop }
+    ensures disk { result ≡ Err Stop.NotStored → Rose (D.faults log.old) (D.faults log.new) }
+    ensures source { result ≡ Err Stop.Source → Rose (I.faults input.old) (I.faults input.new) }
+    ensures sink { result ≡ Err Stop.Sink → Rose (O.faults output.old) (O.faults output.new) }
+    ensures disk_later { D.faults log.old ≤ D.faults log.new }
+    ensures source_later { I.faults input.old ≤ I.faults input.new }
+    ensures sink_later { O.faults output.old ≤ O.faults output.new }
+{
+    let mut store = store;
+    'lines: while let Some(next) = answer_next(
+        alloc, store, log, mirrors, lines, input, output, changes,
+    )? {
+        store = next;
+    }
+    Ok(())
+}
+
+/// Loads the store, and answers all lines.
 fn answer_all<D: Disk, I: Source, O: Sink>(
     alloc: Global,
     limits: Limits,
@@ -99,20 +183,8 @@ fn answer_all<D: Disk, I: Source, O: Sink>(
     ensures source_later { I.faults input.old ≤ I.faults input.new }
     ensures sink_later { O.faults output.old ≤ O.faults output.new }
 {
-    let mut store = load(alloc, limits, log, output)?;
-    'lines: while let Some(kind) = lines.next(input)? {
-        store = execute(
-            alloc,
-            store,
-            log,
-            mirrors,
-            changes,
-            kind,
-            lines.text(),
-            output,
-        )?;
-    }
-    Ok(())
+    let store = load(alloc, limits, log, output)?;
+    answer_lines(alloc, store, log, mirrors, lines, input, output, changes)
 }
 
 /// Answers the lines of the input, with room to read them.

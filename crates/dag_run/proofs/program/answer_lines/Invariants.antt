@@ -1,0 +1,30 @@
+use Rattle.std.proofs.Common.{◌≡◌, ◌≤◌, ℕ, List, map, IfSome}
+use Rattle.id_groups.specs.Name.{Name}
+use Rattle.commit_graph.specs.World.{World}
+use Rattle.outside.specs.Told.{WhereTold}
+use Rattle.line_io.specs.Reading.{budget}
+use Rattle.gated_log.specs.Holding.{IsOnDisk}
+use Rattle.batch_codec.specs.Payload.{Payload}
+use Rattle.change_rules.specs.declared.Limits.{Limits}
+use Rattle.change_rules.specs.Standard.{AreLimits}
+use Rattle.remote_rules.specs.Mirror.{Mirror}
+use Rattle.dag_run.specs.Seen.{Seen, seen}
+use Rattle.dag_run.specs.Ends.{Begins}
+use Rattle.dag_run.specs.Between.{Going}
+use Rattle.dag_run.proofs.program.answer_lines.Given as goal
+
+abbrev pub invariant-lines : goal.invariant-lines
+invariant-lines g l = record {
+  limits : l.store.limits ≡ l.fn.store.limits;
+  ready : IfSome (g.D.Disk.told l.log) (IsOnDisk l.store.log);
+  told : (limits : Limits) (w : World Name) (payloads : List Payload) (room : ℕ) (first : List Mirror) → AreLimits limits → l.fn.store.limits ≡ limits → WhereTold (seen (g.D.Disk.told l.fn.log) (g.I.Source.left l.fn.input) (g.O.Sink.taken l.fn.output)) (seen (g.D.Disk.told l.log) (g.I.Source.left l.input) (g.O.Sink.taken l.output))
+      (λ mid now. (before : Seen) → Begins limits w payloads before
+      → Going limits w payloads room first (map (λ b. (goal.Remote-dyn g (b.vtable, b.value)).shown b.value) l.fn.mirrors.list.items) l.fn.store l.fn.changes.items l.fn.lines before mid
+      → Going limits w payloads room first (map (λ b. (goal.Remote-dyn g (b.vtable, b.value)).shown b.value) l.mirrors.list.items) l.store l.changes.items l.lines before now);
+  disk_later : g.D.Disk.faults l.fn.log ≤ g.D.Disk.faults l.log;
+  source_later : g.I.Source.faults l.fn.input ≤ g.I.Source.faults l.input;
+  sink_later : g.O.Sink.faults l.fn.output ≤ g.O.Sink.faults l.output;
+}
+
+abbrev pub decreases-lines : goal.decreases-lines
+decreases-lines g l = budget l.lines
