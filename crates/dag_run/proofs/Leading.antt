@@ -28,7 +28,6 @@ use Rattle.dag_run.specs.Lines.{LineReplies, LineLeaves}
 use Rattle.dag_run.specs.declared.stops.Stop.{Stop}
 use Rattle.dag_run.proofs.Doing.{text-short, short-silent, ready-line}
 use Rattle.remote_rules.specs.Mirror.{Mirror}
-use Rattle.dag_run.specs.Unasked.{StepBeside}
 use Rattle.dag_run.proofs.Runs.{run-silent, run-step, output-append}
 use Rattle.dag_run.proofs.Solo.{alone-beside}
 

@@ -1,18 +1,17 @@
 -- Logs that have a name for each commit go on so.
-use Rattle.std.proofs.Common.{◌≡◌, ◌<◌, ◌≤◌, ◌+◌, ◌⊎◌, not, ℕ, zero, suc, Bool, true, false, inl, inr, ⊎_elim, List, [], ◌∷◌, ◌++◌, length, map, nat_lt, nat_eq, drop, Option, Some, None, refl, sym, ap, ◌∙◌, subst, arith, MatchOption, if◌then◌else◌, zero-le, true≢false, eq-or-lt_of_le, ◌-◌, append-nil}
+use Rattle.std.proofs.Common.{◌≡◌, ◌<◌, ◌≤◌, ◌+◌, not, ℕ, zero, suc, Bool, true, false, inl, inr, ⊎_elim, List, [], ◌∷◌, ◌++◌, length, map, nat_lt, nat_eq, drop, Option, Some, None, refl, sym, ap, ◌∙◌, subst, arith, MatchOption, zero-le, true≢false, eq-or-lt_of_le, ◌-◌, append-nil}
 use Rattle.std.proofs.lemmas.Bool.{ltb-true, lt-ltb}
 use Rattle.std.proofs.lemmas.List.{map-append, length-map, length-drop}
 use Rattle.std.proofs.lemmas.Grind.{flat_map-append}
 use Rattle.std.specs.Prelude.{slice_index_or}
 use Rattle.std.specs.Bool.{MatchBool}
-use Rattle.std.specs.List.{AllByRecursion, list_any, range_with_len}
+use Rattle.std.specs.List.{AllByRecursion, range_with_len}
 use Rattle.assign_ids.proofs.NumberLemmas.{same-exact, same-self}
 use Rattle.id_groups.specs.Lists.{IsIn, is_in}
 use Rattle.id_groups.specs.Name.{Name, same_name}
 use Rattle.id_groups.proofs.Listing.{any-in, in-any, found, there, and_true, both_true, not_true}
 use Rattle.commit_graph.specs.World.{World, names_of, empty_world}
 use Rattle.commit_graph.proofs.Down.{in-left, in-right}
-use Rattle.set_expr.specs.Expr.{Expr}
 use Rattle.segment_codec.proofs.Tables.{le_or_lt}
 use Rattle.batch_codec.specs.Payload.{Payload, Known}
 use Rattle.change_rules.specs.declared.Limits.{Limits}
@@ -23,14 +22,14 @@ use Rattle.change_rules.specs.Strip.{stripped}
 use Rattle.change_rules.proofs.Cloned.{in-range}
 use Rattle.step_rules.specs.declared.Refusal.{Refusal}
 use Rattle.step_rules.specs.declared.Refusal.TheVariants as why
-use Rattle.step_rules.specs.State.{Stored, worlds, base_of, start}
+use Rattle.step_rules.specs.State.{Stored, worlds, start}
 use Rattle.step_rules.specs.Verb.{Verb, Add, Flush, Reload, Discard, Query, Count, IdOf, Status, Levels, Clone, Pull, Strip, CountMirrors, Drop}
 use Rattle.step_rules.specs.Reply.{Reply, Listed}
 use Rattle.step_rules.specs.Step.{Told, UnlessRefused, IsRefused}
 use Rattle.step_rules.specs.Tests.{first_some, refuse_if, refused_first, tests}
 use Rattle.step_rules.specs.Worlds.{has, with_added, after_flush, flush_of, same_world}
 use Rattle.step_rules.specs.State.{view_of}
-use Rattle.step_rules.specs.Plain.{HasAllNames, IsInside, PlainAnswers, PlainStep}
+use Rattle.step_rules.specs.Plain.{HasAllNames, PlainAnswers, PlainStep}
 
 -- the ids that payloads have names for
 abbrev ids : List Payload → List ℕ

@@ -1,7 +1,7 @@
 -- The lines that were read of an input.
-use Rattle.std.proofs.Common.{ℕ, ◌≡◌, false, List, [], ◌∷◌, ◌++◌, length, nat_lt, refl, sym, ◌∙◌, ap, append_assoc, Some, Ok}
-use Rattle.line_io.specs.Lines.{lines_of, whole_lines}
-use Rattle.line_io.specs.Reading.{Reading, new_reading, is_over, lines_left, whole_left}
+use Rattle.std.proofs.Common.{ℕ, List, [], ◌∷◌, ◌++◌, refl, sym, ◌∙◌, ap, append_assoc, Some, Ok}
+use Rattle.line_io.specs.Lines.{whole_lines}
+use Rattle.line_io.specs.Reading.{Reading, new_reading, lines_left, whole_left}
 use Rattle.line_io.specs.Next.{NextLine, IsReadOut}
 use Rattle.line_io.specs.declared.lines.Line.{Line}
 use Rattle.dag_run.specs.Between.{Reads}

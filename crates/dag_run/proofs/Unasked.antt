@@ -1,7 +1,6 @@
 -- Runs that ask no mirror, beside the runs of the definition.
-use Rattle.std.proofs.Common.{◌≡◌, ◌⊎◌, ◌<◌, ℕ, Bool, true, false, inl, inr, ⊎_elim, List, [], ◌∷◌, ◌++◌, length, nat_lt, Option, Some, None, refl, sym, ap, ap₂, ◌∙◌, subst, subst₂, arith, MatchOption, append-nil}
+use Rattle.std.proofs.Common.{◌≡◌, ◌⊎◌, ℕ, Bool, true, false, inl, inr, ⊎_elim, List, [], ◌∷◌, ◌++◌, length, nat_lt, Option, None, refl, sym, ap, ap₂, ◌∙◌, subst, subst₂, arith, MatchOption, append-nil}
 use Rattle.std.specs.Bool.{MatchBool}
-use Rattle.std.specs.Prelude.{IsTrue}
 use Rattle.std.proofs.lemmas.Bool.{ltb-true}
 use Rattle.std.proofs.Math.Dec.{leb-suc-zero}
 use Rattle.id_groups.specs.Lists.{IsIn}
@@ -11,17 +10,16 @@ use Rattle.remote_rules.specs.CloneData.{KnownName}
 use Rattle.remote_rules.specs.Mirror.{Mirror}
 use Rattle.step_rules.specs.declared.Refusal.{Refusal}
 use Rattle.step_rules.specs.declared.Refusal.TheVariants as why
-use Rattle.step_rules.specs.State.{State, Stored, Outside}
+use Rattle.step_rules.specs.State.{State, Outside}
 use Rattle.step_rules.specs.Verb.{Verb, Add, Flush, Reload, Discard, Query, Count, IdOf, Status, Levels, Clone, Pull, Strip, CountMirrors, Drop}
-use Rattle.step_rules.specs.Reply.{Reply, Counted, Dropped, Refused, NoCommand, LongLine}
+use Rattle.step_rules.specs.Reply.{Reply, Counted, Dropped, Refused, LongLine}
 use Rattle.step_rules.specs.Asking.{TriesAll}
 use Rattle.step_rules.specs.Step.{Answers, CommandStep, GoesOutside, IsRefused, MayWantMemory, without}
-use Rattle.step_rules.specs.Plain.{IsInside}
 use Rattle.step_rules.proofs.Plain.{command-from, command-back, storing}
 use Rattle.run_rules.specs.Grammar.{SpellsCommand}
 use Rattle.run_rules.specs.Run.{Run, Step, Commands, IsNoCommand, IsUnread}
 use Rattle.run_rules.proofs.Runs.{match-map}
-use Rattle.dag_run.specs.Unasked.{beside, with_mirrors, IsOnMirrors, CommandUnasked, StepUnasked, RunUnasked}
+use Rattle.dag_run.specs.Unasked.{with_mirrors, IsOnMirrors, CommandUnasked, StepUnasked, RunUnasked}
 use Rattle.dag_run.proofs.Named.{AllNamed, named-session, plain-named}
 
 -- ---- commands on the mirrors

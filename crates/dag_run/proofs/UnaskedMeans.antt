@@ -1,5 +1,5 @@
 -- What a run that asks no mirror means is what a run means, where none has to be asked.
-use Rattle.std.proofs.Common.{◌≡◌, ℕ, inl, inr, ⊎_elim, List, [], ◌∷◌, length}
+use Rattle.std.proofs.Common.{ℕ, inl, inr, List, [], ◌∷◌}
 use Rattle.id_groups.specs.Lists.{IsIn}
 use Rattle.id_groups.specs.Name.{Name}
 use Rattle.commit_graph.specs.World.{World}
@@ -9,7 +9,7 @@ use Rattle.change_rules.specs.declared.Limits.{Limits}
 use Rattle.remote_rules.specs.Mirror.{Mirror}
 use Rattle.step_rules.specs.declared.Refusal.TheVariants as why
 use Rattle.step_rules.specs.State.{State, Stored, at_start}
-use Rattle.step_rules.specs.Reply.{Reply, Refused}
+use Rattle.step_rules.specs.Reply.{Refused}
 use Rattle.run_rules.specs.Ends.{Streams, End, Done, OverLimit, NoSource, NoSink, NotLoaded, NotStored, NoLog, NoMemory}
 use Rattle.run_rules.specs.Means.{Means, Leaves}
 use Rattle.run_rules.proofs.Matched.{run-answered}
