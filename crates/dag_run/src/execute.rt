@@ -190,6 +190,9 @@ fn execute_parsed<D: Disk, O: Sink>(
     }
 }
 
+/// Drops what was read of a line.
+fn let_go(_parsed: Result<Command, CommandFault>) {}
+
 /// Executes a line that isn't too long and gets a reply.
 fn execute_text<D: Disk, O: Sink>(
     alloc: Global,
@@ -215,7 +218,9 @@ fn execute_text<D: Disk, O: Sink>(
     ensures sink_later { O.faults output.old ≤ O.faults output.new }
 {
     let parsed = Command::parse(alloc, text);
-    execute_parsed(store, log, mirrors, changes, &parsed, output)
+    let next = execute_parsed(store, log, mirrors, changes, &parsed, output);
+    let_go(parsed);
+    next
 }
 
 /// Executes a line, puts its reply, if it gets one, and hands the store back. Where the disk failed the line that tells of it is put.

@@ -7,12 +7,12 @@ use Rattle.dag_run.proofs.execute.execute_text.Goals as goal
 pub returns-clause-step : goal.returns-clause-step
 returns-clause-step g c =
     let text = c.args.text.now in
-    let p = c.execute_parsed.ensures.step in
+    let p = c.execute_parsed-next.ensures.step in
     let parsed = c.parse-parsed.ensures in
     let read = read-of (λ command. SpellsCommand text command.session (meant command.verb)) text c.parse-parsed.result parsed.ok parsed.syntax parsed.memory in (
       p.0,
       p.1,
       p.2,
       p.3,
-      WhereTold-map (g.O.Sink.taken c.args.output.now) (g.O.Sink.taken c.execute_parsed.new.output) _ _ (λ before now h le. h text c.requires.heard le read) p.4,
+      WhereTold-map (g.O.Sink.taken c.args.output.now) (g.O.Sink.taken c.execute_parsed-next.new.output) _ _ (λ before now h le. h text c.requires.heard le read) p.4,
     )
