@@ -1,6 +1,6 @@
 //! The run: from the log, the source and the sink to the status.
 
-ghost use Rattle.std.specs.Prelude.{◌≡◌, ◌⊎◌, ◌<◌, ◌≤◌, ℕ, List, [], ◌∷◌, Err, IfErr, IfOk, IfSome, MatchResult, OnOk, length, map, string_bytes};
+ghost use Rattle.std.specs.Prelude.{◌≡◌, ◌⊎◌, ◌<◌, ◌≤◌, ℕ, List, [], ◌∷◌, None, Ok, Err, IfErr, IfOk, IfSome, MatchResult, OnOk, length, map, string_bytes};
 ghost use Rattle.outside.specs.Counts.{Rose};
 ghost use Rattle.outside.specs.Told.{WhereTold};
 ghost use Rattle.line_io.specs.Reading.{budget, new_reading};
@@ -19,7 +19,7 @@ ghost use Rattle.dag_store.specs.Loading.{KeepsHolding, IsLoadedStore, SameBytes
 ghost use Rattle.program_words.specs.Usage.{IsUsage};
 ghost use Rattle.dag_run.specs.Modes.{EndsAtOnce, IsDemoOf, IsUsageOf, RefusesWords};
 ghost use Rattle.dag_run.specs.Seen.{Seen, seen, streams};
-ghost use Rattle.dag_run.specs.Stops.{end_of, IsAnswerStop, IsDemoStatus, IsLoadStop, IsRunStatus, IsStatus};
+ghost use Rattle.dag_run.specs.Stops.{end_of, IsAnswerStop, IsDemoStatus, IsLoadStop, IsRunStatus, IsStatus, stop_of};
 ghost use Rattle.dag_run.specs.Lines.{PutsFault};
 ghost use Rattle.dag_run.specs.Demo.{DemoMeans};
 ghost use Rattle.dag_run.specs.Ends.{Begins, OpensRun, LoadPuts, LoadRefuses, RunRefuses, EndRefuses, StatusMeans, StatusRefuses, StatusUnasked};
@@ -33,7 +33,7 @@ use crate::stops::Stop;
 use crate::{Limits, Moments, Report};
 use dag_store::{LoadFault, Store};
 use disk_trait::Disk;
-use line_io::{Lines, Sink, Source};
+use line_io::{LineFault, Lines, Sink, Source};
 use mirror_set::Mirrors;
 use program_words::{Mode, Usage, WordsFault, read_words};
 use remote_trait::Remote;
@@ -75,6 +75,20 @@ fn load<D: Disk, O: Sink>(
     }
 }
 
+/// Drops the store where the input is at its end.
+fn end_run(_store: Store) -> Result<Option<Store>, Stop>
+    ensures { result ≡ Ok None }
+{
+    Ok(None)
+}
+
+/// Drops the store where no line could be read.
+fn fail_run(_store: Store, fault: LineFault) -> Result<Option<Store>, Stop>
+    ensures { result ≡ Err (stop_of fault) }
+{
+    Err(Stop::from(fault))
+}
+
 /// Reads a line, answers it and hands the store back; or `None` where the input is at its end.
 fn answer_next<D: Disk, I: Source, O: Sink>(
     alloc: Global,
@@ -104,20 +118,25 @@ fn answer_next<D: Disk, I: Source, O: Sink>(
     ensures source_later { I.faults input.old ≤ I.faults input.new }
     ensures sink_later { O.faults output.old ≤ O.faults output.new }
 {
-    let Some(kind) = lines.next(input)? else {
-        return Ok(None);
-    };
-    let next = execute(
-        alloc,
-        store,
-        log,
-        mirrors,
-        changes,
-        kind,
-        lines.text(),
-        output,
-    )?;
-    Ok(Some(next))
+    match lines.next(input) {
+        Ok(Some(kind)) => {
+            match execute(
+                alloc,
+                store,
+                log,
+                mirrors,
+                changes,
+                kind,
+                lines.text(),
+                output,
+            ) {
+                Ok(next) => Ok(Some(next)),
+                Err(stop) => Err(stop),
+            }
+        }
+        Ok(None) => end_run(store),
+        Err(fault) => fail_run(store, fault),
+    }
 }
 
 /// Answers all lines over the store. The reply to each is put before the next is read.
