@@ -1,0 +1,61 @@
+-- A log in memory with the tables of its payloads, and the bases of some of its fronts.
+use Rattle.std.specs.Prelude.{◌≡◌, ◌++◌, ◌∷◌, [], ℕ, List, length}
+use Rattle.std.specs.List.{AllByRecursion}
+use Rattle.batch_codec.specs.Grammar.{count_after}
+use Rattle.name_map.specs.Added.{Placed, AllStand, payloads_of}
+use Rattle.payload_tables.specs.declared.base.BaseRef.{BaseRef}
+use Rattle.payload_tables.specs.Kept.{PlainTables, PlainOthers, AreTablesOf}
+use Rattle.payload_tables.specs.Pending.{PlainPending, HoldsRows}
+use Rattle.payload_tables.specs.Bases.{MayBase, IsBaseOf}
+use Rattle.flush_rebuild.specs.Asked.{MayStore}
+
+-- what is kept of a base: its other ids, how many master ids it has, and no rows that are pending on it
+pub record PlainBase : Type 0 where
+  pub others : PlainOthers
+  pub below : ℕ
+  pub none : PlainPending
+
+-- what a sample keeps
+pub record PlainSample : Type 0 where
+  pub bytes : List ℕ
+  pub tables : PlainTables
+  pub bases : List PlainBase
+
+-- the base is that of these payloads, the first of the tables
+pub record IsBaseOn (bytes : List ℕ) (tables : PlainTables) (b : PlainBase) (added : List Placed) : Type 0 where
+  pub base_of : MayBase bytes tables b.others b.below added
+  pub held : HoldsRows b.none []
+  pub first : b.none.first ≡ b.others.count
+
+-- the base is that of the first payloads of the tables
+abbrev pub IsBaseIn : List ℕ → PlainTables → PlainBase → Type 0
+IsBaseIn bytes tables b = (added : List Placed) × IsBaseOn bytes tables b added
+
+-- the tables are those of the payloads, which stand in the bytes
+pub record AreIn (bytes : List ℕ) (tables : PlainTables) (added : List Placed) : Type 0 where
+  pub tables_of : AreTablesOf tables added
+  pub stand : AllStand bytes added
+
+-- the tables are those of some payloads in the bytes, and each of the bases is one of theirs
+pub record IsSample (bytes : List ℕ) (tables : PlainTables) (bases : List PlainBase) : Type 0 where
+  pub added : List Placed
+  pub are_in : AreIn bytes tables added
+  pub bases_of : AllByRecursion (IsBaseIn bytes tables) bases
+
+-- a payload was put behind the bytes, with eight bytes before it and one behind it
+pub record IsFramed (old new payload : List ℕ) : Type 0 where
+  pub frame : List ℕ
+  pub long : length frame ≡ 8
+  pub whole : new ≡ (old ++ frame) ++ (payload ++ 0 ∷ [])
+
+-- rows that are pending on a base of so many master ids
+pub record ArePendingOn (base : BaseRef) (below : ℕ) (pending : PlainPending) (added : List Placed) : Type 0 where
+  pub base_of : IsBaseOf base added
+  pub count : below ≡ count_after 0 (payloads_of added)
+  pub rows : MayStore pending added
+
+-- rows that a flush may store behind all payloads
+pub record MayFlushIn (bytes : List ℕ) (tables : PlainTables) (pending : PlainPending) : Type 0 where
+  pub added : List Placed
+  pub are_in : AreIn bytes tables added
+  pub rows : MayStore pending added
