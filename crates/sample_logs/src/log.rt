@@ -7,7 +7,7 @@ ghost use Rattle.payload_tables.specs.Bases.{IsBaseOf};
 ghost use Rattle.sample_logs.specs.Sample.{MayFlushIn};
 
 use crate::base::KeptBase;
-use crate::stages::{add_payload, change_of, left_of};
+use crate::stages::{add_payload, change_of, keep_base, left_of};
 use commit_graph::Row;
 use flush_rebuild::{BaseRef, Change, Limits, PendingRows, PlanFault, TableFault, Tables};
 use high_segments::View;
@@ -47,8 +47,7 @@ impl LogSample {
         let bytes = fresh_bytes(alloc)?;
         let tables = Tables::empty(alloc);
         let mut bases = Vec::new(alloc);
-        let base = KeptBase::newest(alloc, &tables)?;
-        bases.push(base)?;
+        keep_base(alloc, &tables, &mut bases)?;
         Ok(LogSample {
             alloc,
             bytes,

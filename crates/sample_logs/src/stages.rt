@@ -150,7 +150,11 @@ fn put_framed(bytes: &mut Vec<u8>, payload: &[u8]) -> Result<(), AllocError>
 }
 
 /// Keeps the base of all payloads.
-fn keep_base(alloc: Global, tables: &Tables, bases: &mut Vec<KeptBase>) -> Result<(), AllocError>
+pub(crate) fn keep_base(
+    alloc: Global,
+    tables: &Tables,
+    bases: &mut Vec<KeptBase>,
+) -> Result<(), AllocError>
     requires { (bytes : List ℕ) × (added : List Placed) × AreIn bytes tables.now added }
     ensures { (bytes : List ℕ) (added : List Placed) → AreIn bytes tables.now added → AllByRecursion (IsBaseIn bytes tables.now) bases.old.items
         → OnOk result (AllByRecursion (IsBaseIn bytes tables.now) bases.new.items) }

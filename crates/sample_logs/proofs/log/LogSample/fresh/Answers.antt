@@ -1,7 +1,10 @@
-use Rattle.std.proofs.Common.{[], ◌∷◌, ◌++◌, ap, ◌∙◌}
-use Rattle.sample_logs.specs.Sample.{AreIn}
-use Rattle.sample_logs.proofs.Sampling.{bases-join}
+use Rattle.std.proofs.Common.{[], sym, subst}
+use Rattle.std.specs.List.{AllByRecursion}
+use Rattle.sample_logs.specs.Sample.{AreIn, IsBaseIn}
 use Rattle.sample_logs.proofs.log.LogSample.fresh.Goals as goal
+
+pub keep_base-requires : goal.keep_base-requires
+keep_base-requires c = ([], [], record { tables_of = c.empty-tables.ensures; stand = tt })
 
 pub invariant_of-result : goal.invariant_of-result
 invariant_of-result c =
@@ -9,6 +12,5 @@ invariant_of-result c =
     record {
       added = [];
       are_in = are;
-      bases_of = bases-join c.in_ok-bytes.bytes.items c.empty-tables.result [] c.push.new.self.items c.in_ok-base.base [] tt (c.in_ok-base.ensures c.in_ok-bytes.bytes.items [] are)
-          (c.in_ok-push.ensures.items ∙ ap (λ l. l ++ c.in_ok-base.base ∷ []) c.new-bases.ensures.items);
+      bases_of = c.in_ok-keep_base.ensures c.in_ok-bytes.bytes.items [] are (subst (AllByRecursion (IsBaseIn c.in_ok-bytes.bytes.items c.empty-tables.result)) (sym c.new-bases.ensures.items) tt);
     }
