@@ -1,14 +1,13 @@
 -- A log without payloads stores nothing.
-use Rattle.std.proofs.Common.{◌≡◌, ◌<◌, ◌≤◌, ◌+◌, ◌^◌, ◌⊎◌, inl, inr, ⊎_elim, ℕ, Bool, true, false, List, [], ◌∷◌, ◌++◌, length, map, replicate, Option, Some, None, is_some, refl, sym, ap, subst, ◌∙◌, arith, true≢false, zero-le}
+use Rattle.std.proofs.Common.{◌≡◌, ◌<◌, ◌≤◌, ◌^◌, ◌⊎◌, inr, ⊎_elim, ℕ, false, List, [], ◌∷◌, ◌++◌, length, replicate, Option, Some, None, is_some, sym, ap, subst, ◌∙◌, true≢false, zero-le}
 use Rattle.std.specs.List.{AllByRecursion, AllZip}
 use Rattle.std.proofs.lemmas.List.{map-append, length-map}
 use Rattle.id_groups.specs.Lists.{IsIn, AreDistinct}
 use Rattle.id_groups.specs.Name.{Name}
 use Rattle.change_rules.proofs.Lawful.{distinct-join}
-use Rattle.name_map.specs.Added.{AllStand}
 use Rattle.payload_tables.specs.declared.base.BaseRef.{BaseRef}
 use Rattle.payload_tables.specs.Kept.{PlainTables, AreTablesOf}
-use Rattle.payload_tables.specs.Pending.{IdRow, PlainPending, HoldsRows, MayPushRow, FindsRow, row_names}
+use Rattle.payload_tables.specs.Pending.{IdRow, PlainPending, HoldsRows, FindsRow, row_names}
 use Rattle.payload_tables.specs.Bases.{IsBaseOf}
 use Rattle.payload_tables.proofs.Lists.{all-append}
 use Rattle.flush_rebuild.specs.Asked.{IsFoundIn, MayStore, HaveParents, MayPlan, MayRebaseOn}
@@ -33,10 +32,6 @@ no-rows pending held first = record { rows = []; held = held; first = first; par
 pub no-row : (rows : List IdRow) (name : Name) (o : Option ℕ) → FindsRow rows name o → is_some o ≡ false → IsIn name (row_names rows) → ⊥
 no-row rows name None h e = h
 no-row rows name (Some k) h e = absurd (true≢false e)
-
--- parents that fit behind so many rows of a fresh log fit behind these
-pub may-push : (pending : PlainPending) (count : ℕ) (ids : List ℕ) → MayStore pending [] → count ≡ length pending.places → MayPushRow 0 count ids → MayPushRow pending.first (length pending.places) ids
-may-push pending count ids m e h = subst (λ f. MayPushRow f (length pending.places) ids) (sym m.first) (subst (λ n. MayPushRow 0 n ids) e h)
 
 -- one more row, whose name is new and whose parents are others
 pub one-more : (old new : PlainPending) (name : Name) (ids : List ℕ) (m : MayStore old []) → new.first ≡ old.first → HoldsRows new (m.rows ++ record { name = name; parents = ids } ∷ [])
