@@ -9,6 +9,7 @@ mod flat;
 mod map;
 mod names;
 mod placing;
+mod plans;
 mod random;
 mod spans;
 mod telling;
@@ -25,16 +26,18 @@ enum Bench {
     Map,
     Names,
     Placing,
+    Plans,
     Spans,
     Walks,
 }
 
 /// The word for each benchmark.
-const WORDS: [(&str, Bench); 6] = [
+const WORDS: [(&str, Bench); 7] = [
     ("flat", Bench::Flat),
     ("map", Bench::Map),
     ("names", Bench::Names),
     ("placing", Bench::Placing),
+    ("plans", Bench::Plans),
     ("spans", Bench::Spans),
     ("walks", Bench::Walks),
 ];
@@ -67,6 +70,7 @@ fn run(rt: &HostRuntime, bench: Bench, size: u64) -> io::Result<()>
         Bench::Map => map::run(rt),
         Bench::Names => names::run(rt),
         Bench::Placing => placing::run(rt),
+        Bench::Plans => plans::run(rt, size),
         Bench::Spans => spans::run(rt),
         Bench::Walks => walks::run(rt, size),
     }
@@ -99,7 +103,7 @@ fn main(rt: HostRuntime) -> ExitCode {
         Ok(true) => ExitCode::SUCCESS,
         Ok(false) => {
             let _told = eprintln!(rt;
-                "usage: bench [flat|map|names|placing|spans|walks [--size N]]"
+                "usage: bench [flat|map|names|placing|plans|spans|walks [--size N]]"
             );
             ExitCode::from(2)
         }
