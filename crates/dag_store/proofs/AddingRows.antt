@@ -11,15 +11,16 @@ use Rattle.commit_graph.specs.World.{Row, World, IsNamedWorld, IsNext, names_of,
 use Rattle.commit_graph.specs.Ids.{id_in}
 use Rattle.commit_graph.proofs.Histories.{world-next}
 use Rattle.commit_graph.proofs.Down.{in-right}
-use Rattle.commit_graph.proofs.Naming.{named-by, name-of, pending-names}
+use Rattle.commit_graph.proofs.Naming.{named-by, name-of, pending-names, pending-there}
 use Rattle.commit_graph.proofs.Places.{id-in-others, place-right}
 use Rattle.segment_codec.proofs.Tables.{le_or_lt}
 use Rattle.batch_codec.specs.Payload.{Payload}
-use Rattle.payload_tables.specs.Pending.{IdRow, PlainPending, HoldsRows}
+use Rattle.payload_tables.specs.Pending.{IdRow, PlainPending, HoldsRows, row_names}
 use Rattle.payload_tables.specs.Bases.{ArePending, id_row}
 use Rattle.payload_tables.proofs.Lists.{parents-known}
 use Rattle.payload_tables.proofs.Joined.{seen-id}
 use Rattle.step_rules.specs.Worlds.{has}
+use Rattle.dag_store.proofs.StoredNames.{names-of-rows}
 use Rattle.dag_store.proofs.ParentTests.{distinct-parents}
 use Rattle.dag_store.proofs.AddingTests.{parents-there, parents-once}
 use Rattle.step_rules.specs.Tests.{first_some}
@@ -28,6 +29,12 @@ use Rattle.dag_store.specs.Adding.{parent_refusals}
 pub either-group : (ids : List ℕ) → AllByRecursion (λ p. (p < 2 ^ 56) ⊎ (2 ^ 56 ≤ p)) ids
 either-group [] = tt
 either-group (p ∷ ids) = (⊎_elim (λ a. inr a) (λ b. inl b) (le_or_lt (2 ^ 56) p), either-group ids)
+
+-- a name that a session doesn't see is that of none of its rows
+pub no-row : (w : World Name) (rows : List (Row Name)) (name : Name) → has (with_pending w rows) name ≡ false → IsIn name (row_names (map (id_row (with_pending w rows)) rows)) → ⊥
+no-row w rows name fresh i =
+    missing same_name same_name-exact same_name-self name (names_of (rows_of (with_pending w rows))) fresh
+    (pending-there w rows name (subst (IsIn name) (names-of-rows (with_pending w rows) rows) i))
 
 -- a row that may come next behind those that a session sees
 module _ (payloads : List Payload) (w : World Name) (rows : List (Row Name)) (view : IsNamedWorld (with_pending w rows)) (name : Name) (parents : List Name) (named : IsName name) (few : length parents ≤ 8)

@@ -1,5 +1,5 @@
 -- Which files are refused, and that these are left as they are.
-use Rattle.std.proofs.Common.{◌≡◌, ◌≤◌, ◌⊎◌, inl, inr, ⊎_elim, ℕ, List, [], ◌∷◌, length, map, Option, refl, sym, ap, subst, ◌∙◌, arith, IfSome}
+use Rattle.std.proofs.Common.{◌≡◌, ◌⊎◌, inl, inr, ⊎_elim, ℕ, List, [], ◌∷◌, length, map, Option, refl, subst, ◌∙◌, arith, IfSome}
 use Rattle.disk_trait.specs.Images.{Told}
 use Rattle.disk_trait.specs.Calls.{Goes}
 use Rattle.disk_trait.proofs.Telling.{goes-map, goes-from}
@@ -12,13 +12,12 @@ use Rattle.gated_log.proofs.Damage.{log-or-damaged}
 use Rattle.gated_log.proofs.Reading.{one-log}
 use Rattle.batch_codec.specs.Payload.{Payload}
 use Rattle.batch_codec.specs.Grammar.{AreLawful}
-use Rattle.name_map.specs.Added.{Placed, payloads_of}
 use Rattle.change_rules.specs.Change.{text_of}
 use Rattle.change_rules.specs.Holding.{AreSpelled}
 use Rattle.change_rules.specs.Unlawful.{IsFirstUnlawful, IsNoLog}
 use Rattle.change_rules.proofs.Refusals.{all-stand}
 use Rattle.dag_store.specs.declared.replies.LoadFault.{LoadFault}
-use Rattle.dag_store.specs.declared.replies.LoadFault.TheVariants.{Frame, TooLarge, Batch, Disk, Memory}
+use Rattle.dag_store.specs.declared.replies.LoadFault.TheVariants.{Batch, Memory}
 use Rattle.dag_store.specs.Loading.{fault_of, IsNoLogFault, SameBytes}
 
 spelled-so : (payloads : List Payload) → AreSpelled (map text_of payloads) payloads

@@ -1,7 +1,7 @@
 //! Adding a row, and the id of a name.
 
 ghost use Rattle.std.specs.Prelude.{◌≡◌, ◌<◌, ◌≤◌, ℕ, List, [], None, Some, map, length, OnErr, OnOk, MatchResult};
-ghost use Rattle.id_groups.specs.Lists.{is_in};
+ghost use Rattle.id_groups.specs.Lists.{IsIn, is_in};
 ghost use Rattle.id_groups.specs.Name.{Name as NameBytes, same_name};
 ghost use Rattle.commit_graph.specs.World.{Row, World, with_pending};
 ghost use Rattle.commit_graph.specs.Ids.{id_in};
@@ -9,7 +9,7 @@ ghost use Rattle.name_map.specs.Added.{Placed, payloads_of, AllStand};
 ghost use Rattle.change_rules.specs.Lazy.{has_lazy};
 ghost use Rattle.payload_tables.specs.Kept.{AreTablesOf};
 ghost use Rattle.payload_tables.specs.Bases.{IsBaseOf, MayView};
-ghost use Rattle.payload_tables.specs.Pending.{IdRow, HoldsRows};
+ghost use Rattle.payload_tables.specs.Pending.{IdRow, HoldsRows, row_names};
 ghost use Rattle.step_rules.specs.State.{Stored};
 ghost use Rattle.step_rules.specs.Tests.{twice, unknown, first_some};
 ghost use Rattle.dag_store.specs.Kept.{IsSessionOf, base_added};
@@ -133,7 +133,7 @@ fn seek(
     Ok(Sought::Old(id))
 }
 
-/// Puts a row behind the pending ones, if there are fewer than the limit.
+/// Puts a row behind the pending ones, none of which has its name, if there are fewer than the limit.
 fn append(
     pending: &mut PendingRows,
     most: u32,
@@ -143,7 +143,7 @@ fn append(
     requires rows { (rows : List IdRow) × HoldsRows pending.old rows }
     requires limit { most ≤ 65536 }
     requires parents { MayBeParents pending.old.first (length pending.old.places) parents.now }
-    ensures appends { (rows : List IdRow) → HoldsRows pending.old rows → Appends most pending.old rows name.now parents.now result pending.new }
+    ensures appends { (rows : List IdRow) → HoldsRows pending.old rows → (IsIn name.now (row_names rows) → ⊥) → Appends most pending.old rows name.now parents.now result pending.new }
     ensures unchanged { OnErr result (pending.new ≡ pending.old) }
 {
     let count = pending.len();
@@ -151,7 +151,7 @@ fn append(
         return Err(Refusal::Full(Limit::Pending, u64::from(most)));
     }
     let id = Id::other(pending.first() + u64::from(count));
-    let Ok(()) = pending.push(name, parents) else {
+    let Ok(()) = pending.push_new(name, parents) else {
         return Err(Refusal::Memory);
     };
     Ok(Added::New(id))

@@ -8,10 +8,10 @@ use std::alloc::{AllocError, Global};
 use std::marker::Model;
 
 /// Fewer entries have no filter: their run may still change in place, and a search in it is quick.
-const FEWEST: usize = 256;
+const FEWEST: usize = 128;
 
-/// A filter has a word of 64 bits for so many entries. With two bits a front about one in thirty passes that isn't there.
-const ENTRIES_A_WORD: usize = 6;
+/// A filter has a word of 64 bits for so many entries. With two bits a front about one in fourteen passes that isn't there.
+const ENTRIES_A_WORD: usize = 10;
 
 /// Which fronts may be among those of some entries. The leading half of a front tells its word, its last digits which two
 /// bits it has there. Contracts see the words; where there are none, each front may be there.

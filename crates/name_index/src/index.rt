@@ -19,7 +19,7 @@ use std::marker::Model;
 const GROWTH: usize = 4;
 
 /// A name alone is put into the last run, while that has fewer entries.
-const SMALL: usize = 256;
+const SMALL: usize = 128;
 
 /// Why names weren't inserted.
 #[derive(Clone, Copy, PartialEq, Eq, Debug)]
@@ -327,39 +327,26 @@ impl NameIndex {
         Ok(())
     }
 
-    /// Puts an entry into the last run, or begins one. Want of memory changes nothing.
-    fn put(&mut self, bytes: &[u8], name: &[u8], entry: Entry) -> Result<(), AllocError>
-        ensures added { (all : List NamedPlace) (n : NamedPlace) → IsIndexOf self.old all → Stand bytes.now all → entry ≡ entry_of n → n.name ≡ name.now
-            → (IsIn name.now (names_in all) → ⊥) → OnOk result (IsIndexOf self.new (all ++ n ∷ [])) }
-        ensures unchanged { OnErr result (self.new ≡ self.old) }
-    {
-        match room_in(&self.runs) {
-            Some(before) => self.put_last(before, bytes, name, entry),
-            None => self.begin_run(bytes, entry),
-        }
-    }
-
-    /// Adds the name, which stands, or will stand, at the place; those that are held already stand in `bytes`. `Double` comes only
-    /// where it is held, and `Memory` for want of memory; either leaves the index as it was.
-    pub fn insert_one(
+    /// Adds a name that isn't held, and stands, or will stand, at the place; those that are held already stand in `bytes`. It isn't
+    /// sought. Want of memory leaves the index as it was.
+    pub fn insert_new_one(
         &mut self,
         bytes: &[u8],
         name: NameRef<'_>,
         place: u64,
-    ) -> Result<(), IndexFault>
-        ensures added { (all : List NamedPlace) → IsIndexOf self.old all → Stand bytes.now all → OnOk result (IsIndexOf self.new (all ++ record { place = place; name = name.entry.bytes.now } ∷ [])) }
-        ensures double { (all : List NamedPlace) → IsIndexOf self.old all → Stand bytes.now all → result ≡ Err Fault.Double → IsIn name.entry.bytes.now (names_in all) }
+    ) -> Result<(), AllocError>
+        ensures added { (all : List NamedPlace) → IsIndexOf self.old all → Stand bytes.now all → (IsIn name.entry.bytes.now (names_in all) → ⊥)
+            → OnOk result (IsIndexOf self.new (all ++ record { place = place; name = name.entry.bytes.now } ∷ [])) }
         ensures unchanged { OnErr result (self.new ≡ self.old) }
     {
-        if self.find(bytes, name).is_some() {
-            return Err(IndexFault::Double);
-        }
         let entry = Entry {
             front: front_of_name(name.bytes),
             place,
         };
-        self.put(bytes, name.bytes, entry)?;
-        Ok(())
+        match room_in(&self.runs) {
+            Some(before) => self.put_last(before, bytes, name.bytes, entry),
+            None => self.begin_run(bytes, entry),
+        }
     }
 
     /// Puts a run of new names, no two of which are the same, behind the others, merged with those that are due. Want of memory

@@ -1,5 +1,5 @@
 -- Names that stand one after another, and rows that are found by them.
-use Rattle.std.proofs.Common.{◌≡◌, ◌<◌, ℕ, zero, suc, ◌+◌, ◌*◌, ◌/◌, inl, inr, List, [], ◌∷◌, ◌++◌, length, take, drop, Option, Some, None, slice_get, is_some, refl, sym, ap, ◌∙◌, arith, true≢false}
+use Rattle.std.proofs.Common.{◌≡◌, ◌<◌, ◌↔◌, ℕ, Bool, IsTrue, zero, suc, ◌+◌, ◌*◌, ◌/◌, inl, inr, List, [], ◌∷◌, ◌++◌, length, take, drop, Option, Some, None, slice_get, is_some, refl, sym, ap, ◌∙◌, arith, true≢false}
 use Rattle.std.specs.List.{AllByRecursion}
 use Rattle.std.proofs.lemmas.List.{length-map, take_at}
 use Rattle.id_groups.specs.Lists.{IsIn}
@@ -12,7 +12,7 @@ use Rattle.segment_codec.specs.Record.{Segment, segment_bytes}
 use Rattle.flat_segments.specs.Placed.{Placed as PlacedSegment, placed}
 use Rattle.name_index.specs.Index.{NamedPlace, Stand, StandsAt, Finds}
 use Rattle.name_map.specs.Added.{names_from}
-use Rattle.payload_tables.specs.Pending.{IdRow, PlainPending, HoldsRows, row_names, segments_from}
+use Rattle.payload_tables.specs.Pending.{IdRow, PlainPending, HoldsRows, FindsRow, row_names, segments_from}
 
 pub drop-front : (x : List ℕ) (ys : List ℕ) (k n : ℕ) → length x ≡ n → drop (n + k) (x ++ ys) ≡ drop k ys
 drop-front [] ys k n e = ap (λ m. drop m ys) (let z : n + k ≡ k = omega (arith, e) in z)
@@ -118,3 +118,8 @@ name-of-row (r ∷ rows) (suc k) row e = name-of-row rows k row e
 pub row-name : (p : PlainPending) (rows : List IdRow) (k : ℕ) (row : IdRow) → HoldsRows p rows → slice_get rows k ≡ Some row → take 20 (drop (20 * k) p.names) ≡ row.name
 row-name p rows k row h e =
     ap (λ b. take 20 (drop (20 * k) b)) h.names ∙ name-in-bytes (row_names rows) k row.name (whole-names rows h.whole) (name-of-row rows k row e)
+
+-- whether a row was found tells whether one has the name
+pub held-row : (rows : List IdRow) (name : Name) (found : Option ℕ) (held : Bool) → FindsRow rows name found → held ≡ is_some found → IsTrue held ↔ IsIn name (row_names rows)
+held-row rows name None held f e = (λ t. absurd (true≢false (sym t ∙ e)), λ i. absurd (f i))
+held-row rows name (Some k) held f e = (λ _. get-in (row_names rows) k name (name-of-row rows k f.0 f.1 ∙ ap Some f.2), λ _. e)

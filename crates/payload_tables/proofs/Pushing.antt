@@ -1,5 +1,5 @@
 -- One name more in the index of pending names.
-use Rattle.std.proofs.Common.{◌≡◌, ℕ, ◌+◌, ◌*◌, inl, inr, List, [], ◌∷◌, ◌++◌, length, map, take, drop, sym, ap, ap₂, subst, ◌∙◌, ⊎_elim, arith}
+use Rattle.std.proofs.Common.{◌≡◌, ℕ, ◌+◌, ◌*◌, inl, inr, List, [], ◌∷◌, ◌++◌, length, map, take, drop, refl, sym, ap, ap₂, subst, ◌∙◌, ⊎_elim, arith}
 use Rattle.std.specs.List.{AllByRecursion}
 use Rattle.std.proofs.lemmas.List.{map-append, take_at}
 use Rattle.id_groups.specs.Lists.{IsIn}
@@ -32,6 +32,18 @@ from-left place (y ∷ names) x n (inr i) = inr (from-left (place + 20) names x 
 from-last : (place at : ℕ) (names : List Name) (x : Name) → at ≡ place + 20 * length names → IsIn (record { place = at; name = x }) (names_from place (names ++ x ∷ []))
 from-last place at [] x e = inl (ap (λ n. record { place = n; name = x }) (let z : at ≡ place = omega (arith, e) in z))
 from-last place at (y ∷ names) x e = inr (from-last (place + 20) at names x (omega (arith, e)))
+
+named-of : (named : List NamedPlace) (x : Name) → IsIn x (names_in named) → (n : NamedPlace) × IsIn n named × (x ≡ n.name)
+named-of [] x i = absurd i
+named-of (n ∷ named) x (inl e) = (n, inl refl, e)
+named-of (n ∷ named) x (inr i) = let r = named-of named x i in (r.0, inr r.1, r.2)
+
+-- what is held is one of the names
+pub held-name : (index : _) (names : List Name) (x : Name) (f : FindsNames index names) → IsIn x (names_in f.named) → IsIn x names
+held-name index names x f i =
+    let r = named-of f.named x i in
+    let s = names-from-in 0 names r.0 (f.sound r.0 r.1) in
+    subst (λ z. IsIn z names) (sym r.2) (get-in names s.0 r.0.name s.2)
 
 -- a new name
 pub finds-more : (old new : _) (names : List Name) (at : ℕ) (x : Name) (f : FindsNames old names) → at ≡ 20 * length names → IsIndexOf new (f.named ++ record { place = at; name = x } ∷ []) → FindsNames new (names ++ x ∷ [])

@@ -1,19 +1,20 @@
 //! Rows that are pending.
 
-ghost use Rattle.std.specs.Prelude.{◌≡◌, ◌<◌, ◌≤◌, ◌++◌, ◌∷◌, [], List, ℕ, length, drop, slice_get, Some, IsSomeAnd, IfOk, OnOk, OnErr};
+ghost use Rattle.std.specs.Prelude.{◌≡◌, ◌<◌, ◌≤◌, ◌↔◌, ◌++◌, ◌∷◌, [], List, ℕ, length, drop, slice_get, Some, IsTrue, IsSomeAnd, IfOk, OnOk, OnErr};
 ghost use Rattle.segment_codec.specs.Lent.{segment_of, parents_left};
 ghost use Rattle.segment_codec.specs.Record.{Segment, IsSegment, segment_bytes};
 ghost use Rattle.flat_segments.specs.Placed.{Placed};
 ghost use Rattle.flat_segments.specs.Kept.{IsSectionOf, MayPush};
 ghost use Rattle.std.specs.List.{AllByRecursion};
+ghost use Rattle.id_groups.specs.Lists.{IsIn};
 ghost use Rattle.id_groups.specs.Name.{Name as NameBytes, IsName};
 ghost use Rattle.batch_codec.specs.Payload.{names_bytes};
-ghost use Rattle.payload_tables.specs.Pending.{IdRow, HoldsRows, MayPushRow, FindsRow, FindsNames, IsRecordOf, row_segment};
+ghost use Rattle.payload_tables.specs.Pending.{IdRow, HoldsRows, MayPushRow, FindsRow, FindsNames, IsRecordOf, row_names, row_segment};
 
 use crate::piece::{copied, piece};
 use flat_segments::Section;
 use id_groups::{Id, Name, NameRef};
-use name_index::{IndexFault, NameIndex};
+use name_index::NameIndex;
 use segment_codec::{Parents, SegmentRef, read_segment, write_segment};
 use std::alloc::{AllocError, Global};
 use std::marker::Model;
@@ -38,19 +39,25 @@ impl Model for PendingRows {
     ghost view = { λ p. record { first = p.first; records = p.records.items; places = p.places.items; names = p.names.items; section = p.section; index = p.index } };
 }
 
+/// The name of a row that is pushed, and whether one of the rows before it has that name.
+#[derive(Clone, Copy)]
+struct Pushed<'a> {
+    name: &'a Name,
+    is_held: bool,
+}
+
 /// Puts a name, which stands or will stand behind these, into the index; one that is held already stays where it was. Want
 /// of memory changes nothing.
-fn add_name(index: &mut NameIndex, names: &[u8], name: &Name) -> Result<(), AllocError>
+fn add_name(index: &mut NameIndex, names: &[u8], pushed: &Pushed<'_>) -> Result<(), AllocError>
     ensures found { (before : List NameBytes) → FindsNames index.old before → names.now ≡ names_bytes before → AllByRecursion IsName before
-        → OnOk result (FindsNames index.new (before ++ name.now ∷ [])) }
+        → (IsTrue pushed.now.is_held ↔ IsIn pushed.now.name.now before) → OnOk result (FindsNames index.new (before ++ pushed.now.name.now ∷ [])) }
     ensures unchanged { OnErr result (index.new ≡ index.old) }
 {
-    let at = names.len() as u64;
-    match index.insert_one(names, name.lend(), at) {
-        Ok(()) => Ok(()),
-        Err(IndexFault::Double) => Ok(()),
-        Err(IndexFault::Memory) => Err(AllocError),
+    if pushed.is_held {
+        return Ok(());
     }
+    let at = names.len() as u64;
+    index.insert_new_one(names, pushed.name.lend(), at)
 }
 
 /// Adds a segment and a name. A refusal changes neither.
@@ -60,19 +67,19 @@ fn add_found(
     names: &[u8],
     segment: SegmentRef<'_>,
     place: u64,
-    name: &Name,
+    pushed: &Pushed<'_>,
 ) -> Result<(), AllocError>
     requires segment { MayPush section.old (segment_of segment) }
     requires section { (records : List Placed) × IsSectionOf section.old records }
     ensures section { OnOk result ((records : List Placed) → IsSectionOf section.old records → IsSectionOf section.new (records ++ record { place = place; segment = segment_of segment.entry } ∷ [])) }
     ensures found { (before : List NameBytes) → FindsNames index.old before → names.now ≡ names_bytes before → AllByRecursion IsName before
-        → OnOk result (FindsNames index.new (before ++ name.now ∷ [])) }
+        → (IsTrue pushed.now.is_held ↔ IsIn pushed.now.name.now before) → OnOk result (FindsNames index.new (before ++ pushed.now.name.now ∷ [])) }
     ensures unchanged { OnErr result ((section.new ≡ section.old) × (index.new ≡ index.old)) }
 {
     let len = section.len();
     let end = section.end();
     section.push(segment, place)?;
-    let added = add_name(index, names, name);
+    let added = add_name(index, names, pushed);
     if added.is_err() {
         section.cut_back(len, end);
     }
@@ -86,21 +93,21 @@ fn add_named(
     index: &mut NameIndex,
     segment: SegmentRef<'_>,
     place: u64,
-    name: &Name,
+    pushed: &Pushed<'_>,
 ) -> Result<(), AllocError>
     requires segment { MayPush section.old (segment_of segment) }
     requires section { (records : List Placed) × IsSectionOf section.old records }
     ensures section { OnOk result ((records : List Placed) → IsSectionOf section.old records → IsSectionOf section.new (records ++ record { place = place; segment = segment_of segment.entry } ∷ [])) }
     ensures found { (before : List NameBytes) → FindsNames index.old before → names.old.items ≡ names_bytes before → AllByRecursion IsName before
-        → OnOk result (FindsNames index.new (before ++ name.now ∷ [])) }
-    ensures names { OnOk result (names.new.items ≡ names.old.items ++ name.now) }
-    ensures whole { OnOk result (IsName name.now) }
+        → (IsTrue pushed.now.is_held ↔ IsIn pushed.now.name.now before) → OnOk result (FindsNames index.new (before ++ pushed.now.name.now ∷ [])) }
+    ensures names { OnOk result (names.new.items ≡ names.old.items ++ pushed.now.name.now) }
+    ensures whole { OnOk result (IsName pushed.now.name.now) }
     ensures unchanged { OnErr result ((names.new.items ≡ names.old.items) × (section.new ≡ section.old) × (index.new ≡ index.old)) }
 {
     let len = names.len();
-    names.extend_from_slice(name.lend().bytes)?;
+    names.extend_from_slice(pushed.name.lend().bytes)?;
     let (before, _) = names.split_at(len);
-    let added = add_found(section, index, before, segment, place, name);
+    let added = add_found(section, index, before, segment, place, pushed);
     if added.is_err() {
         names.truncate(len);
     }
@@ -115,21 +122,21 @@ fn add_parts(
     index: &mut NameIndex,
     segment: SegmentRef<'_>,
     place: u64,
-    name: &Name,
+    pushed: &Pushed<'_>,
 ) -> Result<(), AllocError>
     requires segment { MayPush section.old (segment_of segment) }
     requires section { (records : List Placed) × IsSectionOf section.old records }
     ensures section { OnOk result ((records : List Placed) → IsSectionOf section.old records → IsSectionOf section.new (records ++ record { place = place; segment = segment_of segment.entry } ∷ [])) }
     ensures found { (before : List NameBytes) → FindsNames index.old before → names.old.items ≡ names_bytes before → AllByRecursion IsName before
-        → OnOk result (FindsNames index.new (before ++ name.now ∷ [])) }
-    ensures names { OnOk result (names.new.items ≡ names.old.items ++ name.now) }
-    ensures whole { OnOk result (IsName name.now) }
+        → (IsTrue pushed.now.is_held ↔ IsIn pushed.now.name.now before) → OnOk result (FindsNames index.new (before ++ pushed.now.name.now ∷ [])) }
+    ensures names { OnOk result (names.new.items ≡ names.old.items ++ pushed.now.name.now) }
+    ensures whole { OnOk result (IsName pushed.now.name.now) }
     ensures places { OnOk result (places.new.items ≡ places.old.items ++ place ∷ []) }
     ensures unchanged { OnErr result ((places.new.items ≡ places.old.items) × (names.new.items ≡ names.old.items) × (section.new ≡ section.old) × (index.new ≡ index.old)) }
 {
     let len = places.len();
     places.push(place)?;
-    let added = add_named(names, section, index, segment, place, name);
+    let added = add_named(names, section, index, segment, place, pushed);
     if added.is_err() {
         places.truncate(len);
     }
@@ -176,11 +183,12 @@ impl PendingRows {
         }
     }
 
-    /// Adds a row. Want of memory changes nothing.
-    pub fn push(&mut self, name: &Name, parents: &[Id]) -> Result<(), AllocError>
+    /// Adds a row of which it is known whether one of the rows has its name. Want of memory changes nothing.
+    fn push_row(&mut self, pushed: &Pushed<'_>, parents: &[Id]) -> Result<(), AllocError>
         requires row { MayPushRow self.old.first (length self.old.places) parents.now }
         requires rows { (rows : List IdRow) × HoldsRows self.old rows }
-        ensures pushed { (rows : List IdRow) → HoldsRows self.old rows → OnOk result (HoldsRows self.new (rows ++ record { name = name.now; parents = parents.now } ∷ [])) }
+        ensures pushed { (rows : List IdRow) → HoldsRows self.old rows → (IsTrue pushed.now.is_held ↔ IsIn pushed.now.name.now (row_names rows))
+            → OnOk result (HoldsRows self.new (rows ++ record { name = pushed.now.name.now; parents = parents.now } ∷ [])) }
         ensures first { self.new.first ≡ self.old.first }
         ensures unchanged { OnErr result (self.new ≡ self.old) }
     {
@@ -196,12 +204,40 @@ impl PendingRows {
             &mut self.index,
             segment,
             place as u64,
-            name,
+            pushed,
         );
         if added.is_err() {
             self.records.truncate(place);
         }
         added
+    }
+
+    /// Adds a row. Want of memory changes nothing.
+    pub fn push(&mut self, name: &Name, parents: &[Id]) -> Result<(), AllocError>
+        requires row { MayPushRow self.old.first (length self.old.places) parents.now }
+        requires rows { (rows : List IdRow) × HoldsRows self.old rows }
+        ensures pushed { (rows : List IdRow) → HoldsRows self.old rows → OnOk result (HoldsRows self.new (rows ++ record { name = name.now; parents = parents.now } ∷ [])) }
+        ensures first { self.new.first ≡ self.old.first }
+        ensures unchanged { OnErr result (self.new ≡ self.old) }
+    {
+        let is_held = self.find(name.lend()).is_some();
+        self.push_row(&Pushed { name, is_held }, parents)
+    }
+
+    /// Adds a row as `push` does, where it is known that no row has its name: it isn't sought. Want of memory changes nothing.
+    pub fn push_new(&mut self, name: &Name, parents: &[Id]) -> Result<(), AllocError>
+        requires row { MayPushRow self.old.first (length self.old.places) parents.now }
+        requires rows { (rows : List IdRow) × HoldsRows self.old rows }
+        ensures pushed { (rows : List IdRow) → HoldsRows self.old rows → (IsIn name.now (row_names rows) → ⊥)
+            → OnOk result (HoldsRows self.new (rows ++ record { name = name.now; parents = parents.now } ∷ [])) }
+        ensures first { self.new.first ≡ self.old.first }
+        ensures unchanged { OnErr result (self.new ≡ self.old) }
+    {
+        let pushed = Pushed {
+            name,
+            is_held: false,
+        };
+        self.push_row(&pushed, parents)
     }
 
     /// What the rows are found by once more: the section and the index.

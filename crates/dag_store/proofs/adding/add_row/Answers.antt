@@ -7,6 +7,7 @@ use Rattle.dag_store.specs.Kept.{PlainSession, IsSessionOf, base_added}
 use Rattle.dag_store.specs.Adding.{IsSeen, Seeks, AddsRow}
 use Rattle.dag_store.specs.contracts.session.Session.{the_view}
 use Rattle.dag_store.proofs.AddingTests.{passed-parents}
+use Rattle.dag_store.proofs.AddingRows.{no-row}
 use Rattle.dag_store.proofs.AddingWorlds.{seen, seen-small, sees-of, may-view, may-be-parents}
 use Rattle.dag_store.proofs.AddingSession.{row-adds, adds-kept}
 use Rattle.dag_store.proofs.adding.add_row.Goals as goal
@@ -45,7 +46,7 @@ returns-in-New-clause-adds c = λ added w rows t stand of seen.
     let got = subst (λ o. Seeks (payloads_of (base_added added x)) w rows c.args.name.now c.args.parents.now (Ok o)) c.in-New.is
     (c.in_ok-id.ensures (base_added added x) w rows (sees-of c.base-base.result added x w rows b s) (c.has_unnamed-unnamed.ensures added x w t own refl s.stand)) in
     row-adds added x w rows s c.args.name.now c.args.parents.now c.requires.few c.args.most c.deref.result.now c.append.result c.append.new.pending got.0 got.1 (c.deref.ensures.value ∙ got.2)
-    (c.append.ensures.appends (map (id_row (with_pending w rows)) rows) s.pending_rows.held) c.append.ensures.unchanged)
+    (c.append.ensures.appends (map (id_row (with_pending w rows)) rows) s.pending_rows.held (no-row w rows c.args.name.now got.1)) c.append.ensures.unchanged)
 
 pub returns-in-New-clause-kept : goal.returns-in-New-clause-kept
 returns-in-New-clause-kept c = λ added t stand of.
@@ -61,4 +62,4 @@ returns-in-New-clause-kept c = λ added t stand of.
     (c.in_ok-id.ensures (base_added added x) w rows (sees-of c.base-base.result added x w rows b s) (c.has_unnamed-unnamed.ensures added x w t own refl s.stand)) in
     adds-kept added x w rows s c.args.name.now c.args.parents.now c.requires.few c.args.most t.lawful own c.append.result new
     (row-adds added x w rows s c.args.name.now c.args.parents.now c.requires.few c.args.most c.deref.result.now c.append.result c.append.new.pending got.0 got.1 (c.deref.ensures.value ∙ got.2)
-    (c.append.ensures.appends (map (id_row (with_pending w rows)) rows) s.pending_rows.held) c.append.ensures.unchanged)
+    (c.append.ensures.appends (map (id_row (with_pending w rows)) rows) s.pending_rows.held (no-row w rows c.args.name.now got.1)) c.append.ensures.unchanged)
