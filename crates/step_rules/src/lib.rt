@@ -29,7 +29,7 @@ use change_rules::Limit;
 use id_groups::Name;
 
 /// Why a command is refused.
-#[derive(Clone, Copy, Debug, PartialEq, Eq)]
+#[derive(Clone, Copy)]
 pub enum Refusal {
     /// The commit isn't there, where the command looks for it.
     Unknown(Name),
