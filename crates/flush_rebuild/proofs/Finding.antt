@@ -122,18 +122,4 @@ numbers-next v heads i h numbers new id lt e n is more =
     ∙ ap others_of (map-append node_of (map (id_in same_name v) (take i heads)) (id_in same_name v h ∷ []))
     ∙ others-more (map node_of (map (id_in same_name v) (take i heads))) (node_of (id_in same_name v h)))
 
-pub id-small : (v : World Name) (x : Name) → length v.master ≤ 16777216 → length v.others ≤ 131072 → IsIn x (names_of (rows_of v)) → id_in same_name v x < 2 ^ 56 + 2 ^ 32
-id-small v x small few i = by_test (is_in same_name x (names_of v.master)) refl
-  where
-    by_test : (b : Bool) → is_in same_name x (names_of v.master) ≡ b → (if is_in same_name x (names_of v.master) then place_of same_name x (names_of v.master) else other_id (place_of same_name x (names_of v.others))) < 2 ^ 56 + 2 ^ 32
-    by_test true e = subst (λ b. (if b then place_of same_name x (names_of v.master) else other_id (place_of same_name x (names_of v.others))) < 2 ^ 56 + 2 ^ 32) (sym e)
-        (let p = place-below x (names_of v.master) (found same_name same_name-exact same_name-self x (names_of v.master) e) in let n = names-length v.master in omega (arith, p, n, small))
-    by_test false e = subst (λ b. (if b then place_of same_name x (names_of v.master) else other_id (place_of same_name x (names_of v.others))) < 2 ^ 56 + 2 ^ 32) (sym e)
-        (let j : IsIn x (names_of v.others) = ⊎_elim (λ k. absurd (missing same_name same_name-exact same_name-self x (names_of v.master) e k)) (λ k. k)
-        (in-append x (names_of v.master) (names_of v.others) (subst (IsIn x) (map-append (λ (r : Row Name). r.name) v.master v.others) i)) in
-        let p = place-below x (names_of v.others) j in let n = names-length v.others in omega (arith, p, n, few))
-
-pub view-few : (w : World Name) (p : PlainPending) (rows : List (Row Name)) → ArePending w p rows → length (w.others ++ rows) ≤ 131072
-view-few w p rows h = let a = h.held.few in let b = h.held.room in let c = h.first in let l = length-append w.others rows in let m = length-map rows (id_row (with_pending w rows)) in omega (arith, a, b, c, l, m)
-
 -- ---- the rows, one by one
