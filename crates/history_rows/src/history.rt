@@ -1,6 +1,5 @@
 //! A history of sessions over one log, drawn by a seed.
 
-ghost use Rattle.std.specs.Prelude.{◌≤◌};
 ghost use Rattle.change_rules.specs.Standard.{AreLimits};
 ghost use Rattle.sample_logs.specs.Sample.{MayFlushIn};
 
@@ -44,29 +43,15 @@ pub struct History {
     met: Met,
 }
 
-/// The number, or the bound that it exceeds.
-fn within(number: u64, least: u64, most: u64) -> u64
-    requires { least ≤ most }
-    ensures { (least ≤ result) × (result ≤ most) }
-{
-    if number < least {
-        least
-    } else if number > most {
-        most
-    } else {
-        number
-    }
-}
-
 /// The standard limits with these for the others, the master rows and the log's bytes.
 fn limits_of(others: u64, master: u64, log: u64) -> Limits
     ensures { AreLimits result }
 {
     Limits {
         pending: 1 << 16,
-        others: within(others, 1, 65_536) as u32,
-        master: within(master, 1, 16_777_216) as u32,
-        log: within(log, LEAST_LOG, 1 << 30),
+        others: others.clamp(1, 65_536) as u32,
+        master: master.clamp(1, 16_777_216) as u32,
+        log: log.clamp(LEAST_LOG, 1 << 30),
         answer: 1 << 20,
         input: 1 << 30,
     }

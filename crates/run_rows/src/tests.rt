@@ -1,6 +1,6 @@
 //! Whole runs that a file can't show: other limits, faults, the program's words, long lines and long answers.
 
-ghost use Rattle.std.specs.Prelude.{◌<◌, ◌≤◌};
+ghost use Rattle.std.specs.Prelude.{◌<◌};
 ghost use Rattle.change_rules.specs.Standard.{AreLimits};
 
 use dag_run::{Limits, Report, run_lines, split_words, top};
@@ -78,31 +78,17 @@ fn answer(
     Ok((report.status, input.left()))
 }
 
-/// The number, or the bound that it exceeds.
-fn within(number: u64, least: u64, most: u64) -> u64
-    requires { least ≤ most }
-    ensures { (least ≤ result) × (result ≤ most) }
-{
-    if number < least {
-        least
-    } else if number > most {
-        most
-    } else {
-        number
-    }
-}
-
 /// These limits, of which each is one that a run may have.
 fn limits_of(pending: u64, others: u64, master: u64, log: u64, answer: u64, input: u64) -> Limits
     ensures { AreLimits result }
 {
     Limits {
-        pending: within(pending, 1, 65_536) as u32,
-        others: within(others, 1, 65_536) as u32,
-        master: within(master, 1, 16_777_216) as u32,
-        log: within(log, 98, 1 << 30),
-        answer: within(answer, 1, 1_048_576) as u32,
-        input: within(input, 1, 1 << 30),
+        pending: pending.clamp(1, 65_536) as u32,
+        others: others.clamp(1, 65_536) as u32,
+        master: master.clamp(1, 16_777_216) as u32,
+        log: log.clamp(98, 1 << 30),
+        answer: answer.clamp(1, 1_048_576) as u32,
+        input: input.clamp(1, 1 << 30),
     }
 }
 
