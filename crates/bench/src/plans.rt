@@ -93,8 +93,14 @@ fn timed(
 {
     let start = Instant::now(rt)?;
     let after = stored(sample, left, head)?;
-    *micros = micros.saturating_add(start.elapsed(rt)?.as_micros());
+    add_elapsed(rt, start, micros)?;
     Ok(after)
+}
+
+/// Adds the time since the start.
+fn add_elapsed(rt: &HostRuntime, start: Instant, micros: &mut u128) -> io::Result<()> {
+    *micros = micros.saturating_add(start.elapsed(rt)?.as_micros());
+    Ok(())
 }
 
 /// The log after a flush of these rows with one head. A refusal counts as want of memory.

@@ -182,12 +182,17 @@ impl<'a, T: SegmentTable> Queries<'a, T> {
     /// The same, asked as the members of an expression.
     fn met(&self, times: u64) -> Result<u64, ExprFault> {
         let expr = Expr::parse(self.alloc, MET)?;
+        self.met_in_pairs(&expr, times)
+    }
+
+    /// How many members an expression of two names has for so many random pairs.
+    fn met_in_pairs(&self, expr: &Expr, times: u64) -> Result<u64, ExprFault> {
         let mut draws = Draws::new();
         let count = self.count();
         let mut met = 0u64;
         for _pair in 0..times {
             let (later, earlier) = draws.pair(count, Apart::Anywhere);
-            met = met.saturating_add(self.met_by(&expr, earlier, later)?);
+            met = met.saturating_add(self.met_by(expr, earlier, later)?);
         }
         Ok(met)
     }
@@ -215,10 +220,15 @@ impl<'a, T: SegmentTable> Queries<'a, T> {
     /// How many members an expression without names has.
     fn evaluated(&self, text: &[u8]) -> Result<u64, ExprFault> {
         let expr = Expr::parse(self.alloc, text)?;
+        self.count_of(&expr)
+    }
+
+    /// How many members the expression has, if it has no names.
+    fn count_of(&self, expr: &Expr) -> Result<u64, ExprFault> {
         if expr.name_count() > 0 {
             return Ok(0);
         }
-        let answer = eval(self.alloc, self.table, &expr, &[])?;
+        let answer = eval(self.alloc, self.table, expr, &[])?;
         Ok(answer.count())
     }
 
