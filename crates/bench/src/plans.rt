@@ -92,6 +92,20 @@ fn timed(
     requires { MayFlushIn sample.bytes sample.tables left.now }
 {
     let start = Instant::now(rt)?;
+    stored_since(rt, start, sample, left, head, micros)
+}
+
+/// The same, with the time since the start.
+fn stored_since(
+    rt: &HostRuntime,
+    start: Instant,
+    sample: LogSample,
+    left: &PendingRows,
+    head: &Name,
+    micros: &mut u128,
+) -> io::Result<LogSample>
+    requires { MayFlushIn sample.bytes sample.tables left.now }
+{
     let after = stored(sample, left, head)?;
     add_elapsed(rt, start, micros)?;
     Ok(after)
