@@ -11,7 +11,7 @@ use id_groups::{Group, Id};
 use range_query::{children, descendants, heads, merges, range, roots};
 use sample_tables::{held_id, held_ids};
 use segment_codec::{SegmentTable, Steps};
-use set_query::{Expr, ExprFault, eval};
+use set_query::{Answer, Expr, ExprFault, eval};
 use span_set::IdSet;
 use std::alloc::{AllocError, Global};
 
@@ -29,6 +29,15 @@ pub fn id_of(masters: u64, place: u64) -> Id {
         return Id::master(place);
     }
     Id::other(place.saturating_sub(masters) % 64)
+}
+
+/// The ids of these places.
+pub fn ids_of(alloc: Global, masters: u64, places: &[u64]) -> Result<Vec<Id>, AllocError> {
+    let mut ids = Vec::new(alloc);
+    for place in places {
+        ids.push(id_of(masters, *place))?;
+    }
+    Ok(ids)
 }
 
 impl<'a, T: SegmentTable> Asked<'a, T> {
@@ -108,10 +117,17 @@ impl<'a, T: SegmentTable> Asked<'a, T> {
     ) -> Result<u64, AllocError> {
         let one = self.set_of(first)?;
         let other = self.set_of(second)?;
+        self.places_made(query, &one, &other)
+    }
+
+    fn places_made(&self, query: PairQuery, one: &IdSet, other: &IdSet) -> Result<u64, AllocError>
+        requires one { (x : ℕ) → IsMember one.now x → IsHeld (T.flats self.now.table.now) x }
+        requires other { (x : ℕ) → IsMember other.now x → IsHeld (T.flats self.now.table.now) x }
+    {
         let mut steps = Steps::new();
         let made = match query {
-            PairQuery::Range => range(self.alloc, self.table, &one, &other, &mut steps)?,
-            PairQuery::Only => only(self.alloc, self.table, &one, &other, &mut steps)?,
+            PairQuery::Range => range(self.alloc, self.table, one, other, &mut steps)?,
+            PairQuery::Only => only(self.alloc, self.table, one, other, &mut steps)?,
         };
         Ok(self.places_of(&made))
     }
@@ -137,21 +153,29 @@ impl<'a, T: SegmentTable> Asked<'a, T> {
         Some(self.place_of(found))
     }
 
-    /// The members of the expression and the look-ups that it took; `None` where it has more than one name, or the table hasn't
-    /// the id at the place, which stands for the name.
-    pub fn evaluated(&self, text: &[u8], place: u64) -> Result<Option<(u64, u64)>, ExprFault> {
-        let expr = Expr::parse(self.alloc, text)?;
-        if expr.name_count() == 0 {
-            let answer = eval(self.alloc, self.table, &expr, &[])?;
-            return Ok(Some((self.places_of(answer.set()), answer.steps())));
+    /// The members of the expression and the look-ups that it took; `None` where the text spells none, it has more than one
+    /// name, or the table hasn't the id at the place, which stands for the name.
+    pub fn evaluated(&self, text: &[u8], place: u64) -> Result<Option<(u64, u64)>, AllocError> {
+        match Expr::parse(self.alloc, text) {
+            Ok(expr) => self.evaluated_at(&expr, place),
+            Err(ExprFault::Syntax) => Ok(None),
+            Err(ExprFault::Memory) => Err(AllocError),
         }
-        let Some(id) = held_id(self.table, self.id_at(place)) else {
-            return Ok(None);
-        };
-        if expr.name_count() != 1 {
-            return Ok(None);
+    }
+
+    fn evaluated_at(&self, expr: &Expr, place: u64) -> Result<Option<(u64, u64)>, AllocError> {
+        match expr.name_count() {
+            0 => Ok(Some(self.read(&eval(self.alloc, self.table, expr, &[])?))),
+            1 => match held_id(self.table, self.id_at(place)) {
+                Some(id) => Ok(Some(self.read(&eval(self.alloc, self.table, expr, &[id])?))),
+                None => Ok(None),
+            },
+            _ => Ok(None),
         }
-        let answer = eval(self.alloc, self.table, &expr, &[id])?;
-        Ok(Some((self.places_of(answer.set()), answer.steps())))
+    }
+
+    /// The places of the answer's members, and its look-ups.
+    fn read(&self, answer: &Answer) -> (u64, u64) {
+        (self.places_of(answer.set()), answer.steps())
     }
 }

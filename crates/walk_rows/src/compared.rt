@@ -15,13 +15,14 @@ pub enum Wrong {
     FirstAncestor(u64, u64),
     Above(u64, u64),
     Expression(u64, u64),
-    Joined,
+    /// The table has other ids than the graph.
+    Ids,
 }
 
 pub type Found = Result<Option<Wrong>, AllocError>;
 
 /// The first query of one set that goes wrong.
-pub fn wrong_on<T: SegmentTable>(asked: &Asked<'_, T>, graph: &Graph, set: u64) -> Found {
+fn wrong_on<T: SegmentTable>(asked: &Asked<'_, T>, graph: &Graph, set: u64) -> Found {
     for query in QUERIES {
         if asked.made(query, set)? != graph.made(query, set) {
             return Ok(Some(Wrong::Made(query, set)));
@@ -45,6 +46,17 @@ fn wrong_on_two<T: SegmentTable>(
     Ok(None)
 }
 
+/// What goes wrong with the walks from one place to another.
+fn wrong_between<T: SegmentTable>(asked: &Asked<'_, T>, graph: &Graph, x: u64, y: u64) -> Found {
+    if asked.is_ancestor(x, y)? != Some(has(graph.reach(y), x)) {
+        return Ok(Some(Wrong::IsAncestor(x, y)));
+    }
+    if asked.first_ancestor(x, y) != graph.first_ancestor(x, y) {
+        return Ok(Some(Wrong::FirstAncestor(x, y)));
+    }
+    Ok(None)
+}
+
 /// What goes wrong with a pair of places.
 fn wrong_on_places<T: SegmentTable>(asked: &Asked<'_, T>, graph: &Graph, x: u64, y: u64) -> Found {
     if x <= y {
@@ -55,11 +67,25 @@ fn wrong_on_places<T: SegmentTable>(asked: &Asked<'_, T>, graph: &Graph, x: u64,
     if let Some(wrong) = wrong_on_two(asked, graph, bit(x), bit(y))? {
         return Ok(Some(wrong));
     }
-    if asked.is_ancestor(x, y)? != Some(has(graph.reach(y), x)) {
-        return Ok(Some(Wrong::IsAncestor(x, y)));
-    }
-    if asked.first_ancestor(x, y) != graph.first_ancestor(x, y) {
-        return Ok(Some(Wrong::FirstAncestor(x, y)));
+    wrong_between(asked, graph, x, y)
+}
+
+/// What goes wrong with so many pairs of drawn sets.
+fn wrong_on_drawn<T: SegmentTable>(
+    asked: &Asked<'_, T>,
+    graph: &Graph,
+    draws: &mut Draws,
+    sets: u32,
+) -> Found {
+    for _set in 0..sets {
+        let first = draws.set_below(graph.count());
+        let second = draws.set_below(graph.count());
+        if let Some(wrong) = wrong_on(asked, graph, first)? {
+            return Ok(Some(wrong));
+        }
+        if let Some(wrong) = wrong_on_two(asked, graph, first, second)? {
+            return Ok(Some(wrong));
+        }
     }
     Ok(None)
 }
@@ -71,23 +97,12 @@ pub fn wrong_in<T: SegmentTable>(
     draws: &mut Draws,
     sets: u32,
 ) -> Found {
-    let count = graph.count();
-    for x in 0..count {
-        for y in 0..count {
+    for x in 0..graph.count() {
+        for y in 0..graph.count() {
             if let Some(wrong) = wrong_on_places(asked, graph, x, y)? {
                 return Ok(Some(wrong));
             }
         }
     }
-    for _set in 0..sets {
-        let first = draws.set_below(count);
-        let second = draws.set_below(count);
-        if let Some(wrong) = wrong_on(asked, graph, first)? {
-            return Ok(Some(wrong));
-        }
-        if let Some(wrong) = wrong_on_two(asked, graph, first, second)? {
-            return Ok(Some(wrong));
-        }
-    }
-    Ok(None)
+    wrong_on_drawn(asked, graph, draws, sets)
 }

@@ -1,14 +1,13 @@
 //! Drawn graphs with ids of both groups: a view of the master group that two sections of the other are joined to.
 
-use crate::asked::{Asked, id_of};
+use crate::asked::{Asked, ids_of};
 use crate::compared::{Found, Wrong, wrong_in};
-use crate::draws::{Draws, drawn, drawn_parents, graph_of};
-use crate::plain::{Graph, Query, bit, sample_of};
+use crate::draws::{Draws, draw_more, drawn, graph_of, sample_of};
+use crate::plain::{Graph, Query, bit};
 use flat_segments::FlatView;
 use id_groups::Id;
 use sample_tables::{OtherSample, Sample, held_id};
 use segment_codec::SegmentTable;
-use set_query::ExprFault;
 use std::alloc::{AllocError, Global};
 use std::test::Fail;
 
@@ -95,28 +94,6 @@ fn cut_from(rows: &[Vec<u64>], least: u64) -> u64 {
     count
 }
 
-/// The first commits, and so many more that are drawn behind them.
-fn drawn_behind(
-    alloc: Global,
-    draws: &mut Draws,
-    masters: &[Vec<u64>],
-    below: u64,
-    count: u64,
-) -> Result<Vec<Vec<u64>>, AllocError> {
-    let mut rows: Vec<Vec<u64>> = Vec::new(alloc);
-    for parents in masters.iter().take(below as usize) {
-        rows.push(Vec::from_slice(alloc, parents)?)?;
-    }
-    for more in 0..count {
-        let parents = match rows.last() {
-            Some(before) => drawn_parents(alloc, draws, below.saturating_add(more), before)?,
-            None => Vec::new(alloc),
-        };
-        rows.push(parents)?;
-    }
-    Ok(rows)
-}
-
 /// Adds the commits from a lowest place to the one before an end, each but the first going on from the one before. Answers
 /// whether they may come there.
 fn push_run(
@@ -126,10 +103,7 @@ fn push_run(
     parents: &[u64],
     count: u64,
 ) -> Result<bool, AllocError> {
-    let mut ids = Vec::new(alloc);
-    for place in parents {
-        ids.push(id_of(masters, *place))?;
-    }
+    let ids = ids_of(alloc, masters, parents)?;
     if !part.may_push(&ids, count) {
         return Ok(false);
     }
@@ -192,15 +166,11 @@ fn wrong_above_any<T: SegmentTable>(
     Ok(None)
 }
 
-/// What goes wrong with an expression in which the name stands for a commit.
-fn wrong_on_expressions<T: SegmentTable>(
-    asked: &Asked<'_, T>,
-    graph: &Graph,
-    place: u64,
-) -> Result<Option<Wrong>, ExprFault> {
+/// Expressions in which the name stands for a commit, with their members.
+fn expressions(graph: &Graph, place: u64) -> [(&'static [u8], u64); 6] {
     let one = bit(place);
     let all = graph.all();
-    let rows: [(&'static [u8], u64); 6] = [
+    [
         (b"00000000000000000000000000000000000000a1", one),
         (b"all", all),
         (
@@ -213,8 +183,12 @@ fn wrong_on_expressions<T: SegmentTable>(
         ),
         (b"parents(all)", graph.made(Query::Parents, all)),
         (b"ancestors(all)", all),
-    ];
-    for (text, wanted) in &rows {
+    ]
+}
+
+/// What goes wrong with an expression in which the name stands for a commit.
+fn wrong_on_expressions<T: SegmentTable>(asked: &Asked<'_, T>, graph: &Graph, place: u64) -> Found {
+    for (text, wanted) in &expressions(graph, place) {
         match asked.evaluated(text, place)? {
             Some((found, _)) if found == *wanted => {}
             _ => return Ok(Some(Wrong::Expression(*wanted, place))),
@@ -230,7 +204,7 @@ fn wrong_over(
     view: &FlatView<'_>,
     graph: &Graph,
     masters: u64,
-) -> Result<Option<Wrong>, ExprFault> {
+) -> Found {
     let asked = Asked {
         alloc,
         table: view,
@@ -244,7 +218,7 @@ fn wrong_over(
     if let Some(wrong) = wrong_above_any(&asked, graph, draws)? {
         return Ok(Some(wrong));
     }
-    Ok(wrong_in(&asked, graph, draws, 40)?)
+    wrong_in(&asked, graph, draws, 40)
 }
 
 /// Whether the table has the ids of so many master commits and of so many others, and no more.
@@ -256,27 +230,28 @@ fn has_exactly<T: SegmentTable>(table: &T, masters: u64, others: u64) -> bool {
         && held_id(table, Id::other(others % 64)) == None
 }
 
-/// What goes wrong over a view of the master group that both sections are joined to.
+/// What goes wrong over these rows, of which the first are master's, and which both sections are joined to.
 fn wrong_joined(
     alloc: Global,
     draws: &mut Draws,
-    graph: &Graph,
     sample: &Sample,
+    rows: &[Vec<u64>],
+    below: u64,
     others: &OtherSample,
     pending: &OtherSample,
-    below: u64,
-) -> Result<Option<Wrong>, Fail> {
+) -> Found {
     if !sample.may_join(below, others, pending) {
-        return Ok(Some(Wrong::Joined));
+        return Ok(Some(Wrong::Ids));
     }
     let view = sample.joined(below, others, pending);
+    let graph = graph_of(alloc, rows)?;
     if !has_exactly(&view, below, graph.count().saturating_sub(below)) {
-        return Ok(Some(Wrong::Joined));
+        return Ok(Some(Wrong::Ids));
     }
-    Ok(wrong_over(alloc, draws, &view, graph, below)?)
+    wrong_over(alloc, draws, &view, &graph, below)
 }
 
-/// What goes wrong over these rows, of which the first are master's and so many stand in the section behind them.
+/// What goes wrong over these rows, of which the first are master's, and so many stand in the section behind them.
 fn wrong_behind(
     alloc: Global,
     draws: &mut Draws,
@@ -284,22 +259,28 @@ fn wrong_behind(
     rows: &[Vec<u64>],
     below: u64,
     others: u64,
-) -> Result<Option<Wrong>, Fail> {
-    let graph = graph_of(alloc, rows)?;
+) -> Found {
     let middle = below.saturating_add(others);
     let end = rows.len() as u64;
-    let others = part_of(alloc, rows, below, below, middle)?.ok_or("the commits come in turn")?;
-    let pending = part_of(alloc, rows, below, middle, end)?.ok_or("the commits come in turn")?;
-    wrong_joined(alloc, draws, &graph, sample, &others, &pending, below)
+    let Some(others) = part_of(alloc, rows, below, below, middle)? else {
+        return Ok(Some(Wrong::Ids));
+    };
+    let Some(pending) = part_of(alloc, rows, below, middle, end)? else {
+        return Ok(Some(Wrong::Ids));
+    };
+    wrong_joined(alloc, draws, sample, rows, below, &others, &pending)
 }
 
 /// What goes wrong over a drawn graph of this shape.
-fn wrong_with(alloc: Global, draws: &mut Draws, shape: Shape) -> Result<Option<Wrong>, Fail> {
-    let masters = drawn(alloc, draws, shape.drawn)?;
-    let below = cut_from(&masters, shape.least);
+fn wrong_with(alloc: Global, draws: &mut Draws, shape: Shape) -> Found {
+    let mut rows = drawn(alloc, draws, shape.drawn)?;
+    let Some(sample) = sample_of(alloc, &rows)? else {
+        return Ok(Some(Wrong::Ids));
+    };
+    let below = cut_from(&rows, shape.least);
+    rows.truncate(below as usize);
     let more = shape.others.saturating_add(shape.pending);
-    let rows = drawn_behind(alloc, draws, &masters, below, more)?;
-    let sample = sample_of(alloc, &masters)?.ok_or("the parents are those of commits")?;
+    draw_more(alloc, draws, &mut rows, more)?;
     wrong_behind(alloc, draws, &sample, &rows, below, shape.others)
 }
 

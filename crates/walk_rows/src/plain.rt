@@ -1,7 +1,5 @@
 //! Graphs of at most 64 commits, with what each one reaches as the bits of a number.
 
-use id_groups::Id;
-use sample_tables::Sample;
 use std::alloc::{AllocError, Global};
 
 /// What a commit has.
@@ -249,23 +247,4 @@ pub const QUERIES: [Query; 10] = [
 pub enum PairQuery {
     Range,
     Only,
-}
-
-/// The graph as a flat table; `None` where some parents aren't those of a commit.
-pub fn sample_of(alloc: Global, parents: &[Vec<u64>]) -> Result<Option<Sample>, AllocError> {
-    let mut sample = Sample::empty(alloc);
-    for row in parents {
-        let mut ids = Vec::new(alloc);
-        for place in row {
-            if *place >= 64 {
-                return Ok(None);
-            }
-            ids.push(Id::master(*place))?;
-        }
-        if !sample.may_push(&ids, 1) {
-            return Ok(None);
-        }
-        sample.push(&ids, 1)?;
-    }
-    Ok(Some(sample))
 }
