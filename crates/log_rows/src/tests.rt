@@ -4,7 +4,6 @@ use disk_memory::{Choice, Fill, MemoryDisk};
 use disk_trait::Disk;
 use gated_log::{Committed, LoadLog, Log};
 use std::alloc::{AllocError, Global};
-use std::process::Abort;
 use std::test::Fail;
 
 const LIMIT: u64 = 1000;
@@ -87,36 +86,48 @@ fn leaves_right_at(alloc: Global, disk: &MemoryDisk, moment: u64) -> Result<bool
     Ok(true)
 }
 
-fn check_moments(rt: &impl Abort, alloc: Global, disk: &MemoryDisk) -> Result<(), AllocError> {
+// The first moment whose crash leaves what isn't right.
+fn first_wrong_moment(alloc: Global, disk: &MemoryDisk) -> Result<Option<u64>, AllocError> {
     for moment in 0..17 {
-        assert!(rt; leaves_right_at(alloc, disk, moment)?, "{moment}");
+        if !leaves_right_at(alloc, disk, moment)? {
+            return Ok(Some(moment));
+        }
     }
-    Ok(())
+    Ok(None)
 }
 
-// What is left of the gate while it isn't sure.
-fn check_gate(rt: &impl Abort, alloc: Global, disk: &MemoryDisk) -> Result<(), AllocError> {
-    for (moment, fill, count) in [
-        (13, Fill::Old, 0),
-        (13, Fill::New, 1),
-        (15, Fill::Byte(127), 0),
-    ] {
-        assert_eq!(rt; count_left(alloc, disk, moment, fill, 98)?, count);
-    }
-    Ok(())
+// How many payloads are left by the gate while it isn't sure: of what was there before its write, of all that is written, and
+// with another byte at its end.
+fn left_by_gate(alloc: Global, disk: &MemoryDisk) -> Result<[u32; 3], AllocError> {
+    Ok([
+        count_left(alloc, disk, 13, Fill::Old, 98)?,
+        count_left(alloc, disk, 13, Fill::New, 98)?,
+        count_left(alloc, disk, 15, Fill::Byte(127), 98)?,
+    ])
 }
 
-fn check_left(rt: &impl Abort, alloc: Global, disk: &MemoryDisk) -> Result<(), AllocError> {
-    assert_eq!(rt; disk.bytes().len(), 98);
-    check_moments(rt, alloc, disk)?;
-    check_gate(rt, alloc, disk)
+// How many bytes a disk has, the first moment whose crash leaves what isn't right, and what is left by the gate.
+type Left = (usize, Option<u64>, [u32; 3]);
+
+fn left_by_crashes(alloc: Global, disk: &MemoryDisk) -> Result<Left, AllocError> {
+    Ok((
+        disk.bytes().len(),
+        first_wrong_moment(alloc, disk)?,
+        left_by_gate(alloc, disk)?,
+    ))
+}
+
+// The clock at which a commit of 88 zeros is acknowledged, and what crashes of its disk leave.
+fn commit_and_crash(alloc: Global) -> Result<(Option<u64>, Left), AllocError> {
+    let mut disk = MemoryDisk::new(alloc, &[], &[], None)?;
+    let clock = commit_zeros(alloc, &mut disk, 88)?;
+    Ok((clock, left_by_crashes(alloc, &disk)?))
 }
 
 #[test]
 fn a_commit_of_88_bytes_is_acknowledged_at_16(rt: HostRuntime) -> Result<(), Fail> {
-    let mut disk = MemoryDisk::new(rt.alloc(), &[], &[], None)?;
-    assert_eq!(rt; commit_zeros(rt.alloc(), &mut disk, 88)?, Some(16));
-    check_left(&rt, rt.alloc(), &disk)?;
+    let seen = commit_and_crash(rt.alloc())?;
+    assert_eq!(rt; seen, (Some(16), (98, None, [0, 1, 0])));
     Ok(())
 }
 
@@ -148,28 +159,32 @@ fn gives(
     Ok(peeked(alloc, bytes, limit)? == wanted && loaded(alloc, bytes, limit)? == wanted)
 }
 
+// Bytes, a limit, and how many payloads the log of these bytes has, or why it isn't loaded.
+type Reading = (&'static [u8], u64, Result<u32, LoadLog>);
+
+const READINGS: [Reading; 8] = [
+    (&[], 9, Ok(0)),
+    (&[1], 9, Ok(0)),
+    (&[127, 1], 9, Ok(0)),
+    (&[0, 1, 1, 1], 9, Ok(0)),
+    (&[1, 0, 0, 0, 0, 0, 0, 0, 0, 2], 99, Ok(1)),
+    (&[1, 0, 0, 0, 0, 0, 0, 0, 1, 9, 127, 1], 99, Ok(1)),
+    (
+        &[1, 0, 0, 0, 0, 0, 0, 0, 5, 170],
+        99,
+        Err(LoadLog::Damaged(0)),
+    ),
+    (
+        &[1, 0, 0, 0, 0, 0, 0, 0, 5, 170],
+        9,
+        Err(LoadLog::TooLarge(10)),
+    ),
+];
+
 #[test]
 fn bytes_are_a_log_or_damaged(rt: HostRuntime) -> Result<(), Fail> {
-    let rows: [(&[u8], u64, Result<u32, LoadLog>); 8] = [
-        (&[], 9, Ok(0)),
-        (&[1], 9, Ok(0)),
-        (&[127, 1], 9, Ok(0)),
-        (&[0, 1, 1, 1], 9, Ok(0)),
-        (&[1, 0, 0, 0, 0, 0, 0, 0, 0, 2], 99, Ok(1)),
-        (&[1, 0, 0, 0, 0, 0, 0, 0, 1, 9, 127, 1], 99, Ok(1)),
-        (
-            &[1, 0, 0, 0, 0, 0, 0, 0, 5, 170],
-            99,
-            Err(LoadLog::Damaged(0)),
-        ),
-        (
-            &[1, 0, 0, 0, 0, 0, 0, 0, 5, 170],
-            9,
-            Err(LoadLog::TooLarge(10)),
-        ),
-    ];
-    for (bytes, limit, wanted) in rows {
-        assert!(rt; gives(rt.alloc(), bytes, limit, wanted)?, "{wanted:?}");
+    for (bytes, limit, wanted) in &READINGS {
+        assert!(rt; gives(rt.alloc(), bytes, *limit, *wanted)?, "{wanted:?}");
     }
     Ok(())
 }
@@ -244,15 +259,26 @@ fn is_loaded_with_both(alloc: Global, disk: &mut MemoryDisk) -> bool {
     }
 }
 
-// Whether commits of three and of four zeros are acknowledged at 14 and 28.
-fn commits_again(alloc: Global, disk: &mut MemoryDisk) -> Result<bool, AllocError> {
-    Ok(commit_zeros(alloc, disk, 3)? == Some(14) && commit_zeros(alloc, disk, 4)? == Some(28))
+// The clocks at which commits of three and of four zeros are acknowledged, and whether a log then has both.
+type Again = (Option<u64>, Option<u64>, bool);
+
+fn commit_again(alloc: Global, disk: &mut MemoryDisk) -> Result<Again, AllocError> {
+    let first = commit_zeros(alloc, disk, 3)?;
+    let second = commit_zeros(alloc, disk, 4)?;
+    Ok((first, second, is_loaded_with_both(alloc, disk)))
+}
+
+// The same on what the crash leaves, or none where the first commit isn't cut off at 15.
+fn go_on(alloc: Global) -> Result<Option<Again>, AllocError> {
+    let Some(mut later) = crashed(alloc)? else {
+        return Ok(None);
+    };
+    Ok(Some(commit_again(alloc, &mut later)?))
 }
 
 #[test]
 fn a_log_goes_on_after_a_crash(rt: HostRuntime) -> Result<(), Fail> {
-    let mut later = crashed(rt.alloc())?.ok_or("the first commit is cut off at 15")?;
-    assert!(rt; commits_again(rt.alloc(), &mut later)?);
-    assert!(rt; is_loaded_with_both(rt.alloc(), &mut later));
+    let seen = go_on(rt.alloc())?;
+    assert_eq!(rt; seen, Some((Some(14), Some(28), true)));
     Ok(())
 }
