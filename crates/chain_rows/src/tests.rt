@@ -45,29 +45,34 @@ fn push(sample: &mut Sample, parents: &[Id]) -> Result<(), AllocError> {
     Ok(())
 }
 
+/// Adds the commit at a place.
+fn push_place(sample: &mut Sample, place: u64) -> Result<(), AllocError> {
+    match parents_of(place) {
+        Parents::None => push(sample, &[]),
+        Parents::One(first) => push(sample, &[id_of(first)]),
+        Parents::Two(first, second) => push(sample, &[id_of(first), id_of(second)]),
+    }
+}
+
 /// The graph of so many commits.
 fn chain(alloc: Global, count: u64) -> Result<Sample, AllocError> {
     let mut sample = Sample::empty(alloc);
     for place in 0..count {
-        match parents_of(place) {
-            Parents::None => push(&mut sample, &[])?,
-            Parents::One(first) => push(&mut sample, &[id_of(first)])?,
-            Parents::Two(first, second) => push(&mut sample, &[id_of(first), id_of(second)])?,
-        }
+        push_place(&mut sample, place)?;
     }
     Ok(sample)
 }
 
-/// What is asked of two sets.
+/// What is asked of two commits.
 #[derive(Clone, Copy, Debug)]
 enum Question {
-    /// The ancestors of the first.
+    /// The ancestors of both.
     Ancestors,
-    /// The heads of what all of the first reach.
+    /// The heads of what each of them reaches.
     Gca,
-    /// From the first to the second.
+    /// From the one to the other.
     Range,
-    /// Of the first and not of the second.
+    /// Of the one and not of the other.
     Only,
 }
 
@@ -91,26 +96,32 @@ fn answer<T: SegmentTable>(
     }
 }
 
-/// The ids of these places.
-fn ids_of(alloc: Global, places: &[u64]) -> Result<Vec<Id>, AllocError> {
-    let mut ids = Vec::new(alloc);
-    for place in places {
-        ids.push(id_of(*place))?;
-    }
-    Ok(ids)
-}
-
-/// The answer of a query about the commits at some places.
+/// The answer of a query about the commits of two lists.
 fn asked<T: SegmentTable>(
     alloc: Global,
     table: &T,
     question: Question,
-    first: &[u64],
-    second: &[u64],
+    first: &[Id],
+    second: &[Id],
 ) -> Result<IdSet, AllocError> {
-    let one = held_ids(alloc, table, &ids_of(alloc, first)?)?;
-    let other = held_ids(alloc, table, &ids_of(alloc, second)?)?;
+    let one = held_ids(alloc, table, first)?;
+    let other = held_ids(alloc, table, second)?;
     answer(alloc, table, question, &one, &other)
+}
+
+/// The answer of a query about the commits at two places.
+fn asked_at<T: SegmentTable>(
+    alloc: Global,
+    table: &T,
+    question: Question,
+    one: u64,
+    other: u64,
+) -> Result<IdSet, AllocError> {
+    let (one, other) = (id_of(one), id_of(other));
+    match question {
+        Question::Ancestors | Question::Gca => asked(alloc, table, question, &[one, other], &[]),
+        Question::Range | Question::Only => asked(alloc, table, question, &[one], &[other]),
+    }
 }
 
 /// Which of some commits are in a set.
@@ -158,6 +169,17 @@ impl Marks {
                 self.add(second);
             }
         }
+    }
+
+    /// The parents of all.
+    fn parents(&self, alloc: Global, count: u64) -> Result<Marks, AllocError> {
+        let mut parents = Marks::of(alloc, count, &[])?;
+        for place in 0..count {
+            if self.has(place) {
+                parents.add_parents(place);
+            }
+        }
+        Ok(parents)
     }
 
     /// Adds each that has a parent in the set, from the first up.
@@ -212,14 +234,14 @@ fn plain(
     alloc: Global,
     count: u64,
     question: Question,
-    first: &[u64],
-    second: &[u64],
+    one: u64,
+    other: u64,
 ) -> Result<Marks, AllocError> {
     match question {
-        Question::Ancestors => reached(alloc, count, first),
-        Question::Gca => plain_gca(alloc, count, first),
-        Question::Range => plain_range(alloc, count, first, second),
-        Question::Only => plain_only(alloc, count, first, second),
+        Question::Ancestors => reached(alloc, count, &[one, other]),
+        Question::Gca => plain_gca(alloc, count, one, other),
+        Question::Range => plain_range(alloc, count, one, other),
+        Question::Only => reached_by_one(alloc, count, one, other, false),
     }
 }
 
@@ -229,66 +251,68 @@ fn reached(alloc: Global, count: u64, places: &[u64]) -> Result<Marks, AllocErro
     Ok(marks)
 }
 
-fn plain_gca(alloc: Global, count: u64, places: &[u64]) -> Result<Marks, AllocError> {
-    let mut common = Marks::of(alloc, count, &[])?;
-    for place in 0..count {
-        common.add(place);
-    }
-    for one in places {
-        common.keep(&reached(alloc, count, &[*one])?, true);
-    }
-    let mut parents = Marks::of(alloc, count, &[])?;
-    for place in 0..count {
-        if common.has(place) {
-            parents.add_parents(place);
-        }
-    }
+/// What one reaches that the other reaches too, or that it doesn't.
+fn reached_by_one(
+    alloc: Global,
+    count: u64,
+    one: u64,
+    other: u64,
+    are_both: bool,
+) -> Result<Marks, AllocError> {
+    let mut marks = reached(alloc, count, &[one])?;
+    marks.keep(&reached(alloc, count, &[other])?, are_both);
+    Ok(marks)
+}
+
+fn plain_gca(alloc: Global, count: u64, one: u64, other: u64) -> Result<Marks, AllocError> {
+    let mut common = reached_by_one(alloc, count, one, other, true)?;
+    let parents = common.parents(alloc, count)?;
     common.keep(&parents, false);
     Ok(common)
 }
 
-fn plain_range(alloc: Global, count: u64, from: &[u64], to: &[u64]) -> Result<Marks, AllocError> {
-    let mut marks = Marks::of(alloc, count, from)?;
+fn plain_range(alloc: Global, count: u64, from: u64, to: u64) -> Result<Marks, AllocError> {
+    let mut marks = Marks::of(alloc, count, &[from])?;
     marks.add_descendants(count);
-    marks.keep(&reached(alloc, count, to)?, true);
-    Ok(marks)
-}
-
-fn plain_only(alloc: Global, count: u64, from: &[u64], minus: &[u64]) -> Result<Marks, AllocError> {
-    let mut marks = reached(alloc, count, from)?;
-    marks.keep(&reached(alloc, count, minus)?, false);
+    marks.keep(&reached(alloc, count, &[to])?, true);
     Ok(marks)
 }
 
 /// How many commits, and so flat segments, the graph has.
 const COUNT: u64 = 10_000;
 
-/// A question about some commits and some others, and how many the answer has.
-type Row = (Question, &'static [u64], &'static [u64], u64);
+/// A question about two commits, and how many the answer has.
+type Row = (Question, u64, u64, u64);
 
 const ROWS: [Row; 10] = [
     // each second one
-    (Question::Ancestors, &[9999], &[], 5000),
+    (Question::Ancestors, 9999, 9999, 5000),
     // and those below 9000, since 9000 merges 8999
-    (Question::Ancestors, &[9998], &[], 9500),
-    (Question::Ancestors, &[9998, 9999], &[], 10000),
-    (Question::Gca, &[9998, 9999], &[], 1),
-    (Question::Gca, &[9999, 9001], &[], 1),
-    (Question::Range, &[1], &[9999], 5000),
-    (Question::Range, &[0], &[9999], 0),
+    (Question::Ancestors, 9998, 9998, 9500),
+    (Question::Ancestors, 9998, 9999, 10000),
+    (Question::Gca, 9998, 9999, 1),
+    (Question::Gca, 9999, 9001, 1),
+    (Question::Range, 1, 9999, 5000),
+    (Question::Range, 0, 9999, 0),
     // 4500 below 9000, and those from 1000 on
-    (Question::Range, &[1], &[9998], 9000),
-    (Question::Only, &[9999], &[9998], 500),
-    (Question::Only, &[9998], &[9999], 5000),
+    (Question::Range, 1, 9998, 9000),
+    (Question::Only, 9999, 9998, 500),
+    (Question::Only, 9998, 9999, 5000),
 ];
+
+/// Whether the answer is the plain one, and of so many.
+fn is_right<T: SegmentTable>(alloc: Global, table: &T, row: Row) -> Result<bool, AllocError> {
+    let (question, one, other, many) = row;
+    let found = asked_at(alloc, table, question, one, other)?;
+    let wanted = plain(alloc, COUNT, question, one, other)?;
+    Ok(wanted.are(&found) && wanted.count() == many)
+}
 
 /// The first row whose answer isn't the plain one, or isn't of so many.
 fn first_wrong<T: SegmentTable>(alloc: Global, table: &T) -> Result<Option<Row>, AllocError> {
-    for (question, first, second, many) in ROWS {
-        let found = asked(alloc, table, question, first, second)?;
-        let wanted = plain(alloc, COUNT, question, first, second)?;
-        if !wanted.are(&found) || wanted.count() != many {
-            return Ok(Some((question, first, second, many)));
+    for row in &ROWS {
+        if !is_right(alloc, table, *row)? {
+            return Ok(Some(*row));
         }
     }
     Ok(None)
@@ -358,15 +382,47 @@ fn first_false<T: SegmentTable>(
     Ok(None)
 }
 
+/// What a graph shows that is wrong, where something is.
+#[derive(Clone, Copy, Debug)]
+enum Wrong {
+    /// How many flat segments there are.
+    Segments(u32),
+    Answer(Row),
+    Walk(Walk),
+    Reach(Reach),
+}
+
+/// The first of these walks that leads elsewhere, or the first of these reaches that isn't so.
+fn wrong_way<T: SegmentTable>(
+    alloc: Global,
+    table: &T,
+    walks: &[Walk],
+    reaches: &[Reach],
+) -> Result<Option<Wrong>, AllocError> {
+    if let Some(walk) = first_astray(table, walks) {
+        return Ok(Some(Wrong::Walk(walk)));
+    }
+    let reach = first_false(alloc, table, reaches)?;
+    Ok(reach.map(Wrong::Reach))
+}
+
+/// What is wrong with the table of ten thousand commits.
+fn wrong_in<T: SegmentTable>(alloc: Global, table: &T) -> Result<Option<Wrong>, AllocError> {
+    let segments = table.flat_count();
+    if u64::from(segments) != COUNT {
+        return Ok(Some(Wrong::Segments(segments)));
+    }
+    if let Some(row) = first_wrong(alloc, table)? {
+        return Ok(Some(Wrong::Answer(row)));
+    }
+    wrong_way(alloc, table, &WALKS, &REACHES)
+}
+
 #[test]
 fn ten_thousand_segments(rt: HostRuntime) -> Result<(), Fail> {
     let sample = chain(rt.alloc(), COUNT)?;
-    let view = sample.view(sample.count());
-    assert!(rt; u64::from(view.flat_count()) == COUNT);
-    let wrong = first_wrong(rt.alloc(), &view)?;
+    let wrong = wrong_in(rt.alloc(), &sample.view(sample.count()))?;
     assert!(rt; wrong.is_none(), "{wrong:?}");
-    assert!(rt; first_astray(&view, &WALKS).is_none());
-    assert!(rt; first_false(rt.alloc(), &view, &REACHES)?.is_none());
     Ok(())
 }
 
@@ -376,31 +432,44 @@ const DEEP: u64 = 200_000;
 /// Questions about the last commits of a graph of so many: the odd one reaches all odd ones, the even one those below the last
 /// merge too.
 const DEEP_ROWS: [Row; 4] = [
-    (Question::Ancestors, &[199_998], &[], 199_500),
-    (Question::Gca, &[199_998, 199_999], &[], 1),
-    (Question::Range, &[1], &[199_998], 199_000),
-    (Question::Only, &[199_999], &[199_998], 500),
+    (Question::Ancestors, 199_998, 199_998, 199_500),
+    (Question::Gca, 199_998, 199_999, 1),
+    (Question::Range, 1, 199_998, 199_000),
+    (Question::Only, 199_999, 199_998, 500),
 ];
 
 /// The first row whose answer isn't of so many.
 fn first_miscounted<T: SegmentTable>(alloc: Global, table: &T) -> Result<Option<Row>, AllocError> {
-    for (question, first, second, many) in DEEP_ROWS {
-        let found = asked(alloc, table, question, first, second)?;
-        if found.count() != many {
-            return Ok(Some((question, first, second, many)));
+    for row in &DEEP_ROWS {
+        let (question, one, other, many) = *row;
+        if asked_at(alloc, table, question, one, other)?.count() != many {
+            return Ok(Some(*row));
         }
     }
     Ok(None)
 }
 
+/// What is wrong with the deep table.
+fn wrong_in_deep<T: SegmentTable>(alloc: Global, table: &T) -> Result<Option<Wrong>, AllocError> {
+    let segments = table.flat_count();
+    if u64::from(segments) != DEEP {
+        return Ok(Some(Wrong::Segments(segments)));
+    }
+    if let Some(row) = first_miscounted(alloc, table)? {
+        return Ok(Some(Wrong::Answer(row)));
+    }
+    wrong_way(
+        alloc,
+        table,
+        &[(199_999, 99_999, Some(1))],
+        &[(0, 199_999, false)],
+    )
+}
+
 #[test]
 fn no_query_calls_itself_for_each_segment(rt: HostRuntime) -> Result<(), Fail> {
     let sample = chain(rt.alloc(), DEEP)?;
-    let view = sample.view(sample.count());
-    assert!(rt; u64::from(view.flat_count()) == DEEP);
-    let wrong = first_miscounted(rt.alloc(), &view)?;
+    let wrong = wrong_in_deep(rt.alloc(), &sample.view(sample.count()))?;
     assert!(rt; wrong.is_none(), "{wrong:?}");
-    assert!(rt; first_astray(&view, &[(199_999, 99_999, Some(1))]).is_none());
-    assert!(rt; first_false(rt.alloc(), &view, &[(0, 199_999, false)])?.is_none());
     Ok(())
 }
