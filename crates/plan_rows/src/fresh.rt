@@ -3,6 +3,7 @@
 ghost use Rattle.std.specs.Prelude.{◌≡◌, ◌≤◌, ◌+◌, ◌^◌, ℕ, List, [], length, replicate, Option, None, IfOk, IfSome, OnOk};
 ghost use Rattle.std.specs.List.{AllByRecursion};
 ghost use Rattle.change_rules.specs.Standard.{AreLimits};
+ghost use Rattle.payload_tables.specs.Kept.{AreTablesOf};
 ghost use Rattle.payload_tables.specs.Pending.{MayPushRow};
 ghost use Rattle.flush_rebuild.specs.Asked.{MayStore};
 
@@ -121,8 +122,23 @@ fn none_found(alloc: Global, count: usize) -> Result<Vec<Option<Id>>, AllocError
     Ok(found)
 }
 
-/// The plan of a flush of these commits, with these heads, onto a fresh log.
+/// The plan of a flush of these rows, with these heads, onto a fresh log.
 fn planned(
+    alloc: Global,
+    pending: &PendingRows,
+    heads: &[Name],
+    limits: Limits,
+) -> Result<Plan, PlanFault>
+    requires limits { AreLimits limits }
+    requires rows { MayStore pending.now [] }
+{
+    let tables = Tables::empty(alloc);
+    let found = none_found(alloc, heads.len())?;
+    plan_flush(alloc, &tables, &FRESH, pending, heads, &found, limits)
+}
+
+/// The plan of these commits, with the heads of these last bytes.
+fn plan_of(
     alloc: Global,
     commits: &[Commit],
     heads: &[u8],
@@ -130,22 +146,21 @@ fn planned(
 ) -> Result<Plan, PlanFault>
     requires { AreLimits limits }
 {
-    let tables = Tables::empty(alloc);
     let pending = pending_of(alloc, commits)?;
     let names = names_of(alloc, heads)?;
-    let found = none_found(alloc, names.len())?;
-    plan_flush(alloc, &tables, &FRESH, &pending, &names, &found, limits)
+    planned(alloc, &pending, &names, limits)
 }
 
-/// How many bytes the plan alone writes, where it isn't refused.
-fn count_written(alloc: Global, commits: &[Commit]) -> Result<usize, PlanFault> {
+/// How many bytes the plan of these rows alone writes.
+fn count_written(alloc: Global, pending: &PendingRows) -> Result<usize, PlanFault>
+    requires { MayStore pending.now [] }
+{
     let tables = Tables::empty(alloc);
-    let pending = pending_of(alloc, commits)?;
     let change = plan_change(
         alloc,
         &tables,
         &FRESH,
-        &pending,
+        pending,
         &[],
         &[],
         Limits::standard(),
@@ -153,73 +168,75 @@ fn count_written(alloc: Global, commits: &[Commit]) -> Result<usize, PlanFault> 
     Ok(change.payload.bytes().len())
 }
 
-/// Whether a rebase onto the fresh log leaves all these commits.
-fn are_left(alloc: Global, commits: &[Commit]) -> Result<bool, PlanFault> {
-    let tables = Tables::empty(alloc);
-    let pending = pending_of(alloc, commits)?;
+/// Whether a rebase onto these tables, of a fresh log, leaves all these rows.
+fn are_left_on(alloc: Global, tables: &Tables, pending: &PendingRows) -> Result<bool, PlanFault>
+    requires tables { AreTablesOf tables.now [] }
+    requires rows { MayStore pending.now [] }
+{
     let found = none_found(alloc, pending.len() as usize)?;
-    let left = rebase(
-        alloc,
-        &tables,
-        &FRESH,
-        tables.newest(&FRESH),
-        &pending,
-        &found,
-    )?;
+    let base = tables.newest(&FRESH);
+    let left = rebase(alloc, tables, &FRESH, base, pending, &found)?;
     Ok(left.names() == pending.names())
 }
 
-/// The fault of the plan of a flush, where it is refused.
-fn fault_of(alloc: Global, commits: &[Commit], heads: &[u8], limits: Limits) -> Option<PlanFault>
-    requires { AreLimits limits }
+/// Whether a rebase onto the fresh log leaves all these rows.
+fn are_left(alloc: Global, pending: &PendingRows) -> Result<bool, PlanFault>
+    requires { MayStore pending.now [] }
 {
-    match planned(alloc, commits, heads, limits) {
-        Ok(_plan) => None,
-        Err(fault) => Some(fault),
-    }
+    let tables = Tables::empty(alloc);
+    are_left_on(alloc, &tables, pending)
 }
 
-/// Whether the flush writes this, and leaves so many rows in both groups.
-fn is_planned(
-    alloc: Global,
-    commits: &[Commit],
-    heads: &[u8],
-    payload: &[u8],
-    master: u64,
-    others: u32,
-) -> Result<bool, PlanFault> {
-    let plan = planned(alloc, commits, heads, Limits::standard())?;
-    Ok(
-        plan.payload.bytes() == payload
-            && plan.master == master
-            && plan.others == u64::from(others)
-            && plan.same == payload.is_empty()
-            && plan.tables.master_count() == master
-            && plan.tables.others().count() == others,
-    )
+/// Whether a rebase leaves all these commits, and how many bytes their plan alone writes.
+fn left_and_written(alloc: Global, commits: &[Commit]) -> Result<(bool, usize), PlanFault> {
+    let pending = pending_of(alloc, commits)?;
+    let are_left = are_left(alloc, &pending)?;
+    Ok((are_left, count_written(alloc, &pending)?))
 }
+
+/// Commits, and how many bytes their plan writes.
+const WRITTEN: [(&[Commit], usize); 3] = [(CHAIN, 88), (FORK, 129), (MERGE, 179)];
 
 #[test]
-fn flushes_are_planned(rt: HostRuntime) -> Result<(), Fail> {
-    let alloc = rt.alloc();
-    let nothing: &[u8] = &[];
-    for (commits, heads, payload, master, others) in [
-        (CHAIN, nothing, STORED_CHAIN.as_slice(), 0, 2),
-        (FORK, &[0xc1], STORED_FORK.as_slice(), 2, 1),
-        (FORK, &[0xc1, 0xa1, 0xc1], STORED_FORK.as_slice(), 2, 1),
-        (&[], nothing, nothing, 0, 0),
-    ] {
-        assert!(rt; is_planned(alloc, commits, heads, payload, master, others) == Ok(true));
+fn rows_are_left_and_written(rt: HostRuntime) -> Result<(), Fail> {
+    for (commits, written) in &WRITTEN {
+        assert_eq!(rt; left_and_written(rt.alloc(), commits), Ok((true, *written)));
     }
     Ok(())
 }
 
+/// Whether the plan writes this, and leaves so many rows in both groups.
+fn leaves(plan: &Plan, payload: &[u8], master: u64, others: u32) -> bool {
+    plan.payload.bytes() == payload
+        && plan.master == master
+        && plan.others == u64::from(others)
+        && plan.same == payload.is_empty()
+        && plan.tables.master_count() == master
+        && plan.tables.others().count() == others
+}
+
+/// Commits, heads by their last bytes, what a flush of them writes, and the rows that it leaves in both groups.
+type Planned = (&'static [Commit], &'static [u8], &'static [u8], u64, u32);
+
+/// Flushes that are planned.
+const PLANNED: [Planned; 4] = [
+    (CHAIN, &[], &STORED_CHAIN, 0, 2),
+    (FORK, &[0xc1], &STORED_FORK, 2, 1),
+    (FORK, &[0xc1, 0xa1, 0xc1], &STORED_FORK, 2, 1),
+    (&[], &[], &[], 0, 0),
+];
+
+/// Whether the flush is planned so.
+fn is_planned(alloc: Global, case: &Planned) -> Result<bool, PlanFault> {
+    let (commits, heads, payload, master, others) = *case;
+    let plan = plan_of(alloc, commits, heads, Limits::standard())?;
+    Ok(leaves(&plan, payload, master, others))
+}
+
 #[test]
-fn rows_are_left_and_written(rt: HostRuntime) -> Result<(), Fail> {
-    let alloc = rt.alloc();
-    for (commits, written) in [(CHAIN, 88), (FORK, 129), (MERGE, 179)] {
-        assert!(rt; are_left(alloc, commits) == Ok(true));
-        assert_eq!(rt; count_written(alloc, commits), Ok(written));
+fn flushes_are_planned(rt: HostRuntime) -> Result<(), Fail> {
+    for case in &PLANNED {
+        assert_eq!(rt; is_planned(rt.alloc(), case), Ok(true));
     }
     Ok(())
 }
@@ -238,45 +255,42 @@ fn limits_of(others: u64, master: u64, log: u64) -> Limits
     }
 }
 
-#[test]
-fn refused_flushes_have_their_causes(rt: HostRuntime) -> Result<(), Fail> {
-    let alloc = rt.alloc();
-    for (commits, heads, others, master, log, fault) in [
-        (
-            CHAIN,
-            [0xa1, 0xc1],
-            65_536,
-            65_536,
-            1_000,
-            PlanFault::Unknown(short(0xc1)),
-        ),
-        (
-            CHAIN,
-            [0xb1, 0xb1],
-            1,
-            1,
-            98,
-            PlanFault::Full(Limit::Master, 1),
-        ),
-        (
-            MERGE,
-            [0xb1, 0xa1],
-            1,
-            1,
-            98,
-            PlanFault::Full(Limit::Others, 1),
-        ),
-        (
-            FORK,
-            [0xc1, 0xc1],
-            1,
-            2,
-            146,
-            PlanFault::Full(Limit::Log, 146),
-        ),
-    ] {
-        let limits = limits_of(others, master, log);
-        assert!(rt; fault_of(alloc, commits, &heads, limits) == Some(fault));
+/// The fault of the plan of a flush, where it is refused.
+fn fault_of(alloc: Global, commits: &[Commit], heads: &[u8], limits: Limits) -> Option<PlanFault>
+    requires { AreLimits limits }
+{
+    match plan_of(alloc, commits, heads, limits) {
+        Ok(_plan) => None,
+        Err(fault) => Some(fault),
     }
+}
+
+/// Commits, heads by their last bytes, the limits of the others, the master rows and the log's bytes, and that which is exceeded.
+type Exceeding = (&'static [Commit], [u8; 2], u64, u64, u64, Limit, u64);
+
+/// Flushes that exceed a limit.
+const EXCEEDING: [Exceeding; 3] = [
+    (CHAIN, [0xb1, 0xb1], 1, 1, 98, Limit::Master, 1),
+    (MERGE, [0xb1, 0xa1], 1, 1, 98, Limit::Others, 1),
+    (FORK, [0xc1, 0xc1], 1, 2, 146, Limit::Log, 146),
+];
+
+#[test]
+fn flushes_beyond_a_limit_are_refused(rt: HostRuntime) -> Result<(), Fail> {
+    for (commits, heads, others, master, log, limit, most) in &EXCEEDING {
+        let limits = limits_of(*others, *master, *log);
+        assert_eq!(rt;
+            fault_of(rt.alloc(), commits, heads, limits),
+            Some(PlanFault::Full(*limit, *most))
+        );
+    }
+    Ok(())
+}
+
+#[test]
+fn a_head_that_nothing_has_is_refused(rt: HostRuntime) -> Result<(), Fail> {
+    let limits = limits_of(65_536, 65_536, 1_000);
+    let fault = fault_of(rt.alloc(), CHAIN, &[0xa1, 0xc1], limits);
+    assert_eq!(rt; fault, Some(PlanFault::Unknown(short(0xc1))));
     Ok(())
 }
