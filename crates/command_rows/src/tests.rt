@@ -51,123 +51,128 @@ fn add_line(alloc: Global, parents: u32) -> Result<Vec<u8>, AllocError> {
     Ok(line)
 }
 
+/// A line, its session, its verb's word, and how many names stand in its arguments, or the number that does.
+type Read = (&'static str, u8, &'static str, u64);
+
+const READ: [Read; 20] = [
+    ("0 status", 0, "status", 0),
+    ("15 status", 15, "status", 0),
+    ("10 levels", 10, "levels", 0),
+    ("9 reload", 9, "reload", 0),
+    ("3 discard", 3, "discard", 0),
+    ("1 mirrors", 1, "mirrors", 0),
+    ("1 drop 0", 1, "drop", 0),
+    (
+        "1 drop 18446744073709551615",
+        1,
+        "drop",
+        18_446_744_073_709_551_615,
+    ),
+    ("0 flush", 0, "flush", 0),
+    (
+        "7 flush 00000000000000000000000000000000000000a1",
+        7,
+        "flush",
+        1,
+    ),
+    (
+        "7 flush 00000000000000000000000000000000000000a1 00000000000000000000000000000000000000b1",
+        7,
+        "flush",
+        2,
+    ),
+    (
+        "0 add 00000000000000000000000000000000000000A1",
+        0,
+        "add",
+        0,
+    ),
+    (
+        "0 add 00000000000000000000000000000000000000a1 00000000000000000000000000000000000000a1",
+        0,
+        "add",
+        1,
+    ),
+    ("2 id 00000000000000000000000000000000000000a1", 2, "id", 1),
+    ("2 id FFFFFFFFFFFFFFFFFFFFffffffffffffffffffff", 2, "id", 1),
+    ("2 query all", 2, "query", 0),
+    (
+        "2 query top(ancestors(00000000000000000000000000000000000000a1),3)",
+        2,
+        "query",
+        1,
+    ),
+    ("2 count only(master,others)", 2, "count", 0),
+    (
+        "14 count range(00000000000000000000000000000000000000a1,all)",
+        14,
+        "count",
+        1,
+    ),
+    (
+        "13 query up(00000000000000000000000000000000000000a1,0)",
+        13,
+        "query",
+        1,
+    ),
+];
+
 #[test]
 fn lines_are_read(rt: HostRuntime) {
-    let alloc = rt.alloc();
-    let lines: [(&[u8], u8, &str, u64); 20] = [
-        (b"0 status", 0, "status", 0),
-        (b"15 status", 15, "status", 0),
-        (b"10 levels", 10, "levels", 0),
-        (b"9 reload", 9, "reload", 0),
-        (b"3 discard", 3, "discard", 0),
-        (b"1 mirrors", 1, "mirrors", 0),
-        (b"1 drop 0", 1, "drop", 0),
-        (
-            b"1 drop 18446744073709551615",
-            1,
-            "drop",
-            18_446_744_073_709_551_615,
-        ),
-        (b"0 flush", 0, "flush", 0),
-        (
-            b"7 flush 00000000000000000000000000000000000000a1",
-            7,
-            "flush",
-            1,
-        ),
-        (
-            b"7 flush 00000000000000000000000000000000000000a1 00000000000000000000000000000000000000b1",
-            7,
-            "flush",
-            2,
-        ),
-        (
-            b"0 add 00000000000000000000000000000000000000A1",
-            0,
-            "add",
-            0,
-        ),
-        (
-            b"0 add 00000000000000000000000000000000000000a1 00000000000000000000000000000000000000a1",
-            0,
-            "add",
-            1,
-        ),
-        (b"2 id 00000000000000000000000000000000000000a1", 2, "id", 1),
-        (b"2 id FFFFFFFFFFFFFFFFFFFFffffffffffffffffffff", 2, "id", 1),
-        (b"2 query all", 2, "query", 0),
-        (
-            b"2 query top(ancestors(00000000000000000000000000000000000000a1),3)",
-            2,
-            "query",
-            1,
-        ),
-        (b"2 count only(master,others)", 2, "count", 0),
-        (
-            b"14 count range(00000000000000000000000000000000000000a1,all)",
-            14,
-            "count",
-            1,
-        ),
-        (
-            b"13 query up(00000000000000000000000000000000000000a1,0)",
-            13,
-            "query",
-            1,
-        ),
-    ];
-    for (line, session, word, count) in lines {
-        assert!(rt; reads_as(alloc, line, session, word, count), "at {line:?}");
+    for (line, session, word, count) in &READ {
+        let is_read = reads_as(rt.alloc(), line.as_bytes(), *session, word, *count);
+        assert!(rt; is_read, "at {line:?}");
     }
 }
 
+/// Lines that are no commands.
+const REFUSED: [&str; 40] = [
+    "",
+    " ",
+    "0",
+    "0 ",
+    "status",
+    " status",
+    " 0 status",
+    "0  status",
+    "0 status ",
+    "0\tstatus",
+    "0 Status",
+    "16 status",
+    "18446744073709551616 status",
+    "00 status",
+    "01 status",
+    "+1 status",
+    "-1 status",
+    "1a status",
+    "0 statuses",
+    "0 add",
+    "0 add ",
+    "0 add 00000000000000000000000000000000000000a",
+    "0 add 00000000000000000000000000000000000000g1",
+    "0 add  00000000000000000000000000000000000000a1",
+    "0 add 00000000000000000000000000000000000000a1 ",
+    "0 add 00000000000000000000000000000000000000a1  00000000000000000000000000000000000000b1",
+    "0 flush ",
+    "0 reload 1",
+    "0 drop",
+    "0 drop ",
+    "0 drop 01",
+    "0 drop -1",
+    "0 drop 18446744073709551616",
+    "0 id",
+    "0 id all",
+    "0 query",
+    "0 query nothing",
+    "0 clone",
+    "0 pull",
+    "0 strip 00000000000000000000000000000000000000a1",
+];
+
 #[test]
 fn other_lines_are_refused(rt: HostRuntime) {
-    let alloc = rt.alloc();
-    let lines: [&[u8]; 40] = [
-        b"",
-        b" ",
-        b"0",
-        b"0 ",
-        b"status",
-        b" status",
-        b" 0 status",
-        b"0  status",
-        b"0 status ",
-        b"0\tstatus",
-        b"0 Status",
-        b"16 status",
-        b"18446744073709551616 status",
-        b"00 status",
-        b"01 status",
-        b"+1 status",
-        b"-1 status",
-        b"1a status",
-        b"0 statuses",
-        b"0 add",
-        b"0 add ",
-        b"0 add 00000000000000000000000000000000000000a",
-        b"0 add 00000000000000000000000000000000000000g1",
-        b"0 add  00000000000000000000000000000000000000a1",
-        b"0 add 00000000000000000000000000000000000000a1 ",
-        b"0 add 00000000000000000000000000000000000000a1  00000000000000000000000000000000000000b1",
-        b"0 flush ",
-        b"0 reload 1",
-        b"0 drop",
-        b"0 drop ",
-        b"0 drop 01",
-        b"0 drop -1",
-        b"0 drop 18446744073709551616",
-        b"0 id",
-        b"0 id all",
-        b"0 query",
-        b"0 query nothing",
-        b"0 clone",
-        b"0 pull",
-        b"0 strip 00000000000000000000000000000000000000a1",
-    ];
-    for line in lines {
-        assert!(rt; is_none(alloc, line), "at {line:?}");
+    for line in &REFUSED {
+        assert!(rt; is_none(rt.alloc(), line.as_bytes()), "at {line:?}");
     }
 }
 
@@ -182,105 +187,137 @@ fn nine_parents_are_too_many(rt: HostRuntime) -> Result<(), AllocError> {
 }
 
 /// Whether the reply is put as this text.
-fn is_put(alloc: Global, reply: &Reply, text: &[u8]) -> Result<bool, AllocError> {
+fn is_put(alloc: Global, reply: &Reply, text: &str) -> Result<bool, AllocError> {
     let mut sink = MemorySink::new(alloc, &[])?;
     let put = put_reply(reply, &mut sink);
-    Ok(put.is_ok() && sink.bytes() == text)
+    Ok(put.is_ok() && sink.bytes() == text.as_bytes())
 }
 
-#[test]
-fn replies_are_put(rt: HostRuntime) -> Result<(), AllocError> {
-    let alloc = rt.alloc();
+/// The text of the first of the replies that is put otherwise.
+fn first_wrong(
+    alloc: Global,
+    replies: &[(Reply, &'static str)],
+) -> Result<Option<&'static str>, AllocError> {
+    for (reply, text) in replies {
+        if !is_put(alloc, reply, text)? {
+            return Ok(Some(*text));
+        }
+    }
+    Ok(None)
+}
+
+/// The text of the first of these replies that is put otherwise.
+fn wrong_reply(alloc: Global) -> Result<Option<&'static str>, AllocError> {
     let name = Name::from_bytes([16; 20]);
     let counts = Counts {
         master: 2,
         others: 0,
         pending: 13,
     };
-    let replies: [(Reply, &[u8]); 13] = [
-        (Reply::Added(Id::other(1)), b"ok added N1\n"),
-        (Reply::Old(Id::master(0)), b"ok old 0\n"),
-        (Reply::Flushed(counts), b"ok flushed 2 0\n"),
-        (Reply::Reloaded(4), b"ok reloaded 4\n"),
-        (Reply::Discarded(0), b"ok discarded 0\n"),
+    let replies = [
+        (Reply::Added(Id::other(1)), "ok added N1\n"),
+        (Reply::Old(Id::master(0)), "ok old 0\n"),
+        (Reply::Flushed(counts), "ok flushed 2 0\n"),
+        (Reply::Reloaded(4), "ok reloaded 4\n"),
+        (Reply::Discarded(0), "ok discarded 0\n"),
         (
             Reply::Counted(18_446_744_073_709_551_615),
-            b"ok 18446744073709551615\n",
+            "ok 18446744073709551615\n",
         ),
-        (Reply::Identified(Id::other(0)), b"ok N0\n"),
-        (Reply::Sizes(counts), b"ok 2 0 13\n"),
-        (Reply::Dropped(3), b"ok dropped 3\n"),
+        (Reply::Identified(Id::other(0)), "ok N0\n"),
+        (Reply::Sizes(counts), "ok 2 0 13\n"),
+        (Reply::Dropped(3), "ok dropped 3\n"),
         (
             Reply::Refused(Refusal::Unknown(name)),
-            b"err unknown 1010101010101010101010101010101010101010\n",
+            "err unknown 1010101010101010101010101010101010101010\n",
         ),
         (
             Reply::Refused(Refusal::Full(Limit::Pending, 65_536)),
-            b"err full pending 65536\n",
+            "err full pending 65536\n",
         ),
-        (Reply::NoCommand, b"err syntax\n"),
-        (Reply::LongLine, b"err line 16384\n"),
+        (Reply::NoCommand, "err syntax\n"),
+        (Reply::LongLine, "err line 16384\n"),
     ];
-    for (reply, text) in replies {
-        assert!(rt; is_put(alloc, &reply, text)?, "at {text:?}");
-    }
+    first_wrong(alloc, &replies)
+}
+
+#[test]
+fn replies_are_put(rt: HostRuntime) -> Result<(), AllocError> {
+    assert_eq!(rt; wrong_reply(rt.alloc())?, None);
     Ok(())
+}
+
+/// The text of the first of the refusals that is put otherwise.
+fn first_wrong_refusal(
+    alloc: Global,
+    refusals: &[(Refusal, &'static str)],
+) -> Result<Option<&'static str>, AllocError> {
+    for (refusal, text) in refusals {
+        if !is_put(alloc, &Reply::Refused(*refusal), text)? {
+            return Ok(Some(*text));
+        }
+    }
+    Ok(None)
+}
+
+/// The text of the first of these refusals that is put otherwise.
+fn wrong_refusal(alloc: Global) -> Result<Option<&'static str>, AllocError> {
+    let name = Name::from_bytes([255; 20]);
+    let refusals = [
+        (
+            Refusal::Twice(name),
+            "err twice ffffffffffffffffffffffffffffffffffffffff\n",
+        ),
+        (
+            Refusal::Differs(name),
+            "err differs ffffffffffffffffffffffffffffffffffffffff\n",
+        ),
+        (
+            Refusal::Conflict(name),
+            "err conflict ffffffffffffffffffffffffffffffffffffffff\n",
+        ),
+        (
+            Refusal::Lost(name),
+            "err lost ffffffffffffffffffffffffffffffffffffffff\n",
+        ),
+        (
+            Refusal::InMaster(name),
+            "err master ffffffffffffffffffffffffffffffffffffffff\n",
+        ),
+        (Refusal::Emptied(9), "err empty 9\n"),
+        (Refusal::Full(Limit::Others, 7), "err full others 7\n"),
+        (Refusal::Answer(1_048_577), "err answer 1048577\n"),
+        (Refusal::NotEmpty(5, 6), "err not-empty 5 6\n"),
+        (Refusal::Pending(1), "err pending 1\n"),
+        (Refusal::NoRemote, "err no-remote\n"),
+        (Refusal::Remote(2), "err remote 2\n"),
+        (
+            Refusal::MismatchPath(name, 18_446_744_073_709_551_615),
+            "err mismatch path ffffffffffffffffffffffffffffffffffffffff 18446744073709551615\n",
+        ),
+        (Refusal::MismatchNames(3, 2), "err mismatch names 3 2\n"),
+        (Refusal::MismatchClone(4), "err mismatch clone 4\n"),
+        (Refusal::MismatchRow(8), "err mismatch row 8\n"),
+        (Refusal::Memory, "err memory\n"),
+    ];
+    first_wrong_refusal(alloc, &refusals)
 }
 
 #[test]
 fn refusals_are_put(rt: HostRuntime) -> Result<(), AllocError> {
-    let alloc = rt.alloc();
-    let name = Name::from_bytes([255; 20]);
-    let refusals: [(Refusal, &[u8]); 17] = [
-        (
-            Refusal::Twice(name),
-            b"err twice ffffffffffffffffffffffffffffffffffffffff\n",
-        ),
-        (
-            Refusal::Differs(name),
-            b"err differs ffffffffffffffffffffffffffffffffffffffff\n",
-        ),
-        (
-            Refusal::Conflict(name),
-            b"err conflict ffffffffffffffffffffffffffffffffffffffff\n",
-        ),
-        (
-            Refusal::Lost(name),
-            b"err lost ffffffffffffffffffffffffffffffffffffffff\n",
-        ),
-        (
-            Refusal::InMaster(name),
-            b"err master ffffffffffffffffffffffffffffffffffffffff\n",
-        ),
-        (Refusal::Emptied(9), b"err empty 9\n"),
-        (Refusal::Full(Limit::Others, 7), b"err full others 7\n"),
-        (Refusal::Answer(1_048_577), b"err answer 1048577\n"),
-        (Refusal::NotEmpty(5, 6), b"err not-empty 5 6\n"),
-        (Refusal::Pending(1), b"err pending 1\n"),
-        (Refusal::NoRemote, b"err no-remote\n"),
-        (Refusal::Remote(2), b"err remote 2\n"),
-        (
-            Refusal::MismatchPath(name, 18_446_744_073_709_551_615),
-            b"err mismatch path ffffffffffffffffffffffffffffffffffffffff 18446744073709551615\n",
-        ),
-        (Refusal::MismatchNames(3, 2), b"err mismatch names 3 2\n"),
-        (Refusal::MismatchClone(4), b"err mismatch clone 4\n"),
-        (Refusal::MismatchRow(8), b"err mismatch row 8\n"),
-        (Refusal::Memory, b"err memory\n"),
-    ];
-    for (refusal, text) in refusals {
-        assert!(rt;
-            is_put(alloc, &Reply::Refused(refusal), text)?,
-            "at {text:?}"
-        );
-    }
+    assert_eq!(rt; wrong_refusal(rt.alloc())?, None);
     Ok(())
+}
+
+/// Whether the disk's fault is put as its text.
+fn is_fault_put(alloc: Global) -> Result<bool, AllocError> {
+    let mut sink = MemorySink::new(alloc, &[])?;
+    let put = put_disk_fault(&mut sink);
+    Ok(put.is_ok() && sink.bytes() == b"err disk\n".as_slice())
 }
 
 #[test]
 fn faults_of_the_disk_are_put(rt: HostRuntime) -> Result<(), AllocError> {
-    let mut sink = MemorySink::new(rt.alloc(), &[])?;
-    assert!(rt; put_disk_fault(&mut sink).is_ok());
-    assert_eq!(rt; sink.bytes(), b"err disk\n".as_slice());
+    assert!(rt; is_fault_put(rt.alloc())?);
     Ok(())
 }
