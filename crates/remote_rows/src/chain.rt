@@ -1,7 +1,7 @@
 //! A clone of a chain of ten commits, of which only the last one's name is stored: what is found and fetched, and what that asks.
 
 use crate::cloned::{Stored, chain_remote, known, name};
-use crate::counted::{Count, Counted, count_of, forget};
+use crate::counted::{Count, Counted, alone, count_of, forget};
 use lazy_names::{LazyFault, LazyNames};
 use sample_tables::Sample;
 use segment_codec::SegmentTable;
@@ -68,15 +68,15 @@ fn not_found<T: SegmentTable>(
     lazy: &mut LazyNames,
     mirrors: &mut Vec<Counted>,
 ) -> Option<u8> {
-    for (last, want, asks) in FINDS {
+    for (last, want, asks) in &FINDS {
         forget(mirrors);
-        let found = stored.find(lazy, mirrors, last);
+        let found = stored.find(lazy, mirrors, *last);
         let due = Count {
-            calls: asks,
-            names: asks,
+            calls: *asks,
+            names: *asks,
         };
-        if found != Ok(want) || count_of(mirrors) != due {
-            return Some(last);
+        if found != Ok(*want) || count_of(mirrors) != due {
+            return Some(*last);
         }
     }
     None
@@ -104,9 +104,12 @@ fn not_fetched<T: SegmentTable>(
     mirrors: &mut Vec<Counted>,
 ) -> Option<u64> {
     let mut row = 0u64;
-    for (numbers, want, fails, calls, names) in FETCHES {
-        let due = Count { calls, names };
-        if !is_fetched(stored, lazy, mirrors, numbers, want, fails, due) {
+    for (numbers, want, fails, calls, names) in &FETCHES {
+        let due = Count {
+            calls: *calls,
+            names: *names,
+        };
+        if !is_fetched(stored, lazy, mirrors, numbers, want, *fails, due) {
             return Some(row);
         }
         row = row.wrapping_add(1);
@@ -119,8 +122,7 @@ fn first_wrong<T: SegmentTable>(
     stored: &Stored<'_, T>,
 ) -> Result<(Option<u8>, Option<u64>), AllocError> {
     let alloc = stored.alloc;
-    let mut mirrors = Vec::new(alloc);
-    mirrors.push(Counted::new(chain_remote(alloc, &CHAIN, &[7])?))?;
+    let mut mirrors = alone(alloc, chain_remote(alloc, &CHAIN, &[7])?)?;
     let mut lazy = LazyNames::new(alloc, 4)?;
     let name = not_found(stored, &mut lazy, &mut mirrors);
     let row = not_fetched(stored, &mut lazy, &mut mirrors);

@@ -3,7 +3,7 @@
 use id_groups::Name;
 use remote_memory::MemoryRemote;
 use remote_trait::{CloneData, Path, Remote, RemoteFault};
-use std::alloc::Global;
+use std::alloc::{AllocError, Global};
 
 /// Calls for names and paths, and for how many names they were, a path being one.
 #[derive(Clone, Copy, PartialEq)]
@@ -32,14 +32,12 @@ pub struct Counted {
     count: Count,
 }
 
-impl Counted {
-    /// This mirror, which wasn't asked yet.
-    pub fn new(remote: MemoryRemote) -> Counted {
-        Counted {
-            remote,
-            count: Count::NONE,
-        }
-    }
+/// This mirror alone, which wasn't asked yet.
+pub fn alone(alloc: Global, remote: MemoryRemote) -> Result<Vec<Counted>, AllocError> {
+    let mut mirrors = Vec::new(alloc);
+    let count = Count::NONE;
+    mirrors.push(Counted { remote, count })?;
+    Ok(mirrors)
 }
 
 /// What these mirrors were asked since the count began, taken together.

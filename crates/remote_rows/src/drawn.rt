@@ -101,8 +101,8 @@ fn put_record(bytes: &mut Vec<u8>, segment: &CloneSegment) -> Result<(), AllocEr
     let flags = if parents.len() == 0 { 1 } else { 0 };
     bytes.extend_from_slice(&[flags, 0])?;
     bytes.extend_from_slice(&segment.high.to_be_bytes())?;
-    bytes.push(short(segment.high.saturating_sub(segment.low)))?;
-    bytes.push(short(parents.len() as u64))?;
+    let down = segment.high.saturating_sub(segment.low);
+    bytes.extend_from_slice(&[short(down), short(parents.len() as u64)])?;
     for parent in parents {
         bytes.push(short(*parent))?;
     }

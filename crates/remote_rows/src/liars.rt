@@ -29,28 +29,26 @@ const OTHER_PATHS: [(Option<(u8, u64)>, Option<u64>); 4] = [
     (None, None),
 ];
 
-/// Names that a mirror gives at each call, the ids that are fetched, which names come or why none do, and how many are kept. Fewer than
-/// were asked for are refused, what earlier calls gave being kept; others than were asked for, and more, aren't found out.
-const NAMES: [(&[u8], &[u64], &[u8], Option<LazyFault>, usize); 7] = [
-    (&[], &[2, 3, 4, 5], &[], Some(LazyFault::BadNames(4, 0)), 0),
-    (
-        &[0x15],
-        &[2, 3, 4, 5],
-        &[],
-        Some(LazyFault::BadNames(4, 1)),
-        0,
-    ),
+/// Names that a mirror gives at each call, the ids that are fetched, and how many are kept. Fewer than were asked for are refused, what
+/// earlier calls gave being kept.
+const TOO_FEW: [(&[u8], &[u64], LazyFault, usize); 5] = [
+    (&[], &[2, 3, 4, 5], LazyFault::BadNames(4, 0), 0),
+    (&[0x15], &[2, 3, 4, 5], LazyFault::BadNames(4, 1), 0),
     (
         &[0x15, 0x14, 0x13],
         &[2, 3, 4, 5],
-        &[],
-        Some(LazyFault::BadNames(4, 3)),
+        LazyFault::BadNames(4, 3),
         0,
     ),
-    (&[0x16], &[2, 3, 6], &[], Some(LazyFault::BadNames(2, 1)), 1),
-    (&[], &[8], &[], Some(LazyFault::BadNames(1, 0)), 0),
-    (&[0x33, 0x44], &[2, 3], &[0x33, 0x44], None, 2),
-    (&[0x33, 0x44, 0x55], &[2, 3], &[0x33, 0x44], None, 2),
+    (&[0x16], &[2, 3, 6], LazyFault::BadNames(2, 1), 1),
+    (&[], &[8], LazyFault::BadNames(1, 0), 0),
+];
+
+/// Names that a mirror gives, the ids that are fetched, and which names come, each being kept. Others than were asked for, and more,
+/// aren't found out.
+const UNNOTICED: [(&[u8], &[u64], &[u8]); 2] = [
+    (&[0x33, 0x44], &[2, 3], &[0x33, 0x44]),
+    (&[0x33, 0x44, 0x55], &[2, 3], &[0x33, 0x44]),
 ];
 
 /// The names with these last bytes.
@@ -113,19 +111,11 @@ fn fetch<T: SegmentTable>(
     Ok((fetched, lazy.len()))
 }
 
-/// Whether these names or this fault came.
-fn are_these(fetched: Result<Vec<u8>, LazyFault>, want: &[u8], fault: Option<LazyFault>) -> bool {
-    match fetched {
-        Ok(names) => fault.is_none() && names.as_slice() == want,
-        Err(seen) => fault == Some(seen),
-    }
-}
-
 /// The first path that can't be and isn't refused.
 fn believed<T: SegmentTable>(stored: &Stored<'_, T>) -> Option<(u8, u64)> {
-    for (last, n) in BAD_PATHS {
-        if !is_refused(stored, last, n) {
-            return Some((last, n));
+    for (last, n) in &BAD_PATHS {
+        if !is_refused(stored, *last, *n) {
+            return Some((*last, *n));
         }
     }
     None
@@ -133,32 +123,48 @@ fn believed<T: SegmentTable>(stored: &Stored<'_, T>) -> Option<(u8, u64)> {
 
 /// Whether each other path leads where its row says.
 fn paths_hold<T: SegmentTable>(stored: &Stored<'_, T>) -> bool {
-    for (path, want) in OTHER_PATHS {
-        if !leads(stored, path, want) {
+    for (path, want) in &OTHER_PATHS {
+        if !leads(stored, *path, *want) {
             return false;
         }
     }
     true
 }
 
-/// Whether this comes of a fetch of these ids where a mirror gives these names, and so many are kept.
-fn is_given<T: SegmentTable>(
+/// Whether the fetch of these ids is refused so where a mirror gives these names, and so many are kept.
+fn fails<T: SegmentTable>(
+    stored: &Stored<'_, T>,
+    told: &[u8],
+    numbers: &[u64],
+    fault: LazyFault,
+    kept: usize,
+) -> Result<bool, AllocError> {
+    let (fetched, len) = fetch(stored, told, numbers)?;
+    Ok(match fetched {
+        Ok(_names) => false,
+        Err(seen) => seen == fault && len == kept,
+    })
+}
+
+/// Whether these names come of the fetch of these ids where a mirror gives those names, and each is kept.
+fn comes<T: SegmentTable>(
     stored: &Stored<'_, T>,
     told: &[u8],
     numbers: &[u64],
     want: &[u8],
-    fault: Option<LazyFault>,
-    kept: usize,
 ) -> Result<bool, AllocError> {
     let (fetched, len) = fetch(stored, told, numbers)?;
-    Ok(are_these(fetched, want, fault) && len == kept)
+    Ok(match fetched {
+        Ok(names) => names.as_slice() == want && len == want.len(),
+        Err(_) => false,
+    })
 }
 
-/// The number of the first row of names that come to something else.
-fn wrong_names<T: SegmentTable>(stored: &Stored<'_, T>) -> Result<Option<u64>, AllocError> {
+/// The number of the first row of too few names that isn't refused as it says.
+fn wrong_few<T: SegmentTable>(stored: &Stored<'_, T>) -> Result<Option<u64>, AllocError> {
     let mut row = 0u64;
-    for (told, numbers, want, fault, kept) in NAMES {
-        if !is_given(stored, told, numbers, want, fault, kept)? {
+    for (told, numbers, fault, kept) in &TOO_FEW {
+        if !fails(stored, told, numbers, *fault, *kept)? {
             return Ok(Some(row));
         }
         row = row.wrapping_add(1);
@@ -166,13 +172,27 @@ fn wrong_names<T: SegmentTable>(stored: &Stored<'_, T>) -> Result<Option<u64>, A
     Ok(None)
 }
 
-/// The first path that is believed, whether the others lead where they should, and the first row of names that is wrong.
-type Seen = (Option<(u8, u64)>, bool, Option<u64>);
+/// The number of the first row of unnoticed names that don't come as it says.
+fn wrong_unnoticed<T: SegmentTable>(stored: &Stored<'_, T>) -> Result<Option<u64>, AllocError> {
+    let mut row = 0u64;
+    for (told, numbers, want) in &UNNOTICED {
+        if !comes(stored, told, numbers, want)? {
+            return Ok(Some(row));
+        }
+        row = row.wrapping_add(1);
+    }
+    Ok(None)
+}
+
+/// The first path that is believed, whether the others lead where they should, and the first rows of too few names and of unnoticed ones
+/// that are wrong.
+type Seen = (Option<(u8, u64)>, bool, Option<u64>, Option<u64>);
 
 /// What is seen of all liars.
 fn seen<T: SegmentTable>(stored: &Stored<'_, T>) -> Result<Seen, AllocError> {
-    let names = wrong_names(stored)?;
-    Ok((believed(stored), paths_hold(stored), names))
+    let few = wrong_few(stored)?;
+    let unnoticed = wrong_unnoticed(stored)?;
+    Ok((believed(stored), paths_hold(stored), few, unnoticed))
 }
 
 /// What is seen of all liars over the clone.
@@ -194,6 +214,6 @@ fn seen_of_clone(alloc: Global) -> Result<Seen, AllocError> {
 #[test]
 fn liars_are_refused_or_not_found_out(rt: HostRuntime) -> Result<(), Fail> {
     let seen = seen_of_clone(rt.alloc())?;
-    assert_eq!(rt; seen, (None, true, None));
+    assert_eq!(rt; seen, (None, true, None, None));
     Ok(())
 }

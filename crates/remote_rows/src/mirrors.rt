@@ -2,7 +2,7 @@
 
 use crate::cloned::{chain_remote, name};
 use mirror_set::{MirrorFault, Mirrors};
-use remote_trait::{CloneData, Remote};
+use remote_trait::Remote;
 use std::alloc::{AllocError, Global};
 use std::test::Fail;
 
@@ -49,12 +49,13 @@ fn three(alloc: Global, marked: [bool; 3]) -> Result<Mirrors, AllocError> {
     Ok(Mirrors::new(list))
 }
 
-/// The last id of the first segment; 0 where there is none.
-fn last_id(given: &CloneData) -> u64 {
+/// The last id of the first segment that the mirrors tell of; 0 where there is none.
+fn last_id(alloc: Global, mirrors: &mut Mirrors) -> Result<u64, MirrorFault> {
+    let given = mirrors.fresh_clone(alloc)?;
     if given.segments.len() == 0 {
-        return 0;
+        return Ok(0);
     }
-    given.segments.at(0).high
+    Ok(given.segments.at(0).high)
 }
 
 /// Which mirror answers, the first being 1: one less than its chain is long.
@@ -69,10 +70,7 @@ fn answer(alloc: Global, mirrors: &mut Mirrors, way: Way) -> Result<u64, MirrorF
             let found = mirrors.path_of(alloc, &[name(0x10)], &name(0x20))?;
             Ok(found.map_or(0, |path| path.n))
         }
-        Way::Clone => {
-            let given = mirrors.fresh_clone(alloc)?;
-            Ok(last_id(&given))
-        }
+        Way::Clone => last_id(alloc, mirrors),
     }
 }
 
@@ -80,9 +78,9 @@ fn answer(alloc: Global, mirrors: &mut Mirrors, way: Way) -> Result<u64, MirrorF
 type Turns = [Result<u64, MirrorFault>; 3];
 
 /// Whether three asks in turn come to this.
-fn are_turns(alloc: Global, mirrors: &mut Mirrors, way: Way, want: Turns) -> bool {
+fn are_turns(alloc: Global, mirrors: &mut Mirrors, way: Way, want: &Turns) -> bool {
     for wanted in want {
-        if answer(alloc, mirrors, way) != wanted {
+        if answer(alloc, mirrors, way) != *wanted {
             return false;
         }
         if mirrors.len() > 0 {
@@ -93,7 +91,12 @@ fn are_turns(alloc: Global, mirrors: &mut Mirrors, way: Way, want: Turns) -> boo
 }
 
 /// Whether three asks in turn of mirrors that are marked so come to this, and a fourth one finds no mirror.
-fn turns_hold(alloc: Global, marked: [bool; 3], way: Way, want: Turns) -> Result<bool, AllocError> {
+fn turns_hold(
+    alloc: Global,
+    marked: [bool; 3],
+    way: Way,
+    want: &Turns,
+) -> Result<bool, AllocError> {
     let mut mirrors = three(alloc, marked)?;
     Ok(
         are_turns(alloc, &mut mirrors, way, want)
@@ -125,9 +128,9 @@ const PATTERNS: [([bool; 3], Turns); 8] = [
 
 /// The first pattern that comes to something else when the mirrors are asked this way.
 fn wrong_pattern(alloc: Global, way: Way) -> Result<Option<[bool; 3]>, AllocError> {
-    for (marked, want) in PATTERNS {
-        if !turns_hold(alloc, marked, way, want)? {
-            return Ok(Some(marked));
+    for (marked, want) in &PATTERNS {
+        if !turns_hold(alloc, *marked, way, want)? {
+            return Ok(Some(*marked));
         }
     }
     Ok(None)
@@ -135,8 +138,8 @@ fn wrong_pattern(alloc: Global, way: Way) -> Result<Option<[bool; 3]>, AllocErro
 
 #[test]
 fn mirrors_that_fail_move_back(rt: HostRuntime) -> Result<(), Fail> {
-    for way in WAYS {
-        let wrong = wrong_pattern(rt.alloc(), way)?;
+    for way in &WAYS {
+        let wrong = wrong_pattern(rt.alloc(), *way)?;
         assert_eq!(rt; wrong, None);
     }
     Ok(())

@@ -1,7 +1,7 @@
 //! Clones of drawn worlds: each name is found, each id fetched, and just what has to be asked is asked.
 
 use crate::cloned::{Stored, known, remote_of};
-use crate::counted::{Count, Counted, count_of, forget};
+use crate::counted::{Count, Counted, alone, count_of, forget};
 use crate::drawn::{ABSENT, Draws, draw_world, last_of, payload_of, table_of};
 use crate::plain::{Kept, are_names, fetch_due, find_due, is_whole, lazy_ids};
 use lazy_names::LazyNames;
@@ -22,10 +22,8 @@ struct Run {
 impl Run {
     /// This mirror alone, and room for so many names.
     fn new(alloc: Global, mirror: MemoryRemote, room: u32) -> Result<Run, AllocError> {
-        let mut mirrors = Vec::new(alloc);
-        mirrors.push(Counted::new(mirror))?;
         Ok(Run {
-            mirrors,
+            mirrors: alone(alloc, mirror)?,
             lazy: LazyNames::new(alloc, room.max(1))?,
             kept: Kept::new(alloc, room),
         })
@@ -189,8 +187,8 @@ fn sets_hold<T: SegmentTable>(
     drawn: Drawn,
 ) -> Result<bool, AllocError> {
     let mut draws = Draws::of(drawn.start);
-    for sparse in SPARSE {
-        let ids = draw_ids(stored.alloc, &mut draws, drawn.commits, sparse)?;
+    for sparse in &SPARSE {
+        let ids = draw_ids(stored.alloc, &mut draws, drawn.commits, *sparse)?;
         let found = draws.below(drawn.commits);
         if !set_holds(stored, given, run, &ids, found)? {
             return Ok(false);
