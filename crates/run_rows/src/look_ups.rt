@@ -6,7 +6,6 @@ use disk_memory::MemoryDisk;
 use line_io::{MemorySink, MemorySource};
 use mirror_set::Mirrors;
 use std::alloc::{AllocError, Global};
-use std::test::Fail;
 
 /// The name of 38 zeros and the two digits of this number.
 fn put_name(text: &mut Vec<u8>, number: u8) -> Result<(), AllocError> {
@@ -121,10 +120,20 @@ fn put_ladder(alloc: Global, disk: &mut MemoryDisk) -> Result<bool, AllocError> 
     run(alloc, &lines, disk)
 }
 
+/// What goes wrong where the ladder's log is written to a disk and loaded again, if anything does.
+fn wrong(alloc: Global) -> Result<Option<&'static str>, AllocError> {
+    let mut disk = MemoryDisk::new(alloc, &[], &[], None)?;
+    if !put_ladder(alloc, &mut disk)? {
+        return Ok(Some("the lines"));
+    }
+    if !are_counted_behind_load(alloc, &mut disk)? {
+        return Ok(Some("the look-ups"));
+    }
+    Ok(None)
+}
+
 #[test]
-fn ancestors_take_few_look_ups(rt: HostRuntime) -> Result<(), Fail> {
-    let mut disk = MemoryDisk::new(rt.alloc(), &[], &[], None)?;
-    assert!(rt; put_ladder(rt.alloc(), &mut disk)?);
-    assert!(rt; are_counted_behind_load(rt.alloc(), &mut disk)?);
+fn ancestors_take_few_look_ups(rt: HostRuntime) -> Result<(), AllocError> {
+    assert_eq!(rt; wrong(rt.alloc())?, None);
     Ok(())
 }

@@ -9,7 +9,6 @@ use mirror_set::Mirrors;
 use remote_memory::MemoryRemote;
 use remote_trait::Remote;
 use std::alloc::{AllocError, Global};
-use std::test::Fail;
 
 /// The name of 19 zero bytes and this one.
 fn name(last: u8) -> Name {
@@ -33,11 +32,14 @@ fn mirror(alloc: Global, last: u8, marked: bool) -> Result<MemoryRemote, AllocEr
     MemoryRemote::new(alloc, world, calls)
 }
 
-/// Three mirrors. The second fails at its first call.
+/// The commits of three mirrors, of which the second fails at its first call.
+const MIRRORS: [(u8, bool); 3] = [(0xa1, false), (0xb1, true), (0xc1, false)];
+
+/// The three mirrors.
 fn three(alloc: Global) -> Result<Mirrors, AllocError> {
     let mut list: Vec<Box<dyn Remote>> = Vec::new(alloc);
-    for (last, marked) in [(0xa1, false), (0xb1, true), (0xc1, false)] {
-        let one = mirror(alloc, last, marked)?;
+    for (last, marked) in &MIRRORS {
+        let one = mirror(alloc, *last, *marked)?;
         list.push(Box::new(alloc, one)?)?;
     }
     if list.len() > 3 {
@@ -80,26 +82,31 @@ fn answers_with(alloc: Global, mirrors: &mut Mirrors, last: u8) -> bool {
     }
 }
 
-#[test]
-fn mirrors_are_counted_and_dropped(rt: HostRuntime) -> Result<(), Fail> {
-    let alloc = rt.alloc();
-    let mut mirrors = three(alloc)?;
+/// Answers the lines over an empty log beside the mirrors. The status, and how many changes are stored.
+fn run(
+    alloc: Global,
+    mirrors: &mut Mirrors,
+    output: &mut MemorySink,
+) -> Result<(u8, usize), AllocError> {
     let mut disk = MemoryDisk::new(alloc, &[], &[], None)?;
     let mut input = MemorySource::new(alloc, LINES.as_bytes(), 100, &[])?;
-    let mut output = MemorySink::new(alloc, &[])?;
     let limits = Limits::standard();
-    let report = run_lines(
-        alloc,
-        limits,
-        &mut disk,
-        &mut mirrors,
-        &mut input,
-        &mut output,
-    );
-    assert_eq!(rt; (report.status, report.changes.len()), (0, 1));
-    assert_eq!(rt; output.bytes(), REPLIES.as_bytes());
+    let report = run_lines(alloc, limits, &mut disk, mirrors, &mut input, output);
+    Ok((report.status, report.changes.len()))
+}
+
+/// Whether the lines are answered so, and one change is stored.
+fn are_answered(alloc: Global, mirrors: &mut Mirrors) -> Result<bool, AllocError> {
+    let mut output = MemorySink::new(alloc, &[])?;
+    let ended = run(alloc, mirrors, &mut output)?;
+    Ok(ended == (0, 1) && output.bytes() == REPLIES.as_bytes())
+}
+
+#[test]
+fn mirrors_are_counted_and_dropped(rt: HostRuntime) -> Result<(), AllocError> {
+    let mut mirrors = three(rt.alloc())?;
+    assert!(rt; are_answered(rt.alloc(), &mut mirrors)?);
     // The first went. The one that is first now was never called: its first call is this one, and fails.
-    let is_third = answers_with(alloc, &mut mirrors, 0xc1);
-    assert!(rt; is_third);
+    assert!(rt; answers_with(rt.alloc(), &mut mirrors, 0xc1));
     Ok(())
 }

@@ -9,7 +9,6 @@ use disk_trait::Disk;
 use line_io::{MemorySink, MemorySource, Sink, Source};
 use mirror_set::Mirrors;
 use std::alloc::{AllocError, Global};
-use std::test::Fail;
 
 /// Lines that break two rules at once, where two rows may be pending and one name is printed.
 const IN_ORDER: &str = "0 add 00000000000000000000000000000000000000a1
@@ -113,43 +112,58 @@ const FULL_LOG: &str = "0 add 00000000000000000000000000000000000000a1
 0 status
 ";
 
+/// The numbers of some limits in the order of `limits_of`, lines, and the status and the replies of their run.
+type Limited = (
+    (u64, u64, u64, u64, u64, u64),
+    &'static str,
+    u8,
+    &'static str,
+);
+
+const LIMITED: [Limited; 7] = [
+    ((2, 9, 9, 999, 1, 1 << 30), IN_ORDER, 0, IN_ORDER_REPLIES),
+    (
+        (1, 9, 9, 999, 1, 9),
+        "0 status\n0 status\n",
+        8,
+        "ok 0 0 0\n",
+    ),
+    ((1, 9, 9, 999, 1, 8), "0 status", 0, "ok 0 0 0\n"),
+    ((1, 9, 9, 999, 1, 8), "0 status\n", 8, ""),
+    (
+        (2, 1, 9, 999, 1, 1 << 30),
+        FLUSHED,
+        0,
+        "ok added N0\nok added N1\nerr full others 1\n",
+    ),
+    (
+        (2, 1, 1, 999, 1, 1 << 30),
+        MASTERED,
+        0,
+        "ok added N0\nok added N1\nerr full master 1\n",
+    ),
+    (
+        (2, 9, 9, 98, 1, 1 << 30),
+        FULL_LOG,
+        0,
+        "ok added N0\nok added N1\nok flushed 0 2\nok added N2\nerr full log 98\nok 0 2 1\n",
+    ),
+];
+
+/// Whether the lines are answered so within the limits.
+fn is_limited(alloc: Global, case: &Limited) -> Result<bool, AllocError> {
+    let ((pending, others, master, log, names, input), lines, status, replies) = *case;
+    let limits = limits_of(pending, others, master, log, names, input);
+    let mut output = MemorySink::new(alloc, &[])?;
+    let (ended, _) = answer(alloc, limits, lines.as_bytes(), 1, &[], &mut output)?;
+    Ok(ended == status && output.bytes() == replies.as_bytes())
+}
+
 #[test]
-fn limits_are_kept(rt: HostRuntime) -> Result<(), Fail> {
-    let most = 1 << 30;
-    for ((pending, others, master, log, names, input), lines, status, replies) in [
-        ((2, 9, 9, 999, 1, most), IN_ORDER, 0, IN_ORDER_REPLIES),
-        (
-            (1, 9, 9, 999, 1, 9),
-            "0 status\n0 status\n",
-            8,
-            "ok 0 0 0\n",
-        ),
-        ((1, 9, 9, 999, 1, 8), "0 status", 0, "ok 0 0 0\n"),
-        ((1, 9, 9, 999, 1, 8), "0 status\n", 8, ""),
-        (
-            (2, 1, 9, 999, 1, most),
-            FLUSHED,
-            0,
-            "ok added N0\nok added N1\nerr full others 1\n",
-        ),
-        (
-            (2, 1, 1, 999, 1, most),
-            MASTERED,
-            0,
-            "ok added N0\nok added N1\nerr full master 1\n",
-        ),
-        (
-            (2, 9, 9, 98, 1, most),
-            FULL_LOG,
-            0,
-            "ok added N0\nok added N1\nok flushed 0 2\nok added N2\nerr full log 98\nok 0 2 1\n",
-        ),
-    ] {
-        let limits = limits_of(pending, others, master, log, names, input);
-        let mut output = MemorySink::new(rt.alloc(), &[])?;
-        let (ended, _) = answer(rt.alloc(), limits, lines.as_bytes(), 1, &[], &mut output)?;
-        assert_eq!(rt; ended, status);
-        assert_eq!(rt; output.bytes(), replies.as_bytes(), "at {lines}");
+fn limits_are_kept(rt: HostRuntime) -> Result<(), AllocError> {
+    for case in &LIMITED {
+        let lines = case.1;
+        assert!(rt; is_limited(rt.alloc(), case)?, "at {lines}");
     }
     Ok(())
 }
@@ -178,58 +192,127 @@ const PAST: [u8; 99] = [
     0, 0, 177, 0, 7,
 ];
 
-#[test]
-fn a_log_of_no_commits_in_turn_is_refused(rt: HostRuntime) -> Result<(), Fail> {
-    // Bytes that run past the end; the log with a longer spelling of a number; and a log that is longer than its limit.
-    for (bytes, limit, status) in [
-        ([1, 0, 0, 0, 0, 0, 0, 0, 5, 170].as_slice(), 98, 4),
-        (&LONGER, 999, 4),
-        (&LOG, 98, 0),
-        (&PAST, 98, 4),
-        (&PAST, 99, 0),
-    ] {
-        let mut disk = MemoryDisk::new(rt.alloc(), bytes, &[], None)?;
-        let mut input = MemorySource::new(rt.alloc(), b"0 status\n", 9, &[])?;
-        let mut output = MemorySink::new(rt.alloc(), &[])?;
-        let limits = limits_of(9, 9, 9, limit, 9, 99);
-        let report = run_alone(rt.alloc(), limits, &mut disk, &mut input, &mut output);
-        assert_eq!(rt; (report.status, report.changes.len()), (status, 0));
-        assert_eq!(rt; output.bytes().len(), if status == 0 { 9 } else { 0 });
-        assert_eq!(rt; disk.bytes(), bytes);
-    }
-    Ok(())
-}
+/// What a log is, its bytes, how many it may have, and the status of a run over it with its replies.
+type Loaded = (&'static str, &'static [u8], u64, u8, &'static str);
 
-/// Answers lines over a disk; the status.
+const LOADED: [Loaded; 5] = [
+    (
+        "bytes that run past the end",
+        &[1, 0, 0, 0, 0, 0, 0, 0, 5, 170],
+        98,
+        4,
+        "",
+    ),
+    ("a longer spelling of a number", &LONGER, 999, 4, ""),
+    ("a log as long as its limit", &LOG, 98, 0, "ok 0 2 0\n"),
+    ("a log above its limit", &PAST, 98, 4, ""),
+    ("a byte behind the closed gate", &PAST, 99, 0, "ok 0 2 0\n"),
+];
+
+/// Answers lines over a disk, without mirrors. The status, and how many changes are stored.
 fn run_on(
     alloc: Global,
+    limits: Limits,
     disk: &mut MemoryDisk,
     lines: &str,
     output: &mut MemorySink,
-) -> Result<u8, AllocError> {
+) -> Result<(u8, usize), AllocError>
+    requires { AreLimits limits }
+{
     let mut input = MemorySource::new(alloc, lines.as_bytes(), 100, &[])?;
-    Ok(run_alone(alloc, Limits::standard(), disk, &mut input, output).status)
+    let report = run_alone(alloc, limits, disk, &mut input, output);
+    Ok((report.status, report.changes.len()))
+}
+
+/// Whether lines over the disk end with this status and so many changes, and are answered so.
+fn are_answered(
+    alloc: Global,
+    limits: Limits,
+    disk: &mut MemoryDisk,
+    lines: &str,
+    wanted: (u8, usize),
+    replies: &str,
+) -> Result<bool, AllocError>
+    requires { AreLimits limits }
+{
+    let mut output = MemorySink::new(alloc, &[])?;
+    let ended = run_on(alloc, limits, disk, lines, &mut output)?;
+    Ok(ended == wanted && output.bytes() == replies.as_bytes())
+}
+
+/// Whether a run over the log ends so, and leaves its bytes as they are.
+fn is_loaded(alloc: Global, case: &Loaded) -> Result<bool, AllocError> {
+    let (_, bytes, log, status, replies) = *case;
+    let limits = limits_of(9, 9, 9, log, 9, 99);
+    let mut disk = MemoryDisk::new(alloc, bytes, &[], None)?;
+    let is_answered = are_answered(alloc, limits, &mut disk, "0 status\n", (status, 0), replies)?;
+    Ok(is_answered && disk.bytes() == bytes)
 }
 
 #[test]
-fn each_call_of_the_disk_fails_in_turn(rt: HostRuntime) -> Result<(), Fail> {
-    // The calls of loading a fresh disk are 1 to 4, those of the flush 5 to 8.
-    for call in 1..9 {
-        let mut disk = MemoryDisk::new(rt.alloc(), &[], &[call], None)?;
-        let mut output = MemorySink::new(rt.alloc(), &[])?;
-        assert_eq!(rt; run_on(rt.alloc(), &mut disk, FLUSHED, &mut output)?, 3);
-        let replies = if call < 5 {
-            b"err disk\n".as_slice()
-        } else {
-            b"ok added N0\nok added N1\nerr disk\n".as_slice()
-        };
-        assert_eq!(rt; output.bytes(), replies, "at {call}");
-        assert_eq!(rt; disk.clock(), 2 * call);
+fn a_log_of_no_commits_in_turn_is_refused(rt: HostRuntime) -> Result<(), AllocError> {
+    for case in &LOADED {
+        let log = case.0;
+        assert!(rt; is_loaded(rt.alloc(), case)?, "{log}");
     }
     Ok(())
 }
 
-/// What a crash leaves of a disk at a moment is loaded again and asked for its sizes; the answer's place for others, or 99.
+/// What the flush of two commits is answered.
+const FLUSHED_REPLIES: &str = "ok added N0\nok added N1\nok flushed 0 2\n";
+
+/// What it is answered where the disk fails at it.
+const FAILED_REPLIES: &str = "ok added N0\nok added N1\nerr disk\n";
+
+/// Whether the flush over the disk ends so.
+fn is_flushed(
+    alloc: Global,
+    disk: &mut MemoryDisk,
+    wanted: (u8, usize),
+    replies: &str,
+) -> Result<bool, AllocError> {
+    are_answered(alloc, Limits::standard(), disk, FLUSHED, wanted, replies)
+}
+
+/// Whether the flush over a fresh disk ends where the call of this number fails. The calls of loading are 1 to 4, those of the
+/// flush 5 to 8.
+fn fails_at(alloc: Global, call: u8) -> Result<bool, AllocError> {
+    let call = u64::from(call);
+    let replies = if call < 5 {
+        "err disk\n"
+    } else {
+        FAILED_REPLIES
+    };
+    let mut disk = MemoryDisk::new(alloc, &[], &[call], None)?;
+    let is_ended = is_flushed(alloc, &mut disk, (3, 0), replies)?;
+    Ok(is_ended && disk.clock() == 2 * call)
+}
+
+#[test]
+fn each_call_of_the_disk_fails_in_turn(rt: HostRuntime) -> Result<(), AllocError> {
+    for call in 1..9u8 {
+        assert!(rt; fails_at(rt.alloc(), call)?, "at {call}");
+    }
+    Ok(())
+}
+
+/// Whether the flush over the disk is stored, and the log is that of the two commits then.
+fn is_stored(alloc: Global, disk: &mut MemoryDisk) -> Result<bool, AllocError> {
+    let is_ended = is_flushed(alloc, disk, (0, 1), FLUSHED_REPLIES)?;
+    Ok(is_ended && disk.bytes() == LOG.as_slice())
+}
+
+/// How many others a run over the disk tells of, or 99.
+fn others_of(alloc: Global, disk: &mut MemoryDisk) -> Result<u8, AllocError> {
+    let mut output = MemorySink::new(alloc, &[])?;
+    let (status, _) = run_on(alloc, Limits::standard(), disk, "0 status\n", &mut output)?;
+    match output.bytes() {
+        [b'o', b'k', b' ', b'0', b' ', others, ..] if status == 0 => Ok(others.wrapping_sub(b'0')),
+        _ => Ok(99),
+    }
+}
+
+/// How many others are left by a crash of the disk at a moment, or 99.
 fn others_left(
     alloc: Global,
     disk: &MemoryDisk,
@@ -242,53 +325,72 @@ fn others_left(
     }
     let choice = Choice { moment, fill, size };
     let mut later = disk.crash(&choice)?;
-    let mut output = MemorySink::new(alloc, &[])?;
-    if run_on(alloc, &mut later, "0 status\n", &mut output)? != 0 {
-        return Ok(99);
-    }
-    match output.bytes() {
-        [b'o', b'k', b' ', b'0', b' ', others, ..] => Ok(others.wrapping_sub(b'0')),
-        _ => Ok(99),
+    others_of(alloc, &mut later)
+}
+
+/// Whether so many others may be left by a crash of the flush at the moment.
+fn may_be_left(moment: u64, others: u8) -> bool {
+    match others {
+        0 => moment < 16,
+        2 => moment > 12,
+        _ => false,
     }
 }
 
-#[test]
-fn a_crash_leaves_the_flush_or_not(rt: HostRuntime) -> Result<(), Fail> {
-    let alloc = rt.alloc();
-    let mut disk = MemoryDisk::new(alloc, &[], &[], None)?;
-    let mut output = MemorySink::new(alloc, &[])?;
-    assert_eq!(rt; run_on(alloc, &mut disk, FLUSHED, &mut output)?, 0);
-    assert_eq!(rt; disk.bytes(), LOG.as_slice());
-    for moment in 0..17 {
-        for fill in [
-            Fill::Old,
-            Fill::New,
-            Fill::Byte(0),
-            Fill::Byte(1),
-            Fill::Byte(127),
-        ] {
-            for size in [0, 1, 50, 98] {
-                let others = others_left(alloc, &disk, moment, fill, size)?;
-                let is_right = if moment < 13 {
-                    others == 0
-                } else {
-                    others == 2 || (moment < 16 && others == 0)
-                };
-                assert!(rt; is_right, "{others} at {moment}");
+/// What a crash may leave of the bytes that aren't sure.
+const FILLS: [Fill; 5] = [
+    Fill::Old,
+    Fill::New,
+    Fill::Byte(0),
+    Fill::Byte(1),
+    Fill::Byte(127),
+];
+
+/// How many bytes a crash may leave.
+const SIZES: [u64; 4] = [0, 1, 50, 98];
+
+/// The first number of others that a crash of the flush at the moment leaves and may not.
+fn wrong_left(alloc: Global, disk: &MemoryDisk, moment: u64) -> Result<Option<u8>, AllocError> {
+    for fill in &FILLS {
+        for size in &SIZES {
+            let others = others_left(alloc, disk, moment, *fill, *size)?;
+            if !may_be_left(moment, others) {
+                return Ok(Some(others));
             }
         }
     }
-    Ok(())
+    Ok(None)
+}
+
+/// The first moment of the flush at which a crash leaves what it may not, and the number of others.
+fn first_wrong(alloc: Global, disk: &MemoryDisk) -> Result<Option<(u64, u8)>, AllocError> {
+    for moment in 0..17 {
+        if let Some(others) = wrong_left(alloc, disk, moment)? {
+            return Ok(Some((moment, others)));
+        }
+    }
+    Ok(None)
+}
+
+/// The same for a flush over a fresh disk, at moment 17 where it isn't stored.
+fn wrong_crash(alloc: Global) -> Result<Option<(u64, u8)>, AllocError> {
+    let mut disk = MemoryDisk::new(alloc, &[], &[], None)?;
+    if !is_stored(alloc, &mut disk)? {
+        return Ok(Some((17, 99)));
+    }
+    first_wrong(alloc, &disk)
 }
 
 #[test]
-fn a_log_goes_on_after_a_crash(rt: HostRuntime) -> Result<(), Fail> {
-    let alloc = rt.alloc();
-    let mut disk = MemoryDisk::new(alloc, &[], &[], Some(7))?;
-    let mut output = MemorySink::new(alloc, &[])?;
-    assert_eq!(rt; run_on(alloc, &mut disk, FLUSHED, &mut output)?, 3);
+fn a_crash_leaves_the_flush_or_not(rt: HostRuntime) -> Result<(), AllocError> {
+    assert_eq!(rt; wrong_crash(rt.alloc())?, None);
+    Ok(())
+}
+
+/// Whether the flush goes on over what a crash leaves of the disk.
+fn goes_on(alloc: Global, disk: &MemoryDisk) -> Result<bool, AllocError> {
     if disk.clock() < 15 {
-        return Ok(());
+        return Ok(false);
     }
     let choice = Choice {
         moment: 15,
@@ -296,186 +398,233 @@ fn a_log_goes_on_after_a_crash(rt: HostRuntime) -> Result<(), Fail> {
         size: 98,
     };
     let mut later = disk.crash(&choice)?;
-    let mut output = MemorySink::new(alloc, &[])?;
-    assert_eq!(rt; run_on(alloc, &mut later, FLUSHED, &mut output)?, 0);
-    assert_eq!(rt;
-        output.bytes(),
-        b"ok added N0\nok added N1\nok flushed 0 2\n".as_slice()
-    );
-    assert_eq!(rt; later.bytes(), LOG.as_slice());
-    Ok(())
+    is_stored(alloc, &mut later)
+}
+
+/// Whether the flush goes on where it first stops behind the disk's seventh call; nothing where it doesn't stop.
+fn goes_on_after_stop(alloc: Global) -> Result<Option<bool>, AllocError> {
+    let mut disk = MemoryDisk::new(alloc, &[], &[], Some(7))?;
+    if !is_flushed(alloc, &mut disk, (3, 0), FAILED_REPLIES)? {
+        return Ok(None);
+    }
+    Ok(Some(goes_on(alloc, &disk)?))
 }
 
 #[test]
-fn long_lines_are_refused(rt: HostRuntime) -> Result<(), Fail> {
+fn a_log_goes_on_after_a_crash(rt: HostRuntime) -> Result<(), AllocError> {
+    assert_eq!(rt; goes_on_after_stop(rt.alloc())?, Some(true));
+    Ok(())
+}
+
+/// Whether the two lines, which come in pieces of so many bytes, are answered by one that says that the second is too long.
+fn is_too_long(alloc: Global, lines: &[u8]) -> Result<bool, AllocError> {
+    let limits = Limits::standard();
+    let mut output = MemorySink::new(alloc, &[])?;
+    let (status, _) = answer(alloc, limits, lines, 1000, &[], &mut output)?;
+    Ok(status == 0 && output.bytes() == b"err line 16384\n".as_slice())
+}
+
+#[test]
+fn long_lines_are_refused(rt: HostRuntime) -> Result<(), AllocError> {
     let mut lines = vec![in rt.alloc(); b'#'; 16_384 + 1 + 16_385]?;
     lines[16_384] = b'\n';
-    let mut output = MemorySink::new(rt.alloc(), &[])?;
-    let (status, _) = answer(
-        rt.alloc(),
-        Limits::standard(),
-        &lines,
-        1000,
-        &[],
-        &mut output,
-    )?;
-    assert_eq!(rt; status, 0);
-    assert_eq!(rt; output.bytes(), b"err line 16384\n".as_slice());
+    assert!(rt; is_too_long(rt.alloc(), &lines)?);
     Ok(())
 }
 
+/// The status of a run of lines, which come in pieces of so many bytes, and how many bytes it puts. The source and the sink fail
+/// at these calls.
+fn size_put(
+    alloc: Global,
+    lines: &str,
+    cut: u32,
+    source: &[u64],
+    sink: &[u64],
+) -> Result<(u8, usize), AllocError>
+    requires { 0 < cut }
+{
+    let limits = Limits::standard();
+    let mut output = MemorySink::new(alloc, sink)?;
+    let (status, _) = answer(alloc, limits, lines.as_bytes(), cut, source, &mut output)?;
+    Ok((status, output.bytes().len()))
+}
+
+/// In pieces of how many bytes three lines come, at which call the source fails, the status, and how many bytes are put.
+type Failing = (u32, u64, u8, usize);
+
+/// Where the source fails at its first call nothing was given; at its third, in pieces of 30 bytes, the first line was. In one piece
+/// all lines were given at the second call, which a source that came to its end doesn't get again.
+const FAILING: [Failing; 4] = [
+    (100, 1, 5, 0),
+    (30, 3, 5, 12),
+    (200, 2, 5, 111),
+    (200, 3, 0, 111),
+];
+
+/// Whether the run of the three lines ends so.
+fn is_failing(alloc: Global, case: &Failing) -> Result<bool, AllocError> {
+    let (cut, fail, status, size) = *case;
+    if cut == 0 {
+        return Ok(false);
+    }
+    Ok(size_put(alloc, THREE, cut, &[fail], &[])? == (status, size))
+}
+
 #[test]
-fn a_source_that_fails_ends_a_run(rt: HostRuntime) -> Result<(), Fail> {
-    // Where the source fails at its first call nothing was given; at its third, in pieces of 30 bytes, the first line
-    // was. In one piece all lines were given at the second call, which a source that came to its end doesn't get again.
-    for (cut, fail, status, size) in [
-        (100, 1, 5, 0),
-        (30, 3, 5, 12),
-        (200, 2, 5, 111),
-        (200, 3, 0, 111),
-    ] {
-        let mut output = MemorySink::new(rt.alloc(), &[])?;
-        let limits = Limits::standard();
-        let (ended, _) = answer(
-            rt.alloc(),
-            limits,
-            THREE.as_bytes(),
-            cut,
-            &[fail],
-            &mut output,
-        )?;
-        assert_eq!(rt; (ended, output.bytes().len()), (status, size), "at {cut}");
+fn a_source_that_fails_ends_a_run(rt: HostRuntime) -> Result<(), AllocError> {
+    for case in &FAILING {
+        assert!(rt; is_failing(rt.alloc(), case)?, "at {case:?}");
     }
     Ok(())
 }
 
+/// Whether a sink that takes half of the first reply ends the run. The bytes behind the first line are unread.
+fn is_ended_by_sink(alloc: Global) -> Result<bool, AllocError> {
+    let limits = Limits::standard();
+    let mut output = MemorySink::new(alloc, &[1])?;
+    let ended = answer(alloc, limits, THREE.as_bytes(), 1, &[], &mut output)?;
+    Ok(ended == (6, 100) && output.bytes() == b"ok add".as_slice())
+}
+
 #[test]
-fn a_sink_that_fails_ends_a_run(rt: HostRuntime) -> Result<(), Fail> {
-    // The sink takes half of the first reply; the bytes behind the first line are unread.
-    let mut output = MemorySink::new(rt.alloc(), &[1])?;
-    let ended = answer(
-        rt.alloc(),
-        Limits::standard(),
-        THREE.as_bytes(),
-        1,
-        &[],
-        &mut output,
-    )?;
-    assert_eq!(rt; ended, (6, 100));
-    assert_eq!(rt; output.bytes(), b"ok add".as_slice());
+fn a_sink_that_fails_ends_a_run(rt: HostRuntime) -> Result<(), AllocError> {
+    assert!(rt; is_ended_by_sink(rt.alloc())?);
     Ok(())
 }
 
-/// Fewer than a hundred words.
-fn words_of(alloc: Global, texts: &[&str]) -> Result<Vec<String>, AllocError> {
+/// The words of a text.
+fn words_of(alloc: Global, text: &str) -> Result<Vec<String>, AllocError> {
     let mut words = Vec::new(alloc);
-    for text in texts {
-        words.push(String::from_str(alloc, text)?)?;
+    for word in text.split_whitespace() {
+        words.push(String::from_str(alloc, word)?)?;
     }
     Ok(words)
 }
 
+/// Whether the words are split so at the dashes: the places of the log's words, of the remotes' and of the rest.
+fn are_split(
+    alloc: Global,
+    text: &str,
+    parts: Option<(u32, u32, u32)>,
+) -> Result<bool, AllocError> {
+    let words = words_of(alloc, text)?;
+    if words.len() > 99 {
+        return Ok(false);
+    }
+    let split = split_words(&words).map(|split| (split.log, split.remotes, split.rest));
+    Ok(split == parts)
+}
+
 #[test]
-fn words_are_split_at_the_dashes(rt: HostRuntime) -> Result<(), Fail> {
-    let rows: [(&[&str], Option<(u32, u32, u32)>); 3] = [
-        (&["log", "a", "--", "run", "--"], Some((0, 1, 3))),
-        (&["log", "a"], None),
-        (&["--", "run", "--"], None),
-    ];
-    for (texts, parts) in rows {
-        let words = words_of(rt.alloc(), texts)?;
-        assert!(rt; words.len() < 100);
-        let split = split_words(&words).map(|split| (split.log, split.remotes, split.rest));
-        assert_eq!(rt; split, parts);
+fn words_are_split_at_the_dashes(rt: HostRuntime) -> Result<(), AllocError> {
+    for (text, parts) in [
+        ("log a -- run --", Some((0, 1, 3))),
+        ("log a", None),
+        ("-- run --", None),
+    ] {
+        assert!(rt; are_split(rt.alloc(), text, parts)?, "at {text}");
     }
     Ok(())
 }
 
+/// The program's words, the status of its run over a line that asks for the sizes, how many bytes of the line are left, and the
+/// replies.
+type Mode = (&'static str, u8, u64, &'static str);
+
+const MODES: [Mode; 13] = [
+    ("", 2, 9, ""),
+    ("log", 2, 9, ""),
+    ("run run", 2, 9, ""),
+    ("run --cache 0", 2, 9, ""),
+    ("--help", 2, 9, ""),
+    ("demo --size 0", 2, 9, ""),
+    ("demo --size 1", 0, 9, "ok 1 0 0\nok 1\nok 0\nok 1\n"),
+    ("demo --size 3", 0, 9, "ok 3 0 0\nok 3\nok 0\nok 1\n"),
+    (
+        "--start 5 demo --size=3",
+        0,
+        9,
+        "ok 3 0 0\nok 3\nok 1\nok 1\n",
+    ),
+    (
+        "demo --size 3 --start 10",
+        0,
+        9,
+        "ok 2 1 0\nok 2\nok 0\nok 2\n",
+    ),
+    ("run", 0, 0, "ok 0 0 0\n"),
+    ("run --cache 5", 0, 0, "ok 0 0 0\n"),
+    ("--cache=5 run", 0, 0, "ok 0 0 0\n"),
+];
+
+/// The status of the program's run, and how many changes it stores.
+fn ended(
+    alloc: Global,
+    words: &[String],
+    log: &mut MemoryDisk,
+    input: &mut MemorySource,
+    output: &mut MemorySink,
+) -> Result<(u8, usize), AllocError> {
+    let mut spare = MemoryDisk::new(alloc, &[], &[], None)?;
+    let mut none = Mirrors::new(Vec::new(alloc));
+    let report = top(alloc, words, log, &mut spare, &mut none, input, output);
+    Ok((report.status, report.changes.len()))
+}
+
+/// The status of a run, how many changes it stores, how many bytes of its line are left, and the log's clock.
+type Ended = (u8, usize, u64, u64);
+
+/// How the program's run over a fresh log ends. The log and the source fail at these calls.
+fn ended_afresh(
+    alloc: Global,
+    words: &[String],
+    fails: &[u64],
+    output: &mut MemorySink,
+) -> Result<Ended, AllocError> {
+    let mut log = MemoryDisk::new(alloc, &[], fails, None)?;
+    let mut input = MemorySource::new(alloc, b"0 status\n", 1, fails)?;
+    let (status, changes) = ended(alloc, words, &mut log, &mut input, output)?;
+    Ok((status, changes, input.left(), log.clock()))
+}
+
+/// The same for the words of a text.
+fn ended_by(
+    alloc: Global,
+    text: &str,
+    fails: &[u64],
+    output: &mut MemorySink,
+) -> Result<Ended, AllocError> {
+    let words = words_of(alloc, text)?;
+    ended_afresh(alloc, &words, fails, output)
+}
+
+/// Whether the program's run ends so, and stores nothing.
+fn is_mode(alloc: Global, mode: &Mode) -> Result<bool, AllocError> {
+    let (text, status, left, replies) = *mode;
+    let mut output = MemorySink::new(alloc, &[])?;
+    let (ended, changes, unread, _) = ended_by(alloc, text, &[], &mut output)?;
+    Ok((ended, changes, unread) == (status, 0, left) && output.bytes() == replies.as_bytes())
+}
+
 #[test]
-fn the_words_are_a_mode_and_its_options(rt: HostRuntime) -> Result<(), Fail> {
-    let rows: [(&[&str], u8, u64, &[u8]); 13] = [
-        (&[], 2, 9, b""),
-        (&["log"], 2, 9, b""),
-        (&["run", "run"], 2, 9, b""),
-        (&["run", "--cache", "0"], 2, 9, b""),
-        (&["--help"], 2, 9, b""),
-        (&["demo", "--size", "0"], 2, 9, b""),
-        (
-            &["demo", "--size", "1"],
-            0,
-            9,
-            b"ok 1 0 0\nok 1\nok 0\nok 1\n",
-        ),
-        (
-            &["demo", "--size", "3"],
-            0,
-            9,
-            b"ok 3 0 0\nok 3\nok 0\nok 1\n",
-        ),
-        (
-            &["--start", "5", "demo", "--size=3"],
-            0,
-            9,
-            b"ok 3 0 0\nok 3\nok 1\nok 1\n",
-        ),
-        (
-            &["demo", "--size", "3", "--start", "10"],
-            0,
-            9,
-            b"ok 2 1 0\nok 2\nok 0\nok 2\n",
-        ),
-        (&["run"], 0, 0, b"ok 0 0 0\n"),
-        (&["run", "--cache", "5"], 0, 0, b"ok 0 0 0\n"),
-        (&["--cache=5", "run"], 0, 0, b"ok 0 0 0\n"),
-    ];
-    for (texts, status, left, replies) in rows {
-        let words = words_of(rt.alloc(), texts)?;
-        let mut log = MemoryDisk::new(rt.alloc(), &[], &[], None)?;
-        let mut spare = MemoryDisk::new(rt.alloc(), &[], &[], None)?;
-        let mut none = Mirrors::new(Vec::new(rt.alloc()));
-        let mut input = MemorySource::new(rt.alloc(), b"0 status\n", 1, &[])?;
-        let mut output = MemorySink::new(rt.alloc(), &[])?;
-        let report = top(
-            rt.alloc(),
-            &words,
-            &mut log,
-            &mut spare,
-            &mut none,
-            &mut input,
-            &mut output,
-        );
-        assert_eq!(rt;
-            (report.status, report.changes.len(), input.left()),
-            (status, 0, left)
-        );
-        assert_eq!(rt; output.bytes(), replies);
+fn the_words_are_a_mode_and_its_options(rt: HostRuntime) -> Result<(), AllocError> {
+    for mode in &MODES {
+        let text = mode.0;
+        assert!(rt; is_mode(rt.alloc(), mode)?, "at {text}");
     }
     Ok(())
 }
 
+/// Whether a sink that takes half of the 24 bytes of the replies ends a demonstration, which touches neither log nor source.
+fn is_demo_ended_by_sink(alloc: Global) -> Result<bool, AllocError> {
+    let mut output = MemorySink::new(alloc, &[1])?;
+    let ended = ended_by(alloc, "demo --size 3", &[1], &mut output)?;
+    Ok(ended == (6, 0, 9, 0) && output.bytes() == b"ok 3 0 0\nok ".as_slice())
+}
+
 #[test]
-fn a_sink_that_fails_ends_a_demonstration(rt: HostRuntime) -> Result<(), Fail> {
-    let words = words_of(rt.alloc(), &["demo", "--size", "3"])?;
-    let mut log = MemoryDisk::new(rt.alloc(), &[], &[1], None)?;
-    let mut spare = MemoryDisk::new(rt.alloc(), &[], &[], None)?;
-    let mut none = Mirrors::new(Vec::new(rt.alloc()));
-    let mut input = MemorySource::new(rt.alloc(), b"0 status\n", 1, &[1])?;
-    // The four replies have 24 bytes, of which the sink takes half.
-    let mut output = MemorySink::new(rt.alloc(), &[1])?;
-    let report = top(
-        rt.alloc(),
-        &words,
-        &mut log,
-        &mut spare,
-        &mut none,
-        &mut input,
-        &mut output,
-    );
-    assert_eq!(rt;
-        (report.status, report.changes.len(), log.clock()),
-        (6, 0, 0)
-    );
-    assert_eq!(rt; output.bytes(), b"ok 3 0 0\nok ".as_slice());
+fn a_sink_that_fails_ends_a_demonstration(rt: HostRuntime) -> Result<(), AllocError> {
+    assert!(rt; is_demo_ended_by_sink(rt.alloc())?);
     Ok(())
 }
 
@@ -489,19 +638,17 @@ fn many_lines(alloc: Global) -> Result<String, AllocError> {
     Ok(lines)
 }
 
+/// Whether their run ends with this status, and puts so many bytes. The sink fails at these calls.
+fn are_put(alloc: Global, sink: &[u64], wanted: (u8, usize)) -> Result<bool, AllocError> {
+    let lines = many_lines(alloc)?;
+    Ok(size_put(alloc, lines.as_str(), 1000, &[], sink)? == wanted)
+}
+
 #[test]
-fn long_answers_are_put_in_blocks(rt: HostRuntime) -> Result<(), Fail> {
-    let lines = many_lines(rt.alloc())?;
+fn long_answers_are_put_in_blocks(rt: HostRuntime) -> Result<(), AllocError> {
     let adds = 10 * 12 + 90 * 13 + 200 * 14;
+    assert!(rt; are_put(rt.alloc(), &[], (0, adds + 300 * 41 + 7))?);
     // The 301st put is the first block of the answer's names, of which half is taken.
-    for (fails, status, size) in [
-        ([].as_slice(), 0, adds + 300 * 41 + 7),
-        (&[301], 6, adds + 199 * 41 / 2),
-    ] {
-        let mut output = MemorySink::new(rt.alloc(), fails)?;
-        let limits = Limits::standard();
-        let (ended, _) = answer(rt.alloc(), limits, lines.as_bytes(), 1000, &[], &mut output)?;
-        assert_eq!(rt; (ended, output.bytes().len()), (status, size));
-    }
+    assert!(rt; are_put(rt.alloc(), &[301], (6, adds + 199 * 41 / 2))?);
     Ok(())
 }
