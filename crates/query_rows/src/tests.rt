@@ -7,10 +7,12 @@ use crate::lines::{lines_of, replies_of};
 use crate::names::parsed;
 use crate::rows::{answered, world_of};
 use crate::tables::{evaluated, levels_of, part_of, sample_of};
+use commit_graph::World;
 use dag_run::{Limits, run_lines};
 use disk_memory::MemoryDisk;
 use line_io::{MemorySink, MemorySource};
 use mirror_set::Mirrors;
+use sample_levels::LevelSample;
 use sample_tables::{OtherSample, Sample};
 use segment_codec::SegmentTable;
 use set_query::ExprFault;
@@ -20,15 +22,20 @@ use std::test::Fail;
 /// The first expression that is answered otherwise, where there is one.
 type Wrong = Option<&'static str>;
 
-/// Over plain rows.
-fn wrong_over_rows(alloc: Global, graph: &Graph) -> Result<Wrong, Fail> {
-    let world = world_of(alloc, graph)?.ok_or("the rows are a history")?;
+/// Over the rows of a world.
+fn wrong_among(alloc: Global, world: &World, graph: &Graph) -> Result<Wrong, ExprFault> {
     for (text, wanted) in graph.cases {
-        if answered(alloc, &world, text.as_bytes())?.as_slice() != *wanted {
+        if answered(alloc, world, text.as_bytes())?.as_slice() != *wanted {
             return Ok(Some(*text));
         }
     }
     Ok(None)
+}
+
+/// Over plain rows.
+fn wrong_over_rows(alloc: Global, graph: &Graph) -> Result<Wrong, Fail> {
+    let world = world_of(alloc, graph)?.ok_or("the rows are a history")?;
+    Ok(wrong_among(alloc, &world, graph)?)
 }
 
 fn is_answer(found: Option<Vec<u8>>, wanted: &[u8]) -> bool {
@@ -69,14 +76,25 @@ fn wrong_joined(
     Ok(wrong_over(alloc, &view, graph.masters, graph)?)
 }
 
-/// Over a flat table of the graph, whose master commits are in the sample.
-fn wrong_behind(alloc: Global, graph: &Graph, sample: &Sample) -> Result<Wrong, Fail> {
-    let middle = graph.masters.saturating_add(graph.stored);
-    let others = part_of(alloc, graph, graph.masters, middle)?.ok_or("others come in turn")?;
-    let pending = part_of(alloc, graph, middle, graph.parents.len())?.ok_or(
+/// Over a flat table of the graph, of whose commits those before a place are in the samples.
+fn wrong_pending(
+    alloc: Global,
+    graph: &Graph,
+    sample: &Sample,
+    others: &OtherSample,
+    place: usize,
+) -> Result<Wrong, Fail> {
+    let pending = part_of(alloc, graph, place, graph.parents.len())?.ok_or(
         "pending rows come in turn",
     )?;
-    wrong_joined(alloc, graph, sample, &others, &pending)
+    wrong_joined(alloc, graph, sample, others, &pending)
+}
+
+/// Over a flat table of the graph, whose master commits are in the sample.
+fn wrong_behind(alloc: Global, graph: &Graph, sample: &Sample) -> Result<Wrong, Fail> {
+    let place = graph.masters.saturating_add(graph.stored);
+    let others = part_of(alloc, graph, graph.masters, place)?.ok_or("others come in turn")?;
+    wrong_pending(alloc, graph, sample, &others, place)
 }
 
 /// Over a flat table of the graph, in whose log so many commits more go on from master's last.
@@ -85,20 +103,25 @@ fn wrong_over_flats(alloc: Global, graph: &Graph, more: u64) -> Result<Wrong, Fa
     wrong_behind(alloc, graph, &sample)
 }
 
-/// Over a table with the levels of the sample, in which so many first commits are the graph's.
+/// Over a table with these levels, in which so many first commits are the graph's.
 fn wrong_with_levels(
     alloc: Global,
     graph: &Graph,
-    sample: &Sample,
+    levels: &LevelSample,
     count: usize,
 ) -> Result<Wrong, Fail> {
-    let levels = levels_of(alloc, sample)?;
     let below = count as u64;
     if below > levels.count() {
         return Err(Fail::new("each commit is had"));
     }
     let view = levels.view(below);
     Ok(wrong_over(alloc, &view, count, graph)?)
+}
+
+/// Over a table with the levels of the sample.
+fn wrong_above(alloc: Global, graph: &Graph, sample: &Sample, count: usize) -> Result<Wrong, Fail> {
+    let levels = levels_of(alloc, sample)?;
+    wrong_with_levels(alloc, graph, &levels, count)
 }
 
 /// Over a table with levels, where the graph is master's alone.
@@ -108,26 +131,23 @@ fn wrong_over_levels(alloc: Global, graph: &Graph, more: u64) -> Result<Wrong, F
         return Ok(None);
     }
     let sample = sample_of(alloc, graph, count, more)?.ok_or("master is a history")?;
-    wrong_with_levels(alloc, graph, &sample, count)
+    wrong_above(alloc, graph, &sample, count)
 }
 
-/// Whether the program goes through all lines of the input.
-fn is_run(
-    alloc: Global,
-    disk: &mut MemoryDisk,
-    input: &mut MemorySource,
-    output: &mut MemorySink,
-) -> bool {
+/// The status of the program's run on the lines over a fresh log.
+fn status_of(alloc: Global, lines: &[u8], output: &mut MemorySink) -> Result<u8, AllocError> {
+    let mut disk = MemoryDisk::new(alloc, &[], &[], None)?;
+    let mut input = MemorySource::new(alloc, lines, 65_536, &[])?;
     let mut none = Mirrors::new(Vec::new(alloc));
-    run_lines(alloc, Limits::standard(), disk, &mut none, input, output).status == 0
+    let limits = Limits::standard();
+    Ok(run_lines(alloc, limits, &mut disk, &mut none, &mut input, output).status)
 }
 
 /// Whether the program replies to the lines so.
 fn are_replied(alloc: Global, lines: &[u8], replies: &[u8]) -> Result<bool, AllocError> {
-    let mut disk = MemoryDisk::new(alloc, &[], &[], None)?;
-    let mut input = MemorySource::new(alloc, lines, 65_536, &[])?;
     let mut output = MemorySink::new(alloc, &[])?;
-    Ok(is_run(alloc, &mut disk, &mut input, &mut output) && output.bytes() == replies)
+    let status = status_of(alloc, lines, &mut output)?;
+    Ok(status == 0 && output.bytes() == replies)
 }
 
 /// Whether the program replies to the graph's lines as it has to.
@@ -212,7 +232,7 @@ fn is_refused(alloc: Global, text: &str) -> bool {
 
 #[test]
 fn texts_beyond_the_limits_are_refused(rt: HostRuntime) {
-    for text in TOO_LARGE {
+    for text in &TOO_LARGE {
         assert!(rt; is_refused(rt.alloc(), text));
     }
 }
