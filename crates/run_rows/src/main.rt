@@ -6,10 +6,12 @@
 //! any other over a fresh one. Reading a case takes one carriage return off the end of each of its lines, and running it the next.
 
 ghost use Rattle.std.specs.Prelude.{◌<◌};
+ghost use Rattle.change_rules.specs.Standard.{AreLimits};
 
 use dag_run::{Limits, Report, run_lines};
 use disk_memory::MemoryDisk;
-use line_io::{Line, LineFault, Lines, MemorySource, Sink, SinkFault, StdSink, StdSource};
+use disk_trait::Disk;
+use line_io::{Line, LineFault, Lines, MemorySource, Sink, SinkFault, Source, StdSink, StdSource};
 use mirror_set::Mirrors;
 use std::alloc::{AllocError, AllocFailed, Global};
 use std::io;
@@ -62,26 +64,64 @@ struct Case {
     begun: bool,
 }
 
+/// Answers the lines of an input over a disk, without mirrors.
+fn run_alone<D: Disk, I: Source, O: Sink>(
+    alloc: Global,
+    limits: Limits,
+    disk: &mut D,
+    input: &mut I,
+    output: &mut O,
+) -> Report
+    requires { AreLimits limits }
+{
+    let mut none = Mirrors::new(Vec::new(alloc));
+    run_lines(alloc, limits, disk, &mut none, input, output)
+}
+
+/// Adds the moment of a change to the line that says how a run ended.
+fn add_change(alloc: Global, line: &mut String, change: u64) -> Result<(), AllocError> {
+    let word = format!(in alloc; " {change}")?;
+    line.push_str(word.as_str())
+}
+
 /// The line that says how a run ended.
 fn end_of(alloc: Global, report: &Report, size: usize) -> Result<String, AllocError> {
     let mut line = format!(in alloc; "-- {} {size}", report.status)?;
     for i in 0..report.changes.len() {
-        let change = report.changes.at(i);
-        line.push_str(format!(in alloc; " {change}")?.as_str())?;
+        add_change(alloc, &mut line, report.changes.at(i))?;
     }
     line.push('\n')?;
     Ok(line)
 }
 
+/// Puts the line that says how a run ended.
+fn put_end<O: Sink>(
+    alloc: Global,
+    report: &Report,
+    size: usize,
+    output: &mut O,
+) -> Result<(), Stop> {
+    let end = end_of(alloc, report, size)?;
+    output.put(end.as_bytes())?;
+    Ok(())
+}
+
+/// Runs lines over a disk, and says how their run ended.
+fn run_over<O: Sink>(
+    alloc: Global,
+    lines: &[u8],
+    disk: &mut MemoryDisk,
+    output: &mut O,
+) -> Result<(), Stop> {
+    let mut input = MemorySource::new(alloc, lines, 65_536, &[])?;
+    let report = run_alone(alloc, Limits::standard(), disk, &mut input, output);
+    put_end(alloc, &report, disk.bytes().len(), output)
+}
+
 /// Runs the lines of a case over its log, which is as they leave it then, and empties them.
 fn run_case<O: Sink>(alloc: Global, case: &mut Case, output: &mut O) -> Result<(), Stop> {
     let mut disk = MemoryDisk::new(alloc, &case.log, &[], None)?;
-    let mut input = MemorySource::new(alloc, &case.lines, 65_536, &[])?;
-    let mut none = Mirrors::new(Vec::new(alloc));
-    let limits = Limits::standard();
-    let report = run_lines(alloc, limits, &mut disk, &mut none, &mut input, output);
-    let end = end_of(alloc, &report, disk.bytes().len())?;
-    output.put(end.as_bytes())?;
+    run_over(alloc, &case.lines, &mut disk, output)?;
     case.lines.clear();
     case.log.clear();
     case.log.extend_from_slice(disk.bytes())?;
@@ -122,27 +162,53 @@ fn take_line<O: Sink>(
     Ok(())
 }
 
-fn run_all(rt: &HostRuntime) -> Result<(), Stop> {
-    let alloc = rt.alloc();
-    let mut input = StdSource::new(rt.reader());
-    let mut output = StdSink::new(io::writer(rt));
+/// Takes the next line of the cases, if there is one. Answers whether there is.
+fn take_next<I: Source, O: Sink>(
+    alloc: Global,
+    case: &mut Case,
+    lines: &mut Lines,
+    input: &mut I,
+    output: &mut O,
+) -> Result<bool, Stop> {
+    match lines.next(input)? {
+        Some(Line::Text) => take_line(alloc, case, lines.text(), output)?,
+        Some(Line::TooLong) => return Err(Stop::Source),
+        None => return Ok(false),
+    }
+    Ok(true)
+}
+
+/// Takes all lines of the cases.
+fn take_lines<I: Source, O: Sink>(
+    alloc: Global,
+    case: &mut Case,
+    input: &mut I,
+    output: &mut O,
+) -> Result<(), Stop> {
     let mut lines = Lines::new(alloc, 1 << 30)?;
+    for _line in 0..u64::MAX {
+        if !take_next(alloc, case, &mut lines, input, output)? {
+            break;
+        }
+    }
+    Ok(())
+}
+
+/// Runs the cases of the input, of which none is begun yet.
+fn run_cases<I: Source, O: Sink>(alloc: Global, input: &mut I, output: &mut O) -> Result<(), Stop> {
     let mut case = Case {
         lines: Vec::new(alloc),
         log: Vec::new(alloc),
         begun: false,
     };
-    for _line in 0..u64::MAX {
-        let Some(kind) = lines.next(&mut input)? else {
-            break;
-        };
-        match kind {
-            Line::Text => take_line(alloc, &mut case, lines.text(), &mut output)?,
-            Line::TooLong => return Err(Stop::Source),
-        }
-    }
-    run_case(alloc, &mut case, &mut output)?;
-    Ok(())
+    take_lines(alloc, &mut case, input, output)?;
+    run_case(alloc, &mut case, output)
+}
+
+fn run_all(rt: &HostRuntime) -> Result<(), Stop> {
+    let mut input = StdSource::new(rt.reader());
+    let mut output = StdSink::new(io::writer(rt));
+    run_cases(rt.alloc(), &mut input, &mut output)
 }
 
 fn main(rt: HostRuntime) -> ExitCode {

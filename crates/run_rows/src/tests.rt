@@ -3,10 +3,11 @@
 ghost use Rattle.std.specs.Prelude.{◌<◌};
 ghost use Rattle.change_rules.specs.Standard.{AreLimits};
 
-use dag_run::{Limits, Report, run_lines, split_words, top};
+use crate::run_alone;
+use dag_run::{Limits, split_words, top};
 use disk_memory::{Choice, Fill, MemoryDisk};
 use disk_trait::Disk;
-use line_io::{MemorySink, MemorySource, Sink, Source};
+use line_io::{MemorySink, MemorySource};
 use mirror_set::Mirrors;
 use std::alloc::{AllocError, Global};
 
@@ -43,20 +44,6 @@ const THREE: &str = "0 add 00000000000000000000000000000000000000a1
 0 add 00000000000000000000000000000000000000b1 00000000000000000000000000000000000000a1
 0 query all
 ";
-
-/// Answers the lines of an input over a disk, without mirrors.
-fn run_alone<D: Disk, I: Source, O: Sink>(
-    alloc: Global,
-    limits: Limits,
-    disk: &mut D,
-    input: &mut I,
-    output: &mut O,
-) -> Report
-    requires { AreLimits limits }
-{
-    let mut none = Mirrors::new(Vec::new(alloc));
-    run_lines(alloc, limits, disk, &mut none, input, output)
-}
 
 /// Answers the lines over a fresh disk, which come in pieces of so many bytes from a source that fails at these calls. The status,
 /// and how many bytes are left unread.
