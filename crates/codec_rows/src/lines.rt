@@ -2,7 +2,9 @@
 
 ghost use Rattle.std.specs.Prelude.{◌<◌};
 
-use line_io::{Line, LineFault, Lines, MemorySink, MemorySource, Sink, Source, StdSource};
+use line_io::{
+    Line, LineFault, Lines, MemorySink, MemorySource, Sink, Source, SourceFault, StdSource,
+};
 use std::alloc::{AllocError, Global};
 use std::test::Fail;
 
@@ -204,13 +206,19 @@ fn a_sink_fails_at_the_calls_that_are_named(rt: HostRuntime) -> Result<(), Fail>
     Ok(())
 }
 
-#[test]
-fn the_end_of_a_reader_is_no_fault(rt: HostRuntime) -> Result<(), Fail> {
+/// What a source of three bytes answers to four calls with room for two, and what lies in that room then.
+fn filled() -> ([Result<usize, SourceFault>; 4], [u8; 2]) {
     let mut source = StdSource::new(b"abc".as_slice());
     let mut out = [0; 2];
-    for want in [2, 1, 0, 0] {
-        assert_eq!(rt; source.fill(&mut out), Ok(want));
-    }
-    assert_eq!(rt; out, *b"cb");
+    let first = source.fill(&mut out);
+    let second = source.fill(&mut out);
+    let third = source.fill(&mut out);
+    let fourth = source.fill(&mut out);
+    ([first, second, third, fourth], out)
+}
+
+#[test]
+fn the_end_of_a_reader_is_no_fault(rt: HostRuntime) -> Result<(), Fail> {
+    assert_eq!(rt; filled(), ([Ok(2), Ok(1), Ok(0), Ok(0)], *b"cb"));
     Ok(())
 }
