@@ -136,13 +136,24 @@ fn show_batches<R: Print + Eprint + Clock>(
     let mut growing = start_growing(alloc, records).ok();
     let all = (SEGMENTS / u64::from(batch.max(1))) as u32;
     for times in [100, all.saturating_sub(200), 100] {
-        name_part(rt, "batches", "of so many", u64::from(batch))?;
-        growing = match growing {
-            None => None,
-            Some(before) => show_growing(rt, before, records, batch, times)?,
-        };
+        growing = show_part(rt, growing, records, batch, times)?;
     }
     Ok(())
+}
+
+/// Grows levels by so many batches, unless there was no memory before.
+fn show_part<R: Print + Eprint + Clock>(
+    rt: &R,
+    growing: Option<Growing>,
+    records: &[u8],
+    batch: u32,
+    times: u32,
+) -> io::Result<Option<Growing>> {
+    name_part(rt, "batches", "of so many", u64::from(batch))?;
+    match growing {
+        None => Ok(None),
+        Some(before) => show_growing(rt, before, records, batch, times),
+    }
 }
 
 /// The ancestors of the last id.

@@ -27,19 +27,39 @@ fn ask<T: SegmentTable>(
     first: Id,
     second: Id,
 ) -> Result<u64, AllocError> {
-    let one = held_ids(alloc, table, &[first])?;
-    let mut steps = Steps::new();
-    let found = match question {
-        Question::Ancestors => ancestors(alloc, table, &one, &mut steps)?,
-        Question::Only => {
-            let other = held_ids(alloc, table, &[second])?;
-            only(alloc, table, &one, &other, &mut steps)?
-        }
-        Question::Gca => {
-            let both = held_ids(alloc, table, &[first, second])?;
-            gca(alloc, table, &both, &mut steps)?
-        }
-    };
+    match question {
+        Question::Ancestors => count_ancestors(alloc, table, first),
+        Question::Only => count_only(alloc, table, first, second),
+        Question::Gca => count_gca(alloc, table, first, second),
+    }
+}
+
+fn count_ancestors<T: SegmentTable>(alloc: Global, table: &T, id: Id) -> Result<u64, AllocError> {
+    let set = held_ids(alloc, table, &[id])?;
+    let found = ancestors(alloc, table, &set, &mut Steps::new())?;
+    Ok(found.count())
+}
+
+fn count_only<T: SegmentTable>(
+    alloc: Global,
+    table: &T,
+    first: Id,
+    second: Id,
+) -> Result<u64, AllocError> {
+    let set = held_ids(alloc, table, &[first])?;
+    let other = held_ids(alloc, table, &[second])?;
+    let found = only(alloc, table, &set, &other, &mut Steps::new())?;
+    Ok(found.count())
+}
+
+fn count_gca<T: SegmentTable>(
+    alloc: Global,
+    table: &T,
+    first: Id,
+    second: Id,
+) -> Result<u64, AllocError> {
+    let set = held_ids(alloc, table, &[first, second])?;
+    let found = gca(alloc, table, &set, &mut Steps::new())?;
     Ok(found.count())
 }
 

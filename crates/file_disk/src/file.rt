@@ -15,10 +15,18 @@ pub fn open<R: Files>(rt: &R, path: &str, make: bool) -> io::Result<R::File> {
         .write(make)
         .create(make)
         .open(rt, path)?;
-    if make && is_empty(&file)? {
-        sync_folder(rt, folder_of(path))?;
+    if make {
+        keep_entry(rt, &file, path)?;
     }
     Ok(file)
+}
+
+/// Makes sure of the entry of a file that is new.
+fn keep_entry<R: Files, F: OpenFile>(rt: &R, file: &F, path: &str) -> io::Result<()> {
+    if is_empty(file)? {
+        sync_folder(rt, folder_of(path))?;
+    }
+    Ok(())
 }
 
 /// Refuses what is there and isn't a regular file: to open a pipe may wait for ever, and a device keeps nothing.
