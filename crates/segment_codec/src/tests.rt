@@ -6,43 +6,57 @@ ghost use Rattle.segment_codec.specs.Flat.{IsFlat};
 ghost use Rattle.segment_codec.specs.Lent.{segment_of};
 
 use crate::number::{read_number, write_number};
-use crate::{SegmentRef, Steps, read_segment, write_segment};
+use crate::{Parents, SegmentRef, Steps, read_segment, write_segment};
 use id_groups::Id;
+use std::alloc::{AllocError, Global};
 use std::test::Fail;
 
+/// Numbers and their bytes.
+const NUMBERS: [(u64, &[u8]); 15] = [
+    (0, &[0]),
+    (127, &[127]),
+    (128, &[0x80, 1]),
+    (300, &[0xac, 2]),
+    ((1 << 14) - 1, &[0xff, 0x7f]),
+    (1 << 14, &[0x80, 0x80, 1]),
+    (70_000, &[0xf0, 0xa2, 4]),
+    ((1 << 21) - 1, &[0xff, 0xff, 0x7f]),
+    (1 << 21, &[0x80, 0x80, 0x80, 1]),
+    (12_345_678, &[0xce, 0xc2, 0xf1, 5]),
+    ((1 << 28) - 1, &[0xff, 0xff, 0xff, 0x7f]),
+    (1 << 28, &[0x80, 0x80, 0x80, 0x80, 1]),
+    (
+        1 << 56,
+        &[0x80, 0x80, 0x80, 0x80, 0x80, 0x80, 0x80, 0x80, 1],
+    ),
+    (
+        1 << 63,
+        &[0x80, 0x80, 0x80, 0x80, 0x80, 0x80, 0x80, 0x80, 0x80, 1],
+    ),
+    (u64::MAX, &[255, 255, 255, 255, 255, 255, 255, 255, 255, 1]),
+];
+
+/// Whether the number stands in front of the other bytes.
+fn is_read(bytes: &[u8], number: u64, behind: &[u8]) -> bool {
+    match read_number(bytes) {
+        Some((read, rest)) => read == number && rest == behind,
+        None => false,
+    }
+}
+
+/// Whether the number is written as these bytes, and read from them in front of others.
+fn goes_both_ways(alloc: Global, number: u64, bytes: &[u8]) -> Result<bool, AllocError> {
+    let mut out = Vec::new(alloc);
+    write_number(&mut out, number)?;
+    let is_written = out.as_slice() == bytes;
+    out.extend_from_slice(&[0, 0x80])?;
+    Ok(is_written && is_read(&out, number, &[0, 0x80]))
+}
+
 #[test]
-fn numbers_both_ways(rt: HostRuntime) -> Result<(), Fail> {
-    let rows: [(u64, &[u8]); 15] = [
-        (0, &[0]),
-        (127, &[127]),
-        (128, &[0x80, 1]),
-        (300, &[0xac, 2]),
-        ((1 << 14) - 1, &[0xff, 0x7f]),
-        (1 << 14, &[0x80, 0x80, 1]),
-        (70_000, &[0xf0, 0xa2, 4]),
-        ((1 << 21) - 1, &[0xff, 0xff, 0x7f]),
-        (1 << 21, &[0x80, 0x80, 0x80, 1]),
-        (12_345_678, &[0xce, 0xc2, 0xf1, 5]),
-        ((1 << 28) - 1, &[0xff, 0xff, 0xff, 0x7f]),
-        (1 << 28, &[0x80, 0x80, 0x80, 0x80, 1]),
-        (
-            1 << 56,
-            &[0x80, 0x80, 0x80, 0x80, 0x80, 0x80, 0x80, 0x80, 1],
-        ),
-        (
-            1 << 63,
-            &[0x80, 0x80, 0x80, 0x80, 0x80, 0x80, 0x80, 0x80, 0x80, 1],
-        ),
-        (u64::MAX, &[255, 255, 255, 255, 255, 255, 255, 255, 255, 1]),
-    ];
-    for (number, bytes) in &rows {
-        let mut out = Vec::new(rt.alloc());
-        write_number(&mut out, *number)?;
-        assert_eq!(rt; out.as_slice(), *bytes);
-        out.extend_from_slice(&[0, 0x80])?;
-        let read = read_number(&out).ok_or("the bytes begin with a number")?;
-        assert_eq!(rt; read.0, *number);
-        assert_eq!(rt; read.1, [0, 0x80].as_slice());
+fn numbers_both_ways(rt: HostRuntime) -> Result<(), AllocError> {
+    for (number, bytes) in &NUMBERS {
+        assert!(rt; goes_both_ways(rt.alloc(), *number, bytes)?, "{number}");
     }
     Ok(())
 }
@@ -75,34 +89,74 @@ fn no_numbers(rt: HostRuntime) {
     }
 }
 
-#[test]
-fn a_record_both_ways(rt: HostRuntime) -> Result<(), Fail> {
-    let bytes: [u8; 30] = [
-        0, 0, 1, 0, 0, 0, 0, 0, 0, 2, 0, 2, 0x80, 0x80, 0x80, 0x80, 0x80, 0x80, 0x80, 0x80, 1,
-        0x81, 0x80, 0x80, 0x80, 0x80, 0x80, 0x80, 0x80, 1,
-    ];
-    let mut out = Vec::new(rt.alloc());
-    write_segment(
-        &mut out,
-        Id::other(2),
-        Id::other(2),
-        0,
-        &[Id::other(0), Id::other(1)],
-    )?;
-    assert_eq!(rt; out.as_slice(), bytes.as_slice());
-    let (segment, rest) = read_segment(&out).ok_or("the bytes are a record")?;
-    assert!(rt; rest.is_empty());
-    assert_eq!(rt; segment.low(), Id::other(2));
-    assert_eq!(rt; segment.high(), Id::other(2));
-    assert_eq!(rt; segment.level(), 0);
-    let mut parents = segment.parents();
-    assert_eq!(rt; parents.next(), Some(Id::other(0)));
-    assert_eq!(rt; parents.next(), Some(Id::other(1)));
-    assert_eq!(rt; parents.next(), None);
-    assert_eq!(rt; segment.ending_at(Id::other(9)).high(), Id::other(9));
-    for len in 0..30usize {
-        assert!(rt; read_segment(&bytes[..len]).is_none());
+/// A merge of the first two other commits, the third.
+const MERGE: [u8; 30] = [
+    0, 0, 1, 0, 0, 0, 0, 0, 0, 2, 0, 2, 0x80, 0x80, 0x80, 0x80, 0x80, 0x80, 0x80, 0x80, 1, 0x81,
+    0x80, 0x80, 0x80, 0x80, 0x80, 0x80, 0x80, 1,
+];
+
+/// Whether these are the parents, in order.
+fn are_parents(parents: Parents<'_>, wanted: &[Id]) -> bool {
+    let mut left = parents;
+    for id in wanted {
+        if left.next() != Some(*id) {
+            return false;
+        }
     }
+    left.next() == None
+}
+
+/// Whether it is a segment of level 0 with these ids and parents.
+fn is_segment(segment: SegmentRef<'_>, low: Id, high: Id, parents: &[Id]) -> bool {
+    segment.low() == low
+        && segment.high() == high
+        && segment.level() == 0
+        && are_parents(segment.parents(), parents)
+}
+
+/// Whether a segment from the third other commit on may end at the tenth.
+fn ends_later(segment: SegmentRef<'_>) -> bool {
+    if segment.low() != Id::other(2) {
+        return false;
+    }
+    segment.ending_at(Id::other(9)).high() == Id::other(9)
+}
+
+/// Whether the bytes are the merge's record.
+fn is_merge(bytes: &[u8]) -> bool {
+    let parents = [Id::other(0), Id::other(1)];
+    match read_segment(bytes) {
+        Some((segment, rest)) => {
+            rest.is_empty()
+                && is_segment(segment, Id::other(2), Id::other(2), &parents)
+                && ends_later(segment)
+        }
+        None => false,
+    }
+}
+
+/// Whether the merge is written as its bytes, and read from them.
+fn is_merge_both_ways(alloc: Global) -> Result<bool, AllocError> {
+    let mut out = Vec::new(alloc);
+    let parents = [Id::other(0), Id::other(1)];
+    write_segment(&mut out, Id::other(2), Id::other(2), 0, &parents)?;
+    Ok(out.as_slice() == MERGE.as_slice() && is_merge(&out))
+}
+
+/// The first length of a front of the merge's bytes that is a record.
+fn shorter_record() -> Option<usize> {
+    for len in 0..30usize {
+        if read_segment(&MERGE[..len]).is_some() {
+            return Some(len);
+        }
+    }
+    None
+}
+
+#[test]
+fn a_record_both_ways(rt: HostRuntime) -> Result<(), AllocError> {
+    assert!(rt; is_merge_both_ways(rt.alloc())?);
+    assert_eq!(rt; shorter_record(), None);
     Ok(())
 }
 
@@ -117,78 +171,97 @@ fn made_again<'a>(bytes: &'a [u8], segment: SegmentRef<'_>) -> SegmentRef<'a>
     SegmentRef::flat(segment.low(), segment.high(), parents)
 }
 
-#[test]
-fn a_flat_segment_of_its_parts(rt: HostRuntime) -> Result<(), Fail> {
-    let mut out = Vec::new(rt.alloc());
-    write_segment(
-        &mut out,
-        Id::master(70_000),
-        Id::master(70_300),
-        0,
-        &[Id::master(69_999), Id::master(300), Id::master(3)],
-    )?;
-    let (segment, _) = read_segment(&out).ok_or("the bytes are a record")?;
-    assert_eq!(rt; segment.level(), 0);
-    assert_eq!(rt; segment.head_len(), 13);
-    assert_eq!(rt; segment.parents_len(), 6);
-    let again = made_again(&out, segment);
-    assert_eq!(rt; again.low(), Id::master(70_000));
-    assert_eq!(rt; again.high(), Id::master(70_300));
-    assert_eq!(rt; again.level(), 0);
-    let mut parents = again.parents();
-    assert_eq!(rt; parents.next(), Some(Id::master(69_999)));
-    assert_eq!(rt; parents.next(), Some(Id::master(300)));
-    assert_eq!(rt; parents.next(), Some(Id::master(3)));
-    assert_eq!(rt; parents.next(), None);
-    Ok(())
+/// Whether the segment, whose record stands in front of the bytes, has a head of 13 bytes and parents of 6, and is the same made
+/// of its parts.
+fn is_made_again(bytes: &[u8], segment: SegmentRef<'_>, low: Id, high: Id, parents: &[Id]) -> bool
+    requires flat { IsFlat (segment_of segment) }
+    requires stands { (rest : List ℕ) × (bytes.now ≡ segment_bytes (segment_of segment) ++ rest) }
+{
+    let again = made_again(bytes, segment);
+    segment.head_len() == 13
+        && segment.parents_len() == 6
+        && is_segment(segment, low, high, parents)
+        && is_segment(again, low, high, parents)
+}
+
+/// Whether a segment that is written and read is the same made of its parts.
+fn is_made_of_parts(alloc: Global) -> Result<bool, AllocError> {
+    let (low, high) = (Id::master(70_000), Id::master(70_300));
+    let parents = [Id::master(69_999), Id::master(300), Id::master(3)];
+    let mut out = Vec::new(alloc);
+    write_segment(&mut out, low, high, 0, &parents)?;
+    let Some((segment, _)) = read_segment(&out) else {
+        return Ok(false);
+    };
+    if segment.level() != 0 {
+        return Ok(false);
+    }
+    Ok(is_made_again(&out, segment, low, high, &parents))
 }
 
 #[test]
-fn no_records(rt: HostRuntime) {
-    let rows: [&[u8]; 13] = [
-        // flags with another bit, or that don't fit the count of parents
-        &[2, 0, 0, 0, 0, 0, 0, 0, 0, 9, 9, 0],
-        &[3, 0, 0, 0, 0, 0, 0, 0, 0, 9, 9, 0],
-        &[0, 0, 0, 0, 0, 0, 0, 0, 0, 9, 9, 0],
-        &[1, 0, 0, 0, 0, 0, 0, 0, 0, 9, 0, 1, 3],
-        // level 8
-        &[1, 8, 0, 0, 0, 0, 0, 0, 0, 9, 9, 0],
-        // a highest id outside the groups, a low id below 0, and one of the other group
-        &[1, 0, 2, 0, 0, 0, 0, 0, 0, 0, 0, 0],
-        &[1, 0, 0, 0, 0, 0, 0, 0, 0, 9, 10, 0],
-        &[1, 0, 1, 0, 0, 0, 0, 0, 0, 0, 1, 0],
-        // a longer number
-        &[1, 0, 0, 0, 0, 0, 0, 0, 0, 9, 0x89, 0, 0],
-        // a parent twice, one at the low, nine parents
-        &[0, 0, 0, 0, 0, 0, 0, 0, 0, 9, 0, 2, 3, 3],
-        &[0, 0, 0, 0, 0, 0, 0, 0, 0, 9, 0, 1, 9],
-        &[
-            0, 0, 0, 0, 0, 0, 0, 0, 0, 99, 0, 9, 1, 2, 3, 4, 5, 6, 7, 8, 9,
-        ],
-        // parents of a higher level that don't ascend
-        &[0, 1, 0, 0, 0, 0, 0, 0, 0, 9, 0, 2, 4, 3],
-    ];
-    for bytes in &rows {
+fn a_flat_segment_of_its_parts(rt: HostRuntime) -> Result<(), AllocError> {
+    assert!(rt; is_made_of_parts(rt.alloc())?);
+    Ok(())
+}
+
+/// Bytes that begin with no record.
+const NO_RECORDS: [&[u8]; 13] = [
+    // flags with another bit, or that don't fit the count of parents
+    &[2, 0, 0, 0, 0, 0, 0, 0, 0, 9, 9, 0],
+    &[3, 0, 0, 0, 0, 0, 0, 0, 0, 9, 9, 0],
+    &[0, 0, 0, 0, 0, 0, 0, 0, 0, 9, 9, 0],
+    &[1, 0, 0, 0, 0, 0, 0, 0, 0, 9, 0, 1, 3],
+    // level 8
+    &[1, 8, 0, 0, 0, 0, 0, 0, 0, 9, 9, 0],
+    // a highest id outside the groups, a low id below 0, and one of the other group
+    &[1, 0, 2, 0, 0, 0, 0, 0, 0, 0, 0, 0],
+    &[1, 0, 0, 0, 0, 0, 0, 0, 0, 9, 10, 0],
+    &[1, 0, 1, 0, 0, 0, 0, 0, 0, 0, 1, 0],
+    // a longer number
+    &[1, 0, 0, 0, 0, 0, 0, 0, 0, 9, 0x89, 0, 0],
+    // a parent twice, one at the low, nine parents
+    &[0, 0, 0, 0, 0, 0, 0, 0, 0, 9, 0, 2, 3, 3],
+    &[0, 0, 0, 0, 0, 0, 0, 0, 0, 9, 0, 1, 9],
+    &[
+        0, 0, 0, 0, 0, 0, 0, 0, 0, 99, 0, 9, 1, 2, 3, 4, 5, 6, 7, 8, 9,
+    ],
+    // parents of a higher level that don't ascend
+    &[0, 1, 0, 0, 0, 0, 0, 0, 0, 9, 0, 2, 4, 3],
+];
+
+/// Nine parents of a higher level, and those of a flat segment in any order.
+const RECORDS: [&[u8]; 2] = [
+    &[
+        0, 1, 0, 0, 0, 0, 0, 0, 0, 99, 0, 9, 1, 2, 3, 4, 5, 6, 7, 8, 9,
+    ],
+    &[0, 0, 0, 0, 0, 0, 0, 0, 0, 9, 0, 2, 4, 3],
+];
+
+#[test]
+fn records_and_none(rt: HostRuntime) {
+    for bytes in &NO_RECORDS {
         assert!(rt; read_segment(bytes).is_none());
     }
-    // nine parents of a higher level, and those of a flat segment in any order
-    let high: [u8; 21] = [
-        0, 1, 0, 0, 0, 0, 0, 0, 0, 99, 0, 9, 1, 2, 3, 4, 5, 6, 7, 8, 9,
-    ];
-    assert!(rt; read_segment(&high).is_some());
-    let flat: [u8; 14] = [0, 0, 0, 0, 0, 0, 0, 0, 0, 9, 0, 2, 4, 3];
-    assert!(rt; read_segment(&flat).is_some());
+    for bytes in &RECORDS {
+        assert!(rt; read_segment(bytes).is_some());
+    }
+}
+
+/// The look-ups taken and the hint kept, at first, behind two look-ups of which one hints at 7, and behind a hint at 3.
+fn counted() -> [(u64, usize); 3] {
+    let mut steps = Steps::new();
+    let fresh = (steps.taken(), steps.near());
+    steps.tick();
+    steps.set_near(7);
+    steps.tick();
+    let twice = (steps.taken(), steps.near());
+    steps.set_near(3);
+    [fresh, twice, (steps.taken(), steps.near())]
 }
 
 #[test]
 fn look_ups_are_counted(rt: HostRuntime) -> Result<(), Fail> {
-    let mut steps = Steps::new();
-    assert_eq!(rt; (steps.taken(), steps.near()), (0, 0));
-    steps.tick();
-    steps.set_near(7);
-    steps.tick();
-    assert_eq!(rt; (steps.taken(), steps.near()), (2, 7));
-    steps.set_near(3);
-    assert_eq!(rt; (steps.taken(), steps.near()), (2, 3));
+    assert_eq!(rt; counted(), [(0, 0), (2, 7), (2, 3)]);
     Ok(())
 }
