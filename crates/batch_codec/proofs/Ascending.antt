@@ -15,7 +15,7 @@ ascend-parts least end id ids h =
     let q = and_parts (leb least id) (ltb id end) p.0 in
     (leb-true least id q.0, ltb-true id end q.1, p.1)
 
-ascend-made : (least end id : ℕ) (ids : List ℕ) → least ≤ id → id < end → ids_ascend (id + 1) end ids ≡ true → ids_ascend least end (id ∷ ids) ≡ true
+pub ascend-made : (least end id : ℕ) (ids : List ℕ) → least ≤ id → id < end → ids_ascend (id + 1) end ids ≡ true → ids_ascend least end (id ∷ ids) ≡ true
 ascend-made least end id ids le lt h = rw (le-leb least id le, lt-ltb id end lt) h
 
 pub ascend-wider : (least end least' end' : ℕ) (ids : List ℕ) → least' ≤ least → end ≤ end' → ids_ascend least end ids ≡ true → ids_ascend least' end' ids ≡ true

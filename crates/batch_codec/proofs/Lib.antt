@@ -4,6 +4,10 @@ pub mod Ascending
 pub mod Records
 pub mod Pieces
 pub mod Meanings
+pub mod Knowing
+pub mod Rising
 pub mod Payloads
+pub mod Places
+pub mod Cloned
 pub mod Built
 pub mod Samples

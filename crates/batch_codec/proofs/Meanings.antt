@@ -1,25 +1,21 @@
 -- The tests of a payload mean its rules.
-use Rattle.std.proofs.Common.{◌≡◌, ◌≢◌, ℕ, ◌+◌, ◌-◌, ◌^◌, ◌<◌, ◌≤◌, Bool, true, false, cond, not, ltb, leb, eqb, ◌&&◌, ◌||◌, ◌⊎◌, List, [], ◌∷◌, length, refl, sym, ap, ◌∙◌, inl, inr, ⊎_elim, true≢false, arith}
-use Rattle.std.specs.Prelude.{nat_eq}
+use Rattle.std.proofs.Common.{◌≡◌, ◌≢◌, ℕ, ◌+◌, ◌-◌, ◌^◌, ◌<◌, ◌≤◌, Bool, true, false, not, ltb, leb, eqb, ◌&&◌, ◌||◌, ◌⊎◌, List, [], ◌∷◌, length, refl, sym, ap, inl, inr, ⊎_elim, true≢false, arith}
 use Rattle.std.specs.List.{AllByRecursion}
-use Rattle.std.proofs.lemmas.List.{nil_from_length}
-use Rattle.std.proofs.lemmas.Bool.{and_parts, and_from, or_cases, not-true, ltb-true, lt-ltb, leb-true, le-leb, eqb-true, eq-eqb, ne_eqb, cases_lt, cases_eq}
-use Rattle.id_groups.specs.Lists.{IsIn, is_in, AreAllIn}
-use Rattle.id_groups.proofs.Listing.{found, there}
+use Rattle.std.proofs.lemmas.Bool.{and_parts, and_from, or_cases, not-true, ltb-true, lt-ltb, leb-true, le-leb, eqb-true, eq-eqb, cases_lt, cases_eq}
+use Rattle.id_groups.specs.Lists.{IsIn}
 use Rattle.segment_codec.specs.Record.{Segment}
 use Rattle.segment_codec.specs.Table.{Follow}
 use Rattle.segment_codec.specs.Turns.{goes_on, MayStandAt, StandInTurn}
-use Rattle.batch_codec.specs.Payload.{Payload, known_ids}
-use Rattle.batch_codec.specs.Grammar.{HasOthersParents, IsFlush, IsClone, merge_parents}
-use Rattle.batch_codec.specs.Reading.{are_within, may_stand, ids_ascend, are_known, knows_merge, knows_segment, knows_needed, flush_fits, clone_fits, kind_fits}
+use Rattle.batch_codec.specs.Grammar.{HasOthersParents}
+use Rattle.batch_codec.specs.Reading.{are_within, may_stand, ids_ascend}
 use Rattle.batch_codec.proofs.Records.{AllStand}
 use Rattle.batch_codec.proofs.Ascending.{ascend-parts}
 
-or-left : (b c : Bool) → b ≡ true → (b || c) ≡ true
+pub or-left : (b c : Bool) → b ≡ true → (b || c) ≡ true
 or-left true c h = refl
 or-left false c h = absurd (true≢false (sym h))
 
-or-right : (b c : Bool) → c ≡ true → (b || c) ≡ true
+pub or-right : (b c : Bool) → c ≡ true → (b || c) ≡ true
 or-right true c h = refl
 or-right false c h = h
 
@@ -108,6 +104,16 @@ pub follow-length : (first end : ℕ) (ss : List Segment) → Follow first end s
 follow-length first end [] h = omega (arith, h)
 follow-length first end (s ∷ ss) h = let up = h.1 in omega (arith, up, follow-length (s.high + 1) end ss h.2)
 
+follow-up : (first end : ℕ) (ss : List Segment) → Follow first end ss → first ≤ end
+follow-up first end ss h = omega (arith, follow-length first end ss h)
+
+-- each of records in turn lies below the end
+pub follow-within : (first end : ℕ) (ss : List Segment) → Follow first end ss → AllByRecursion (λ (s : Segment). (s.low ≤ s.high) × (s.high < end)) ss
+follow-within first end [] h = tt
+follow-within first end (s ∷ ss) h =
+    let low = h.0 in let up = h.1 in
+    ((omega (arith, low, up), omega (arith, follow-up (s.high + 1) end ss h.2)), follow-within (s.high + 1) end ss h.2)
+
 -- ---- known ids
 
 pub ascend-length : (least end : ℕ) (ids : List ℕ) → ids_ascend least end ids ≡ true → length ids ≤ end - least
@@ -117,7 +123,7 @@ ascend-length least end (id ∷ ids) h =
     let low = p.0 in let high = p.1 in
     omega (arith, low, high, ascend-length (id + 1) end ids p.2)
 
-in-above : (least end : ℕ) (ids : List ℕ) (n : ℕ) → ids_ascend least end ids ≡ true → IsIn n ids → least ≤ n
+pub in-above : (least end : ℕ) (ids : List ℕ) (n : ℕ) → ids_ascend least end ids ≡ true → IsIn n ids → least ≤ n
 in-above least end [] n h i = absurd i
 in-above least end (id ∷ ids) n h (inl e) = let low = (ascend-parts least end id ids h).0 in omega (arith, low, e)
 in-above least end (id ∷ ids) n h (inr i) =
@@ -160,99 +166,3 @@ known-length least end (x ∷ ids) h all =
     later : (id : ℕ) → x + 1 ≤ id → IsIn id (x ∷ ids) → IsIn id ids
     later id le (inl e) = absurd (omega (arith, le, e))
     later id le (inr i) = i
-
--- ---- what a clone knows
-
-same-number : (n : ℕ) → nat_eq n n ≡ true
-same-number n = eq-eqb n n refl
-
-in-means : (n : ℕ) (ids : List ℕ) → is_in nat_eq n ids ≡ true → IsIn n ids
-in-means n ids h = found nat_eq eqb-true same-number n ids h
-
-in-decided : (n : ℕ) (ids : List ℕ) → IsIn n ids → is_in nat_eq n ids ≡ true
-in-decided n ids h = there nat_eq eqb-true same-number n ids h
-
-known-all : (ids ps : List ℕ) → are_known ids ps ≡ true → AreAllIn ps ids
-known-all ids [] h = tt
-known-all ids (p ∷ ps) h = let t = and_parts (is_in nat_eq p ids) (are_known ids ps) h in (in-means p ids t.0, known-all ids ps t.1)
-
-all-are-known : (ids ps : List ℕ) → AreAllIn ps ids → are_known ids ps ≡ true
-all-are-known ids [] h = refl
-all-are-known ids (p ∷ ps) h = and_from (is_in nat_eq p ids) (are_known ids ps) (in-decided p ids h.0) (all-are-known ids ps h.1)
-
-merge-means : (ids ps : List ℕ) → knows_merge ids ps ≡ true → AreAllIn (merge_parents ps) ids
-merge-means ids [] h = tt
-merge-means ids (p ∷ []) h = tt
-merge-means ids (p ∷ q ∷ more) h = known-all ids (p ∷ q ∷ more) h
-
-merge-decided : (ids ps : List ℕ) → AreAllIn (merge_parents ps) ids → knows_merge ids ps ≡ true
-merge-decided ids [] h = refl
-merge-decided ids (p ∷ []) h = refl
-merge-decided ids (p ∷ q ∷ more) h = all-are-known ids (p ∷ q ∷ more) h
-
-needed-means : (ids : List ℕ) (ss : List Segment) → knows_needed ids ss ≡ true → AllByRecursion (λ s. IsIn s.high ids × AreAllIn (merge_parents s.parents) ids) ss
-needed-means ids [] h = tt
-needed-means ids (s ∷ ss) h =
-    let a = and_parts (knows_segment ids s) (knows_needed ids ss) h in
-    let b = and_parts (is_in nat_eq s.high ids) (knows_merge ids s.parents) a.0 in
-    ((in-means s.high ids b.0, merge-means ids s.parents b.1), needed-means ids ss a.1)
-
-needed-decided : (ids : List ℕ) (ss : List Segment) → AllByRecursion (λ s. IsIn s.high ids × AreAllIn (merge_parents s.parents) ids) ss → knows_needed ids ss ≡ true
-needed-decided ids [] h = refl
-needed-decided ids (s ∷ ss) h =
-    and_from (knows_segment ids s) (knows_needed ids ss)
-    (and_from (is_in nat_eq s.high ids) (knows_merge ids s.parents) (in-decided s.high ids h.0.0) (merge-decided ids s.parents h.0.1)) (needed-decided ids ss h.1)
-
--- ---- the kinds
-
-flush-means : (p : Payload) → p.kind ≡ 1 → ids_ascend p.before p.after (known_ids p) ≡ true → length (known_ids p) ≡ length p.known → flush_fits p ≡ true → IsFlush p
-flush-means p kind up len h =
-    let a = and_parts (eqb (length p.known) (p.after - p.before) && eqb (length p.heads) 0) (ltb 0 p.after || ltb 0 (length p.other_names)) h in
-    let b = and_parts (eqb (length p.known) (p.after - p.before)) (eqb (length p.heads) 0) a.0 in
-    record {
-      kind = kind;
-      all_known = all-known p.before p.after (known_ids p) up (len ∙ eqb-true (length p.known) (p.after - p.before) b.0);
-      no_heads = nil_from_length p.heads (eqb-true (length p.heads) 0 b.1);
-      something = ⊎_elim (λ e. inl (ltb-true 0 p.after e)) (λ e. inr (ltb-true 0 (length p.other_names) e)) (or_cases (ltb 0 p.after) (ltb 0 (length p.other_names)) a.1);
-    }
-
-flush-decided : (p : Payload) → ids_ascend p.before p.after (known_ids p) ≡ true → length (known_ids p) ≡ length p.known → IsFlush p → flush_fits p ≡ true
-flush-decided p up len h =
-    let known = eq-eqb (length p.known) (p.after - p.before) (sym len ∙ known-length p.before p.after (known_ids p) up h.all_known) in
-    let heads = eq-eqb (length p.heads) 0 (ap length h.no_heads) in
-    and_from (eqb (length p.known) (p.after - p.before) && eqb (length p.heads) 0) (ltb 0 p.after || ltb 0 (length p.other_names))
-    (and_from (eqb (length p.known) (p.after - p.before)) (eqb (length p.heads) 0) known heads)
-    (⊎_elim (λ lt. or-left (ltb 0 p.after) (ltb 0 (length p.other_names)) (lt-ltb 0 p.after lt)) (λ lt. or-right (ltb 0 p.after) (ltb 0 (length p.other_names)) (lt-ltb 0 (length p.other_names) lt)) h.something)
-
-clone-means : (p : Payload) → p.kind ≡ 2 → clone_fits p ≡ true → IsClone p
-clone-means p kind h =
-    let a = and_parts (eqb p.before 0 && ltb 0 p.after && eqb (length p.other_names) 0) (knows_needed (known_ids p) p.master) h in
-    let b = and_parts (eqb p.before 0 && ltb 0 p.after) (eqb (length p.other_names) 0) a.0 in
-    let c = and_parts (eqb p.before 0) (ltb 0 p.after) b.0 in
-    record { kind = kind; first = eqb-true p.before 0 c.0; something = ltb-true 0 p.after c.1; no_others = eqb-true (length p.other_names) 0 b.1; known = needed-means (known_ids p) p.master a.1 }
-
-clone-decided : (p : Payload) → IsClone p → clone_fits p ≡ true
-clone-decided p h =
-    and_from (eqb p.before 0 && ltb 0 p.after && eqb (length p.other_names) 0) (knows_needed (known_ids p) p.master)
-    (and_from (eqb p.before 0 && ltb 0 p.after) (eqb (length p.other_names) 0)
-    (and_from (eqb p.before 0) (ltb 0 p.after) (eq-eqb p.before 0 h.first) (lt-ltb 0 p.after h.something)) (eq-eqb (length p.other_names) 0 h.no_others))
-    (needed-decided (known_ids p) p.master h.known)
-
-pub kind-means : (p : Payload) → ids_ascend p.before p.after (known_ids p) ≡ true → length (known_ids p) ≡ length p.known → kind_fits p ≡ true → IsFlush p ⊎ IsClone p
-kind-means p up len h = first (eqb p.kind 1) refl h
-  where
-    second : (b : Bool) → eqb p.kind 2 ≡ b → cond b (clone_fits p) false ≡ true → IsFlush p ⊎ IsClone p
-    second true e h = inr (clone-means p (eqb-true p.kind 2 e) h)
-    second false e h = absurd (true≢false (sym h))
-
-    first : (b : Bool) → eqb p.kind 1 ≡ b → cond b (flush_fits p) (cond (eqb p.kind 2) (clone_fits p) false) ≡ true → IsFlush p ⊎ IsClone p
-    first true e h = inl (flush-means p (eqb-true p.kind 1 e) up len h)
-    first false e h = second (eqb p.kind 2) refl h
-
-pub kind-decided : (p : Payload) → ids_ascend p.before p.after (known_ids p) ≡ true → length (known_ids p) ≡ length p.known → IsFlush p ⊎ IsClone p → kind_fits p ≡ true
-kind-decided p up len (inl h) = let t = eq-eqb p.kind 1 h.kind in rw t (flush-decided p up len h)
-kind-decided p up len (inr h) =
-    let kind = h.kind in
-    let s : eqb p.kind 1 ≡ false = ne_eqb p.kind 1 (λ e. absurd (omega (arith, e, kind))) in
-    let t = eq-eqb p.kind 2 kind in
-    rw (s, t) (clone-decided p h)

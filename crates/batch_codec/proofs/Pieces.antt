@@ -1,8 +1,8 @@
 -- A section that is read is the one that was written, and what was written is read again.
-use Rattle.std.proofs.Common.{◌≡◌, ℕ, suc, ◌+◌, ◌*◌, ◌^◌, ◌<◌, ◌≤◌, Bool, true, false, cond, ltb, leb, eqb, ◌&&◌, List, [], ◌∷◌, ◌++◌, length, map, take, drop, Some, None, refl, sym, ap, subst, ◌∙◌, arith, lit≤}
+use Rattle.std.proofs.Common.{◌≡◌, ℕ, suc, ◌+◌, ◌*◌, ◌^◌, ◌<◌, ◌≤◌, Bool, true, false, cond, ltb, leb, eqb, ◌&&◌, ◌||◌, ◌⊎◌, inl, inr, ⊎_elim, true≢false, append_assoc, List, [], ◌∷◌, ◌++◌, length, map, take, drop, Some, None, refl, sym, ap, subst, ◌∙◌, arith, lit≤}
 use Rattle.std.specs.List.{flat_map, AllByRecursion}
 use Rattle.std.specs.Int.{Width, w16, w32, w64, byte_len, from_be_bytes, to_be_bytes}
-use Rattle.std.proofs.lemmas.Bool.{and_parts, ltb-false, le-ltb, leb-true, le-leb, eqb-true}
+use Rattle.std.proofs.lemmas.Bool.{and_parts, or_cases, ltb-false, le-ltb, leb-true, le-leb, eqb-true, eq-eqb, ne_eqb}
 use Rattle.std.proofs.lemmas.List.{append-nil, nil_from_length, take_at, drop_at, take-append-drop, length-append, length-take}
 use Rattle.std.proofs.lemmas.Nat.{be_bytes_2, be_bytes_4, be_bytes_8, from_be_bytes-to_be_bytes_2, from_be_bytes-to_be_bytes_4, from_be_bytes-to_be_bytes_8}
 use Rattle.id_groups.specs.Name.{Name, IsName}
@@ -11,10 +11,10 @@ use Rattle.segment_codec.specs.Reading.{◌>>=◌}
 use Rattle.segment_codec.proofs.Numbers.{IsBytes, bind_some, guard_some, some_is}
 use Rattle.segment_codec.proofs.Lists.{bytes-take, bytes-drop}
 use Rattle.batch_codec.specs.declared.counts.Counts.{Counts}
-use Rattle.batch_codec.specs.Payload.{Known, Payload, known_bytes, names_bytes, payload_bytes}
-use Rattle.batch_codec.specs.Reading.{fixed_at, piece_at, names_in, knowns_in, ids_in, ids_ascend, segments_at, section_at, names_at, known_at, heads_at, counts_at, Others, others_at, Masters, masters_at, parts_at}
+use Rattle.batch_codec.specs.Payload.{Known, Payload, known_bytes, names_bytes, cloned_bytes, levels_bytes, payload_bytes}
+use Rattle.batch_codec.specs.Reading.{fixed_at, piece_at, names_in, knowns_in, ids_in, ids_ascend, may_stand, behind_segment, may_rise, behind_level, records_at, section_at, level_section_at, levels_at, names_at, known_at, heads_at, cloned_at, counts_at, Others, others_at, Masters, masters_at, joined, parts_at}
 use Rattle.batch_codec.proofs.Entries.{names-length, names-spelled, names-are, names-size, names-again, knowns-length, knowns-spelled, knowns-are, FitsKnown, knowns-size, knowns-again}
-use Rattle.batch_codec.proofs.Records.{AllStand, segments_take, segments_again}
+use Rattle.batch_codec.proofs.Records.{AllStand, AllRise, records_take, records_again}
 
 -- a guard that let through
 let-through : {A : Type 0} (b : Bool) (x y : A) → cond b None (Some x) ≡ Some y → (b ≡ false) × (x ≡ y)
@@ -198,12 +198,12 @@ record SectionTaken (end first : ℕ) (bytes : List ℕ) (x : List Segment × Li
 section_takes : (end first : ℕ) (bytes : List ℕ) (x : List Segment × List ℕ) → IsBytes bytes → section_at end first bytes ≡ Some x → SectionTaken end first bytes x
 unfolding section_at
 section_takes end first bytes x fits e =
-    let a = bind_some (fixed_at w32 bytes) (λ count. segments_at end first first count.0 count.1) x e in
+    let a = bind_some (fixed_at w32 bytes) (λ count. records_at (may_stand end first) behind_segment first count.0 count.1) x e in
     let count = fixed_takes w32 (2 ^ 32) wide32 bytes a.0 fits a.1 in
-    let records = segments_take end first first a.0.0 a.0.1 x count.rest a.2 in
+    let records = records_take ℕ (may_stand end first) behind_segment first a.0.0 a.0.1 x count.rest a.2 in
     record {
       parts = count.parts ∙ ap (λ (n : ℕ). to_be_bytes w32 n ++ a.0.1) (sym records.many) ∙ ap (λ (z : List ℕ). to_be_bytes w32 (length x.0) ++ z) records.parts;
-      stand = records.stand;
+      stand = records.come;
       rest = bytes-drop (flat_map segment_bytes x.0) x.1 a.0.1 records.parts count.rest;
     }
 
@@ -211,15 +211,124 @@ section_again : (end first : ℕ) (ss : List Segment) (rest : List ℕ) → leng
     → section_at end first (to_be_bytes w32 (length ss) ++ (flat_map segment_bytes ss ++ rest)) ≡ Some (ss, rest)
 unfolding section_at
 section_again end first ss rest lt h =
-    ap (λ r. r >>= λ count. segments_at end first first count.0 count.1) (fixed_again w32 (2 ^ 32) wide32 (length ss) (flat_map segment_bytes ss ++ rest) lt)
-    ∙ segments_again end first first ss rest h
+    ap (λ r. r >>= λ count. records_at (may_stand end first) behind_segment first count.0 count.1) (fixed_again w32 (2 ^ 32) wide32 (length ss) (flat_map segment_bytes ss ++ rest) lt)
+    ∙ records_again ℕ (may_stand end first) behind_segment first ss rest h
+
+-- ---- the levels
+
+record RisenTaken (end : ℕ) (bytes : List ℕ) (x : List Segment × List ℕ) : Type 0 where
+  pub parts : bytes ≡ to_be_bytes w32 (length x.0) ++ (flat_map segment_bytes x.0 ++ x.1)
+  pub rise : AllRise end (1, 0) x.0
+  pub rest : IsBytes x.1
+
+level_section_takes : (end : ℕ) (bytes : List ℕ) (x : List Segment × List ℕ) → IsBytes bytes → level_section_at end bytes ≡ Some x → RisenTaken end bytes x
+unfolding level_section_at
+level_section_takes end bytes x fits e =
+    let a = bind_some (fixed_at w32 bytes) (λ count. records_at (may_rise end) behind_level (1, 0) count.0 count.1) x e in
+    let count = fixed_takes w32 (2 ^ 32) wide32 bytes a.0 fits a.1 in
+    let records = records_take (ℕ × ℕ) (may_rise end) behind_level (1, 0) a.0.0 a.0.1 x count.rest a.2 in
+    record {
+      parts = count.parts ∙ ap (λ (n : ℕ). to_be_bytes w32 n ++ a.0.1) (sym records.many) ∙ ap (λ (z : List ℕ). to_be_bytes w32 (length x.0) ++ z) records.parts;
+      rise = records.come;
+      rest = bytes-drop (flat_map segment_bytes x.0) x.1 a.0.1 records.parts count.rest;
+    }
+
+level_section_again : (end : ℕ) (ss : List Segment) (rest : List ℕ) → length ss < 2 ^ 32 → AllRise end (1, 0) ss
+    → level_section_at end (to_be_bytes w32 (length ss) ++ (flat_map segment_bytes ss ++ rest)) ≡ Some (ss, rest)
+unfolding level_section_at
+level_section_again end ss rest lt h =
+    ap (λ r. r >>= λ count. records_at (may_rise end) behind_level (1, 0) count.0 count.1) (fixed_again w32 (2 ^ 32) wide32 (length ss) (flat_map segment_bytes ss ++ rest) lt)
+    ∙ records_again (ℕ × ℕ) (may_rise end) behind_level (1, 0) ss rest h
+
+record LevelsTaken (version end : ℕ) (bytes : List ℕ) (x : List Segment × List ℕ) : Type 0 where
+  pub parts : bytes ≡ levels_bytes version x.0 ++ x.1
+  pub rise : AllRise end (1, 0) x.0
+  pub none : version ≡ 1 → x.0 ≡ []
+  pub rest : IsBytes x.1
+
+levels_take : (version end : ℕ) (bytes : List ℕ) (x : List Segment × List ℕ) → IsBytes bytes → levels_at version end bytes ≡ Some x → LevelsTaken version end bytes x
+unfolding levels_at
+levels_take version end bytes x fits e = go (eqb version 1) refl e
+  where
+    made : List Segment × List ℕ
+    made = ([], bytes)
+
+    go : (b : Bool) → eqb version 1 ≡ b → cond b (Some made) (level_section_at end bytes) ≡ Some x → LevelsTaken version end bytes x
+    go true first e =
+        subst (LevelsTaken version end bytes) (some_is made x e) (record { parts = rw first refl; rise = tt; none = λ _. refl; rest = fits })
+    go false other e =
+        let t = level_section_takes end bytes x fits e in
+        record {
+          parts = rw other (t.parts ∙ sym (append_assoc (to_be_bytes w32 (length x.0)) (flat_map segment_bytes x.0) x.1));
+          rise = t.rise;
+          none = λ first. absurd (true≢false (sym (eq-eqb version 1 first) ∙ other));
+          rest = t.rest;
+        }
+
+levels_again : (version end : ℕ) (ss : List Segment) (rest : List ℕ) → length ss < 2 ^ 32 → AllRise end (1, 0) ss → (version ≡ 1 → ss ≡ [])
+    → levels_at version end (levels_bytes version ss ++ rest) ≡ Some (ss, rest)
+unfolding levels_at
+levels_again version end ss rest lt h none = go (eqb version 1) refl
+  where
+    written : Bool → List ℕ
+    written b = cond b [] (to_be_bytes w32 (length ss) ++ flat_map segment_bytes ss)
+
+    empty : List ℕ → List Segment × List ℕ
+    empty bytes = ([], bytes)
+
+    first : ss ≡ [] → Some (empty rest) ≡ Some (ss, rest)
+    first e = ap (λ (z : List Segment). let y : List Segment × List ℕ = (z, rest) in Some y) (sym e)
+
+    go : (b : Bool) → eqb version 1 ≡ b → cond b (Some (empty (written b ++ rest))) (level_section_at end (written b ++ rest)) ≡ Some (ss, rest)
+    go true e = first (none (eqb-true version 1 e))
+    go false e =
+        ap (level_section_at end) (append_assoc (to_be_bytes w32 (length ss)) (flat_map segment_bytes ss) rest) ∙ level_section_again end ss rest lt h
 
 -- ---- the counts
 
+-- what version 1 means by leaving the cloned count out
+abbrev pub MeansCloned : ℕ → ℕ → ℕ → ℕ → Type 0
+MeansCloned version kind after cloned = version ≡ 1 → cloned ≡ cond (eqb kind 2) after 0
+
+record ClonedTaken (version kind after : ℕ) (bytes : List ℕ) (x : ℕ × List ℕ) : Type 0 where
+  pub parts : bytes ≡ cloned_bytes version x.0 ++ x.1
+  pub means : MeansCloned version kind after x.0
+  pub rest : IsBytes x.1
+
+cloned_takes : (version kind after : ℕ) (bytes : List ℕ) (x : ℕ × List ℕ) → IsBytes bytes → cloned_at version kind after bytes ≡ Some x → ClonedTaken version kind after bytes x
+unfolding cloned_at
+cloned_takes version kind after bytes x fits e = go (eqb version 1) refl e
+  where
+    made : ℕ × List ℕ
+    made = (cond (eqb kind 2) after 0, bytes)
+
+    go : (b : Bool) → eqb version 1 ≡ b → cond b (Some made) (fixed_at w64 bytes) ≡ Some x → ClonedTaken version kind after bytes x
+    go true first e = subst (ClonedTaken version kind after bytes) (some_is made x e) (record { parts = rw first refl; means = λ _. refl; rest = fits })
+    go false other e =
+        let t = fixed_takes w64 (2 ^ 64) wide64 bytes x fits e in
+        record { parts = rw other t.parts; means = λ first. absurd (true≢false (sym (eq-eqb version 1 first) ∙ other)); rest = t.rest }
+
+cloned_again : (version kind after cloned : ℕ) (rest : List ℕ) → cloned < 2 ^ 64 → MeansCloned version kind after cloned
+    → cloned_at version kind after (cloned_bytes version cloned ++ rest) ≡ Some (cloned, rest)
+unfolding cloned_at
+cloned_again version kind after cloned rest lt means = go (eqb version 1) refl
+  where
+    written : Bool → List ℕ
+    written b = cond b [] (to_be_bytes w64 cloned)
+
+    meant : List ℕ → ℕ × List ℕ
+    meant bytes = (cond (eqb kind 2) after 0, bytes)
+
+    go : (b : Bool) → eqb version 1 ≡ b → cond b (Some (meant (written b ++ rest))) (fixed_at w64 (written b ++ rest)) ≡ Some (cloned, rest)
+    go true e = ap (λ (n : ℕ). let y : ℕ × List ℕ = (n, rest) in Some y) (sym (means (eqb-true version 1 e)))
+    go false e = fixed_again w64 (2 ^ 64) wide64 cloned rest lt
+
 record CountsTaken (bytes : List ℕ) (x : Counts × List ℕ) : Type 0 where
-  pub parts : bytes ≡ 1 ∷ x.0.kind ∷ to_be_bytes w64 x.0.before ++ (to_be_bytes w64 x.0.after ++ x.1)
+  pub parts : bytes ≡ x.0.version ∷ x.0.kind ∷ to_be_bytes w64 x.0.before ++ (to_be_bytes w64 x.0.after ++ (cloned_bytes x.0.version x.0.cloned ++ x.1))
+  pub version : (x.0.version ≡ 1) ⊎ (x.0.version ≡ 2)
   pub grows : x.0.before ≤ x.0.after
   pub most : x.0.after ≤ 16777216
+  pub means : MeansCloned x.0.version x.0.kind x.0.after x.0.cloned
   pub rest : IsBytes x.1
 
 counts_take : (bytes : List ℕ) (x : Counts × List ℕ) → IsBytes bytes → counts_at bytes ≡ Some x → CountsTaken bytes x
@@ -227,32 +336,46 @@ unfolding counts_at
 counts_take [] x fits e = absurd cc
 counts_take (version ∷ []) x fits e = absurd cc
 counts_take (version ∷ kind ∷ bytes) x fits e =
-    let made = λ (before after : ℕ × List ℕ). (let y : Counts × List ℕ = (record { kind = kind; before = before.0; after = after.0 }, after.1) in y) in
-    let test = λ (before after : ℕ × List ℕ). (eqb version 1 && leb before.0 after.0 && leb after.0 16777216) in
-    let a = bind_some (fixed_at w64 bytes) (λ before. fixed_at w64 before.1 >>= λ after. cond (test before after) (Some (made before after)) None) x e in
-    let b = bind_some (fixed_at w64 a.0.1) (λ after. cond (test a.0 after) (Some (made a.0 after)) None) x a.2 in
-    let g = guard_some (test a.0 b.0) (made a.0 b.0) x b.2 in
-    let p = and_parts (eqb version 1 && leb a.0.0 b.0.0) (leb b.0.0 16777216) g.0 in
-    let q = and_parts (eqb version 1) (leb a.0.0 b.0.0) p.0 in
+    let made = λ (before after cloned : ℕ × List ℕ). (let y : Counts × List ℕ = (record { version = version; kind = kind; before = before.0; after = after.0; cloned = cloned.0 }, cloned.1) in y) in
+    let test = λ (before after : ℕ × List ℕ). ((eqb version 1 || eqb version 2) && leb before.0 after.0 && leb after.0 16777216) in
+    let a = bind_some (fixed_at w64 bytes) (λ before. fixed_at w64 before.1 >>= λ after. cloned_at version kind after.0 after.1 >>= λ cloned. cond (test before after) (Some (made before after cloned)) None) x e in
+    let b = bind_some (fixed_at w64 a.0.1) (λ after. cloned_at version kind after.0 after.1 >>= λ cloned. cond (test a.0 after) (Some (made a.0 after cloned)) None) x a.2 in
+    let c = bind_some (cloned_at version kind b.0.0 b.0.1) (λ cloned. cond (test a.0 b.0) (Some (made a.0 b.0 cloned)) None) x b.2 in
+    let g = guard_some (test a.0 b.0) (made a.0 b.0 c.0) x c.2 in
+    let p = and_parts ((eqb version 1 || eqb version 2) && leb a.0.0 b.0.0) (leb b.0.0 16777216) g.0 in
+    let q = and_parts (eqb version 1 || eqb version 2) (leb a.0.0 b.0.0) p.0 in
     let fits0 : IsBytes bytes = λ i. fits (suc (suc i)) in
     let before = fixed_takes w64 (2 ^ 64) wide64 bytes a.0 fits0 a.1 in
     let after = fixed_takes w64 (2 ^ 64) wide64 a.0.1 b.0 before.rest b.1 in
+    let cloned = cloned_takes version kind b.0.0 b.0.1 c.0 after.rest c.1 in
     subst (CountsTaken (version ∷ kind ∷ bytes)) g.1 (record {
-      parts = ap (λ (v : ℕ). v ∷ kind ∷ bytes) (eqb-true version 1 q.0) ∙ ap (λ (z : List ℕ). 1 ∷ kind ∷ z) (before.parts ∙ ap (λ (z : List ℕ). to_be_bytes w64 a.0.0 ++ z) after.parts);
+      parts = ap (λ (z : List ℕ). version ∷ kind ∷ z) (before.parts ∙ ap (λ (z : List ℕ). to_be_bytes w64 a.0.0 ++ z) (after.parts ∙ ap (λ (z : List ℕ). to_be_bytes w64 b.0.0 ++ z) cloned.parts));
+      version = ⊎_elim (λ t. inl (eqb-true version 1 t)) (λ t. inr (eqb-true version 2 t)) (or_cases (eqb version 1) (eqb version 2) q.0);
       grows = leb-true a.0.0 b.0.0 q.1;
       most = leb-true b.0.0 16777216 p.1;
-      rest = after.rest;
+      means = cloned.means;
+      rest = cloned.rest;
     })
 
-counts_again : (kind before after : ℕ) (rest : List ℕ) → before ≤ after → after ≤ 16777216
-    → counts_at (1 ∷ kind ∷ to_be_bytes w64 before ++ (to_be_bytes w64 after ++ rest)) ≡ Some (record { kind = kind; before = before; after = after }, rest)
+known-version : (version : ℕ) → (version ≡ 1) ⊎ (version ≡ 2) → (eqb version 1 || eqb version 2) ≡ true
+known-version version (inl e) = let t = eq-eqb version 1 e in rw t refl
+known-version version (inr e) =
+    let s : eqb version 1 ≡ false = ne_eqb version 1 (λ f. absurd (omega (arith, e, f))) in
+    let t = eq-eqb version 2 e in
+    rw (s, t) refl
+
+counts_again : (version kind before after cloned : ℕ) (rest : List ℕ) → (version ≡ 1) ⊎ (version ≡ 2) → before ≤ after → after ≤ 16777216 → cloned ≤ after → MeansCloned version kind after cloned
+    → counts_at (version ∷ kind ∷ to_be_bytes w64 before ++ (to_be_bytes w64 after ++ (cloned_bytes version cloned ++ rest))) ≡ Some (record { version = version; kind = kind; before = before; after = after; cloned = cloned }, rest)
 unfolding counts_at
-counts_again kind before after rest le most =
+counts_again version kind before after cloned rest is le most part means =
     let k : 16777216 + 1 ≤ 2 ^ 64 = lit≤ tt in
-    let made = λ (b a : ℕ × List ℕ). (let y : Counts × List ℕ = (record { kind = kind; before = b.0; after = a.0 }, a.1) in y) in
-    ap (λ r. r >>= λ b. fixed_at w64 b.1 >>= λ a. cond (leb b.0 a.0 && leb a.0 16777216) (Some (made b a)) None) (fixed_again w64 (2 ^ 64) wide64 before (to_be_bytes w64 after ++ rest) (omega (arith, k, le, most)))
-    ∙ ap (λ r. r >>= λ (a : ℕ × List ℕ). cond (leb before a.0 && leb a.0 16777216) (Some (made (before, rest) a)) None) (fixed_again w64 (2 ^ 64) wide64 after rest (omega (arith, k, most)))
-    ∙ rw (le-leb before after le, le-leb after 16777216 most) refl
+    let test = λ (b a : ℕ × List ℕ). ((eqb version 1 || eqb version 2) && leb b.0 a.0 && leb a.0 16777216) in
+    let made = λ (b a c : ℕ × List ℕ). (let y : Counts × List ℕ = (record { version = version; kind = kind; before = b.0; after = a.0; cloned = c.0 }, c.1) in y) in
+    ap (λ r. r >>= λ (b : ℕ × List ℕ). fixed_at w64 b.1 >>= λ a. cloned_at version kind a.0 a.1 >>= λ c. cond (test b a) (Some (made b a c)) None)
+    (fixed_again w64 (2 ^ 64) wide64 before (to_be_bytes w64 after ++ (cloned_bytes version cloned ++ rest)) (omega (arith, k, le, most)))
+    ∙ ap (λ r. r >>= λ (a : ℕ × List ℕ). cloned_at version kind a.0 a.1 >>= λ c. cond (test (before, rest) a) (Some (made (before, rest) a c)) None) (fixed_again w64 (2 ^ 64) wide64 after (cloned_bytes version cloned ++ rest) (omega (arith, k, most)))
+    ∙ ap (λ r. r >>= λ (c : ℕ × List ℕ). cond (test (before, rest) (after, rest)) (Some (made (before, rest) (after, rest) c)) None) (cloned_again version kind after cloned rest (omega (arith, k, part, most)) means)
+    ∙ rw (known-version version is, le-leb before after le, le-leb after 16777216 most) refl
 
 -- ---- the other ids
 
@@ -292,9 +415,13 @@ others_again after others names rest few short stand are =
 
 -- what the sections of a payload keep by themselves
 pub record PartsFit (p : Payload) : Type 0 where
+  pub version : (p.version ≡ 1) ⊎ (p.version ≡ 2)
   pub grows : p.before ≤ p.after
   pub most : p.after ≤ 16777216
+  pub means : MeansCloned p.version p.kind p.after p.cloned
   pub master : AllStand (2 ^ 56) p.before p.before p.master
+  pub rise : AllRise p.after (1, 0) p.levels
+  pub no_levels : p.version ≡ 1 → p.levels ≡ []
   pub ascend : ids_ascend p.before p.after (map (λ k. k.id) p.known) ≡ true
   pub names : AllByRecursion IsName (map (λ k. k.name) p.known)
   pub few_heads : length p.heads < 2 ^ 16
@@ -302,82 +429,110 @@ pub record PartsFit (p : Payload) : Type 0 where
   pub others : AllStand p.after (2 ^ 56) (2 ^ 56) p.others
   pub other_names : AllByRecursion IsName p.other_names
 
-abbrev pub joined : Counts → List Segment → List Known → List Name → Others → Payload
-joined counts master known heads others = record { kind = counts.kind; before = counts.before; after = counts.after; master = master; known = known; heads = heads; others = others.others; other_names = others.other_names }
-
 pub record PartsTaken (bytes : List ℕ) (p : Payload) : Type 0 where
-  pub parts : bytes ≡ payload_bytes 1 p
+  pub parts : bytes ≡ payload_bytes p
   pub fit : PartsFit p
-
-parts-made : (bytes r1 r2 r3 r4 r5 : List ℕ) (counts : Counts) (master : List Segment) (known : List Known) (heads : List Name) (others : Others)
-    → CountsTaken bytes (counts, r1) → SectionTaken (2 ^ 56) counts.before r1 (master, r2) → KnownTaken counts.before counts.after r2 (known, r3) → HeadsTaken r3 (heads, r4) → OthersTaken counts.after r4 (others, r5)
-    → r5 ≡ [] → PartsTaken bytes (joined counts master known heads others)
-unfolding payload_bytes
-parts-made bytes r1 r2 r3 r4 r5 counts master known heads others c m k h o none = record {
-  parts = c.parts ∙ ap (λ (z : List ℕ). 1 ∷ counts.kind ∷ to_be_bytes w64 counts.before ++ (to_be_bytes w64 counts.after ++ z))
-      (m.parts ∙ ap (λ (z : List ℕ). to_be_bytes w32 (length master) ++ (flat_map segment_bytes master ++ z))
-      (k.parts ∙ ap (λ (z : List ℕ). to_be_bytes w32 (length known) ++ (flat_map known_bytes known ++ z))
-      (h.parts ∙ ap (λ (z : List ℕ). to_be_bytes w16 (length heads) ++ (names_bytes heads ++ z))
-      (o.parts ∙ ap (λ (z : List ℕ). to_be_bytes w32 (length others.other_names) ++ (to_be_bytes w32 (length others.others) ++ (flat_map segment_bytes others.others ++ z)))
-      (ap (λ (z : List ℕ). names_bytes others.other_names ++ z) none ∙ append-nil (names_bytes others.other_names))))));
-  fit = record { grows = c.grows; most = c.most; master = m.stand; ascend = k.ascend; names = k.are; few_heads = h.few; heads = h.are; others = o.stand; other_names = o.are };
-}
 
 record MastersTaken (bytes : List ℕ) (x : Masters × List ℕ) : Type 0 where
   pub behind-counts : List ℕ
   pub behind-master : List ℕ
+  pub behind-levels : List ℕ
   pub counts : CountsTaken bytes (x.0.counts, behind-counts)
   pub master : SectionTaken (2 ^ 56) x.0.counts.before behind-counts (x.0.master, behind-master)
-  pub known : KnownTaken x.0.counts.before x.0.counts.after behind-master (x.0.known, x.1)
+  pub levels : LevelsTaken x.0.counts.version x.0.counts.after behind-master (x.0.levels, behind-levels)
+  pub known : KnownTaken x.0.counts.before x.0.counts.after behind-levels (x.0.known, x.1)
 
 masters_take : (bytes : List ℕ) (x : Masters × List ℕ) → IsBytes bytes → masters_at bytes ≡ Some x → MastersTaken bytes x
 unfolding masters_at
 masters_take bytes x fits e =
-    let made = λ (counts : Counts) (master : List Segment) (known : List Known × List ℕ). (let y : Masters × List ℕ = (record { counts = counts; master = master; known = known.0 }, known.1) in y) in
-    let a = bind_some (counts_at bytes) (λ counts. section_at (2 ^ 56) counts.0.before counts.1 >>= λ master. known_at counts.0.before counts.0.after master.1 >>= λ known. Some (made counts.0 master.0 known)) x e in
-    let b = bind_some (section_at (2 ^ 56) a.0.0.before a.0.1) (λ master. known_at a.0.0.before a.0.0.after master.1 >>= λ known. Some (made a.0.0 master.0 known)) x a.2 in
-    let c = bind_some (known_at a.0.0.before a.0.0.after b.0.1) (λ known. Some (made a.0.0 b.0.0 known)) x b.2 in
+    let made = λ (counts : Counts) (master levels : List Segment) (known : List Known × List ℕ). (let y : Masters × List ℕ = (record { counts = counts; master = master; levels = levels; known = known.0 }, known.1) in y) in
+    let a = bind_some (counts_at bytes) (λ counts. section_at (2 ^ 56) counts.0.before counts.1 >>= λ master. levels_at counts.0.version counts.0.after master.1 >>= λ levels. known_at counts.0.before counts.0.after levels.1 >>= λ known. Some (made counts.0 master.0 levels.0 known)) x e in
+    let b = bind_some (section_at (2 ^ 56) a.0.0.before a.0.1) (λ master. levels_at a.0.0.version a.0.0.after master.1 >>= λ levels. known_at a.0.0.before a.0.0.after levels.1 >>= λ known. Some (made a.0.0 master.0 levels.0 known)) x a.2 in
+    let c = bind_some (levels_at a.0.0.version a.0.0.after b.0.1) (λ levels. known_at a.0.0.before a.0.0.after levels.1 >>= λ known. Some (made a.0.0 b.0.0 levels.0 known)) x b.2 in
+    let d = bind_some (known_at a.0.0.before a.0.0.after c.0.1) (λ known. Some (made a.0.0 b.0.0 c.0.0 known)) x c.2 in
     let counts = counts_take bytes a.0 fits a.1 in
     let master = section_takes (2 ^ 56) a.0.0.before a.0.1 b.0 counts.rest b.1 in
-    let known = known_takes a.0.0.before a.0.0.after b.0.1 c.0 master.rest c.1 in
-    subst (MastersTaken bytes) (some_is (made a.0.0 b.0.0 c.0) x c.2) (record { behind-counts = a.0.1; behind-master = b.0.1; counts = counts; master = master; known = known })
+    let levels = levels_take a.0.0.version a.0.0.after b.0.1 c.0 master.rest c.1 in
+    let known = known_takes a.0.0.before a.0.0.after c.0.1 d.0 levels.rest d.1 in
+    subst (MastersTaken bytes) (some_is (made a.0.0 b.0.0 c.0.0 d.0) x d.2) (record { behind-counts = a.0.1; behind-master = b.0.1; behind-levels = c.0.1; counts = counts; master = master; levels = levels; known = known })
+
+parts-made : (bytes r3 r4 r5 : List ℕ) (masters : Masters) (heads : List Name) (others : Others)
+    → MastersTaken bytes (masters, r3) → HeadsTaken r3 (heads, r4) → OthersTaken masters.counts.after r4 (others, r5) → r5 ≡ [] → PartsTaken bytes (joined masters heads others)
+unfolding payload_bytes
+parts-made bytes r3 r4 r5 masters heads others m h o none =
+    let counts = masters.counts in
+    record {
+      parts = m.counts.parts ∙ ap (λ (z : List ℕ). counts.version ∷ counts.kind ∷ to_be_bytes w64 counts.before ++ (to_be_bytes w64 counts.after ++ (cloned_bytes counts.version counts.cloned ++ z)))
+          (m.master.parts ∙ ap (λ (z : List ℕ). to_be_bytes w32 (length masters.master) ++ (flat_map segment_bytes masters.master ++ z))
+          (m.levels.parts ∙ ap (λ (z : List ℕ). levels_bytes counts.version masters.levels ++ z)
+          (m.known.parts ∙ ap (λ (z : List ℕ). to_be_bytes w32 (length masters.known) ++ (flat_map known_bytes masters.known ++ z))
+          (h.parts ∙ ap (λ (z : List ℕ). to_be_bytes w16 (length heads) ++ (names_bytes heads ++ z))
+          (o.parts ∙ ap (λ (z : List ℕ). to_be_bytes w32 (length others.other_names) ++ (to_be_bytes w32 (length others.others) ++ (flat_map segment_bytes others.others ++ z)))
+          (ap (λ (z : List ℕ). names_bytes others.other_names ++ z) none ∙ append-nil (names_bytes others.other_names)))))));
+      fit = record {
+        version = m.counts.version;
+        grows = m.counts.grows;
+        most = m.counts.most;
+        means = m.counts.means;
+        master = m.master.stand;
+        rise = m.levels.rise;
+        no_levels = m.levels.none;
+        ascend = m.known.ascend;
+        names = m.known.are;
+        few_heads = h.few;
+        heads = h.are;
+        others = o.stand;
+        other_names = o.are;
+      };
+    }
 
 pub parts_take : (bytes : List ℕ) (p : Payload) → IsBytes bytes → parts_at bytes ≡ Some p → PartsTaken bytes p
 unfolding parts_at
 parts_take bytes p fits e =
-    let last = λ (m : Masters) (heads : List Name) (others : Others × List ℕ). cond (eqb (length others.1) 0) (Some (joined m.counts m.master m.known heads others.0)) None in
+    let last = λ (m : Masters) (heads : List Name) (others : Others × List ℕ). cond (eqb (length others.1) 0) (Some (joined m heads others.0)) None in
     let a = bind_some (masters_at bytes) (λ m. heads_at m.1 >>= λ heads. others_at m.0.counts.after heads.1 >>= λ others. last m.0 heads.0 others) p e in
     let b = bind_some (heads_at a.0.1) (λ heads. others_at a.0.0.counts.after heads.1 >>= λ others. last a.0.0 heads.0 others) p a.2 in
     let c = bind_some (others_at a.0.0.counts.after b.0.1) (λ others. last a.0.0 b.0.0 others) p b.2 in
-    let d = guard_some (eqb (length c.0.1) 0) (joined a.0.0.counts a.0.0.master a.0.0.known b.0.0 c.0.0) p c.2 in
+    let d = guard_some (eqb (length c.0.1) 0) (joined a.0.0 b.0.0 c.0.0) p c.2 in
     let m = masters_take bytes a.0 fits a.1 in
     let heads = heads_take a.0.1 b.0 m.known.rest b.1 in
     let others = others_take a.0.0.counts.after b.0.1 c.0 heads.rest c.1 in
     let none = nil_from_length c.0.1 (eqb-true (length c.0.1) 0 d.0) in
-    subst (PartsTaken bytes) d.1 (parts-made bytes m.behind-counts m.behind-master a.0.1 b.0.1 c.0.1 a.0.0.counts a.0.0.master a.0.0.known b.0.0 c.0.0 m.counts m.master m.known heads others none)
+    subst (PartsTaken bytes) d.1 (parts-made bytes a.0.1 b.0.1 c.0.1 a.0.0 b.0.0 c.0.0 m heads others none)
 
-parts-read : (bytes r1 r2 r3 r4 : List ℕ) (counts : Counts) (master : List Segment) (known : List Known) (heads : List Name) (others : Others)
-    → counts_at bytes ≡ Some (counts, r1) → section_at (2 ^ 56) counts.before r1 ≡ Some (master, r2) → known_at counts.before counts.after r2 ≡ Some (known, r3) → heads_at r3 ≡ Some (heads, r4) → others_at counts.after r4 ≡ Some (others, [])
-    → parts_at bytes ≡ Some (joined counts master known heads others)
-unfolding parts_at masters_at
-parts-read bytes r1 r2 r3 r4 counts master known heads others c m k h o = rw (c, m, k, h, o) refl
+masters-read : (bytes r1 r2 r3 r4 : List ℕ) (counts : Counts) (master levels : List Segment) (known : List Known)
+    → counts_at bytes ≡ Some (counts, r1) → section_at (2 ^ 56) counts.before r1 ≡ Some (master, r2) → levels_at counts.version counts.after r2 ≡ Some (levels, r3) → known_at counts.before counts.after r3 ≡ Some (known, r4)
+    → masters_at bytes ≡ Some (record { counts = counts; master = master; levels = levels; known = known }, r4)
+unfolding masters_at
+masters-read bytes r1 r2 r3 r4 counts master levels known c m l k = rw (c, m, l, k) refl
+
+parts-read : (bytes r4 r5 : List ℕ) (masters : Masters) (heads : List Name) (others : Others)
+    → masters_at bytes ≡ Some (masters, r4) → heads_at r4 ≡ Some (heads, r5) → others_at masters.counts.after r5 ≡ Some (others, []) → parts_at bytes ≡ Some (joined masters heads others)
+unfolding parts_at
+parts-read bytes r4 r5 masters heads others m h o = rw (m, h, o) refl
 
 pub record Lengths (p : Payload) : Type 0 where
   pub master : length p.master < 2 ^ 32
+  pub levels : length p.levels < 2 ^ 32
   pub known : length p.known < 2 ^ 32
   pub others : length p.others < 2 ^ 32
   pub names : length p.other_names < 2 ^ 32
 
-pub parts_again : (p : Payload) → PartsFit p → Lengths p → AllByRecursion FitsKnown p.known → parts_at (payload_bytes 1 p) ≡ Some p
+pub parts_again : (p : Payload) → PartsFit p → p.cloned ≤ p.after → Lengths p → AllByRecursion FitsKnown p.known → parts_at (payload_bytes p) ≡ Some p
 unfolding payload_bytes
-parts_again p h short known =
-    let r4 : List ℕ = to_be_bytes w32 (length p.other_names) ++ (to_be_bytes w32 (length p.others) ++ (flat_map segment_bytes p.others ++ names_bytes p.other_names)) in
-    let r3 : List ℕ = to_be_bytes w16 (length p.heads) ++ (names_bytes p.heads ++ r4) in
-    let r2 : List ℕ = to_be_bytes w32 (length p.known) ++ (flat_map known_bytes p.known ++ r3) in
+parts_again p h part short known =
+    let r5 : List ℕ = to_be_bytes w32 (length p.other_names) ++ (to_be_bytes w32 (length p.others) ++ (flat_map segment_bytes p.others ++ names_bytes p.other_names)) in
+    let r4 : List ℕ = to_be_bytes w16 (length p.heads) ++ (names_bytes p.heads ++ r5) in
+    let r3 : List ℕ = to_be_bytes w32 (length p.known) ++ (flat_map known_bytes p.known ++ r4) in
+    let r2 : List ℕ = levels_bytes p.version p.levels ++ r3 in
     let r1 : List ℕ = to_be_bytes w32 (length p.master) ++ (flat_map segment_bytes p.master ++ r2) in
-    let closed : others_at p.after r4 ≡ Some (record { others = p.others; other_names = p.other_names }, []) =
+    let bytes : List ℕ = p.version ∷ p.kind ∷ to_be_bytes w64 p.before ++ (to_be_bytes w64 p.after ++ (cloned_bytes p.version p.cloned ++ r1)) in
+    let counts : Counts = record { version = p.version; kind = p.kind; before = p.before; after = p.after; cloned = p.cloned } in
+    let closed : others_at p.after r5 ≡ Some (record { others = p.others; other_names = p.other_names }, []) =
     ap (λ (z : List ℕ). others_at p.after (to_be_bytes w32 (length p.other_names) ++ (to_be_bytes w32 (length p.others) ++ (flat_map segment_bytes p.others ++ z)))) (sym (append-nil (names_bytes p.other_names)))
     ∙ others_again p.after p.others p.other_names [] short.names short.others h.others h.other_names in
-    parts-read (1 ∷ p.kind ∷ to_be_bytes w64 p.before ++ (to_be_bytes w64 p.after ++ r1)) r1 r2 r3 r4 (record { kind = p.kind; before = p.before; after = p.after }) p.master p.known p.heads (record { others = p.others; other_names = p.other_names })
-    (counts_again p.kind p.before p.after r1 h.grows h.most) (section_again (2 ^ 56) p.before p.master r2 short.master h.master)
-    (known_again p.before p.after p.known r3 short.known known h.ascend) (heads_again p.heads r4 h.few_heads h.heads) closed
+    let masters =
+    masters-read bytes r1 r2 r3 r4 counts p.master p.levels p.known (counts_again p.version p.kind p.before p.after p.cloned r1 h.version h.grows h.most part h.means) (section_again (2 ^ 56) p.before p.master r2 short.master h.master)
+    (levels_again p.version p.after p.levels r3 short.levels h.rise h.no_levels) (known_again p.before p.after p.known r4 short.known known h.ascend) in
+    parts-read bytes r4 r5 (record { counts = counts; master = p.master; levels = p.levels; known = p.known }) p.heads (record { others = p.others; other_names = p.other_names })
+    masters (heads_again p.heads r5 h.few_heads h.heads) closed

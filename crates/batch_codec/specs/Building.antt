@@ -6,10 +6,12 @@ use Rattle.segment_codec.specs.Record.{Segment, segment_bytes}
 use Rattle.batch_codec.specs.Payload.{Known, Payload, known_bytes, names_bytes}
 
 pub record Building : Type 0 where
-  -- the version, the kind and the master counts
+  -- the version, the kind, the master counts and the cloned count
   pub front : List ℕ
   pub master : List ℕ
   pub master_count : ℕ
+  pub levels : List ℕ
+  pub levels_count : ℕ
   pub known : List ℕ
   pub heads : List ℕ
   -- how many other ids there are to be
@@ -18,11 +20,14 @@ pub record Building : Type 0 where
   pub others_count : ℕ
   pub other_names : List ℕ
 
--- the parts so far are those of this payload
+-- the parts so far are those of this payload, which is of version 2
 pub record IsBuilt (b : Building) (p : Payload) : Type 0 where
-  pub front : b.front ≡ 1 ∷ p.kind ∷ to_be_bytes w64 p.before ++ to_be_bytes w64 p.after
+  pub version : p.version ≡ 2
+  pub front : b.front ≡ 2 ∷ p.kind ∷ to_be_bytes w64 p.before ++ to_be_bytes w64 p.after ++ to_be_bytes w64 p.cloned
   pub master : b.master ≡ flat_map segment_bytes p.master
   pub master_count : b.master_count ≡ length p.master
+  pub levels : b.levels ≡ flat_map segment_bytes p.levels
+  pub levels_count : b.levels_count ≡ length p.levels
   pub known : b.known ≡ flat_map known_bytes p.known
   pub heads : b.heads ≡ names_bytes p.heads
   pub others : b.others ≡ flat_map segment_bytes p.others
@@ -30,11 +35,26 @@ pub record IsBuilt (b : Building) (p : Payload) : Type 0 where
   pub other_names : b.other_names ≡ names_bytes p.other_names
 
 -- a payload without sections
-abbrev pub empty_payload : ℕ → ℕ → ℕ → Payload
-empty_payload kind before after = record { kind = kind; before = before; after = after; master = []; known = []; heads = []; others = []; other_names = [] }
+abbrev pub empty_payload : ℕ → ℕ → ℕ → ℕ → Payload
+empty_payload kind before after cloned = record {
+  version = 2;
+  kind = kind;
+  before = before;
+  after = after;
+  cloned = cloned;
+  master = [];
+  levels = [];
+  known = [];
+  heads = [];
+  others = [];
+  other_names = [];
+}
 
 abbrev pub with_segment : Payload → Segment → Payload
 with_segment p s = record p { master = p.master ++ s ∷ [] }
+
+abbrev pub with_level_segment : Payload → Segment → Payload
+with_level_segment p s = record p { levels = p.levels ++ s ∷ [] }
 
 abbrev pub with_known : Payload → Known → Payload
 with_known p k = record p { known = p.known ++ k ∷ [] }
@@ -54,7 +74,8 @@ with_front b bytes = record b { front = bytes }
 
 -- the sections up to the heads behind these bytes
 abbrev pub masters_behind : Building → List ℕ → List ℕ
-masters_behind b bytes = bytes ++ (to_be_bytes w32 b.master_count ++ b.master) ++ (to_be_bytes w32 (length b.known / 28) ++ b.known)
+masters_behind b bytes = bytes ++ (to_be_bytes w32 b.master_count ++ b.master) ++ (to_be_bytes w32 b.levels_count ++ b.levels)
+    ++ (to_be_bytes w32 (length b.known / 28) ++ b.known)
     ++ (to_be_bytes w16 (length b.heads / 20) ++ b.heads)
 
 -- the sections of the other ids behind these bytes

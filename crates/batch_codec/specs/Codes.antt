@@ -19,10 +19,11 @@ coded_segment = code_by (ℕ × (ℕ × (ℕ × List ℕ))) (coded× coded_ℕ (
 abbrev pub coded_known : Coded Known
 coded_known = code_by (ℕ × Name) (coded× coded_ℕ coded_name) (λ k. (k.id, k.name)) (λ p. record { id = p.0; name = p.1 }) (λ _. refl)
 
--- a payload is its three numbers and its five sections
+-- a payload is its five numbers and its six sections
 abbrev pub coded_payload : Coded Payload
-coded_payload = code_by ((ℕ × (ℕ × ℕ)) × ((List Segment × List Known) × (List Name × (List Segment × List Name))))
-    (coded× (coded× coded_ℕ (coded× coded_ℕ coded_ℕ)) (coded× (coded× (coded_list coded_segment) (coded_list coded_known)) (coded× (coded_list coded_name) (coded× (coded_list coded_segment) (coded_list coded_name)))))
-    (λ p. ((p.kind, (p.before, p.after)), ((p.master, p.known), (p.heads, (p.others, p.other_names)))))
-    (λ t. record { kind = t.0.0; before = t.0.1.0; after = t.0.1.1; master = t.1.0.0; known = t.1.0.1; heads = t.1.1.0; others = t.1.1.1.0; other_names = t.1.1.1.1 })
+coded_payload = code_by (((ℕ × ℕ) × (ℕ × (ℕ × ℕ))) × ((List Segment × (List Segment × List Known)) × (List Name × (List Segment × List Name))))
+    (coded× (coded× (coded× coded_ℕ coded_ℕ) (coded× coded_ℕ (coded× coded_ℕ coded_ℕ)))
+    (coded× (coded× (coded_list coded_segment) (coded× (coded_list coded_segment) (coded_list coded_known))) (coded× (coded_list coded_name) (coded× (coded_list coded_segment) (coded_list coded_name)))))
+    (λ p. (((p.version, p.kind), (p.before, (p.after, p.cloned))), ((p.master, (p.levels, p.known)), (p.heads, (p.others, p.other_names)))))
+    (λ t. record { version = t.0.0.0; kind = t.0.0.1; before = t.0.1.0; after = t.0.1.1.0; cloned = t.0.1.1.1; master = t.1.0.0; levels = t.1.0.1.0; known = t.1.0.1.1; heads = t.1.1.0; others = t.1.1.1.0; other_names = t.1.1.1.1 })
     (λ _. refl)

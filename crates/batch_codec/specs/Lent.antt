@@ -20,4 +20,4 @@ others_of segments names = record { others = segments_of segments; other_names =
 
 -- what is said of the ids of master
 abbrev pub masters_of : MasterSections → Masters
-masters_of m = record { counts = m.counts; master = segments_of m.segments; known = knowns_of m.known }
+masters_of m = record { counts = m.counts; master = segments_of m.segments; levels = segments_of m.levels; known = knowns_of m.known }

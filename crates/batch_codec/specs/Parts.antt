@@ -6,7 +6,7 @@ use Rattle.batch_codec.specs.declared.lent.SegmentSlice.{SegmentSlice}
 use Rattle.batch_codec.specs.declared.lent.KnownSlice.{KnownSlice}
 use Rattle.batch_codec.specs.declared.lent.NameSlice.{NameSlice}
 use Rattle.batch_codec.specs.declared.lent.Parts.{Parts}
-use Rattle.batch_codec.specs.Payload.{Known, Payload, master_start, known_start, heads_start, others_start, names_start}
+use Rattle.batch_codec.specs.Payload.{Known, Payload, master_start, levels_start, known_start, heads_start, others_start, names_start}
 use Rattle.batch_codec.specs.Reading.{segments_in, knowns_in, names_in, ids_in}
 
 -- the records of a section
@@ -28,10 +28,13 @@ names_of s = names_in s.count s.bytes.now
 -- the payload of these sections
 abbrev pub payload_in : Parts → Payload
 payload_in b = record {
+  version = b.version;
   kind = b.kind;
   before = b.before;
   after = b.after;
+  cloned = b.cloned;
   master = segments_of b.master;
+  levels = segments_of b.levels;
   known = knowns_of b.known;
   heads = names_of b.heads;
   others = segments_of b.others;
@@ -40,7 +43,8 @@ payload_in b = record {
 
 -- each section says the place at which it stands
 pub record HasPlaces (b : Parts) : Type 0 where
-  pub master : b.master.start ≡ master_start
+  pub master : b.master.start ≡ master_start (payload_in b)
+  pub levels : b.levels.start ≡ levels_start (payload_in b)
   pub known : b.known.start ≡ known_start (payload_in b)
   pub heads : b.heads.start ≡ heads_start (payload_in b)
   pub others : b.others.start ≡ others_start (payload_in b)

@@ -1,5 +1,5 @@
 -- Payloads of a log, and their bytes.
-use Rattle.std.specs.Prelude.{ℕ, ◌+◌, ◌*◌, List, ◌∷◌, ◌++◌, length, map, flat_map}
+use Rattle.std.specs.Prelude.{ℕ, ◌+◌, ◌*◌, List, [], ◌∷◌, ◌++◌, length, map, flat_map, nat_eq, if◌then◌else◌}
 use Rattle.std.specs.Int.{w16, w32, w64, to_be_bytes}
 use Rattle.id_groups.specs.Name.{Name}
 use Rattle.segment_codec.specs.Record.{Segment, segment_bytes}
@@ -9,13 +9,20 @@ pub record Known : Type 0 where
   pub id : ℕ
   pub name : Name
 
+-- A payload of either version. One of version 1 spells no cloned count and has no segments of levels.
 pub record Payload : Type 0 where
-  -- 1 is a flush, 2 a clone
+  -- that of its format: 1 or 2
+  pub version : ℕ
+  -- 1 is a flush, 2 a clone, 3 a whole store
   pub kind : ℕ
   -- the sizes of the master group before and after
   pub before : ℕ
   pub after : ℕ
+  -- how many of the master ids were cloned
+  pub cloned : ℕ
   pub master : List Segment
+  -- the new segments of the levels above the flat ones
+  pub levels : List Segment
   pub known : List Known
   pub heads : List Name
   pub others : List Segment
@@ -34,22 +41,38 @@ known_bytes k = to_be_bytes w64 k.id ++ k.name
 abbrev pub names_bytes : List Name → List ℕ
 names_bytes names = flat_map (λ name. name) names
 
--- the one spelling of a payload of this version
-unfoldable pub payload_bytes : ℕ → Payload → List ℕ
-payload_bytes version p =
-    version ∷ p.kind ∷ to_be_bytes w64 p.before ++ (to_be_bytes w64 p.after
+-- the cloned count, which version 1 leaves out
+abbrev pub cloned_bytes : ℕ → ℕ → List ℕ
+cloned_bytes version cloned = if nat_eq version 1 then [] else to_be_bytes w64 cloned
+
+-- the section of the levels, which version 1 leaves out
+abbrev pub levels_bytes : ℕ → List Segment → List ℕ
+levels_bytes version levels = if nat_eq version 1 then [] else to_be_bytes w32 (length levels) ++ flat_map segment_bytes levels
+
+-- the one spelling of a payload
+unfoldable pub payload_bytes : Payload → List ℕ
+payload_bytes p =
+    p.version ∷ p.kind ∷ to_be_bytes w64 p.before ++ (to_be_bytes w64 p.after ++ (cloned_bytes p.version p.cloned
     ++ (to_be_bytes w32 (length p.master) ++ (flat_map segment_bytes p.master
+    ++ (levels_bytes p.version p.levels
     ++ (to_be_bytes w32 (length p.known) ++ (flat_map known_bytes p.known
     ++ (to_be_bytes w16 (length p.heads) ++ (names_bytes p.heads
     ++ (to_be_bytes w32 (length p.other_names) ++ (to_be_bytes w32 (length p.others) ++ (flat_map segment_bytes p.others
-    ++ names_bytes p.other_names))))))))))
+    ++ names_bytes p.other_names))))))))))))
 
--- the places at which the first item of each section stands, or would stand
-abbrev pub master_start : ℕ
-master_start = 22
+-- how many bytes a part of so many takes that version 1 leaves out
+abbrev pub size_since_second : ℕ → ℕ → ℕ
+size_since_second version n = if nat_eq version 1 then 0 else n
+
+-- The places at which the first item of each section stands, or would stand. In version 1 no count stands before the levels.
+abbrev pub master_start : Payload → ℕ
+master_start p = 22 + size_since_second p.version 8
+
+abbrev pub levels_start : Payload → ℕ
+levels_start p = master_start p + length (flat_map segment_bytes p.master) + size_since_second p.version 4
 
 abbrev pub known_start : Payload → ℕ
-known_start p = master_start + length (flat_map segment_bytes p.master) + 4
+known_start p = levels_start p + length (flat_map segment_bytes p.levels) + 4
 
 abbrev pub heads_start : Payload → ℕ
 heads_start p = known_start p + 28 * length p.known + 2

@@ -2,7 +2,7 @@
 
 ghost use Rattle.std.specs.Prelude.{◌≡◌, ◌<◌, ◌≤◌, ◌+◌, ◌*◌, ◌^◌, ℕ, slice_index, length, IfSome, MatchOption};
 ghost use Rattle.segment_codec.specs.Reading.{Gives};
-ghost use Rattle.batch_codec.specs.Payload.{Payload, payload_bytes, master_start};
+ghost use Rattle.batch_codec.specs.Payload.{Payload, payload_bytes, size_since_second};
 ghost use Rattle.segment_codec.specs.Turns.{place_behind};
 ghost use Rattle.batch_codec.specs.Grammar.{IsPayload};
 ghost use Rattle.batch_codec.specs.Reading.{others_at, masters_at, parts_at, ends_fit, payload_at};
@@ -12,7 +12,7 @@ use crate::counts::{Counts, read_counts};
 use crate::fixed::read_u32;
 use crate::lent::{KnownSlice, NameSlice, Parts, SegmentSlice};
 use crate::rules::has_kind;
-use crate::section::{read_heads, read_known, read_names, read_section};
+use crate::section::{read_heads, read_known, read_levels, read_names, read_section};
 use crate::whole::BatchRef;
 use id_groups::FIRST_OTHER;
 
@@ -22,8 +22,8 @@ const MOST_OTHERS: u32 = 1 << 16;
 impl<'a> BatchRef<'a> {
     /// The payload; `None` exactly where the bytes are no payload in the grammar.
     pub fn read(payload: &'a [u8]) -> Option<BatchRef<'a>>
-        ensures found { IfSome result (λ b. IsPayload (payload_of b) × (payload.now ≡ payload_bytes 1 (payload_of b))) }
-        ensures only { (p : Payload) → IsPayload p → payload.now ≡ payload_bytes 1 p → MatchOption result ⊥ (λ b. payload_of b ≡ p) }
+        ensures found { IfSome result (λ b. IsPayload (payload_of b) × (payload.now ≡ payload_bytes (payload_of b))) }
+        ensures only { (p : Payload) → IsPayload p → payload.now ≡ payload_bytes p → MatchOption result ⊥ (λ b. payload_of b ≡ p) }
         ensures places { IfSome result (λ b. HasPlaces b.parts) }
     {
         let parts = read_payload(payload)?;
@@ -72,27 +72,31 @@ struct MasterSections<'a> {
     counts: Counts,
     segments: SegmentSlice<'a>,
     end: u64,
+    levels: SegmentSlice<'a>,
     known: KnownSlice<'a>,
 }
 
-/// The counts, the records of the new master ids, the known ids, and the rest.
+/// The counts, the records of the new master ids, those of the levels, the known ids, and the rest.
 #[tactic(auto, unfolding(crate::specs::Reading::masters_at))]
 fn read_masters<'a>(payload: &'a [u8]) -> Option<(MasterSections<'a>, &'a [u8])>
     ensures exact { Gives (λ r. (masters_of r.0, r.1.now)) result (masters_at payload.now) }
     ensures end { IfSome result (λ r. r.0.end ≡ place_behind r.0.counts.before (segments_of r.0.segments)) }
     ensures counts { IfSome result (λ r. r.0.counts.before ≤ r.0.counts.after) }
-    ensures segments { IfSome result (λ r. r.0.segments.start ≡ master_start) }
-    ensures known { IfSome result (λ r. r.0.known.start ≡ master_start + length r.0.segments.bytes.now + 4) }
+    ensures segments { IfSome result (λ r. r.0.segments.start ≡ 22 + size_since_second r.0.counts.version 8) }
+    ensures levels { IfSome result (λ r. r.0.levels.start ≡ r.0.segments.start + length r.0.segments.bytes.now + size_since_second r.0.counts.version 4) }
+    ensures known { IfSome result (λ r. r.0.known.start ≡ r.0.levels.start + length r.0.levels.bytes.now + 4) }
     ensures size { IfSome result (λ r. length payload.now ≡ r.0.known.start + 28 * r.0.known.count + length r.1.now) }
 {
     let total = payload.len();
     let (counts, rest) = read_counts(payload)?;
     let (segments, end, rest) = read_section(rest, FIRST_OTHER, counts.before, total)?;
+    let (levels, rest) = read_levels(rest, counts.version, counts.after, total)?;
     let (known, rest) = read_known(rest, counts.before, counts.after, total)?;
     let masters = MasterSections {
         counts,
         segments,
         end,
+        levels,
         known,
     };
     Some((masters, rest))
@@ -115,10 +119,13 @@ fn read_parts<'a>(payload: &'a [u8]) -> Option<(Parts<'a>, u64, u64)>
         return None;
     }
     let batch = Parts {
+        version: masters.counts.version,
         kind: masters.counts.kind,
         before: masters.counts.before,
         after: masters.counts.after,
+        cloned: masters.counts.cloned,
         master: masters.segments,
+        levels: masters.levels,
         known: masters.known,
         heads,
         others,

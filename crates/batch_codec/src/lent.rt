@@ -48,10 +48,13 @@ pub struct KnownRef<'a> {
 /// place, is what `BatchRef` keeps of them.
 #[derive(Clone, Copy)]
 pub struct Parts<'a> {
+    pub(crate) version: u8,
     pub(crate) kind: u8,
     pub(crate) before: u64,
     pub(crate) after: u64,
+    pub(crate) cloned: u64,
     pub(crate) master: SegmentSlice<'a>,
+    pub(crate) levels: SegmentSlice<'a>,
     pub(crate) known: KnownSlice<'a>,
     pub(crate) heads: NameSlice<'a>,
     pub(crate) others: SegmentSlice<'a>,

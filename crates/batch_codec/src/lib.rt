@@ -14,6 +14,8 @@ mod sections;
 mod whole;
 
 pub use building::BatchBuild;
-pub use laws::{lawful_payloads, payloads_are_spelled, sections_by_records};
+pub use laws::{
+    lawful_payloads, payloads_are_spelled, sections_by_records, unknown_ids_were_cloned,
+};
 pub use lent::{KnownRef, KnownSlice, NameSlice, SegmentSlice};
 pub use whole::BatchRef;

@@ -4,17 +4,12 @@ ghost use Rattle.std.specs.Prelude.{◌≡◌, ◌≤◌, ◌<◌, ◌+◌, true
 ghost use Rattle.id_groups.specs.Lists.{is_in};
 ghost use Rattle.std.specs.Prelude.{nat_eq};
 ghost use Rattle.segment_codec.specs.Lent.{segment_of, parents_left};
-ghost use Rattle.batch_codec.specs.Reading.{are_known, knows_merge, knows_segment, knows_needed, flush_fits, clone_fits, kind_fits};
+ghost use Rattle.batch_codec.specs.Reading.{are_known, knows_merge, knows_segment, knows_needed, knows_from, flush_fits, clone_fits, whole_fits, kind_fits};
 ghost use Rattle.batch_codec.specs.Lent.{segments_of, ids_of, payload_in};
 
+use crate::counts::{CLONE, FLUSH, VERSION, WHOLE};
 use crate::lent::{KnownSlice, Parts, SegmentSlice};
 use segment_codec::{Parents, SegmentRef, read_segment};
-
-/// The kind of a flush.
-const FLUSH: u8 = 1;
-
-/// The kind of a clone.
-const CLONE: u8 = 2;
 
 /// Whether the number is one of a known id, by a binary search.
 fn knows(known: KnownSlice<'_>, number: u64) -> bool
@@ -73,23 +68,25 @@ fn knows_merge_of(known: KnownSlice<'_>, segment: SegmentRef<'_>) -> bool
     knows_all(known, segment.parents())
 }
 
-/// Whether the highest id of the segment, and its parents if it begins with a merge, are known.
-fn knows_segment_of(known: KnownSlice<'_>, segment: SegmentRef<'_>) -> bool
-    ensures { result ≡ knows_segment (ids_of known.entry) (segment_of segment.entry) }
+/// Whether the segment begins behind the cloned ids, or the greatest cloned id in it, and its parents if it begins with a merge,
+/// are known.
+fn knows_segment_of(known: KnownSlice<'_>, segment: SegmentRef<'_>, cloned: u64) -> bool
+    ensures { result ≡ knows_segment cloned (ids_of known.entry) (segment_of segment.entry) }
 {
-    knows(known, segment.high().number()) && knows_merge_of(known, segment)
+    let greatest = segment.high().number().min(cloned.saturating_sub(1));
+    cloned <= segment.low().number() || (knows(known, greatest) && knows_merge_of(known, segment))
 }
 
-/// Whether the highest id of each record, and each parent of a merge, is known.
-fn knows_what_is_needed(known: KnownSlice<'_>, section: SegmentSlice<'_>) -> bool
-    ensures { result ≡ knows_needed (ids_of known.entry) (segments_of section.entry) }
+/// Whether of each record that begins below the cloned count the greatest cloned id, and each parent of a merge, is known.
+fn knows_what_is_needed(known: KnownSlice<'_>, section: SegmentSlice<'_>, cloned: u64) -> bool
+    ensures { result ≡ knows_needed cloned (ids_of known.entry) (segments_of section.entry) }
 {
     let mut rest = section.bytes;
     'records: for _ in 0..section.count {
         let Some((segment, after)) = read_segment(rest) else {
             return true;
         };
-        if !knows_segment_of(known, segment) {
+        if !knows_segment_of(known, segment, cloned) {
             return false;
         }
         rest = after;
@@ -97,11 +94,27 @@ fn knows_what_is_needed(known: KnownSlice<'_>, section: SegmentSlice<'_>) -> boo
     true
 }
 
+/// Whether the known ids, which ascend below `after`, are all those from the cloned count on.
+fn knows_behind(known: KnownSlice<'_>, cloned: u64, after: u64) -> bool
+    ensures { result ≡ knows_from cloned after (ids_of known.entry) }
+{
+    if after <= cloned {
+        return true;
+    }
+    let more = after - cloned;
+    let count = u64::from(known.count);
+    if count < more {
+        return false;
+    }
+    known.number_at((count - more) as u32) == cloned
+}
+
 fn is_flush(batch: &Parts<'_>) -> bool
     requires { (payload_in batch.now).before ≤ (payload_in batch.now).after }
     ensures { result ≡ flush_fits (payload_in batch.now) }
 {
-    u64::from(batch.known.len()) == batch.after - batch.before
+    batch.cloned == 0
+        && u64::from(batch.known.len()) == batch.after - batch.before
         && batch.heads.len() == 0
         && (batch.after > 0 || batch.other_names.len() > 0)
 }
@@ -109,10 +122,22 @@ fn is_flush(batch: &Parts<'_>) -> bool
 fn is_clone(batch: &Parts<'_>) -> bool
     ensures { result ≡ clone_fits (payload_in batch.now) }
 {
-    batch.before == 0
+    batch.cloned == batch.after
+        && batch.before == 0
         && batch.after > 0
         && batch.other_names.len() == 0
-        && knows_what_is_needed(batch.known, batch.master)
+        && knows_what_is_needed(batch.known, batch.master, batch.cloned)
+}
+
+fn is_whole(batch: &Parts<'_>) -> bool
+    ensures { result ≡ whole_fits (payload_in batch.now) }
+{
+    batch.version == VERSION
+        && batch.cloned <= batch.after
+        && batch.before == 0
+        && (batch.after > 0 || batch.other_names.len() > 0)
+        && knows_behind(batch.known, batch.cloned, batch.after)
+        && knows_what_is_needed(batch.known, batch.master, batch.cloned)
 }
 
 /// Whether the payload keeps the rules of its kind.
@@ -123,6 +148,7 @@ pub fn has_kind(batch: &Parts<'_>) -> bool
     match batch.kind {
         FLUSH => is_flush(batch),
         CLONE => is_clone(batch),
+        WHOLE => is_whole(batch),
         _ => false,
     }
 }

@@ -4,9 +4,11 @@ ghost use Rattle.std.specs.Prelude.{◌≡◌, ◌≤◌, ◌<◌, ◌+◌, ◌*
 ghost use Rattle.segment_codec.specs.Reading.{Gives};
 ghost use Rattle.segment_codec.specs.Lent.{segment_of};
 ghost use Rattle.segment_codec.specs.Turns.{place_behind};
-ghost use Rattle.batch_codec.specs.Reading.{are_within, may_stand, segments_at, section_at, names_at, known_at, heads_at, ids_in, ids_ascend};
+ghost use Rattle.batch_codec.specs.Reading.{are_within, may_stand, may_rise, behind_segment, behind_level, records_at, section_at, level_section_at, levels_at, names_at, known_at, heads_at, ids_in, ids_ascend};
+ghost use Rattle.batch_codec.specs.Payload.{size_since_second};
 ghost use Rattle.batch_codec.specs.Lent.{segments_of, knowns_of, names_of};
 
+use crate::counts::FIRST_VERSION;
 use crate::fixed::{front_u64, read_piece, read_u16, read_u32};
 use crate::lent::{KnownSlice, NameSlice, SegmentSlice};
 use id_groups::FIRST_OTHER;
@@ -51,7 +53,7 @@ fn read_segments<'a>(
     total: usize,
 ) -> Option<(SegmentSlice<'a>, u64, &'a [u8])>
     requires { length bytes.now ≤ total }
-    ensures exact { Gives (λ r. (segments_of r.0, r.2.now)) result (segments_at end first first count bytes.now) }
+    ensures exact { Gives (λ r. (segments_of r.0, r.2.now)) result (records_at (may_stand end first) behind_segment first count bytes.now) }
     ensures behind { IfSome result (λ r. r.1 ≡ place_behind first (segments_of r.0)) }
     ensures size { IfSome result (λ r. length bytes.now ≡ length r.0.bytes.now + length r.2.now) }
     ensures start { IfSome result (λ r. r.0.start + length bytes.now ≡ total) }
@@ -91,6 +93,90 @@ pub fn read_section<'a>(
 {
     let (count, rest) = read_u32(bytes)?;
     read_segments(rest, count, end, first, total)
+}
+
+/// Whether the record may come among those of the levels, where the least that may has this level and this lowest id. Its ids
+/// are below `end`.
+fn may_come(segment: SegmentRef<'_>, end: u64, level: u8, low: u64) -> bool
+    ensures { result ≡ may_rise end (level, low) (segment_of segment.entry) }
+{
+    let is_behind = level < segment.level()
+        || (level == segment.level() && low <= segment.low().number());
+    is_behind && segment.high().number() < end
+}
+
+/// So many records of levels, each of which may come behind the one before it, and the rest.
+fn read_level_records<'a>(
+    bytes: &'a [u8],
+    count: u32,
+    end: u64,
+    total: usize,
+) -> Option<(SegmentSlice<'a>, &'a [u8])>
+    requires { length bytes.now ≤ total }
+    ensures exact { Gives (λ r. (segments_of r.0, r.1.now)) result (records_at (may_rise end) behind_level (1, 0) count bytes.now) }
+    ensures size { IfSome result (λ r. length bytes.now ≡ length r.0.bytes.now + length r.1.now) }
+    ensures start { IfSome result (λ r. r.0.start + length bytes.now ≡ total) }
+{
+    let mut rest = bytes;
+    let mut level = 1;
+    let mut low = 0;
+    'records: for _ in 0..count {
+        let (segment, after) = read_segment(rest)?;
+        if !may_come(segment, end, level, low) {
+            return None;
+        }
+        level = segment.level();
+        low = segment.low().number() + 1;
+        rest = after;
+    }
+    let (records, rest) = bytes.split_at(bytes.len() - rest.len());
+    let section = SegmentSlice {
+        count,
+        bytes: records,
+        start: (total - bytes.len()) as u64,
+    };
+    Some((section, rest))
+}
+
+/// The count of records of levels, these, and the rest.
+#[tactic(auto, unfolding(crate::specs::Reading::level_section_at))]
+fn read_level_section<'a>(
+    bytes: &'a [u8],
+    end: u64,
+    total: usize,
+) -> Option<(SegmentSlice<'a>, &'a [u8])>
+    requires { length bytes.now ≤ total }
+    ensures exact { Gives (λ r. (segments_of r.0, r.1.now)) result (level_section_at end bytes.now) }
+    ensures size { IfSome result (λ r. length bytes.now ≡ 4 + length r.0.bytes.now + length r.1.now) }
+    ensures start { IfSome result (λ r. r.0.start + length r.0.bytes.now + length r.1.now ≡ total) }
+{
+    let (count, rest) = read_u32(bytes)?;
+    read_level_records(rest, count, end, total)
+}
+
+/// The section of the levels, whose ids are below `end` and which the first version leaves out, and the rest.
+#[tactic(auto, unfolding(crate::specs::Reading::levels_at))]
+pub fn read_levels<'a>(
+    bytes: &'a [u8],
+    version: u8,
+    end: u64,
+    total: usize,
+) -> Option<(SegmentSlice<'a>, &'a [u8])>
+    requires { length bytes.now ≤ total }
+    ensures exact { Gives (λ r. (segments_of r.0, r.1.now)) result (levels_at version end bytes.now) }
+    ensures size { IfSome result (λ r. length bytes.now ≡ size_since_second version 4 + length r.0.bytes.now + length r.1.now) }
+    ensures start { IfSome result (λ r. r.0.start + length r.0.bytes.now + length r.1.now ≡ total) }
+{
+    if version != FIRST_VERSION {
+        return read_level_section(bytes, end, total);
+    }
+    let (records, rest) = bytes.split_at(0);
+    let section = SegmentSlice {
+        count: 0,
+        bytes: records,
+        start: (total - bytes.len()) as u64,
+    };
+    Some((section, rest))
 }
 
 /// So many names, and the rest.

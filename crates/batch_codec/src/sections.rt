@@ -4,7 +4,6 @@ ghost use Rattle.std.specs.Prelude.{◌≡◌, ◌*◌, ◌<◌, Some, length, f
 ghost use Rattle.segment_codec.specs.Record.{segment_bytes};
 ghost use Rattle.batch_codec.specs.Lent.{segments_of, knowns_of, ids_of, names_of, known_of, payload_of};
 
-use crate::counts::VERSION;
 use crate::fixed::{front_u64, piece};
 use crate::lent::{KnownRef, KnownSlice, NameSlice, SegmentSlice};
 use crate::whole::BatchRef;
@@ -112,12 +111,12 @@ impl<'a> NameSlice<'a> {
 impl<'a> BatchRef<'a> {
     /// The version of the payload's format.
     pub fn version(&self) -> u8
-        ensures { result ≡ 1 }
+        ensures { result ≡ (payload_of self.now).version }
     {
-        VERSION
+        self.parts.version
     }
 
-    /// 1 is a flush, 2 a clone.
+    /// 1 is a flush, 2 a clone, 3 a whole store.
     pub fn kind(&self) -> u8
         ensures { result ≡ (payload_of self.now).kind }
     {
@@ -138,12 +137,27 @@ impl<'a> BatchRef<'a> {
         self.parts.after
     }
 
+    /// How many of the master ids were cloned: none by a flush, all by a clone.
+    pub fn cloned(&self) -> u64
+        ensures { result ≡ (payload_of self.now).cloned }
+    {
+        self.parts.cloned
+    }
+
     /// The records of the new master ids.
     pub fn master_segments(&self) -> SegmentSlice<'a>
         ensures segments { segments_of result ≡ (payload_of self.now).master }
         ensures start { result.start ≡ self.now.parts.master.start }
     {
         self.parts.master
+    }
+
+    /// The records of the new segments of the levels above the flat ones, by level and then by id.
+    pub fn level_segments(&self) -> SegmentSlice<'a>
+        ensures segments { segments_of result ≡ (payload_of self.now).levels }
+        ensures start { result.start ≡ self.now.parts.levels.start }
+    {
+        self.parts.levels
     }
 
     /// The new known ids.

@@ -25,7 +25,8 @@ use Rattle.remote_rules.specs.Known.{master_world}
 use Rattle.remote_rules.specs.Honest.{clone_data_of, named_ids, stored_ids, master_segments}
 use Rattle.change_rules.specs.Tables.{known_in}
 use Rattle.change_rules.specs.Holding.{HoldPayloads}
-use Rattle.change_rules.specs.Disagree.{cut_below, segments_agree, name_agrees, first_unlike, rows_fit, first_bad_row}
+use Rattle.change_rules.specs.Disagree.{segments_agree, name_agrees, first_unlike, rows_fit, first_bad_row}
+use Rattle.batch_codec.specs.Grammar.{cut_below}
 use Rattle.change_rules.proofs.Spans.{flat_segments, same-segments}
 use Rattle.change_rules.proofs.Changes.{rows-front, parents-known}
 use Rattle.change_rules.proofs.Lawful.{flat-cover, record-cover, history-distinct, distinct-parts}

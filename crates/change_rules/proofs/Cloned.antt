@@ -3,7 +3,7 @@ use Rattle.std.proofs.Common.{◌≡◌, ◌≤◌, ◌<◌, ◌+◌, ◌^◌, �
 use Rattle.std.specs.List.{AllByRecursion, range_with_len, cons_option}
 use Rattle.std.specs.List.Sorted.{IsStrictlyIncreasing}
 use Rattle.std.specs.Option.{option_map}
-use Rattle.std.proofs.lemmas.Bool.{lt-ltb, le-leb, eq-eqb}
+use Rattle.std.proofs.lemmas.Bool.{lt-ltb, le-leb, eq-eqb, eqb-false}
 use Rattle.std.proofs.lemmas.Map.Views.{exact_unsigned_eq}
 use Rattle.id_groups.specs.Lists.{IsIn, is_in, AreAllIn, AreDistinct}
 use Rattle.id_groups.specs.Name.{Name, IsName, same_name}
@@ -14,11 +14,14 @@ use Rattle.commit_graph.proofs.Naming.{each, all-each, name-of}
 use Rattle.commit_graph.proofs.Down.{in-left, in-right}
 use Rattle.segment_codec.specs.Record.{Segment}
 use Rattle.segment_codec.specs.Table.{Follow}
-use Rattle.segment_rules.specs.Flat.{parents_listed}
+use Rattle.segment_rules.specs.Flat.{flat_segments_of, parents_listed}
+use Rattle.segment_rules.specs.NewLevels.{new_levels}
+use Rattle.segment_levels.proofs.Coming.{new-all}
 use Rattle.segment_rules.proofs.Flats.{flat-keeps}
 use Rattle.batch_codec.specs.Payload.{Known, known_ids, known_names}
 use Rattle.batch_codec.specs.Reading.{ids_ascend}
-use Rattle.batch_codec.specs.Grammar.{IsPayload, IsClone, MayFollow, AreLawful, head_names}
+use Rattle.batch_codec.specs.Grammar.{AscendByLevel, IsOfLevel, IsPayload, IsClone, head_names}
+use Rattle.change_rules.specs.Lawful.{MayFollow, AreLawful}
 use Rattle.batch_codec.specs.Grammar as grammar
 use Rattle.batch_codec.proofs.Ascending.{ascend-increasing}
 use Rattle.remote_rules.specs.CloneData as clones
@@ -318,10 +321,15 @@ module _ (r : World Name) (named : IsNamedWorld (master_alone r)) where
   module _ (some : 0 < length r.master) (fits : length r.master ≤ 16777216) (few : length (heads_of r) ≤ 65535) where
     -- as for a flush of these rows over nothing
     like : IsPayload (flush_change empty_world (master_alone r))
-    like = (change-follows [] empty_world (master_alone r) tt (record { count = refl; master = refl; known = tt; others = refl; names = refl }) named r.master refl fits zero-le (subst (λ l. 0 < length l) (sym whole_rows) some)).whole
+    like = (change-follows [] empty_world (master_alone r) tt (record { count = refl; master = refl; known = tt; others = refl; names = refl }) tt named r.master refl fits zero-le (subst (λ l. 0 < length l) (sym whole_rows) some)).whole
 
     payload : IsPayload (clone_change r)
     payload = record {
+      format = record { version = inr refl; no_levels = λ e. absurd (eqb-false 2 1 refl e) };
+      levels = record {
+        each = subst (AllByRecursion (IsOfLevel (length r.master))) (new-all segments) like.levels.each;
+        ascend = subst AscendByLevel (new-all segments) like.levels.ascend;
+      };
       counts = record { grows = zero-le; master = fits; others = zero-le };
       cover = record { flat_master = like.cover.flat_master; flat_others = tt; master = follow; others = refl };
       parents = record { master = like.parents.master; others = tt };
@@ -330,7 +338,7 @@ module _ (r : World Name) (named : IsNamedWorld (master_alone r)) where
         ascend = subst IsStrictlyIncreasing (sym ids-are) (ascend-increasing 0 (length r.master) (stored_ids r) (rises-ascend 0 (length r.master) (stored_ids r) ids-rise));
         within = subst (AllByRecursion (λ id. (0 ≤ id) × (id < length r.master))) (sym ids-are) (all-each (λ id. (0 ≤ id) × (id < length r.master)) (stored_ids r) (λ x i. rises-in 0 (length r.master) (stored_ids r) ids-rise x i));
       };
-      by_kind = inr (record { kind = refl; first = refl; something = some; no_others = refl; known = all-each (λ (s : Segment). IsIn s.high (known_ids (clone_change r)) × AreAllIn (grammar.merge_parents s.parents) (known_ids (clone_change r))) segments segment-known });
+      by_kind = inr (inl (record { kind = refl; cloned = refl; first = refl; something = some; no_others = refl; known = all-each (λ (s : Segment). IsIn s.high (known_ids (clone_change r)) × AreAllIn (grammar.merge_parents s.parents) (known_ids (clone_change r))) segments segment-known }));
       heads_fit = (let k : 65536 ≤ 2 ^ 16 = lit≤ tt in omega (arith, few, k));
       names = all-each IsName (known_names (clone_change r)) name-is;
       head_names = all-each IsName (heads_of r) head-is;
@@ -341,8 +349,12 @@ module _ (r : World Name) (named : IsNamedWorld (master_alone r)) where
     clone-follows = record {
       whole = payload;
       count = refl;
+      version = tt;
       clone_first = λ e. refl;
       clone_heads = λ e. heads-same;
+      whole_first = λ e. refl;
+      whole_heads = λ e. absurd (eqb-false 2 3 refl e);
+      levels = λ _. sym (ap (new_levels []) (ap (flat_segments_of 0) (ap parents_listed (append-nil segments) ∙ flat-keeps 0 (parent_ids same_name (master_alone r) r.master))) ∙ new-all segments);
       distinct = subst AreDistinct (sym (append-nil (known_names (clone_change r) ++ []) ∙ append-nil (known_names (clone_change r))))
           (pick-distinct r (subst (λ l. AreDistinct (names_of l)) whole_rows (history-distinct [] (rows_of (master_alone r)) named.world).0) 0 (stored_ids r) ids-rise);
     }

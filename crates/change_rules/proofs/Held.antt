@@ -3,7 +3,7 @@ use Rattle.std.proofs.Common.{◌<◌, ◌≤◌, List, [], ◌∷◌, ◌++◌,
 use Rattle.id_groups.specs.Name.{Name}
 use Rattle.commit_graph.specs.World.{World, IsNamedWorld, GrowsMaster, rows_of}
 use Rattle.batch_codec.specs.Payload.{Payload}
-use Rattle.batch_codec.specs.Grammar.{MayFollow, AreLawful}
+use Rattle.change_rules.specs.Lawful.{MayFollow, AreLawful}
 use Rattle.change_rules.specs.Standard.{standard}
 use Rattle.change_rules.specs.Change.{flush_change}
 use Rattle.change_rules.specs.Holding.{HoldPayloads}
@@ -17,7 +17,7 @@ lawful-snoc before (q ∷ payloads) p h m = (h.0, lawful-snoc (before ++ q ∷ [
 pub change-held : (payloads : List Payload) (old new : World Name) → HoldPayloads payloads old → IsNamedWorld new → GrowsMaster old new → length new.master ≤ standard.master → length new.others ≤ standard.others
     → 0 < length (rows_of new) → HoldPayloads (payloads ++ flush_change old new ∷ []) new
 change-held payloads old new hold named grown fits few some = record {
-  lawful = lawful-snoc [] payloads (flush_change old new) hold.lawful (change-follows payloads old new hold.lawful hold.stand named grown.0 grown.1 fits few some);
+  lawful = lawful-snoc [] payloads (flush_change old new) hold.lawful (change-follows payloads old new hold.lawful hold.stand hold.world.world named grown.0 grown.1 fits few some);
   stand = change-stands payloads old new hold.world.world hold.stand grown;
   world = named;
 }

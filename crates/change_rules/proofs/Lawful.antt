@@ -1,5 +1,5 @@
 -- The payload of a change is in the grammar, and may come behind those that stand for the old world.
-use Rattle.std.proofs.Common.{◌≡◌, ◌≢◌, ◌<◌, ◌≤◌, ◌+◌, ◌-◌, ◌^◌, ℕ, zero, suc, Bool, true, false, ◌⊎◌, inl, inr, List, [], ◌∷◌, ◌++◌, length, map, drop, flat_map, Option, Some, None, slice_get, slice_index, refl, sym, ap, subst, subst₂, ◌∙◌, if◌then◌else◌, ⊎_elim, true≢false, append_assoc, append-nil, arith, length-append, drop_at, is_some, nat_eq, le_refl, zero-le, zero-lt-suc, eq-or-lt_of_le, lit≤, lit<}
+use Rattle.std.proofs.Common.{◌≡◌, ◌≢◌, ◌<◌, ◌≤◌, ◌+◌, ◌-◌, ◌^◌, ℕ, zero, suc, Bool, true, false, ◌⊎◌, inl, inr, List, [], ◌∷◌, ◌++◌, length, map, drop, flat_map, Option, Some, None, slice_get, slice_index, refl, sym, ap, ap₂, subst, subst₂, ◌∙◌, if◌then◌else◌, ⊎_elim, true≢false, append_assoc, append-nil, arith, length-append, drop_at, is_some, nat_eq, le_refl, zero-le, zero-lt-suc, eq-or-lt_of_le, lit≤, lit<}
 use Rattle.std.specs.List.{AllByRecursion}
 use Rattle.std.specs.List.Sorted.{IsStrictlyIncreasing}
 use Rattle.std.specs.Cmp.Lexicographic.{pointwise, bytes_decides}
@@ -9,19 +9,27 @@ use Rattle.id_groups.specs.Lists.{IsIn, is_in, AreDistinct}
 use Rattle.id_groups.specs.Name.{Name, IsName, same_name}
 use Rattle.id_groups.proofs.Names.{same_name-exact, same_name-self}
 use Rattle.id_groups.proofs.Listing.{found, there, missing}
-use Rattle.commit_graph.specs.World.{Row, World, IsNamedWorld, IsHistory, rows_of, names_of}
+use Rattle.commit_graph.specs.World.{Row, World, IsWorld, IsNamedWorld, IsHistory, rows_of, names_of}
 use Rattle.commit_graph.specs.Ids.{id_in, place_of, parent_ids}
 use Rattle.commit_graph.proofs.Histories.{history-front, history-rest, in-all, in-append}
 use Rattle.commit_graph.proofs.Down.{in-left, in-right}
 use Rattle.commit_graph.proofs.Naming.{each, all-each, name-of}
-use Rattle.change_rules.proofs.Spans.{Span, single, with_id, flat_segments, flat_record, same-change}
+use Rattle.change_rules.proofs.Spans.{Span, single, with_id, flat_segments, flat_record, same-change, same-segments}
 use Rattle.segment_codec.specs.Record.{Segment, IsSegment}
 use Rattle.batch_codec.specs.Payload.{Payload, Known, known_names}
 use Rattle.segment_codec.specs.Table.{Follow}
-use Rattle.batch_codec.specs.Grammar.{AreMaximal, HasOthersParents, IsPayload, MayFollow, AreLawful}
+use Rattle.batch_codec.specs.Grammar.{AreMaximal, HasOthersParents, IsPayload}
+use Rattle.change_rules.specs.Lawful.{MayFollow, AreLawful}
 use Rattle.change_rules.specs.Change.{known_from, flush_change}
 use Rattle.change_rules.specs.Tables.{StandFor}
-use Rattle.change_rules.proofs.Changes.{flat-snoc, names-length, place-front}
+use Rattle.change_rules.proofs.Changes.{flat-snoc, names-length, place-front, rows-front, parents-known, change-stands}
+use Rattle.change_rules.proofs.LevelSections.{whole-flats, new-each, new-ascend}
+use Rattle.change_rules.specs.Lawful.{master_flats}
+use Rattle.segment_codec.specs.Flat.{IsFlat}
+use Rattle.segment_rules.specs.Flat.{flat_segments_of, parents_listed}
+use Rattle.segment_rules.specs.NewLevels.{new_levels}
+use Rattle.segment_levels.specs.Whole.{IsWhole, Grows}
+use Rattle.segment_levels.proofs.Continuing.{flats-grow}
 
 -- Flat segments: each fact of an id and its parents is one of the segments' lowest ids.
 
@@ -168,6 +176,12 @@ lawful-distinct before [] d h = subst (λ l. AreDistinct (flat_map known_names l
 lawful-distinct before (p ∷ more) d h =
     let front = distinct-parts (flat_map known_names (before ++ p ∷ [])) p.other_names h.0.distinct in
     subst (λ l. AreDistinct (flat_map known_names l)) (append_assoc before (p ∷ []) more) (lawful-distinct (before ++ p ∷ []) more front.0 h.1)
+
+-- no version is above the second
+pub versions-most : (before more : List Payload) → AreLawful before more → AllByRecursion (λ (q : Payload). q.version ≤ 2) more
+versions-most before [] h = tt
+versions-most before (p ∷ more) h =
+    (⊎_elim (λ e. omega (arith, e)) (λ e. omega (arith, e)) h.0.whole.format.version, versions-most (before ++ p ∷ []) more h.1)
 
 -- Places of names.
 
@@ -359,13 +373,16 @@ module _ (new : World Name) (apart : (x : Name) → IsIn x (names_of new.others)
         refl,
       )
 
-module _ (payloads : List Payload) (old new : World Name) (lawful : AreLawful [] payloads) (stand : StandFor payloads old) (named : IsNamedWorld new)
+module _ (payloads : List Payload) (old new : World Name) (lawful : AreLawful [] payloads) (stand : StandFor payloads old) (was : IsWorld old) (named : IsNamedWorld new)
     (rest : List (Row Name)) (grown : new.master ≡ old.master ++ rest) (fits : length new.master ≤ 16777216) (few : length new.others ≤ 65536) (some : 0 < length (rows_of new)) where
   abbrev change : List (Row Name) → Payload
   change rows = record {
+    version = 2;
     kind = 1;
     before = length old.master;
     after = length new.master;
+    cloned = 0;
+    levels = new_levels (flat_segments_of 0 (parent_ids same_name old old.master)) (flat_segments_of 0 (parent_ids same_name new new.master));
     master = map flat_record (flat_segments (length old.master) (parent_ids same_name new rows));
     known = known_from (length old.master) (names_of rows);
     heads = [];
@@ -399,6 +416,33 @@ module _ (payloads : List Payload) (old new : World Name) (lawful : AreLawful []
       (others-from new group [] new.others refl
       (subst (λ l. IsHistory l new.others) (sym (append-nil (names_of new.master))) (history-rest [] new.master new.others named.world)))
 
+  -- the whole new master group, and how it grew
+  all-size : 0 + length (parent_ids same_name new new.master) ≡ length new.master
+  all-size = let e = length-map new.master (λ (row : Row Name). map (id_in same_name new) row.parents) in omega (arith, e)
+
+  all-spans : AllByRecursion (IsSpanOf MayHave (length new.master)) (flat_segments 0 (parent_ids same_name new new.master))
+  all-spans = flat-spans MayHave (length new.master) 0 (parent_ids same_name new new.master) all-size
+      (master-from new group [] new.master refl (history-front [] new.master new.others named.world))
+
+  whole-master : IsWhole (flat_segments_of 0 (parent_ids same_name new new.master)) (length new.master)
+  whole-master =
+      subst (λ l. IsWhole l (length new.master)) (sym (same-segments 0 (parent_ids same_name new new.master)))
+      (whole-flats (length new.master) (map flat_record (flat_segments 0 (parent_ids same_name new new.master)))
+      (all-records (IsSpanOf MayHave (length new.master)) IsFlat (flat_segments 0 (parent_ids same_name new new.master))
+      (λ s h. let f = master-segment new group (within-group (length new.master) fits) s h in record { segment = f.0; flat = f.1 }) all-spans)
+      (record-cover 0 (length new.master) (flat_segments 0 (parent_ids same_name new new.master)) (flat-cover 0 (length new.master) (parent_ids same_name new new.master) all-size))
+      (within-group (length new.master) fits))
+
+  front-ids : parent_ids same_name new new.master ≡ parent_ids same_name old old.master ++ parent_ids same_name new rest
+  front-ids =
+      ap (parent_ids same_name new) grown ∙ map-append (λ (row : Row Name). map (id_in same_name new) row.parents) old.master rest
+      ∙ ap (λ l. l ++ parent_ids same_name new rest)
+      (rows-front new old (names_of rest) (ap names_of grown ∙ map-append (λ r. r.name) old.master rest) old.master (parents-known [] old.master (history-front [] old.master old.others was)))
+
+  master-grows : Grows (flat_segments_of 0 (parent_ids same_name old old.master)) (flat_segments_of 0 (parent_ids same_name new new.master))
+  master-grows = subst (λ l. Grows (flat_segments_of 0 (parent_ids same_name old old.master)) (flat_segments_of 0 l)) (sym front-ids)
+      (flats-grow 0 (parent_ids same_name old old.master) (parent_ids same_name new rest))
+
   known-size : length old.master + length (names_of rest) ≡ length new.master
   known-size = let a = names-length rest in let b = size in omega (arith, a, b)
 
@@ -407,6 +451,11 @@ module _ (payloads : List Payload) (old new : World Name) (lawful : AreLawful []
 
   payload : IsPayload (change rest)
   payload = record {
+    format = record { version = inr refl; no_levels = λ e. absurd (eqb-false 2 1 refl e) };
+    levels = record {
+      each = new-each (flat_segments_of 0 (parent_ids same_name old old.master)) (flat_segments_of 0 (parent_ids same_name new new.master)) (length new.master) whole-master fits;
+      ascend = new-ascend (flat_segments_of 0 (parent_ids same_name old old.master)) (flat_segments_of 0 (parent_ids same_name new new.master)) (length new.master) whole-master fits master-grows;
+    };
     counts = record { grows = (let e = size in omega (arith, e)); master = fits; others = others-few };
     cover = record {
       flat_master = all-records (IsSpanOf MayHave (length new.master)) (λ s. IsSegment s × (s.level ≡ 0)) (flat_segments (length old.master) (parent_ids same_name new rest)) (master-segment new group (within-group (length new.master) fits)) master-spans;
@@ -429,6 +478,7 @@ module _ (payloads : List Payload) (old new : World Name) (lawful : AreLawful []
     };
     by_kind = inl (record {
       kind = refl;
+      cloned = refl;
       all_known = λ id le lt. ids-in (length old.master) (names_of rest) id le (subst (λ n. id < n) (sym known-size) lt);
       no_heads = refl;
       something = some-rows (length new.master) (length (names_of new.others)) (subst (λ n. 0 < n) (length-append new.master new.others ∙ ap (λ n. length new.master + n) (sym (names-length new.others))) some);
@@ -466,14 +516,29 @@ module _ (payloads : List Payload) (old new : World Name) (lawful : AreLawful []
       ∙ append_assoc (flat_map known_names payloads) (names_of rest) (names_of new.others)))
       (distinct-join (flat_map known_names payloads) (names_of rest ++ names_of new.others) before parts.1 (λ x i j. parts.2 x (old_name x i) j))
 
+  drop-rest : drop (length old.master) new.master ≡ rest
+  drop-rest = ap (drop (length old.master)) grown ∙ drop_at old.master rest (length old.master) refl
+
+  same-rest : flush_change old new ≡ change rest
+  same-rest = same-change old new ∙ ap change drop-rest
+
+  -- the master group with the change is that of the new world
+  flats-now : master_flats (payloads ++ change rest ∷ []) ≡ flat_segments_of 0 (parent_ids same_name new new.master)
+  flats-now = ap (flat_segments_of 0)
+      (subst (λ p. parents_listed (flat_map (λ q. q.master) (payloads ++ p ∷ [])) ≡ parent_ids same_name new new.master) same-rest (change-stands payloads old new was stand (rest, grown)).master)
+
   follows : MayFollow payloads (change rest)
   follows = record {
     whole = payload;
     count = sym stand.count;
+    version = versions-most [] payloads lawful;
     clone_first = λ e. absurd (eqb-false 1 2 refl e);
     clone_heads = λ e. absurd (eqb-false 1 2 refl e);
+    whole_first = λ e. absurd (eqb-false 1 3 refl e);
+    whole_heads = λ e. absurd (eqb-false 1 3 refl e);
     distinct = distinct-names;
+    levels = λ _. sym (ap₂ new_levels (ap (flat_segments_of 0) stand.master) flats-now);
   }
 
   pub change-follows : MayFollow payloads (flush_change old new)
-  change-follows = subst (MayFollow payloads) (sym (same-change old new)) (subst (λ rows. MayFollow payloads (change rows)) (sym (ap (drop (length old.master)) grown ∙ drop_at old.master rest (length old.master) refl)) follows)
+  change-follows = subst (MayFollow payloads) (sym same-rest) follows

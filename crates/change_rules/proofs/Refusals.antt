@@ -5,7 +5,7 @@ use Rattle.id_groups.specs.Name.{Name}
 use Rattle.gated_log.proofs.Damage.{log-or-damaged}
 use Rattle.gated_log.proofs.Reading.{one-log}
 use Rattle.batch_codec.specs.Payload.{Payload}
-use Rattle.batch_codec.specs.Grammar.{AreLawful}
+use Rattle.change_rules.specs.Lawful.{AreLawful}
 use Rattle.batch_codec.proofs.Payloads.{one-payload}
 use Rattle.change_rules.specs.Holding.{AreSpelled, HoldAs}
 use Rattle.change_rules.specs.Unlawful.{IsFirstUnlawful, IsNoLog}

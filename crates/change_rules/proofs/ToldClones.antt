@@ -2,7 +2,7 @@
 use Rattle.std.proofs.Common.{◌≡◌, ◌≢◌, ◌≤◌, ◌<◌, ◌+◌, ◌-◌, ◌^◌, ◌&&◌, ◌||◌, ◌⊎◌, not, cond, ℕ, Bool, true, false, inl, inr, List, [], ◌∷◌, ◌++◌, length, map, filter, flat_map, nat_eq, refl, sym, ap, ap₂, subst, ◌∙◌, ⊎_elim, true≢false, arith, append-nil, zero-le, lit≤}
 use Rattle.std.specs.List.{AllByRecursion, AllZip}
 use Rattle.std.specs.List.Sorted.{IsStrictlyIncreasing}
-use Rattle.std.proofs.lemmas.Bool.{lt-ltb, eq-eqb}
+use Rattle.std.proofs.lemmas.Bool.{lt-ltb, eq-eqb, eqb-false}
 use Rattle.std.proofs.lemmas.Map.Views.{exact_unsigned_eq}
 use Rattle.id_groups.specs.Lists.{IsIn, is_in, AreAllIn, AreDistinct}
 use Rattle.id_groups.specs.Name.{Name, IsName}
@@ -12,8 +12,16 @@ use Rattle.commit_graph.proofs.Down.{in-left, in-right}
 use Rattle.segment_codec.specs.Record.{Segment, IsSegment, HasLevelsParents}
 use Rattle.segment_codec.specs.Table.{Follow}
 use Rattle.segment_codec.specs.Turns.{StandInTurn, place_behind, is_only}
+use Rattle.segment_codec.specs.Flat.{IsFlat}
+use Rattle.segment_rules.specs.Flat.{flat_segments_of, parents_listed}
+use Rattle.segment_rules.specs.NewLevels.{new_levels}
+use Rattle.segment_levels.specs.Whole.{IsWhole}
+use Rattle.segment_levels.proofs.Coming.{new-all}
+use Rattle.change_rules.proofs.Again.{made-again}
+use Rattle.change_rules.proofs.LevelSections.{whole-flats, every-level, all-ascend}
 use Rattle.batch_codec.specs.Payload.{Known, known_ids, known_names}
-use Rattle.batch_codec.specs.Grammar.{AreMaximal, IsPayload, MayFollow, head_names}
+use Rattle.batch_codec.specs.Grammar.{AreMaximal, IsPayload, head_names}
+use Rattle.change_rules.specs.Lawful.{MayFollow}
 use Rattle.batch_codec.specs.Grammar as grammar
 use Rattle.batch_codec.proofs.Ascending.{ascend-increasing}
 use Rattle.remote_rules.specs.CloneData.{CloneData, KnownName, head_ids}
@@ -191,6 +199,9 @@ module _ (told : CloneData) (h : IsLawfulClone told) (formed : AreFormed told) (
       go [] f = tt
       go (s ∷ ss) f = all-each (λ (s : Segment). s.parents ≢ (s.low - 1) ∷ []) ss (λ t i e. true≢false (sym (ap (is_only (t.low - 1)) e ∙ eq-eqb (t.low - 1) (t.low - 1) refl) ∙ (f t (inr i)).1.apart))
 
+  levels-none : AllByRecursion (λ (s : Segment). s.level ≡ 0) told.segments
+  levels-none = all-each (λ (s : Segment). s.level ≡ 0) told.segments (λ s i. (segment s i).1)
+
   heads-same : told.heads ≡ head_names (told_change told)
   heads-same =
       let highest = map (λ (s : Segment). s.high) told.segments in
@@ -199,8 +210,14 @@ module _ (told : CloneData) (h : IsLawfulClone told) (formed : AreFormed told) (
       ∙ ap (map (λ (k : KnownName). k.name)) (filter-same (λ (k : KnownName). is_in nat_eq k.id highest && free k.id) (λ (k : KnownName). is_in nat_eq k.id (head_ids told.segments)) told.names (λ k i. sym (in-filtered k.id free highest)))
       ∙ picked 0 end told.names (head_ids told.segments) told.heads rising (rises-filter free 0 end highest (follow-rises 0 end told.segments cover)) h.heads)
 
+  whole : IsWhole told.segments end
+  whole = whole-flats end told.segments (all-each IsFlat told.segments (λ s i. let f = segment s i in record { segment = f.0; flat = f.1 })) cover
+      (let k : 16777216 ≤ 2 ^ 56 = lit≤ tt in omega (arith, fits, k))
+
   payload : IsPayload (told_change told)
   payload = record {
+    format = record { version = inr refl; no_levels = λ e. absurd (eqb-false 2 1 refl e) };
+    levels = record { each = every-level told.segments end whole fits; ascend = all-ascend told.segments end whole fits };
     counts = record { grows = zero-le; master = fits; others = zero-le };
     cover = record { flat_master = all-each (λ (s : Segment). IsSegment s × (s.level ≡ 0)) told.segments segment; flat_others = tt; master = cover; others = refl };
     parents = record {
@@ -212,8 +229,9 @@ module _ (told : CloneData) (h : IsLawfulClone told) (formed : AreFormed told) (
       ascend = subst IsStrictlyIncreasing (sym ids-are) (ascend-increasing 0 end (map (λ (k : KnownName). k.id) told.names) (rises-ascend 0 end (map (λ (k : KnownName). k.id) told.names) rising));
       within = subst (AllByRecursion (λ id. (0 ≤ id) × (id < end))) (sym ids-are) (all-each (λ id. (0 ≤ id) × (id < end)) (map (λ (k : KnownName). k.id) told.names) (λ x i. rises-in 0 end (map (λ (k : KnownName). k.id) told.names) rising x i));
     };
-    by_kind = inr (record {
+    by_kind = inr (inl (record {
       kind = refl;
+      cloned = refl;
       first = refl;
       something = some;
       no_others = refl;
@@ -221,7 +239,7 @@ module _ (told : CloneData) (h : IsLawfulClone told) (formed : AreFormed told) (
         subst (IsIn s.high) (sym ids-are) (h.needed s s.high i (inl refl)),
         all-in (grammar.merge_parents s.parents) (known_ids (told_change told)) (λ p j. subst (IsIn p) (sym ids-are) (h.needed s p i (inr (subst (IsIn p) (sym (same-merge s.parents)) j)))),
       ));
-    });
+    }));
     heads_fit = (let k : 65536 ≤ 2 ^ 16 = lit≤ tt in omega (arith, few, k));
     names = all-names told.names formed.names;
     head_names = formed.heads;
@@ -232,11 +250,15 @@ module _ (told : CloneData) (h : IsLawfulClone told) (formed : AreFormed told) (
   told-follows = record {
     whole = payload;
     count = refl;
+    version = tt;
     clone_first = λ e. refl;
     clone_heads = λ e. heads-same;
+    whole_first = λ e. refl;
+    whole_heads = λ e. absurd (eqb-false 2 3 refl e);
+    levels = λ _. sym (ap (new_levels []) (ap (flat_segments_of 0) (ap parents_listed (append-nil told.segments)) ∙ made-again 0 end told.segments cover levels-none maximal) ∙ new-all told.segments);
     distinct = subst AreDistinct (sym (append-nil (known_names (told_change told) ++ []) ∙ append-nil (known_names (told_change told)) ∙ names-known told.names)) (turn-distinct end [] told.names h.names).0;
   }
 
 -- what an honest remote tells makes the payload of a clone
 pub told-clone : (r : World Name) → IsNamedWorld (master_alone r) → told_change (clone_data_of r) ≡ clone_change r
-told-clone r named = ap (λ n. record (clone_change r) { after = n }) (behind-all 0 (length r.master) (master_segments r) (follow r named))
+told-clone r named = ap (λ n. record (clone_change r) { after = n; cloned = n }) (behind-all 0 (length r.master) (master_segments r) (follow r named))

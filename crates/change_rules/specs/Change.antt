@@ -7,6 +7,7 @@ use Rattle.commit_graph.specs.Ids.{parent_ids}
 use Rattle.segment_codec.specs.Record.{Segment}
 use Rattle.segment_codec.specs.Turns.{place_behind}
 use Rattle.segment_rules.specs.Flat.{flat_segments_of}
+use Rattle.segment_rules.specs.NewLevels.{new_levels, high_levels}
 use Rattle.batch_codec.specs.Payload.{Payload, Known, payload_bytes}
 use Rattle.remote_rules.specs.CloneData.{CloneData, KnownName}
 use Rattle.remote_rules.specs.Honest.{clone_data_of}
@@ -16,12 +17,16 @@ abbrev pub known_from : ℕ → List Name → List Known
 known_from id [] = []
 known_from id (name ∷ names) = record { id = id; name = name } ∷ known_from (id + 1) names
 
--- the change that a flush, a strip or a pull makes: the new master rows with all their names, and all others
+-- the change that a flush, a strip or a pull makes: the new master rows with all their names, the segments of levels that come with
+-- them, and all others
 abbrev pub flush_change : World Name → World Name → Payload
 flush_change old new = record {
+  version = 2;
   kind = 1;
   before = length old.master;
   after = length new.master;
+  cloned = 0;
+  levels = new_levels (flat_segments_of 0 (parent_ids same_name old old.master)) (flat_segments_of 0 (parent_ids same_name new new.master));
   master = flat_segments_of (length old.master) (parent_ids same_name new (drop (length old.master) new.master));
   known = known_from (length old.master) (names_of (drop (length old.master) new.master));
   heads = [];
@@ -29,12 +34,15 @@ flush_change old new = record {
   other_names = names_of new.others;
 }
 
--- the change that a clone makes: the segments, names and heads that the remote tells
+-- the change that a clone makes: the segments, names and heads that the remote tells, and the levels of the segments
 abbrev pub clone_change : World Name → Payload
 clone_change new = let told = clone_data_of new in record {
+  version = 2;
   kind = 2;
   before = 0;
   after = length new.master;
+  cloned = length new.master;
+  levels = high_levels told.segments;
   master = told.segments;
   known = map (λ k. record { id = k.id; name = k.name }) told.names;
   heads = told.heads;
@@ -51,9 +59,12 @@ pub record AreFormed (told : CloneData) : Type 0 where
 -- the payload of what a remote told, whoever it is
 abbrev pub told_change : CloneData → Payload
 told_change told = record {
+  version = 2;
   kind = 2;
   before = 0;
   after = place_behind 0 told.segments;
+  cloned = place_behind 0 told.segments;
+  levels = high_levels told.segments;
   master = told.segments;
   known = map (λ k. record { id = k.id; name = k.name }) told.names;
   heads = told.heads;
@@ -63,4 +74,4 @@ told_change told = record {
 
 -- the bytes of a payload, in the version that is written
 abbrev pub text_of : Payload → List ℕ
-text_of p = payload_bytes 1 p
+text_of p = payload_bytes p

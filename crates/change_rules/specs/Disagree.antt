@@ -10,6 +10,7 @@ use Rattle.segment_codec.specs.Record.{Segment}
 use Rattle.segment_codec.specs.Table.{parents_at}
 use Rattle.segment_rules.specs.Flat.{flat_segments_of, parents_listed}
 use Rattle.batch_codec.specs.Payload.{Payload, Known}
+use Rattle.batch_codec.specs.Grammar.{cut_below}
 use Rattle.remote_rules.specs.CloneData.{CloneData, KnownName, first_false, first_of}
 use Rattle.change_rules.specs.Tables.{known_in}
 
@@ -29,11 +30,6 @@ IsBadPath payloads below name from back =
     ⊎ ((id : ℕ) × IsStored payloads below id from
     × ((first_ancestor (id_graph payloads) back id ≡ None)
     ⊎ ((end : ℕ) × (other : Name) × (first_ancestor (id_graph payloads) back id ≡ Some end) × IsStored payloads below end other × (other ≢ name))))
-
--- segments, cut at an id
-abbrev pub cut_below : ℕ → List Segment → List Segment
-cut_below below [] = []
-cut_below below (s ∷ more) = if nat_lt s.low below then record s { high = min s.high (below - 1) } ∷ cut_below below more else cut_below below more
 
 -- whether two segments have the same ids and parents
 abbrev pub same_segment : Segment → Segment → Bool

@@ -7,7 +7,7 @@ use Rattle.disk_trait.specs.Images.{Told}
 use Rattle.disk_trait.specs.Since.{SureNow}
 use Rattle.gated_log.specs.Log.{IsLog}
 use Rattle.batch_codec.specs.Payload.{Payload}
-use Rattle.batch_codec.specs.Grammar.{AreLawful}
+use Rattle.change_rules.specs.Lawful.{AreLawful}
 use Rattle.change_rules.specs.Tables.{StandFor}
 use Rattle.change_rules.specs.Change.{text_of}
 

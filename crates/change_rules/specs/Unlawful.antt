@@ -2,7 +2,7 @@
 use Rattle.std.specs.Prelude.{◌<◌, ◌⊎◌, ℕ, zero, suc, List, [], ◌∷◌, ◌++◌, length}
 use Rattle.gated_log.specs.Log.{IsLog, IsDamaged}
 use Rattle.batch_codec.specs.Payload.{Payload}
-use Rattle.batch_codec.specs.Grammar.{MayFollow}
+use Rattle.change_rules.specs.Lawful.{MayFollow}
 use Rattle.change_rules.specs.Holding.{IsSpelled}
 
 -- a text is a payload that may come behind these

@@ -14,7 +14,7 @@ ghost use Rattle.change_rules.specs.Strip.{stripped};
 ghost use Rattle.change_rules.specs.Pull.{pulled};
 ghost use Rattle.change_rules.specs.Change.{flush_change, clone_change, AreFormed, told_change};
 ghost use Rattle.segment_codec.specs.Turns.{place_behind};
-ghost use Rattle.batch_codec.specs.Grammar.{MayFollow};
+ghost use Rattle.change_rules.specs.Lawful.{MayFollow};
 ghost use Rattle.remote_rules.specs.Known.{master_alone, master_world, master_graph, IsReached, IsKnownTo, IsPathTo, Path};
 ghost use Rattle.remote_rules.specs.Honest.{heads_of, clone_data_of, stored_ids, master_segments};
 ghost use Rattle.remote_rules.specs.CloneData.{CloneData, first_broken};

@@ -13,6 +13,8 @@ mod names;
 #[cfg(test)]
 mod payloads;
 #[cfg(test)]
+mod second_version;
+#[cfg(test)]
 mod spans;
 #[cfg(test)]
 mod tables;

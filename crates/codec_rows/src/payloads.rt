@@ -1,24 +1,18 @@
-//! The bytes of payloads, both ways, and each rule broken alone.
+//! The bytes of payloads of version 1, which are read, and each rule broken alone.
 
-ghost use Rattle.std.specs.Prelude.{◌≡◌, ◌++◌, ◌∷◌, [], OnOk, length, replicate};
-ghost use Rattle.batch_codec.specs.Building.{IsBuilt, empty_payload};
-ghost use Rattle.batch_codec.specs.Grammar.{IsPayload};
-ghost use Rattle.batch_codec.specs.Payload.{Payload};
-
-use batch_codec::{BatchBuild, BatchRef};
-use id_groups::{Id, Name};
+use batch_codec::BatchRef;
 use std::alloc::{AllocError, Global};
 use std::test::Fail;
 
 /// A flush of two other ids in a chain, with the names a1 and b1.
-const CHAIN: [u8; 88] = [
+pub(crate) const CHAIN: [u8; 88] = [
     1, 1, 0, 0, 0, 0, 0, 0, 0, 0, 0, 0, 0, 0, 0, 0, 0, 0, 0, 0, 0, 0, 0, 0, 0, 0, 0, 0, 0, 0, 0, 2,
     0, 0, 0, 1, 1, 0, 1, 0, 0, 0, 0, 0, 0, 1, 1, 0, 0, 0, 0, 0, 0, 0, 0, 0, 0, 0, 0, 0, 0, 0, 0, 0,
     0, 0, 0, 0xa1, 0, 0, 0, 0, 0, 0, 0, 0, 0, 0, 0, 0, 0, 0, 0, 0, 0, 0, 0, 0xb1,
 ];
 
 /// A flush of the master ids 0 and 1, named a1 and c1, and of one other id above 0, named b1.
-const FORK: [u8; 137] = [
+pub(crate) const FORK: [u8; 137] = [
     1, 1, 0, 0, 0, 0, 0, 0, 0, 0, 0, 0, 0, 0, 0, 0, 0, 2, 0, 0, 0, 1, 1, 0, 0, 0, 0, 0, 0, 0, 0, 1,
     1, 0, 0, 0, 0, 2, 0, 0, 0, 0, 0, 0, 0, 0, 0, 0, 0, 0, 0, 0, 0, 0, 0, 0, 0, 0, 0, 0, 0, 0, 0, 0,
     0, 0xa1, 0, 0, 0, 0, 0, 0, 0, 1, 0, 0, 0, 0, 0, 0, 0, 0, 0, 0, 0, 0, 0, 0, 0, 0, 0, 0, 0, 0xc1,
@@ -27,7 +21,7 @@ const FORK: [u8; 137] = [
 ];
 
 /// A clone of ten ids in a chain, of which the last is known by the name 19.
-const CLONE: [u8; 96] = [
+pub(crate) const CLONE: [u8; 96] = [
     1, 2, 0, 0, 0, 0, 0, 0, 0, 0, 0, 0, 0, 0, 0, 0, 0, 10, 0, 0, 0, 1, 1, 0, 0, 0, 0, 0, 0, 0, 0,
     9, 9, 0, 0, 0, 0, 1, 0, 0, 0, 0, 0, 0, 0, 9, 0, 0, 0, 0, 0, 0, 0, 0, 0, 0, 0, 0, 0, 0, 0, 0, 0,
     0, 0, 0x19, 0, 1, 0, 0, 0, 0, 0, 0, 0, 0, 0, 0, 0, 0, 0, 0, 0, 0, 0, 0, 0, 0x19, 0, 0, 0, 0, 0,
@@ -54,7 +48,12 @@ pub(crate) const MERGE: [u8; 178] = [
 ];
 
 /// Whether the payload is one, with another byte at a place.
-fn is_read(alloc: Global, payload: &[u8], place: usize, value: u8) -> Result<bool, AllocError> {
+pub(crate) fn is_read(
+    alloc: Global,
+    payload: &[u8],
+    place: usize,
+    value: u8,
+) -> Result<bool, AllocError> {
     let mut bytes = Vec::from_slice(alloc, payload)?;
     if let Some(byte) = bytes.get_mut(place) {
         *byte = value;
@@ -63,7 +62,7 @@ fn is_read(alloc: Global, payload: &[u8], place: usize, value: u8) -> Result<boo
 }
 
 /// A payload, another byte at a place of it, and whether it is a payload then.
-const CHANGED: [(&[u8], usize, u8, bool); 22] = [
+const CHANGED: [(&[u8], usize, u8, bool); 24] = [
     // as they are
     (&CHAIN, 0, 1, true),
     (&FORK, 0, 1, true),
@@ -71,7 +70,9 @@ const CHANGED: [(&[u8], usize, u8, bool); 22] = [
     (&SIDE, 0, 1, true),
     (&MERGE, 0, 1, true),
     // the version, the kind, the counts
+    (&FORK, 0, 0, false),
     (&FORK, 0, 2, false),
+    (&FORK, 0, 3, false),
     (&FORK, 1, 3, false),
     (&FORK, 1, 2, false),
     (&FORK, 9, 3, false),
@@ -96,8 +97,11 @@ const CHANGED: [(&[u8], usize, u8, bool); 22] = [
 ];
 
 /// The first byte of these, with its place, by which something else becomes of a payload than it is wanted.
-fn first_wrong(alloc: Global) -> Result<Option<(u8, usize)>, AllocError> {
-    for (payload, place, value, is_payload) in &CHANGED {
+pub(crate) fn first_wrong(
+    alloc: Global,
+    changes: &[(&[u8], usize, u8, bool)],
+) -> Result<Option<(u8, usize)>, AllocError> {
+    for (payload, place, value, is_payload) in changes {
         if is_read(alloc, payload, *place, *value)? != *is_payload {
             return Ok(Some((*value, *place)));
         }
@@ -107,7 +111,7 @@ fn first_wrong(alloc: Global) -> Result<Option<(u8, usize)>, AllocError> {
 
 #[test]
 fn each_rule_is_tested(rt: HostRuntime) -> Result<(), Fail> {
-    assert_eq!(rt; first_wrong(rt.alloc())?, None);
+    assert_eq!(rt; first_wrong(rt.alloc(), &CHANGED)?, None);
     Ok(())
 }
 
@@ -126,92 +130,4 @@ fn fronts_and_longer_bytes_are_none(rt: HostRuntime) {
     for bytes in [behind, longer] {
         assert!(rt; BatchRef::read(&bytes).is_none());
     }
-}
-
-fn name(last: u8) -> Name
-    ensures { result ≡ replicate 19 0 ++ last ∷ [] }
-{
-    let mut bytes = [0; 20];
-    bytes[19] = last;
-    Name::from_bytes(bytes)
-}
-
-/// Puts the parts of `CHAIN` into a payload without any.
-fn put_chain(build: &mut BatchBuild) -> Result<(), AllocError>
-    requires { IsBuilt build.old (empty_payload 1 0 0) }
-    ensures { OnOk result ((p : Payload) × IsPayload p × IsBuilt build.new p × (build.new.other_count ≡ length p.other_names)) }
-{
-    build.other_count(2)?;
-    build.other_segment(Id::other(0), Id::other(1), &[])?;
-    build.other_name(&name(0xa1))?;
-    build.other_name(&name(0xb1))?;
-    Ok(())
-}
-
-/// The payload that becomes of the parts of `CHAIN`.
-fn built_chain(alloc: Global) -> Result<Vec<u8>, AllocError> {
-    let mut build = BatchBuild::new(alloc, 1, 0, 0)?;
-    put_chain(&mut build)?;
-    build.finish()
-}
-
-#[test]
-fn a_flush_of_others_is_built(rt: HostRuntime) -> Result<(), Fail> {
-    let bytes = built_chain(rt.alloc())?;
-    assert_eq!(rt; bytes.as_slice(), CHAIN.as_slice());
-    Ok(())
-}
-
-/// Puts the parts of `FORK` into a payload without any.
-fn put_fork(build: &mut BatchBuild) -> Result<(), AllocError>
-    requires { IsBuilt build.old (empty_payload 1 0 2) }
-    ensures { OnOk result ((p : Payload) × IsPayload p × IsBuilt build.new p × (build.new.other_count ≡ length p.other_names)) }
-{
-    build.segment(Id::master(0), Id::master(1), &[])?;
-    build.known(Id::master(0), &name(0xa1))?;
-    build.known(Id::master(1), &name(0xc1))?;
-    build.other_count(1)?;
-    build.other_segment(Id::other(0), Id::other(0), &[Id::master(0)])?;
-    build.other_name(&name(0xb1))?;
-    Ok(())
-}
-
-/// The payload that becomes of the parts of `FORK`.
-fn built_fork(alloc: Global) -> Result<Vec<u8>, AllocError> {
-    let mut build = BatchBuild::new(alloc, 1, 0, 2)?;
-    put_fork(&mut build)?;
-    build.finish()
-}
-
-#[test]
-fn a_flush_is_built(rt: HostRuntime) -> Result<(), Fail> {
-    let bytes = built_fork(rt.alloc())?;
-    assert_eq!(rt; bytes.as_slice(), FORK.as_slice());
-    Ok(())
-}
-
-/// Puts the parts of `CLONE` into a payload without any.
-fn put_clone(build: &mut BatchBuild) -> Result<(), AllocError>
-    requires { IsBuilt build.old (empty_payload 2 0 10) }
-    ensures { OnOk result ((p : Payload) × IsPayload p × IsBuilt build.new p × (build.new.other_count ≡ length p.other_names)) }
-{
-    build.segment(Id::master(0), Id::master(9), &[])?;
-    build.known(Id::master(9), &name(0x19))?;
-    build.head(&name(0x19))?;
-    build.other_count(0)?;
-    Ok(())
-}
-
-/// The payload that becomes of the parts of `CLONE`.
-fn built_clone(alloc: Global) -> Result<Vec<u8>, AllocError> {
-    let mut build = BatchBuild::new(alloc, 2, 0, 10)?;
-    put_clone(&mut build)?;
-    build.finish()
-}
-
-#[test]
-fn a_clone_is_built(rt: HostRuntime) -> Result<(), Fail> {
-    let bytes = built_clone(rt.alloc())?;
-    assert_eq!(rt; bytes.as_slice(), CLONE.as_slice());
-    Ok(())
 }

@@ -11,7 +11,8 @@ use Rattle.commit_graph.proofs.Down.{in-left, in-right}
 use Rattle.segment_codec.specs.Record.{segment_bytes}
 use Rattle.segment_codec.specs.Flat.{IsFlat}
 use Rattle.batch_codec.specs.Payload.{known_names}
-use Rattle.batch_codec.specs.Grammar.{AreLawful, count_after}
+use Rattle.batch_codec.specs.Grammar.{count_after}
+use Rattle.change_rules.specs.Lawful.{AreLawful}
 use Rattle.name_map.specs.Added.{Placed, AllStand, payloads_of, known_of}
 use Rattle.flat_segments.specs.Placed.{Placed as PlacedSegment, placed}
 use Rattle.assign_ids.specs.Numbers.{AreBelow}

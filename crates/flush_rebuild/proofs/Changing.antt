@@ -3,7 +3,7 @@ use Rattle.std.proofs.Common.{◌≡◌, ◌<◌, ◌≤◌, ℕ, ◌+◌, ◌�
 use Rattle.id_groups.specs.Name.{Name, same_name}
 use Rattle.commit_graph.specs.World.{Row, World, with_pending}
 use Rattle.batch_codec.specs.Payload.{payload_bytes}
-use Rattle.batch_codec.specs.Grammar.{IsPayload, AreLawful}
+use Rattle.change_rules.specs.Lawful.{AreLawful, MayFollow}
 use Rattle.assign_ids.specs.Numbers.{AreBelow}
 use Rattle.name_map.specs.Added.{Placed, payloads_of}
 use Rattle.change_rules.specs.declared.Limits.{Limits}
@@ -14,7 +14,7 @@ use Rattle.flush_rebuild.specs.declared.plan.Change.{Change}
 use Rattle.flush_rebuild.specs.Moves.{rest_of, change_in}
 use Rattle.flush_rebuild.specs.Plans.{IsChangeOf, MayBeStored}
 use Rattle.flush_rebuild.specs.Facts.{IsMove}
-use Rattle.flush_rebuild.proofs.Sizing.{moving, f-order, f-master, f-others, f-same, f-lawful, f-written, f-differs, Changes, pending-count}
+use Rattle.flush_rebuild.proofs.Sizing.{moving, f-order, f-master, f-others, f-same, f-written, f-differs, Changes, pending-count}
 use Rattle.flush_rebuild.proofs.Storing as storing
 
 module _ (names : List ℕ) (n more before log : ℕ) (graph : List (List ℕ)) (order rest : List ℕ) (w : World Name) (rows : List (Row Name)) (heads : List Name)
@@ -59,24 +59,27 @@ module _ (names : List ℕ) (n more before log : ℕ) (graph : List (List ℕ)) 
   change-order : change_in m.flats names before n order ≡ change_in m.flats names before n moves
   change-order = ap (change_in m.flats names before n) order-moves
 
-  pub payload-lawful : (limits : Limits) → AreLimits limits → length rest ≤ limits.others → before + length order ≤ limits.master → DoesChange → IsPayload (change_in m.flats names before n order)
-  payload-lawful limits l lo lm c =
-      subst IsPayload (sym change-order)
-      (f-lawful m.tables m.bytes m.pending m.numbers m.flats names n before w rows heads m.facts limits l (length rest) (before + length order) lo lm others-size master-size (changes-of c))
+  -- the payload may come behind those of the tables
+  pub payload-follows : (limits : Limits) → AreLimits limits → length rest ≤ limits.others → before + length order ≤ limits.master → DoesChange → MayFollow (payloads_of m.facts.may.added) (change_in m.flats names before n order)
+  payload-follows limits l lo lm c =
+      let a = l.others.1 in let b = l.master.1 in let o = others-size in let s = master-size in
+      subst (MayFollow (payloads_of m.facts.may.added)) (sym change-order)
+      (storing.may-follow m.tables m.bytes m.pending m.numbers m.flats names n before w rows heads m.facts m.facts.may.added m.facts.may.tables_of.lawful m.facts.may.stand_for
+      (omega (arith, lm, b, s)) (omega (arith, lo, a, o)) (changes-of c))
 
-  pub payload-written : (payload : List ℕ) → IsChangeOf w new payload → DoesChange → payload ≡ payload_bytes 1 (change_in m.flats names before n order)
+  pub payload-written : (payload : List ℕ) → IsChangeOf w new payload → DoesChange → payload ≡ payload_bytes (change_in m.flats names before n order)
   payload-written payload h c =
-      f-written m.tables m.bytes m.pending m.numbers m.flats names n before w rows heads m.facts payload h (changes-of c) ∙ ap (payload_bytes 1) (sym change-order)
+      f-written m.tables m.bytes m.pending m.numbers m.flats names n before w rows heads m.facts payload h (changes-of c) ∙ ap payload_bytes (sym change-order)
 
   module _ (added : List Placed) (lawful : AreLawful [] (payloads_of added)) (stand : StandFor (payloads_of added) w) (limits : Limits) (change : Change) where
     pub stays : length order ≡ 0 → more ≡ 0 → change.payload ≡ [] → change.same ≡ true → change.master ≡ before + length order → change.others ≡ length rest
-        → change.master ≤ limits.master → change.others ≤ limits.others → MayBeStored limits log added change
+        → change.master ≤ limits.master → change.others ≤ limits.others → MayBeStored 1 limits log added change
     stays a b payload same ma ot lm lo =
         storing.stays m.tables m.bytes m.pending m.numbers m.flats names n before w rows heads m.facts added lawful stand limits log change
         (ap (length {A = ℕ}) (sym order-moves) ∙ a) (sym pending-size ∙ b) payload same (ma ∙ master-size) (ot ∙ others-size) lm lo
 
-    pub changes : AreLimits limits → DoesChange → change.payload ≡ payload_bytes 1 (change_in m.flats names before n order) → change.same ≡ false → change.master ≡ before + length order → change.others ≡ length rest
-        → change.master ≤ limits.master → change.others ≤ limits.others → log + 9 + length change.payload ≤ limits.log → MayBeStored limits log added change
+    pub changes : AreLimits limits → DoesChange → change.payload ≡ payload_bytes (change_in m.flats names before n order) → change.same ≡ false → change.master ≡ before + length order → change.others ≡ length rest
+        → change.master ≤ limits.master → change.others ≤ limits.others → log + 9 + length change.payload ≤ limits.log → MayBeStored 1 limits log added change
     changes l c payload same ma ot lm lo fits =
         storing.changes m.tables m.bytes m.pending m.numbers m.flats names n before w rows heads m.facts added lawful stand limits log change l
-        (changes-of c) (payload ∙ ap (payload_bytes 1) change-order) same (ma ∙ master-size) (ot ∙ others-size) lm lo fits
+        (changes-of c) (payload ∙ ap payload_bytes change-order) same (ma ∙ master-size) (ot ∙ others-size) lm lo fits

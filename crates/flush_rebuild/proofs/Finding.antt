@@ -1,26 +1,24 @@
 -- Names that are found among pending rows, and heads.
-use Rattle.std.proofs.Common.{◌≡◌, ◌<◌, ◌≤◌, ℕ, zero, suc, ◌+◌, ◌^◌, Bool, true, false, List, [], ◌∷◌, ◌++◌, length, map, take, Option, Some, None, slice_get, get_or, is_some, refl, sym, ap, ap₂, subst, ◌∙◌, ⊎_elim, arith, true≢false, if◌then◌else◌, append_assoc, length-append}
+use Rattle.std.proofs.Common.{◌≡◌, ◌<◌, ℕ, zero, suc, ◌+◌, Bool, true, false, List, [], ◌∷◌, ◌++◌, length, map, take, Option, Some, None, slice_get, get_or, is_some, refl, sym, ap, ap₂, subst, ◌∙◌, ⊎_elim, arith, true≢false, if◌then◌else◌, append_assoc}
 use Rattle.std.specs.Prelude.{MatchOption}
-use Rattle.std.proofs.lemmas.List.{map-append, length-map, take_more}
+use Rattle.std.proofs.lemmas.List.{map-append, take_more}
 use Rattle.std.proofs.lemmas.Bool.{false_from_ne_true}
 use Rattle.id_groups.specs.Lists.{IsIn, is_in, AreAllIn}
 use Rattle.id_groups.specs.Name.{Name, same_name}
 use Rattle.id_groups.specs.Id.{other_id}
 use Rattle.id_groups.proofs.Names.{same_name-exact, same_name-self}
-use Rattle.id_groups.proofs.Listing.{found, there, missing}
+use Rattle.id_groups.proofs.Listing.{found, there}
 use Rattle.commit_graph.specs.World.{Row, World, IsWorld, rows_of, names_of, with_pending}
-use Rattle.commit_graph.specs.Ids.{id_in, place_of}
+use Rattle.commit_graph.specs.Ids.{id_in}
 use Rattle.assign_ids.specs.Numbers.{others_of}
 use Rattle.assign_ids.specs.declared.graph.Node.{Node}
 use Rattle.assign_ids.specs.declared.graph.Node.TheVariants.{Placed, Other}
 use Rattle.flush_rebuild.specs.Moves.{node_of}
-use Rattle.payload_tables.proofs.Lists.{names-length}
-use Rattle.flush_rebuild.proofs.Spans.{place-below}
 use Rattle.commit_graph.proofs.Histories.{in-append}
 use Rattle.commit_graph.proofs.Down.{in-left, in-right}
 use Rattle.commit_graph.proofs.Places.{id-in-others, name-at}
-use Rattle.payload_tables.specs.Pending.{IdRow, PlainPending, row_names}
-use Rattle.payload_tables.specs.Bases.{ArePending, id_row}
+use Rattle.payload_tables.specs.Pending.{IdRow, row_names}
+use Rattle.payload_tables.specs.Bases.{id_row}
 use Rattle.flush_rebuild.specs.Plans.{stored_id, first_unknown}
 use Rattle.payload_tables.proofs.Joined.{seen-id}
 

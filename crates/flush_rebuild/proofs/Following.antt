@@ -9,7 +9,8 @@ use Rattle.id_groups.proofs.Listing.{found}
 use Rattle.commit_graph.specs.World.{Row, World, IsNamedWorld, rows_of, names_of, with_pending}
 use Rattle.commit_graph.proofs.Naming.{each, named-by, name-of, pending-names}
 use Rattle.batch_codec.specs.Payload.{Payload, payload_bytes}
-use Rattle.batch_codec.specs.Grammar.{MayFollow, IsPayload}
+use Rattle.batch_codec.specs.Grammar.{IsPayload}
+use Rattle.change_rules.specs.Lawful.{MayFollow}
 use Rattle.name_map.specs.Added.{Placed, payloads_of}
 use Rattle.change_rules.specs.declared.Limits.{Limits}
 use Rattle.change_rules.specs.Flush.{flushed}
@@ -28,7 +29,7 @@ use Rattle.flush_rebuild.proofs.Planning.{whole-names}
 
 -- tables with any payload that the change may be are those that follow it
 pub follow-ok : {E : Type 0} (r : Result PlainTables E) (log : ℕ) (added : List Placed) (change : Change) → change.same ≡ false
-    → ((last : Payload) → IsPayload last → change.payload ≡ payload_bytes 1 last → IfOk r (λ after. AreTablesOf after (with_payload log added last))) → IfOk r (λ after. FollowChange after log added change)
+    → ((last : Payload) → IsPayload last → change.payload ≡ payload_bytes last → IfOk r (λ after. AreTablesOf after (with_payload log added last))) → IfOk r (λ after. FollowChange after log added change)
 follow-ok (Ok after) log added change e f = record { stays = λ t. absurd (true≢false (sym t ∙ e)); changes = λ s. f }
 follow-ok (Err fault) log added change e f = tt
 
@@ -70,13 +71,13 @@ module _ (tables : PlainTables) (bytes : List ℕ) (pending : PlainPending) (hea
 
     -- the change may come behind the payloads, where the new world keeps the bounds of the format
     follows : length new.master ≤ 16777216 → length new.others ≤ 65536 → 0 < length (rows_of new) → MayFollow (payloads_of f.added) (flush_change w new)
-    follows fits few some = change-follows (payloads_of f.added) w new f.tables_of.lawful f.stand_for new-named grown.0 grown.1 fits few some
+    follows fits few some = change-follows (payloads_of f.added) w new f.tables_of.lawful f.stand_for f.world.world new-named grown.0 grown.1 fits few some
 
     stands : StandFor (payloads_of f.added ++ flush_change w new ∷ []) new
     stands = change-stands (payloads_of f.added) w new f.world.world f.stand_for grown
 
   -- a change that may be stored behind some payloads keeps the bounds of the format
-  storable-follows : (limits : Limits) (log : ℕ) (some : List Placed) (change : Change) (last : Payload) → IsStorable limits log some change last
+  storable-follows : (limits : Limits) (log : ℕ) (some : List Placed) (change : Change) (last : Payload) → IsStorable 1 limits log some change last
       → AreAllIn heads (names_of (rows_of view)) → change.master ≡ length new.master → change.others ≡ length new.others → MayFollow (payloads_of f.added) (flush_change w new)
   storable-follows limits log some change last s known m o =
       let c = s.follows.whole.counts in
@@ -85,10 +86,11 @@ module _ (tables : PlainTables) (bytes : List ℕ) (pending : PlainPending) (hea
       follows known (omega (arith, cm, sm, m)) (omega (arith, co, so, o))
       (⊎_elim
       (λ flush. ⊎_elim (λ a. omega (arith, a, sm, m, l)) (λ b. omega (arith, b, so, o, l)) flush.something)
-      (λ clone. let a = clone.something in omega (arith, a, sm, m, l))
+      (λ kinds. ⊎_elim (λ clone. let a = clone.something in omega (arith, a, sm, m, l))
+      (λ store. ⊎_elim (λ a. omega (arith, a, sm, m, l)) (λ b. omega (arith, b, so, o, l)) store.something) kinds)
       s.follows.whole.by_kind)
 
-  pub stand-next : (limits : Limits) (some : List Placed) (change : Change) (payload : List ℕ) (after : PlainTables) → MayBeStored limits (length bytes) some change
+  pub stand-next : (limits : Limits) (some : List Placed) (change : Change) (payload : List ℕ) (after : PlainTables) → MayBeStored 1 limits (length bytes) some change
       → flush_refusal limits (length bytes) view new heads payload ≡ None → IsPlanOf change w new payload → IsChangeOf w new payload → FollowChange after (length bytes) f.added change
       → StandForNext after (length bytes) f.added w new
   stand-next limits some change payload after stored none plan is tables_after = by_same change.same refl

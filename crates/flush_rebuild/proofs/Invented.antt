@@ -13,7 +13,8 @@ use Rattle.segment_codec.specs.Record.{Segment, IsSegment, HasLevelsParents}
 use Rattle.segment_codec.specs.Table.{Follow}
 use Rattle.batch_codec.specs.Payload.{Payload, Known, known_ids, known_names}
 use Rattle.batch_codec.specs.Reading.{ids_ascend}
-use Rattle.batch_codec.specs.Grammar.{IsPayload, HasOthersParents, AreFlat, AreLawful, count_after}
+use Rattle.batch_codec.specs.Grammar.{IsPayload, HasOthersParents, AreFlat, count_after}
+use Rattle.change_rules.specs.Lawful.{AreLawful}
 use Rattle.batch_codec.proofs.Ascending.{ascend-each, ascend-parts, increasing-ascend}
 use Rattle.batch_codec.proofs.Meanings.{ascend-length}
 use Rattle.name_map.specs.Part.{upward}

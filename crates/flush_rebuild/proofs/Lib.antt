@@ -23,3 +23,6 @@ pub mod OnWorlds
 pub mod Following
 pub mod RowLemmas
 pub mod Changing
+pub mod Telling
+pub mod LevelRecords
+pub mod ToldPlans

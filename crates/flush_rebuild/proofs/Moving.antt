@@ -14,7 +14,7 @@ use Rattle.id_groups.proofs.Names.{same_name-exact, same_name-self}
 use Rattle.id_groups.proofs.Listing.{found, there}
 use Rattle.commit_graph.specs.World.{Row, World, IsWorld, IsHistory, rows_of, names_of, row_named}
 use Rattle.commit_graph.specs.Ids.{id_in, place_of, parent_ids}
-use Rattle.commit_graph.proofs.Histories.{in-append, history-rest, in-all}
+use Rattle.commit_graph.proofs.Histories.{in-append, history-front, history-rest, in-all}
 use Rattle.commit_graph.proofs.Down.{in-left, in-right, in-reverse}
 use Rattle.commit_graph.proofs.Places.{at-name, item-at, id-in-master, id-in-others, below-master, over-master, other-place, chosen, left-out, place-at, apart}
 use Rattle.assign_ids.specs.Numbers.{AreBelow, HaveOlderParents, others_of, order_of}
@@ -30,7 +30,10 @@ use Rattle.change_rules.specs.Change.{flush_change}
 use Rattle.change_rules.specs.Change.{known_from}
 use Rattle.flush_rebuild.specs.Moves.{node_of, rest_of, moved_id, moved_parents, moved_change}
 use Rattle.change_rules.proofs.Flushes.{row-found, front-rows, newest-down}
-use Rattle.change_rules.proofs.Changes.{id-front}
+use Rattle.change_rules.proofs.Changes.{id-front, rows-front, parents-known}
+use Rattle.segment_codec.specs.Record.{Segment}
+use Rattle.segment_rules.specs.Flat.{flat_segments_of}
+use Rattle.segment_rules.specs.NewLevels.{new_levels}
 use Rattle.payload_tables.proofs.Lists.{names-length, get-below}
 use Rattle.flush_rebuild.proofs.Renumber.{in-map, Agree, placed-in, order-same}
 
@@ -348,21 +351,38 @@ module _ (v : World Name) (whole : IsWorld v) (small : length v.master ≤ 16777
   behind : drop (length v.master) new.master ≡ map row order
   behind = ap (drop (length v.master)) master-rows ∙ drop_at v.master (map row order) (length v.master) refl
 
+  -- the parents of the new master ids: those that were there, and those of what moved
+  front-parents : (masters : List (List ℕ)) → masters ≡ parent_ids same_name v v.master → parent_ids same_name new new.master ≡ masters ++ moved_parents (length v.master) n order parents order
+  front-parents masters e =
+      ap (parent_ids same_name new) master-rows ∙ map-append (λ (r : Row Name). map (id_in same_name new) r.parents) v.master (map row order)
+      ∙ ap₂ (λ a b. a ++ b)
+      (rows-front new v (map name order) master-names v.master (parents-known [] v.master (history-front [] v.master v.others whole)) ∙ sym e)
+      (parents-moved order moves.0)
+
   -- the change by numbers is the change
-  pub change-same : flush_change v new ≡ moved_change (length v.master) n parents name order
-  change-same =
-      same-change v new ∙ ap (λ l. change (length new.master) (parent_ids same_name new l) (names_of l) (parent_ids same_name new new.others) (names_of new.others)) behind
-      ∙ ap (λ k. change k (parent_ids same_name new (map row order)) (names_of (map row order)) (parent_ids same_name new new.others) (names_of new.others)) master-size
-      ∙ ap₂ (λ a b. change (length v.master + length order) a b (parent_ids same_name new new.others) (names_of new.others)) (parents-moved order moves.0) (names-by order moves.0)
-      ∙ ap₂ (λ a b. change (length v.master + length order) (moved_parents (length v.master) n order parents order) (map name order) a b)
+  pub change-same : (masters : List (List ℕ)) → masters ≡ parent_ids same_name v v.master → flush_change v new ≡ moved_change (length v.master) n masters parents name order
+  change-same masters e =
+      same-change v new
+      ∙ ap₂ (λ a b. change (new_levels (flat_segments_of 0 a) (flat_segments_of 0 b)) (length new.master) (parent_ids same_name new (drop (length v.master) new.master)) (names_of (drop (length v.master) new.master)) (parent_ids same_name new new.others) (names_of new.others))
+      (sym e) (front-parents masters e)
+      ∙ ap (λ l. change (come masters) (length new.master) (parent_ids same_name new l) (names_of l) (parent_ids same_name new new.others) (names_of new.others)) behind
+      ∙ ap (λ k. change (come masters) k (parent_ids same_name new (map row order)) (names_of (map row order)) (parent_ids same_name new new.others) (names_of new.others)) master-size
+      ∙ ap₂ (λ a b. change (come masters) (length v.master + length order) a b (parent_ids same_name new new.others) (names_of new.others)) (parents-moved order moves.0) (names-by order moves.0)
+      ∙ ap₂ (λ a b. change (come masters) (length v.master + length order) (moved_parents (length v.master) n order parents order) (map name order) a b)
       (ap (parent_ids same_name new) others-rows ∙ parents-moved rest rest-below) others-names
     where
-      change : ℕ → List (List ℕ) → List Name → List (List ℕ) → List Name → Payload
-      change after ms known os names = record {
+      come : List (List ℕ) → List Segment
+      come ms = new_levels (flat_segments_of 0 ms) (flat_segments_of 0 (ms ++ moved_parents (length v.master) n order parents order))
+
+      change : List Segment → ℕ → List (List ℕ) → List Name → List (List ℕ) → List Name → Payload
+      change levels after ms known os names = record {
+        version = 2;
         kind = 1;
         before = length v.master;
         after = after;
+        cloned = 0;
         master = map flat_record (flat_segments (length v.master) ms);
+        levels = levels;
         known = known_from (length v.master) known;
         heads = [];
         others = map flat_record (flat_segments (2 ^ 56) os);

@@ -1,14 +1,21 @@
 -- The plan over the segments and the names of a view.
 use Rattle.std.proofs.Common.{◌≡◌, ◌<◌, ◌≤◌, ℕ, zero, suc, ◌+◌, ◌-◌, ◌*◌, ◌^◌, ◌⊎◌, inl, inr, List, [], ◌∷◌, ◌++◌, length, map, take, drop, Option, Some, None, slice_get, get_or, refl, sym, ap, ap₂, subst, ◌∙◌, ⊎_elim, arith, append-nil, length-append, is_some, true≢false, nat_eq, lit≤, if◌then◌else◌}
-use Rattle.std.specs.List.{AllByRecursion}
+use Rattle.std.specs.List.{AllByRecursion, range_with_len}
 use Rattle.std.proofs.lemmas.List.{map-append, length-map}
 use Rattle.std.proofs.lemmas.Grind.{flat_map-append}
 use Rattle.id_groups.specs.Lists.{AreAllIn}
 use Rattle.id_groups.specs.Name.{Name, IsName, same_name}
 use Rattle.id_groups.specs.Id.{other_id}
 use Rattle.commit_graph.specs.World.{Row, World, IsWorld, names_of, rows_of, with_pending}
-use Rattle.commit_graph.specs.Ids.{id_in}
-use Rattle.commit_graph.proofs.Places.{over-master, other-place}
+use Rattle.commit_graph.specs.Ids.{id_in, parent_ids}
+use Rattle.commit_graph.proofs.Places.{below-master, over-master, other-place}
+use Rattle.commit_graph.proofs.Histories.{history-front}
+use Rattle.std.specs.Option.{option_map}
+use Rattle.segment_rules.specs.Flat.{flat_segments_of}
+use Rattle.segment_rules.specs.NewLevels.{new_levels}
+use Rattle.change_rules.proofs.Changes.{rows-front, parents-known}
+use Rattle.change_rules.proofs.Cloned.{get-some}
+use Rattle.payload_tables.proofs.Leveling.{listed as all-listed}
 use Rattle.segment_codec.specs.Record.{Segment, segment_bytes}
 use Rattle.segment_codec.specs.Table.{parents_at}
 use Rattle.batch_codec.specs.Payload.{names_bytes}
@@ -62,6 +69,11 @@ lt-or-le zero zero = inr (omega arith)
 lt-or-le zero (suc b) = inl (omega arith)
 lt-or-le (suc a) zero = inr (omega arith)
 lt-or-le (suc a) (suc b) = ⊎_elim (λ l. inl (omega (arith, l))) (λ l. inr (omega (arith, l))) (lt-or-le a b)
+
+get-mapped : {X Y : Type 0} (f : X → Y) (xs : List X) (k : ℕ) (x : X) → slice_get xs k ≡ Some x → slice_get (map f xs) k ≡ Some (f x)
+get-mapped f [] k x e = absurd (true≢false (sym (ap is_some e)))
+get-mapped f (y ∷ xs) zero x e = ap (option_map f) e
+get-mapped f (y ∷ xs) (suc k) x e = get-mapped f xs k x e
 
 module _ (w : World Name) (rows : List (Row Name)) (whole : IsWorld (with_pending w rows)) (flats : List Segment) (segs : AreSegmentsOf (with_pending w rows) flats) (small : length w.master ≤ 16777216)
     (names_whole : AllByRecursion IsName (names_of (w.others ++ rows)))
@@ -125,8 +137,22 @@ module _ (w : World Name) (rows : List (Row Name)) (whole : IsWorld (with_pendin
   pub below-order : AreBelow n order
   below-order = order-below view whole small parents (name_at bytes) parents-are no-parents names-are heads known
 
+  master-parent : (k : ℕ) → k < length w.master → slice_get (parent_ids same_name view w.master) k ≡ Some (parents_at flats (0 + k))
+  master-parent k lt =
+      let r = get-some w.master k lt in
+      get-mapped (λ (row : Row Name). map (id_in same_name view) row.parents) w.master k r.0 r.1
+      ∙ ap (λ z. Some z) (sym (segs.parents k r.0 (ap (λ b. if b then slice_get w.master k else slice_get (w.others ++ rows) (k - 2 ^ 56)) (below-master k (let s = small in let l : 16777216 ≤ 2 ^ 56 = lit≤ tt in omega (arith, lt, s, l))) ∙ r.1)))
+      ∙ ap (λ j. Some (parents_at flats j)) (let z : k ≡ 0 + k = omega arith in z)
+
+  -- the parents of the master ids, as the segments give them
+  masters-are : map (parents_at flats) (range_with_len 0 (length w.master)) ≡ parent_ids same_name view w.master
+  masters-are = sym (all-listed (parents_at flats) 0 (length w.master) (parent_ids same_name view w.master) (length-map w.master (λ (row : Row Name). map (id_in same_name view) row.parents)) master-parent)
+
   pub change-is : flush_change w new ≡ change_in flats bytes (length w.master) n order
-  change-is = change-same view whole small parents (name_at bytes) parents-are no-parents names-are heads known
+  change-is =
+      ap (λ l. record (flush_change view new) { levels = new_levels (flat_segments_of 0 l) (flat_segments_of 0 (parent_ids same_name new new.master)) })
+      (rows-front w view [] (sym (append-nil (names_of w.master))) w.master (parents-known [] w.master (history-front [] w.master (w.others ++ rows) whole)))
+      ∙ change-same view whole small parents (name_at bytes) parents-are no-parents names-are heads known (map (parents_at flats) (range_with_len 0 (length w.master))) masters-are
 
   pub new-master : length new.master ≡ length w.master + length order
   new-master = master-size view whole small parents (name_at bytes) parents-are no-parents names-are heads known

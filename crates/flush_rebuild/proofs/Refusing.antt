@@ -28,7 +28,7 @@ over-none limit m which e = ⊎_elim (λ le. le) (λ lt. absurd (true≢false (a
     le-or-lt (suc a) zero = inr (omega arith)
     le-or-lt (suc a) (suc b) = ⊎_elim (λ l. inl (omega (arith, l))) (λ l. inr (omega (arith, l))) (le-or-lt a b)
 
-over-zero : (limit : ℕ) (which : Limit) → over limit 0 which ≡ None
+pub over-zero : (limit : ℕ) (which : Limit) → over limit 0 which ≡ None
 over-zero limit which = by_test (nat_lt limit 0) refl
   where
     by_test : (b : Bool) → nat_lt limit 0 ≡ b → (if nat_lt limit 0 then Some (Full which limit) else None) ≡ None
@@ -62,7 +62,7 @@ pub written : (log : ℕ) (payload : List ℕ) → 0 < length payload → length
 written log [] lt = absurd (omega (arith, lt))
 written log (b ∷ more) lt = refl
 
-pub has-bytes : (p : Payload) → 0 < length (payload_bytes 1 p)
+pub has-bytes : (p : Payload) → 0 < length (payload_bytes p)
 has-bytes p = let f = masters-fit p in omega (arith, f)
 
 pub code-facts : (bytes : List ℕ) (pending : PlainPending) (numbers : List ℕ) (flats : List Segment) (stored behind : List ℕ) (count more before : ℕ) (w : World Name) (rows : List (Row Name)) (heads : List Name) (inside tables : PlainTables)

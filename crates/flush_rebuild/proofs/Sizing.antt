@@ -104,7 +104,7 @@ module _ (tables : PlainTables) (bytes : List ℕ) (pending : PlainPending) (num
   f-payload fits few some =
       let grown = flush-grows same_name same_name-exact same_name-self (with_pending w rows) f.may.pending_rows.view heads f.may.known in
       subst IsPayload f-change
-      (change-follows _ w next f.may.tables_of.lawful f.may.stand_for next-named grown.0 grown.1 fits few some).whole
+      (change-follows _ w next f.may.tables_of.lawful f.may.stand_for f.may.world.world next-named grown.0 grown.1 fits few some).whole
 
   upward-all : (first m : ℕ) → filter (λ k. not (is_in nat_eq k [])) (upward first m) ≡ upward first m
   upward-all first zero = refl
@@ -169,8 +169,8 @@ module _ (tables : PlainTables) (bytes : List ℕ) (pending : PlainPending) (num
   pub f-differs : Changes → next ≡ w → ⊥
   f-differs c e = let none = f-none e in let a = none.0 in let b = none.1 in ⊎_elim (λ lt. omega (arith, lt, a)) (λ lt. omega (arith, lt, b)) c
 
-  pub f-written : (payload : List ℕ) → IsChangeOf w next payload → Changes → payload ≡ payload_bytes 1 (change_in flats names before n moving)
-  f-written payload h c = h.some (f-differs c) ∙ ap (payload_bytes 1) f-change
+  pub f-written : (payload : List ℕ) → IsChangeOf w next payload → Changes → payload ≡ payload_bytes (change_in flats names before n moving)
+  f-written payload h c = h.some (f-differs c) ∙ ap payload_bytes f-change
 
 -- ---- what the calls of the plan ask
 

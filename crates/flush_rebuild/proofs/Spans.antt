@@ -9,6 +9,7 @@ use Rattle.commit_graph.specs.Ids.{parent_ids, place_of}
 use Rattle.segment_codec.specs.Turns.{is_only}
 use Rattle.segment_rules.specs.Flat as rules
 use Rattle.segment_rules.specs.Flat.{flat_segments_of}
+use Rattle.segment_rules.specs.NewLevels.{new_levels}
 use Rattle.batch_codec.specs.Payload.{Payload}
 use Rattle.change_rules.specs.Change.{known_from, flush_change}
 use Rattle.flush_rebuild.specs.Flat.{Span, single, with_id, flat_segments}
@@ -16,9 +17,12 @@ use Rattle.flush_rebuild.specs.Moves.{flat_record}
 
 abbrev pub span_change : World Name → World Name → Payload
 span_change old new = record {
+  version = 2;
   kind = 1;
   before = length old.master;
   after = length new.master;
+  cloned = 0;
+  levels = new_levels (flat_segments_of 0 (parent_ids same_name old old.master)) (flat_segments_of 0 (parent_ids same_name new new.master));
   master = map flat_record (flat_segments (length old.master) (parent_ids same_name new (drop (length old.master) new.master)));
   known = known_from (length old.master) (names_of (drop (length old.master) new.master));
   heads = [];
@@ -55,9 +59,12 @@ same-segments first (p ∷ parents) = ap (rules.with_id first p) (same-segments 
 
 pub same-change : (old new : World Name) → flush_change old new ≡ span_change old new
 same-change old new = ap₂ {C = Payload} (λ m o. record {
+  version = 2;
   kind = 1;
   before = length old.master;
   after = length new.master;
+  cloned = 0;
+  levels = new_levels (flat_segments_of 0 (parent_ids same_name old old.master)) (flat_segments_of 0 (parent_ids same_name new new.master));
   master = m;
   known = known_from (length old.master) (names_of (drop (length old.master) new.master));
   heads = [];

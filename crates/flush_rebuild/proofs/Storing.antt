@@ -9,7 +9,7 @@ use Rattle.commit_graph.proofs.Histories.{in-append}
 use Rattle.commit_graph.proofs.Down.{in-left, in-right}
 use Rattle.segment_codec.specs.Record.{Segment}
 use Rattle.batch_codec.specs.Payload.{Payload, payload_bytes, known_names}
-use Rattle.batch_codec.specs.Grammar.{MayFollow, AreLawful}
+use Rattle.change_rules.specs.Lawful.{MayFollow, AreLawful}
 use Rattle.name_map.specs.Added.{Placed, payloads_of}
 use Rattle.change_rules.specs.declared.Limits.{Limits}
 use Rattle.flush_rebuild.specs.declared.plan.Change.{Change}
@@ -52,7 +52,7 @@ module _ (tables : PlainTables) (bytes : List ℕ) (pending : PlainPending) (num
   grown = flush-grows same_name same_name-exact same_name-self view f.may.pending_rows.view heads f.may.known
 
   follows : length new.master ≤ 16777216 → length new.others ≤ 65536 → 0 < length (rows_of new) → MayFollow (payloads_of added) (flush_change w new)
-  follows fits few some = change-follows (payloads_of added) w new lawful stand (next-named tables bytes pending numbers flats names n before w rows heads f) grown.0 grown.1 fits few some
+  follows fits few some = change-follows (payloads_of added) w new lawful stand f.may.world.world (next-named tables bytes pending numbers flats names n before w rows heads f) grown.0 grown.1 fits few some
 
   names-apart : (x : Name) → IsIn x (names_of w.master) → IsIn x (names_of w.others) → ⊥
   names-apart x i j =
@@ -81,7 +81,7 @@ module _ (tables : PlainTables) (bytes : List ℕ) (pending : PlainPending) (num
   change-is = f-change tables bytes pending numbers flats names n before w rows heads f
 
   pub stays : (limits : Limits) (log : ℕ) (change : Change) → length order ≡ 0 → length rows ≡ 0 → change.payload ≡ [] → change.same ≡ true
-      → change.master ≡ length new.master → change.others ≡ length new.others → change.master ≤ limits.master → change.others ≤ limits.others → MayBeStored limits log added change
+      → change.master ≡ length new.master → change.others ≡ length new.others → change.master ≤ limits.master → change.others ≤ limits.others → MayBeStored 1 limits log added change
   stays limits log change none empty payload same master others lm lo =
       let e = f-same tables bytes pending numbers flats names n before w rows heads f none empty in
       record {
@@ -95,9 +95,13 @@ module _ (tables : PlainTables) (bytes : List ℕ) (pending : PlainPending) (num
         changes = λ s. absurd (true≢false (sym same ∙ s));
       }
 
-  pub changes : (limits : Limits) (log : ℕ) (change : Change) → AreLimits limits → Changes tables bytes pending numbers flats names n before w rows heads f → change.payload ≡ payload_bytes 1 last → change.same ≡ false
+  -- the payload may come behind those of the tables
+  pub may-follow : length new.master ≤ 16777216 → length new.others ≤ 65536 → Changes tables bytes pending numbers flats names n before w rows heads f → MayFollow (payloads_of added) last
+  may-follow fits few c = subst (MayFollow (payloads_of added)) change-is (follows fits few (f-some tables bytes pending numbers flats names n before w rows heads f c))
+
+  pub changes : (limits : Limits) (log : ℕ) (change : Change) → AreLimits limits → Changes tables bytes pending numbers flats names n before w rows heads f → change.payload ≡ payload_bytes last → change.same ≡ false
       → change.master ≡ length new.master → change.others ≡ length new.others → change.master ≤ limits.master → change.others ≤ limits.others → log + 9 + length change.payload ≤ limits.log
-      → MayBeStored limits log added change
+      → MayBeStored 1 limits log added change
   changes limits log change l c payload same master others lm lo fits =
       let a = l.others.1 in let b = l.master.1 in
       let old_names : other_names_in (newest (payloads_of added)) ≡ names_of w.others = stand.names in
@@ -110,8 +114,8 @@ module _ (tables : PlainTables) (bytes : List ℕ) (pending : PlainPending) (num
           last,
           record {
             payload = payload;
-            follows = subst (MayFollow (payloads_of added)) change-is (follows (omega (arith, lm, master, b)) (omega (arith, lo, others, a)) (f-some tables bytes pending numbers flats names n before w rows heads f c));
-            flush = refl;
+            follows = may-follow (omega (arith, lm, master, b)) (omega (arith, lo, others, a)) c;
+            kind_is = refl;
             master = master ∙ ap (λ (p : Payload). p.after) change-is;
             others = others ∙ sym (names-length new.others) ∙ ap (λ (p : Payload). length p.other_names) change-is;
             fits = fits;

@@ -47,11 +47,14 @@ segments-only [] h = tt
 segments-only (s ∷ spans) h = (h.0.0, segments-only spans h.1)
 
 -- the payload of these sections
-abbrev pub sections : ℕ → ℕ → List Span → List Name → List Span → List Name → Payload
-sections before after masters known others names = record {
+abbrev pub sections : ℕ → ℕ → List Span → List Segment → List Name → List Span → List Name → Payload
+sections before after masters levels known others names = record {
+  version = 2;
   kind = 1;
   before = before;
   after = after;
+  cloned = 0;
+  levels = levels;
   master = map flat_record masters;
   known = known_from before known;
   heads = [];
@@ -59,15 +62,16 @@ sections before after masters known others names = record {
   other_names = names;
 }
 
-pub sections-are : (flats : List Segment) (bytes : List ℕ) (before n : ℕ) (order rest : List ℕ) (after : ℕ) (masters others : List Span) → after ≡ before + length order
+pub sections-are : (flats : List Segment) (bytes : List ℕ) (before n : ℕ) (order rest : List ℕ) (after : ℕ) (masters others : List Span) (levels : List Segment) → after ≡ before + length order
     → masters ≡ flat_segments before (moved_parents before n order (λ k. parents_at flats (other_id k)) order)
     → others ≡ flat_segments (2 ^ 56) (moved_parents before n order (λ k. parents_at flats (other_id k)) (rest_of n order))
     → rest ≡ rest_of n order
-    → sections before after masters (map (name_at bytes) order) others (map (name_at bytes) rest) ≡ change_in flats bytes before n order
-sections-are flats bytes before n order rest after masters others e m o r =
-    ap (λ a. sections before a masters (map (name_at bytes) order) others (map (name_at bytes) rest)) e
-    ∙ ap (λ l. sections before (before + length order) l (map (name_at bytes) order) others (map (name_at bytes) rest)) m
-    ∙ ap₂ {C = Payload} (λ l k. sections before (before + length order) (flat_segments before (moved_parents before n order (λ k. parents_at flats (other_id k)) order)) (map (name_at bytes) order) l (map (name_at bytes) k)) o r
+    → levels ≡ (change_in flats bytes before n order).levels
+    → sections before after masters levels (map (name_at bytes) order) others (map (name_at bytes) rest) ≡ change_in flats bytes before n order
+sections-are flats bytes before n order rest after masters others levels e m o r h =
+    ap₂ {C = Payload} (λ a v. sections before a masters v (map (name_at bytes) order) others (map (name_at bytes) rest)) e h
+    ∙ ap (λ l. sections before (before + length order) l (change_in flats bytes before n order).levels (map (name_at bytes) order) others (map (name_at bytes) rest)) m
+    ∙ ap₂ {C = Payload} (λ l k. sections before (before + length order) (flat_segments before (moved_parents before n order (λ k. parents_at flats (other_id k)) order)) (change_in flats bytes before n order).levels (map (name_at bytes) order) l (map (name_at bytes) k)) o r
 
 pub spans-are : (flats : List Segment) → IsLawful flats → (ids deref : List ℕ) (before n first : ℕ) (order ks : List ℕ) (spans : List Span)
     → ((k : ℕ) → k < n → get_or ids k 0 ≡ moved_id before n order (other_id k)) → AreBelow n ks → deref ≡ ids

@@ -22,7 +22,7 @@ with_payload log added last = added ++ record { at = log + 8; payload = last } �
 -- The tables that follow a change: where nothing changes those of the same payloads, else those with its payload behind them.
 pub record FollowChange (tables : PlainTables) (log : ℕ) (added : List Placed) (change : Change) : Type 0 where
   pub stays : change.same ≡ true → AreTablesOf tables added
-  pub changes : change.same ≡ false → (last : Payload) → IsPayload last → change.payload ≡ payload_bytes 1 last → AreTablesOf tables (with_payload log added last)
+  pub changes : change.same ≡ false → (last : Payload) → IsPayload last → change.payload ≡ payload_bytes last → AreTablesOf tables (with_payload log added last)
 
 -- The tables that follow stand for the new world. Where it is the old one they are those of the same payloads, else those with
 -- the change between the worlds behind them.

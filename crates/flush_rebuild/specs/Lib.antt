@@ -6,4 +6,5 @@ pub mod Rebasing
 pub mod Following
 pub mod Rows
 pub mod Facts
+pub mod Cloning
 pub mod Sections

@@ -1,6 +1,7 @@
 -- A flush by numbers: the other ids, pending ones included, are numbered in order.
-use Rattle.std.specs.Prelude.{ℕ, ◌+◌, ◌-◌, ◌*◌, ◌^◌, not, take, drop, List, [], ◌∷◌, length, slice_index, map, filter, nat_eq, if◌then◌else◌}
+use Rattle.std.specs.Prelude.{ℕ, ◌+◌, ◌-◌, ◌*◌, ◌^◌, not, take, drop, List, [], ◌∷◌, ◌++◌, length, slice_index, map, filter, nat_eq, if◌then◌else◌}
 use Rattle.std.specs.Cmp.Lexicographic.{pointwise}
+use Rattle.std.specs.List.{range_with_len}
 use Rattle.id_groups.specs.Lists.{is_in}
 use Rattle.id_groups.specs.Name.{Name}
 use Rattle.id_groups.specs.Id.{is_master_id, other_id}
@@ -10,6 +11,8 @@ use Rattle.assign_ids.specs.declared.graph.Node.TheVariants.{Placed, Other}
 use Rattle.name_map.specs.Part.{upward}
 use Rattle.segment_codec.specs.Record.{Segment}
 use Rattle.segment_codec.specs.Table.{parents_at}
+use Rattle.segment_rules.specs.Flat.{flat_segments_of}
+use Rattle.segment_rules.specs.NewLevels.{new_levels}
 use Rattle.batch_codec.specs.Payload.{Payload}
 use Rattle.flush_rebuild.specs.Flat.{Span, single, flat_segments}
 use Rattle.change_rules.specs.Change.{known_from}
@@ -37,12 +40,15 @@ moved_id before n order id =
 abbrev pub moved_parents : ℕ → ℕ → List ℕ → (ℕ → List ℕ) → List ℕ → List (List ℕ)
 moved_parents before n order parents numbers = map (λ k. map (moved_id before n order) (parents k)) numbers
 
--- the change in which the numbers of the order move
-abbrev pub moved_change : ℕ → ℕ → (ℕ → List ℕ) → (ℕ → Name) → List ℕ → Payload
-moved_change before n parents name order = record {
+-- the change in which the numbers of the order move; the master ids before have these parents
+abbrev pub moved_change : ℕ → ℕ → List (List ℕ) → (ℕ → List ℕ) → (ℕ → Name) → List ℕ → Payload
+moved_change before n masters parents name order = record {
+  version = 2;
   kind = 1;
   before = before;
   after = before + length order;
+  cloned = 0;
+  levels = new_levels (flat_segments_of 0 masters) (flat_segments_of 0 (masters ++ moved_parents before n order parents order));
   master = map flat_record (flat_segments before (moved_parents before n order parents order));
   known = known_from before (map name order);
   heads = [];
@@ -70,4 +76,4 @@ name_at bytes k = take 20 (drop (20 * k) bytes)
 
 -- the change in which the numbers of the order move, over segments and the bytes of the names
 abbrev pub change_in : List Segment → List ℕ → ℕ → ℕ → List ℕ → Payload
-change_in flats names before n order = moved_change before n (λ k. parents_at flats (other_id k)) (name_at names) order
+change_in flats names before n order = moved_change before n (map (parents_at flats) (range_with_len 0 before)) (λ k. parents_at flats (other_id k)) (name_at names) order

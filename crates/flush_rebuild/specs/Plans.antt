@@ -23,11 +23,12 @@ use Rattle.std.specs.List.{AllZip}
 use Rattle.payload_tables.specs.Bases.{ArePending, IsBaseOf}
 use Rattle.flush_rebuild.specs.Asked.{others_count, IsStored}
 use Rattle.batch_codec.specs.Payload.{Payload, payload_bytes, known_names}
-use Rattle.batch_codec.specs.Grammar.{MayFollow, count_after}
+use Rattle.batch_codec.specs.Grammar.{count_after}
+use Rattle.change_rules.specs.Lawful.{MayFollow}
 
 -- the bytes of the change that a flush makes
 abbrev pub flush_payload : World Name → World Name → List ℕ
-flush_payload old new = payload_bytes 1 (flush_change old new)
+flush_payload old new = payload_bytes (flush_change old new)
 
 -- the id of a name in the world, if it has the name
 abbrev pub stored_id : World Name → Name → Option ℕ
@@ -133,20 +134,20 @@ pub record MayFind (pending : PlainPending) (heads : List Name) (found : List (O
   pub pending_rows : ArePending w pending rows
   pub found_are : found ≡ map (stored_id w) heads
 
--- The payload is one that may be stored behind these: a flush in the grammar, which may follow them and has room in the log.
+-- The payload is one of this kind that may be stored behind these: it is in the grammar, may follow them and has room in the log.
 -- No name of the others is lost by it.
-pub record IsStorable (limits : Limits) (log : ℕ) (added : List Placed) (change : Change) (last : Payload) : Type 0 where
-  pub payload : change.payload ≡ payload_bytes 1 last
+pub record IsStorable (kind : ℕ) (limits : Limits) (log : ℕ) (added : List Placed) (change : Change) (last : Payload) : Type 0 where
+  pub payload : change.payload ≡ payload_bytes last
   pub follows : MayFollow (payloads_of added) last
-  pub flush : last.kind ≡ 1
+  pub kind_is : last.kind ≡ kind
   pub master : change.master ≡ last.after
   pub others : change.others ≡ length last.other_names
   pub fits : log + 9 + length change.payload ≤ limits.log
   pub keeps : (name : Name) → IsIn name (other_names_in (newest (payloads_of added))) → IsIn name (known_names last) ⊎ IsIn name last.other_names
 
 -- what a change means for the payloads, whatever world they stand for
-pub record MayBeStored (limits : Limits) (log : ℕ) (added : List Placed) (change : Change) : Type 0 where
+pub record MayBeStored (kind : ℕ) (limits : Limits) (log : ℕ) (added : List Placed) (change : Change) : Type 0 where
   pub master_fits : change.master ≤ limits.master
   pub others_fit : change.others ≤ limits.others
   pub stays : change.same ≡ true → (change.payload ≡ []) × (change.master ≡ count_after 0 (payloads_of added)) × (change.others ≡ others_count added)
-  pub changes : change.same ≡ false → (last : Payload) × IsStorable limits log added change last
+  pub changes : change.same ≡ false → (last : Payload) × IsStorable kind limits log added change last

@@ -12,6 +12,10 @@ ghost use Rattle.change_rules.specs.Change.{known_from};
 ghost use Rattle.segment_codec.specs.Table.{IsLawful};
 ghost use Rattle.flush_rebuild.specs.Flat.{flat_segments};
 ghost use Rattle.flush_rebuild.specs.Moves.{name_at, new_id, rest_of, change_in};
+ghost use Rattle.name_map.specs.Added.{Placed, AllStand, payloads_of};
+ghost use Rattle.change_rules.specs.Lawful.{MayFollow, levels_with};
+ghost use Rattle.payload_tables.specs.Kept.{AreTablesOf};
+ghost use Rattle.payload_tables.specs.Places.{BringsMasters};
 ghost use Rattle.flush_rebuild.specs.Rows.{table_rows, AreRowsBelow};
 
 use crate::graph::Graph;
@@ -19,6 +23,7 @@ use crate::numbers::ids_of;
 use crate::runs::{Run, add_runs};
 use batch_codec::BatchBuild;
 use id_groups::{FIRST_OTHER, Group, Id, NameRef};
+use payload_tables::Tables;
 use std::alloc::{AllocError, Global};
 
 /// The kind of a flush's payload.
@@ -180,9 +185,29 @@ fn add_sections(
     Ok(())
 }
 
+/// Adds the segments of levels that come with the master records of the payload. The tables stay as they are.
+pub(crate) fn add_levels(
+    alloc: Global,
+    tables: &mut Tables,
+    bytes: &[u8],
+    build: &mut BatchBuild,
+) -> Result<(), AllocError>
+    requires { (added : List Placed) × (p : PlainPayload) × BringsMasters tables.old.flat tables.old.levels bytes.now build.old.master added p }
+    ensures built { OnOk result ((added : List Placed) (p q : PlainPayload) → BringsMasters tables.old.flat tables.old.levels bytes.now build.old.master added p
+        → IsBuilt build.old q → IsBuilt build.new (record q { levels = q.levels ++ levels_with (payloads_of added) p })) }
+    ensures count { build.new.other_count ≡ build.old.other_count }
+    ensures unchanged { tables.new ≡ tables.old }
+{
+    let mut records = Vec::new(alloc);
+    let count = tables.write_levels(bytes, build.master_records(), &mut records)?;
+    build.level_records(&records, count)
+}
+
 /// The payload of a flush in which the numbers of the order move behind so many master ids.
 pub(crate) fn payload_of(
     alloc: Global,
+    tables: &mut Tables,
+    bytes: &[u8],
     graph: &Graph,
     names: &Names<'_>,
     before: u64,
@@ -194,14 +219,18 @@ pub(crate) fn payload_of(
     requires order { AreBelow (names.now.count + names.now.more) order.now }
     requires rest { rest.now ≡ rest_of (names.now.count + names.now.more) order.now }
     requires payload { (flats : List Segment) × IsLawful flats × (graph.now ≡ table_rows flats (names.now.count + names.now.more))
-        × IsPayload (change_in flats (names.now.stored.now ++ names.now.pending.now) before (names.now.count + names.now.more) order.now) }
-    ensures { (flats : List Segment) → IsLawful flats → graph.now ≡ table_rows flats (names.now.count + names.now.more)
-        → IsPayload (change_in flats (names.now.stored.now ++ names.now.pending.now) before (names.now.count + names.now.more) order.now)
-        → IfOk result (λ payload. payload.items ≡ payload_bytes 1 (change_in flats (names.now.stored.now ++ names.now.pending.now) before (names.now.count + names.now.more) order.now)) }
+        × (added : List Placed) × AreTablesOf tables.old added × AllStand bytes.now added
+        × MayFollow (payloads_of added) (change_in flats (names.now.stored.now ++ names.now.pending.now) before (names.now.count + names.now.more) order.now) }
+    ensures unchanged { tables.new ≡ tables.old }
+    ensures payload { (flats : List Segment) (added : List Placed) → IsLawful flats → graph.now ≡ table_rows flats (names.now.count + names.now.more)
+        → AreTablesOf tables.old added → AllStand bytes.now added
+        → MayFollow (payloads_of added) (change_in flats (names.now.stored.now ++ names.now.pending.now) before (names.now.count + names.now.more) order.now)
+        → IfOk result (λ payload. payload.items ≡ payload_bytes (change_in flats (names.now.stored.now ++ names.now.pending.now) before (names.now.count + names.now.more) order.now)) }
 {
     let after = before + order.len() as u64;
     let ids = ids_of(alloc, before, names.count + names.more, order, rest)?;
-    let mut build = BatchBuild::new(alloc, FLUSH, before, after)?;
+    let mut build = BatchBuild::new(alloc, FLUSH, before, after, 0)?;
     add_sections(alloc, &mut build, graph, names, &ids, before, order, rest)?;
+    add_levels(alloc, tables, bytes, &mut build)?;
     build.finish()
 }

@@ -13,6 +13,8 @@ pub enum PlanFault {
     Conflict(Name),
     /// There would be more than so many.
     Full(Limit, u64),
+    /// The item of clone data with this number is the first that breaks its rule.
+    BadClone(u64),
     /// There was no memory.
     Memory,
 }

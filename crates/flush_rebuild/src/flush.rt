@@ -4,7 +4,8 @@ ghost use Rattle.std.specs.Prelude.{◌≡◌, ◌<◌, ◌≤◌, ◌+◌, ◌^
 ghost use Rattle.id_groups.specs.Name.{Name as NameBytes, same_name};
 ghost use Rattle.commit_graph.specs.World.{Row, World, with_pending};
 ghost use Rattle.batch_codec.specs.Payload.{Payload as PlainPayload, payload_bytes};
-ghost use Rattle.batch_codec.specs.Grammar.{IsPayload, MayFollow};
+ghost use Rattle.batch_codec.specs.Grammar.{IsPayload};
+ghost use Rattle.change_rules.specs.Lawful.{MayFollow};
 ghost use Rattle.name_map.specs.Added.{Placed, AllStand, payloads_of};
 ghost use Rattle.change_rules.specs.Flush.{flushed};
 ghost use Rattle.change_rules.specs.Standard.{AreLimits};
@@ -37,22 +38,17 @@ pub struct Plan {
     pub same: bool,
 }
 
-/// A copy of the tables with a payload added, which will stand 8 places behind the end of the bytes.
-fn tables_with(
-    alloc: Global,
-    tables: &Tables,
-    bytes: &[u8],
-    payload: &[u8],
-) -> Result<Tables, AllocError>
+/// The tables with a payload added, which will stand 8 places behind the end of the bytes.
+fn tables_with(tables: Tables, bytes: &[u8], payload: &[u8]) -> Result<Tables, AllocError>
     requires room { length bytes.now + 8 + length payload.now < 2 ^ 63 }
-    requires lawful { (added : List Placed) × (last : PlainPayload) × AreTablesOf tables.now added × AllStand bytes.now added × MayFollow (payloads_of added) last × (payload.now ≡ payload_bytes 1 last) }
-    ensures { (added : List Placed) (last : PlainPayload) → AreTablesOf tables.now added → AllStand bytes.now added → IsPayload last → payload.now ≡ payload_bytes 1 last
+    requires lawful { (added : List Placed) × (last : PlainPayload) × AreTablesOf tables added × AllStand bytes.now added × MayFollow (payloads_of added) last × (payload.now ≡ payload_bytes last) }
+    ensures { (added : List Placed) (last : PlainPayload) → AreTablesOf tables added → AllStand bytes.now added → IsPayload last → payload.now ≡ payload_bytes last
         → IfOk result (λ after. AreTablesOf after (with_payload (length bytes.now) added last)) }
 {
     let Some(batch) = BatchRef::read(payload) else {
         unreachable!()
     };
-    let mut after = tables.copy(alloc)?;
+    let mut after = tables;
     let at = bytes.len() as u64 + 8;
     match after.add_batch(bytes, &batch, at) {
         Ok(()) => Ok(after),
@@ -61,20 +57,39 @@ fn tables_with(
     }
 }
 
-/// The tables that follow a change, beside the old ones.
-fn tables_after(
-    alloc: Global,
-    tables: &Tables,
+/// The tables that follow a change.
+pub(crate) fn tables_after(
+    tables: Tables,
     bytes: &[u8],
     change: &Change,
 ) -> Result<Tables, AllocError>
-    requires { (limits : Limits) × (added : List Placed) × AreLimits limits × AreTablesOf tables.now added × AllStand bytes.now added × MayBeStored limits (length bytes.now) added change.now }
-    ensures { (added : List Placed) → AreTablesOf tables.now added → AllStand bytes.now added → IfOk result (λ after. FollowChange after (length bytes.now) added change.now) }
+    requires { (kind : ℕ) × (limits : Limits) × (added : List Placed) × AreLimits limits × AreTablesOf tables added × AllStand bytes.now added × MayBeStored kind limits (length bytes.now) added change.now }
+    ensures { (added : List Placed) → AreTablesOf tables added → AllStand bytes.now added → IfOk result (λ after. FollowChange after (length bytes.now) added change.now) }
 {
     if change.same {
-        return tables.copy(alloc);
+        return Ok(tables);
     }
-    tables_with(alloc, tables, bytes, change.payload.bytes())
+    tables_with(tables, bytes, change.payload.bytes())
+}
+
+/// The plan of a change with these tables.
+pub(crate) fn plan_of(change: Change, tables: Tables) -> Plan
+    ensures change { change_of result ≡ change }
+    ensures tables { result.tables ≡ tables }
+{
+    let Change {
+        payload,
+        master,
+        others,
+        same,
+    } = change;
+    Plan {
+        payload,
+        tables,
+        master,
+        others,
+        same,
+    }
 }
 
 /// The change that a flush of these heads makes, as `plan_change` answers it, with the tables that follow. The old tables stay;
@@ -103,21 +118,10 @@ pub fn plan_flush(
         × StandForNext plan.tables (length bytes.now) flush.added w (flushed same_name (with_pending w rows) heads.now))
         (λ fault. (fault ≡ Memory) ⊎ (flush_refusal limits (length bytes.now) (with_pending w rows) (flushed same_name (with_pending w rows) heads.now) heads.now payload ≡ Some fault)) }
     ensures stored { (added : List Placed) → MayPlan tables.now bytes.now pending.now heads.now found.now added
-        → IfOk result (λ plan. MayBeStored limits (length bytes.now) added (change_of plan) × FollowChange plan.tables (length bytes.now) added (change_of plan)) }
+        → IfOk result (λ plan. MayBeStored 1 limits (length bytes.now) added (change_of plan) × FollowChange plan.tables (length bytes.now) added (change_of plan)) }
 {
-    let change = plan_change(alloc, tables, bytes, pending, heads, found, limits)?;
-    let tables = tables_after(alloc, tables, bytes, &change)?;
-    let Change {
-        payload,
-        master,
-        others,
-        same,
-    } = change;
-    Ok(Plan {
-        payload,
-        tables,
-        master,
-        others,
-        same,
-    })
+    let mut after = tables.copy(alloc)?;
+    let change = plan_change(alloc, &mut after, bytes, pending, heads, found, limits)?;
+    let tables = tables_after(after, bytes, &change)?;
+    Ok(plan_of(change, tables))
 }

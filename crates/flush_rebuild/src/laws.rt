@@ -4,7 +4,7 @@ ghost use Rattle.std.specs.Prelude.{List, []};
 ghost use Rattle.id_groups.specs.Name.{Name as NameBytes};
 ghost use Rattle.commit_graph.specs.World.{World, IsNamedWorld};
 ghost use Rattle.batch_codec.specs.Payload.{Payload as PlainPayload};
-ghost use Rattle.batch_codec.specs.Grammar.{AreLawful};
+ghost use Rattle.change_rules.specs.Lawful.{AreLawful};
 ghost use Rattle.change_rules.specs.Tables.{StandFor};
 
 /// Lawful payloads stand for some world.

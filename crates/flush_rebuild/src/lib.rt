@@ -1,8 +1,9 @@
 #![tactic(auto)]
 
-//! What a flush makes of a world: its payload, and the tables that follow.
+//! What a flush and a clone make of a world: the payload, and the tables that follow.
 
 mod building;
+mod cloning;
 mod fault;
 mod flush;
 mod graph;
@@ -11,8 +12,10 @@ mod numbers;
 mod plan;
 mod rebasing;
 mod runs;
+mod told;
 
 pub use change_rules::{Limit, Limits};
+pub use cloning::{plan_clone, plan_clone_change};
 pub use fault::PlanFault;
 pub use flush::{Plan, plan_flush};
 pub use laws::payloads_stand_for_a_world;

@@ -8,7 +8,7 @@ ghost use Rattle.commit_graph.specs.Ids.{id_in};
 ghost use Rattle.flush_rebuild.specs.declared.fault.PlanFault.TheVariants.{Memory};
 ghost use Rattle.assign_ids.specs.Numbers.{AreBelow, HaveOlderParents, others_of, order_of};
 ghost use Rattle.change_rules.specs.Flush.{flushed};
-ghost use Rattle.batch_codec.specs.Grammar.{AreLawful};
+ghost use Rattle.change_rules.specs.Lawful.{AreLawful};
 ghost use Rattle.change_rules.specs.Tables.{StandFor};
 ghost use Rattle.flush_rebuild.specs.Facts.{IsMove};
 ghost use Rattle.flush_rebuild.specs.Moves.{node_of, rest_of};
@@ -17,7 +17,8 @@ ghost use Rattle.payload_tables.specs.Pending.{IdRow, HoldsRows};
 ghost use Rattle.change_rules.specs.Standard.{AreLimits};
 ghost use Rattle.flush_rebuild.specs.Plans.{MayLook, MayFind, stored_id, unknown_fault, first_unknown, MayFlush, MayMove, flush_refusal, size_refusal, over, IsPlanOf, IsChangeOf, MayBeStored};
 ghost use Rattle.flush_rebuild.specs.Asked.{MayPlan};
-ghost use Rattle.name_map.specs.Added.{Placed, payloads_of};
+ghost use Rattle.name_map.specs.Added.{Placed, AllStand, payloads_of};
+ghost use Rattle.payload_tables.specs.Kept.{AreTablesOf};
 ghost use Rattle.id_groups.specs.Id.{other_id};
 
 use crate::building::{Names, payload_of};
@@ -52,6 +53,22 @@ impl Payload {
     {
         &self.bytes
     }
+
+    /// No payload. It takes no memory.
+    pub(crate) fn empty(alloc: Global) -> Payload
+        ensures { result ≡ [] }
+    {
+        Payload {
+            bytes: Vec::new(alloc),
+        }
+    }
+
+    /// The payload of these bytes.
+    pub(crate) fn of(bytes: Vec<u8>) -> Payload
+        ensures { result ≡ bytes.items }
+    {
+        Payload { bytes }
+    }
 }
 
 /// What a change is to write, and the sizes of the world that follows.
@@ -68,7 +85,7 @@ pub struct Change {
 }
 
 /// Refuses a number above its limit.
-fn check(which: Limit, number: u64, limit: u64) -> Result<(), PlanFault>
+pub(crate) fn check(which: Limit, number: u64, limit: u64) -> Result<(), PlanFault>
     ensures ok { OnOk result (over limit number which ≡ None) }
     ensures err { IfErr result (λ fault. over limit number which ≡ Some fault) }
 {
@@ -79,7 +96,7 @@ fn check(which: Limit, number: u64, limit: u64) -> Result<(), PlanFault>
 }
 
 /// The names of the stored other ids and of the pending rows.
-fn names_of<'a>(bytes: &'a [u8], others: &'a OthersTable, pending: &'a PendingRows) -> Names<'a>
+fn names_of<'a>(bytes: &'a [u8], others: &OthersTable, pending: &'a PendingRows) -> Names<'a>
     requires stored { others.now.names + 20 * others.now.count ≤ length bytes.now }
     requires pending { length pending.now.names ≡ 20 * length pending.now.places }
     requires rows { (rows : List IdRow) × HoldsRows pending.now rows }
@@ -116,9 +133,12 @@ fn moves_of(alloc: Global, graph: &Graph, n: u32, numbers: &[u32]) -> Result<Mov
     Ok(Moves { order, rest })
 }
 
-/// The change in which these numbers move behind so many master ids, with a log of so many bytes.
+/// The change in which these numbers move behind so many master ids, with a log of so many bytes. The tables are asked for the levels
+/// that come with it, and stay as they are.
 fn change_of(
     alloc: Global,
+    tables: &mut Tables,
+    bytes: &[u8],
     names: &Names<'_>,
     graph: &Graph,
     moves: &Moves,
@@ -130,16 +150,20 @@ fn change_of(
     requires log { log ≤ 2 ^ 32 }
     requires few { before ≤ 2 ^ 56 }
     requires world { (w : World NameBytes) × (rows : List (Row NameBytes)) × (heads : List NameBytes)
-        × IsMove (names.now.stored.now ++ names.now.pending.now) (names.now.count + names.now.more) names.now.more before log graph.now moves.now.order.items moves.now.rest.items w rows heads }
+        × (m : IsMove (names.now.stored.now ++ names.now.pending.now) (names.now.count + names.now.more) names.now.more before log graph.now moves.now.order.items moves.now.rest.items w rows heads)
+        × (m.tables ≡ tables.old) × (m.bytes ≡ bytes.now) }
     ensures worlds { (w : World NameBytes) (rows : List (Row NameBytes)) (heads : List NameBytes) (payload : List ℕ)
-        → IsMove (names.now.stored.now ++ names.now.pending.now) (names.now.count + names.now.more) names.now.more before log graph.now moves.now.order.items moves.now.rest.items w rows heads
+        (m : IsMove (names.now.stored.now ++ names.now.pending.now) (names.now.count + names.now.more) names.now.more before log graph.now moves.now.order.items moves.now.rest.items w rows heads)
+        → m.tables ≡ tables.old → m.bytes ≡ bytes.now
         → IsChangeOf w (flushed same_name (with_pending w rows) heads) payload
         → MatchResult result
         (λ plan. (size_refusal limits log (flushed same_name (with_pending w rows) heads) payload ≡ None) × IsPlanOf plan w (flushed same_name (with_pending w rows) heads) payload)
         (λ fault. (fault ≡ Memory) ⊎ (size_refusal limits log (flushed same_name (with_pending w rows) heads) payload ≡ Some fault)) }
+    ensures unchanged { tables.new ≡ tables.old }
     ensures stored { (w : World NameBytes) (rows : List (Row NameBytes)) (heads : List NameBytes) (added : List Placed)
-        → IsMove (names.now.stored.now ++ names.now.pending.now) (names.now.count + names.now.more) names.now.more before log graph.now moves.now.order.items moves.now.rest.items w rows heads
-        → AreLawful [] (payloads_of added) → StandFor (payloads_of added) w → IfOk result (MayBeStored limits log added) }
+        (m : IsMove (names.now.stored.now ++ names.now.pending.now) (names.now.count + names.now.more) names.now.more before log graph.now moves.now.order.items moves.now.rest.items w rows heads)
+        → m.tables ≡ tables.old → m.bytes ≡ bytes.now
+        → AreLawful [] (payloads_of added) → StandFor (payloads_of added) w → IfOk result (MayBeStored 1 limits log added) }
 {
     let master = before + moves.order.len() as u64;
     let others = moves.rest.len() as u64;
@@ -155,7 +179,16 @@ fn change_of(
             same: true,
         });
     }
-    let payload = payload_of(alloc, graph, names, before, &moves.order, &moves.rest)?;
+    let payload = payload_of(
+        alloc,
+        tables,
+        bytes,
+        graph,
+        names,
+        before,
+        &moves.order,
+        &moves.rest,
+    )?;
     check(Limit::Log, log + 9 + payload.len() as u64, limits.log)?;
     Ok(Change {
         payload: Payload { bytes: payload },
@@ -166,24 +199,25 @@ fn change_of(
 }
 
 /// The plan where all heads are there, by the numbers of those that aren't in master.
-fn plan_moves(
+fn plan_moves<'x>(
     alloc: Global,
-    tables: &Tables,
-    bytes: &[u8],
-    pending: &PendingRows,
+    tables: &mut Tables,
+    bytes: &'x [u8],
+    pending: &'x PendingRows,
     numbers: &[u32],
     limits: Limits,
 ) -> Result<Change, PlanFault>
     requires limits { AreLimits limits }
     requires log { length bytes.now ≤ 2 ^ 32 }
-    requires world { (w : World NameBytes) × (rows : List (Row NameBytes)) × (heads : List NameBytes) × MayMove tables.now bytes.now pending.now numbers.now w rows heads }
-    ensures worlds { (w : World NameBytes) (rows : List (Row NameBytes)) (heads : List NameBytes) (payload : List ℕ) → MayMove tables.now bytes.now pending.now numbers.now w rows heads
+    requires world { (w : World NameBytes) × (rows : List (Row NameBytes)) × (heads : List NameBytes) × MayMove tables.old bytes.now pending.now numbers.now w rows heads }
+    ensures worlds { (w : World NameBytes) (rows : List (Row NameBytes)) (heads : List NameBytes) (payload : List ℕ) → MayMove tables.old bytes.now pending.now numbers.now w rows heads
         → IsChangeOf w (flushed same_name (with_pending w rows) heads) payload
         → MatchResult result
         (λ plan. (size_refusal limits (length bytes.now) (flushed same_name (with_pending w rows) heads) payload ≡ None) × IsPlanOf plan w (flushed same_name (with_pending w rows) heads) payload)
         (λ fault. (fault ≡ Memory) ⊎ (size_refusal limits (length bytes.now) (flushed same_name (with_pending w rows) heads) payload ≡ Some fault)) }
-    ensures stored { (w : World NameBytes) (rows : List (Row NameBytes)) (heads : List NameBytes) (m : MayMove tables.now bytes.now pending.now numbers.now w rows heads)
-        → IfOk result (MayBeStored limits (length bytes.now) m.added) }
+    ensures unchanged { tables.new ≡ tables.old }
+    ensures stored { (w : World NameBytes) (rows : List (Row NameBytes)) (heads : List NameBytes) (m : MayMove tables.old bytes.now pending.now numbers.now w rows heads)
+        → IfOk result (MayBeStored 1 limits (length bytes.now) m.added) }
 {
     let base = tables.newest(bytes);
     let view = base.view(pending);
@@ -193,7 +227,9 @@ fn plan_moves(
     let moves = moves_of(alloc, &graph, n, numbers)?;
     let before = tables.master_count();
     let log = bytes.len() as u64;
-    change_of(alloc, &names, &graph, &moves, before, log, limits)
+    change_of(
+        alloc, tables, bytes, &names, &graph, &moves, before, log, limits,
+    )
 }
 
 /// The id of a head in a session's view: the one that was found in the stored world, or that of a pending row.
@@ -248,13 +284,13 @@ fn head_numbers(
 /// What a flush of these heads writes: the heads and all that they reach move into master, and the pending rows are stored
 /// with the rest. `found` has for each head its id in the stored world, where that has it. The change is what it is for each
 /// world for which the tables stand, and its payload may be added to them. This only reads: the tables that follow are those
-/// with the payload added.
+/// with the payload added. The tables are asked for the levels that come with the change, and stay as they are.
 ///
 /// `Unknown` names the first head that is neither found nor pending; `Full` the first of the others, the master rows and
 /// the log's bytes that would exceed its limit.
 pub fn plan_change(
     alloc: Global,
-    tables: &Tables,
+    tables: &mut Tables,
     bytes: &[u8],
     pending: &PendingRows,
     heads: &[Name],
@@ -263,14 +299,15 @@ pub fn plan_change(
 ) -> Result<Change, PlanFault>
     requires limits { AreLimits limits }
     requires log { length bytes.now ≤ 2 ^ 32 }
-    requires tables { (added : List Placed) × MayPlan tables.now bytes.now pending.now heads.now found.now added }
-    ensures worlds { (w : World NameBytes) (rows : List (Row NameBytes)) (payload : List ℕ) → MayFlush tables.now bytes.now pending.now heads.now found.now w rows
+    requires tables { (added : List Placed) × MayPlan tables.old bytes.now pending.now heads.now found.now added }
+    ensures worlds { (w : World NameBytes) (rows : List (Row NameBytes)) (payload : List ℕ) → MayFlush tables.old bytes.now pending.now heads.now found.now w rows
         → IsChangeOf w (flushed same_name (with_pending w rows) heads.now) payload
         → MatchResult result
         (λ change. (flush_refusal limits (length bytes.now) (with_pending w rows) (flushed same_name (with_pending w rows) heads.now) heads.now payload ≡ None)
         × IsPlanOf change w (flushed same_name (with_pending w rows) heads.now) payload)
         (λ fault. (fault ≡ Memory) ⊎ (flush_refusal limits (length bytes.now) (with_pending w rows) (flushed same_name (with_pending w rows) heads.now) heads.now payload ≡ Some fault)) }
-    ensures stored { (added : List Placed) → MayPlan tables.now bytes.now pending.now heads.now found.now added → IfOk result (MayBeStored limits (length bytes.now) added) }
+    ensures unchanged { tables.new ≡ tables.old }
+    ensures stored { (added : List Placed) → MayPlan tables.old bytes.now pending.now heads.now found.now added → IfOk result (MayBeStored 1 limits (length bytes.now) added) }
 {
     let numbers = head_numbers(alloc, pending, heads, found)?;
     plan_moves(alloc, tables, bytes, pending, &numbers, limits)

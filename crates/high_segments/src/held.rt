@@ -34,19 +34,21 @@ pub(crate) fn held<'a>(levels: &'a [KeptLevel], id: u64, near: usize) -> Option<
 }
 
 /// The segments of a level from an id on, at which one begins, up to the end of the last of these levels, whose number it
-/// has.
+/// has. The search for the first begins at a place, and that for each other one behind.
 fn segments_from(
     alloc: Global,
     levels: &[KeptLevel],
     top: &KeptLevel,
     start: u64,
+    near: usize,
 ) -> Result<Level, AllocError>
     requires { (segments : List Segment) × (from : ℕ) × HasFrom levels.now top.now segments from start }
     ensures { IfOk result (λ run. (segments : List Segment) (from : ℕ) → HasFrom levels.now top.now segments from start → IsRowFrom top.now segments from run) }
 {
     let mut run = Level::begin(alloc, top.level(), start, top.grouped());
     'ids: while run.end() < top.end() {
-        let segment = held(levels, run.end(), 0).unwrap();
+        let near = near.saturating_add(run.len());
+        let segment = held(levels, run.end(), near).unwrap();
         run.push(segment.at_level(top.level()))?;
     }
     Ok(run)
@@ -63,6 +65,23 @@ fn next_end(levels: &[KeptLevel], k: usize) -> u64
     }
 }
 
+/// The segments of the level at place `k` from an id on, at which one begins. The search for the first begins at a place.
+pub(crate) fn row_from(
+    alloc: Global,
+    levels: &[KeptLevel],
+    k: usize,
+    start: u64,
+    near: usize,
+) -> Result<Level, AllocError>
+    requires within { k < length levels.now }
+    requires held { (top : PlainGroups) × (segments : List Segment) × (from : ℕ) × (slice_get levels.now k ≡ Some top) × HasFrom (take (k + 1) levels.now) top segments from start }
+    ensures { IfOk result (λ run. (top : PlainGroups) (segments : List Segment) (from : ℕ) → slice_get levels.now k ≡ Some top
+        → HasFrom (take (k + 1) levels.now) top segments from start → IsRowFrom top segments from run) }
+{
+    let (front, _) = levels.split_at(k + 1);
+    segments_from(alloc, front, &levels[k], start, near)
+}
+
 /// The segments of the level at place `k` that are in no group of the next one.
 pub(crate) fn left_over(alloc: Global, levels: &[KeptLevel], k: usize) -> Result<Level, AllocError>
     requires within { k < length levels.now }
@@ -71,6 +90,5 @@ pub(crate) fn left_over(alloc: Global, levels: &[KeptLevel], k: usize) -> Result
         → HasFrom (take (k + 1) levels.now) top segments from (next_end_of levels.now k) → IsRowFrom top segments from run) }
 {
     let end = next_end(levels, k);
-    let (front, _) = levels.split_at(k + 1);
-    segments_from(alloc, front, &levels[k], end)
+    row_from(alloc, levels, k, end, 0)
 }

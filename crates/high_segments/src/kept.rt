@@ -42,9 +42,9 @@ impl Model for KeptLevel {
 pub(crate) struct Mark {
     groups: usize,
     bytes: usize,
-    end: u64,
+    pub(crate) end: u64,
     grouped: usize,
-    count: usize,
+    pub(crate) count: usize,
 }
 
 impl Mark {

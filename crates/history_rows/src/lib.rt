@@ -19,4 +19,6 @@ mod rows;
 #[cfg(test)]
 mod tests;
 #[cfg(test)]
+mod versions;
+#[cfg(test)]
 mod wrong;

@@ -1,4 +1,5 @@
-ghost use Rattle.std.specs.Prelude.{◌≤◌, ◌<◌, ◌^◌};
+ghost use Rattle.std.specs.Prelude.{◌≡◌, ◌≤◌, ◌<◌, ◌^◌, ◌++◌, ◌∷◌, [], IfSome, length};
+ghost use Rattle.gated_log.specs.Holding.{IsOnDisk};
 
 use disk_memory::{Choice, Fill, MemoryDisk};
 use disk_trait::Disk;
@@ -280,5 +281,67 @@ fn go_on(alloc: Global) -> Result<Option<Again>, AllocError> {
 fn a_log_goes_on_after_a_crash(rt: HostRuntime) -> Result<(), Fail> {
     let seen = go_on(rt.alloc())?;
     assert_eq!(rt; seen, Some((Some(14), Some(28), true)));
+    Ok(())
+}
+
+// The log with one payload more, where it can be stored.
+fn with_payload<D: Disk>(log: Log, disk: &mut D, payload: &[u8]) -> Option<Log>
+    requires { IfSome (D.told disk.old) (IsOnDisk log) }
+    ensures ready { IfSome result (λ next. IfSome (D.told disk.new) (IsOnDisk next)) }
+    ensures payloads { IfSome result (λ next. next.payloads ≡ log.payloads ++ payload.now ∷ []) }
+{
+    match log.commit(disk, payload) {
+        Committed::Done(next, _clock) => Some(next),
+        _ => None,
+    }
+}
+
+// The log with two payloads more.
+fn with_two<D: Disk>(log: Log, disk: &mut D) -> Option<Log>
+    requires { IfSome (D.told disk.old) (IsOnDisk log) }
+    ensures { IfSome result (λ next. 0 < length next.payloads) }
+{
+    let next = with_payload(log, disk, &[4, 5])?;
+    with_payload(next, disk, &[6, 7, 8, 9])
+}
+
+// The first payload of a log before two commits and behind them.
+fn first_before_and_behind<D: Disk>(
+    alloc: Global,
+    log: Log,
+    disk: &mut D,
+) -> Result<Option<(Vec<u8>, Vec<u8>)>, AllocError>
+    requires ready { IfSome (D.told disk.old) (IsOnDisk log) }
+    requires some { 0 < length log.payloads }
+{
+    let before = Vec::from_slice(alloc, log.batch(0))?;
+    let Some(later) = with_two(log, disk) else {
+        return Ok(None);
+    };
+    Ok(Some((before, Vec::from_slice(alloc, later.batch(0))?)))
+}
+
+// Whether the first payload of a log is 1, 2, 3 before two commits and behind them.
+fn first_stays<D: Disk>(alloc: Global, disk: &mut D) -> Result<bool, AllocError> {
+    let Ok(log) = Log::load(alloc, disk, LIMIT) else {
+        return Ok(false);
+    };
+    let Some(one) = with_payload(log, disk, &[1, 2, 3]) else {
+        return Ok(false);
+    };
+    match first_before_and_behind(alloc, one, disk)? {
+        Some((before, behind)) => Ok(before.as_slice() == [1, 2, 3].as_slice() && behind == before),
+        None => Ok(false),
+    }
+}
+
+fn first_stays_afresh(alloc: Global) -> Result<bool, AllocError> {
+    let mut disk = MemoryDisk::new(alloc, &[], &[], None)?;
+    first_stays(alloc, &mut disk)
+}
+
+#[test]
+fn the_first_payload_stays_behind_two_commits(rt: HostRuntime) -> Result<(), Fail> {
+    assert!(rt; first_stays_afresh(rt.alloc())?);
     Ok(())
 }

@@ -76,9 +76,9 @@ is-part p first rank start ids h e is places counts =
 
 -- ---- where the known ids stand
 
-pub known-room : (p : Payload) → IsPayload p → known_start p + 28 * length p.known ≤ length (payload_bytes 1 p)
+pub known-room : (p : Payload) → IsPayload p → known_start p + 28 * length p.known ≤ length (payload_bytes p)
 known-room p h =
-    let k = known-stand p in
+    let k = known-stand p h in
     let whole = ap (length {A = ℕ}) k.whole in
     let size = k.size in
     omega (arith, whole, size, knowns-size p.known (payload-fits p h), length-append k.front (flat_map known_bytes p.known ++ k.behind), length-append (flat_map known_bytes p.known) k.behind)
@@ -162,7 +162,7 @@ own-fit old p ks others known same h apart =
 pub batch-start : (b : BatchRef) (start : ℕ) → HasPlaces b.parts → start ≡ b.parts.known.start → start ≡ known_start (payload_of b)
 batch-start b start h e = e ∙ h.known
 
-pub batch-room : (at : ℕ) (b : BatchRef) (start : ℕ) → HasPlaces b.parts → IsPayload (payload_of b) → at + length (payload_bytes 1 (payload_of b)) < 2 ^ 63 → start ≡ b.parts.known.start
+pub batch-room : (at : ℕ) (b : BatchRef) (start : ℕ) → HasPlaces b.parts → IsPayload (payload_of b) → at + length (payload_bytes (payload_of b)) < 2 ^ 63 → start ≡ b.parts.known.start
     → at + start + 28 * length (payload_of b).known < 2 ^ 63
 batch-room at b start h whole room e =
     let place = batch-start b start h e in

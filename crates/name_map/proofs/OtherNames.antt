@@ -12,42 +12,21 @@ use Rattle.name_index.specs.Index.{NamedPlace, StandsAt as NameStandsAt, Stand}
 use Rattle.name_map.specs.declared.build.OtherNames.{OtherNames}
 use Rattle.name_map.specs.Added.{Placed, StandsAt, names_from}
 use Rattle.name_map.specs.Build.{others_of}
-use Rattle.name_map.proofs.Standing.{stand-parts, payload-fits}
-
--- a piece of a payload, behind so many bytes
-pub record Stands (p : Payload) (piece : List ℕ) (n : ℕ) : Type 0 where
-  pub front : List ℕ
-  pub behind : List ℕ
-  pub whole : payload_bytes 1 p ≡ front ++ (piece ++ behind)
-  pub size : length front ≡ n
+pub use Rattle.batch_codec.proofs.Places.{Stands}
+use Rattle.batch_codec.proofs.Places.{names-stand}
+use Rattle.name_map.proofs.Standing.{stand-parts}
 
 pub other-names-in : (p : Payload) → IsPayload p → Stands p (names_bytes p.other_names) (names_start p)
-unfolding payload_bytes
-other-names-in p h =
-    let b8 : List ℕ = 1 ∷ p.kind ∷ to_be_bytes w64 p.before in
-    let masters : List ℕ = flat_map segment_bytes p.master in
-    let known : List ℕ = flat_map known_bytes p.known in
-    let heads : List ℕ = names_bytes p.heads in
-    let others : List ℕ = flat_map segment_bytes p.others in
-    let tail : List ℕ = to_be_bytes w32 (length p.other_names) ++ (to_be_bytes w32 (length p.others) ++ others) in
-    let mid : List ℕ = to_be_bytes w16 (length p.heads) ++ (heads ++ tail) in
-    let front : List ℕ = b8 ++ (to_be_bytes w64 p.after ++ (to_be_bytes w32 (length p.master) ++ (masters ++ (to_be_bytes w32 (length p.known) ++ (known ++ mid))))) in
-    record {
-      front = front;
-      behind = [];
-      whole = sym (simp (append_assoc, append-nil) refl);
-      size = (let a = length-append {A = ℕ} masters (to_be_bytes w32 (length p.known) ++ (known ++ mid)) in let b = length-append {A = ℕ} known mid in let c = length-append {A = ℕ} heads tail in
-          let d = knowns-size p.known (payload-fits p h) in let e = names-size p.heads h.head_names in omega (arith, a, b, c, d, e));
-    }
+other-names-in p h = names-stand p h
 
 -- names stand where their bytes do
-names-stand : (bytes : List ℕ) (place : ℕ) (names : List Name) → AllByRecursion IsName names → take (length (names_bytes names)) (drop place bytes) ≡ names_bytes names → Stand bytes (names_from place names)
-names-stand bytes place [] h s = tt
-names-stand bytes place (x ∷ names) h s =
+names-are-there : (bytes : List ℕ) (place : ℕ) (names : List Name) → AllByRecursion IsName names → take (length (names_bytes names)) (drop place bytes) ≡ names_bytes names → Stand bytes (names_from place names)
+names-are-there bytes place [] h s = tt
+names-are-there bytes place (x ∷ names) h s =
     let parts = stand-parts x (names_bytes names) place bytes s in
     let size = h.0.0 in (
       record { whole = size; stands = subst (λ n. take n (drop place bytes) ≡ x) size parts.0 },
-      names-stand bytes (place + 20) names h.1 (subst (λ n. take (length (names_bytes names)) (drop (place + n) bytes) ≡ names_bytes names) size parts.1),
+      names-are-there bytes (place + 20) names h.1 (subst (λ n. take (length (names_bytes names)) (drop (place + n) bytes) ≡ names_bytes names) size parts.1),
     )
 
 -- the names of a payload's other ids stand in the log
@@ -58,7 +37,7 @@ others-stand bytes a h stand =
     let whole = subst (λ (z : List ℕ). take (length z) (drop a.at bytes) ≡ z) s.whole stand in
     let back = (stand-parts s.front (names ++ s.behind) a.at bytes whole).1 in
     let at = subst (λ (m : ℕ). take (length (names ++ s.behind)) (drop (a.at + m) bytes) ≡ names ++ s.behind) s.size back in
-    names-stand bytes (a.at + names_start a.payload) a.payload.other_names h.other_names (stand-parts names s.behind (a.at + names_start a.payload) bytes at).0
+    names-are-there bytes (a.at + names_start a.payload) a.payload.other_names h.other_names (stand-parts names s.behind (a.at + names_start a.payload) bytes at).0
 
 -- each of them by its number
 pub other-at : (bytes : List ℕ) (place : ℕ) (names : List Name) (i : ℕ) → Stand bytes (names_from place names) → i < length names → NameStandsAt bytes (record { place = place + 20 * i; name = get_or names i [] })
@@ -75,7 +54,7 @@ name-within bytes n h =
     omega (arith, size, whole, length-take {A = ℕ} 20 (drop n.place bytes), length-drop {A = ℕ} n.place bytes)
 
 -- they begin within the payload
-pub others-room : (p : Payload) → IsPayload p → names_start p ≤ length (payload_bytes 1 p)
+pub others-room : (p : Payload) → IsPayload p → names_start p ≤ length (payload_bytes p)
 others-room p h =
     let s = other-names-in p h in
     let whole = ap (length {A = ℕ}) s.whole in let size = s.size in

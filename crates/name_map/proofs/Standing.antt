@@ -11,6 +11,7 @@ use Rattle.segment_codec.specs.Record.{segment_bytes}
 use Rattle.batch_codec.specs.Payload.{Known, Payload, payload_bytes, known_bytes, names_bytes, known_start}
 use Rattle.batch_codec.specs.Grammar.{IsPayload}
 use Rattle.batch_codec.proofs.Entries.{FitsKnown}
+use Rattle.batch_codec.proofs.Places.{Stands, known-stands}
 use Rattle.name_index.specs.Index.{NamedPlace, StandsAt, Stand, names_in}
 use Rattle.name_map.specs.Added.{Placed, known_of, named_from, named_of, start_of, Follow, AllStand}
 use Rattle.name_map.proofs.Lists.{in-append, in-left, in-right}
@@ -18,25 +19,8 @@ use Rattle.name_map.proofs.Orders.{known-within}
 
 -- ---- the known ids in a payload's bytes
 
-pub record KnownStand (p : Payload) : Type 0 where
-  pub front : List ℕ
-  pub behind : List ℕ
-  pub whole : payload_bytes 1 p ≡ front ++ (flat_map known_bytes p.known ++ behind)
-  pub size : length front ≡ known_start p
-
-pub known-stand : (p : Payload) → KnownStand p
-unfolding payload_bytes
-known-stand p =
-    let b8 : List ℕ = 1 ∷ p.kind ∷ to_be_bytes w64 p.before in
-    let masters : List ℕ = flat_map segment_bytes p.master in
-    let front : List ℕ = b8 ++ (to_be_bytes w64 p.after ++ (to_be_bytes w32 (length p.master) ++ (masters ++ to_be_bytes w32 (length p.known)))) in
-    let behind : List ℕ = to_be_bytes w16 (length p.heads) ++ (names_bytes p.heads ++ (to_be_bytes w32 (length p.other_names) ++ (to_be_bytes w32 (length p.others) ++ (flat_map segment_bytes p.others ++ names_bytes p.other_names)))) in
-    record {
-      front = front;
-      behind = behind;
-      whole = sym (simp append_assoc refl);
-      size = omega (arith, length-append {A = ℕ} masters (to_be_bytes w32 (length p.known)));
-    }
+pub known-stand : (p : Payload) → IsPayload p → Stands p (flat_map known_bytes p.known) (known_start p)
+known-stand p h = known-stands p h.format.no_levels
 
 -- where two pieces stand together each stands
 pub stand-parts : (xs ys : List ℕ) (n : ℕ) (b : List ℕ) → take (length (xs ++ ys)) (drop n b) ≡ xs ++ ys → (take (length xs) (drop n b) ≡ xs) × (take (length ys) (drop (n + length xs) b) ≡ ys)
@@ -100,10 +84,10 @@ pub payload-fits : (p : Payload) → IsPayload p → AllByRecursion FitsKnown p.
 payload-fits p h = let most = h.counts.master in known-fit p.after p.known (omega (arith, most)) (λ k i. (known-within p h k i).1) h.names
 
 -- the known ids of a payload stand in the log
-pub known-in-log : (bytes : List ℕ) (a : Placed) → take (length (payload_bytes 1 a.payload)) (drop a.at bytes) ≡ payload_bytes 1 a.payload
+pub known-in-log : (bytes : List ℕ) (a : Placed) → IsPayload a.payload → take (length (payload_bytes a.payload)) (drop a.at bytes) ≡ payload_bytes a.payload
     → take (length (flat_map known_bytes a.payload.known)) (drop (start_of a) bytes) ≡ flat_map known_bytes a.payload.known
-known-in-log bytes a h =
-    let k = known-stand a.payload in
+known-in-log bytes a is h =
+    let k = known-stand a.payload is in
     let whole = subst (λ (z : List ℕ). take (length z) (drop a.at bytes) ≡ z) k.whole h in
     let back = (stand-parts k.front (flat_map known_bytes a.payload.known ++ k.behind) a.at bytes whole).1 in
     let place = subst (λ (n : ℕ). take (length (flat_map known_bytes a.payload.known ++ k.behind)) (drop (a.at + n) bytes) ≡ flat_map known_bytes a.payload.known ++ k.behind) k.size back in
@@ -115,7 +99,7 @@ all-entries count bytes all [] follow sub stand named i = absurd i
 all-entries count bytes all (a ∷ added) follow sub stand named i =
     ⊎_elim
     (λ (j : IsIn named (named_from (start_of a) a.payload.known)). entries-stand bytes all (start_of a) a.payload.known (payload-fits a.payload follow.0)
-    (λ k x. sub k (in-left k a.payload.known (known_of added) x)) (known-in-log bytes a stand.0) named j)
+    (λ k x. sub k (in-left k a.payload.known (known_of added) x)) (known-in-log bytes a follow.0 stand.0) named j)
     (λ (j : IsIn named (named_of added)). all-entries a.payload.after bytes all added follow.2 (λ k x. sub k (in-right k a.payload.known (known_of added) x)) stand.1 named j)
     (in-append named (named_from (start_of a) a.payload.known) (named_of added) i)
 

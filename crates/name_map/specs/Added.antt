@@ -16,7 +16,7 @@ payloads_of added = map (λ a. a.payload) added
 
 -- the payload's bytes stand in the log at its place
 abbrev pub StandsAt : List ℕ → Placed → Type 0
-StandsAt bytes a = take (length (payload_bytes 1 a.payload)) (drop a.at bytes) ≡ payload_bytes 1 a.payload
+StandsAt bytes a = take (length (payload_bytes a.payload)) (drop a.at bytes) ≡ payload_bytes a.payload
 
 -- the bytes of each payload stand in the log at its place
 abbrev pub AllStand : List ℕ → List Placed → Type 0

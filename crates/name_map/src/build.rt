@@ -69,7 +69,7 @@ fn check_distinct(alloc: Global, batch: &BatchRef<'_>) -> Result<(), MapFault>
 
 /// Where the names of a payload's other ids stand, which itself stands, or will stand, at the place `at`.
 fn other_names_of(batch: &BatchRef<'_>, at: u64) -> OtherNames
-    requires { at + length (payload_bytes 1 (payload_of batch.now)) < 2 ^ 63 }
+    requires { at + length (payload_bytes (payload_of batch.now)) < 2 ^ 63 }
     ensures { result ≡ others_of (placed at batch.now) }
 {
     batch.is_payload();
@@ -185,7 +185,7 @@ impl MapBuild {
     /// that were added before. `Double` comes only where two of its own names are the same. What refused a payload is of no
     /// further use.
     pub fn add_batch(&mut self, batch: &BatchRef<'_>, at: u64) -> Result<(), MapFault>
-        requires room { at + length (payload_bytes 1 (payload_of batch.now)) < 2 ^ 63 }
+        requires room { at + length (payload_bytes (payload_of batch.now)) < 2 ^ 63 }
         requires follows { (payload_of batch.now).before ≡ self.old.masters }
         ensures added { (added : List Placed) → IsBuildOf self.old added → OnOk result (IsBuildOf self.new (added ++ placed at batch.now ∷ [])) }
         ensures double { result ≡ Err FaultDouble → AreDistinct (known_names (payload_of batch.now) ++ (payload_of batch.now).other_names) → ⊥ }

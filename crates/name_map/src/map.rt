@@ -85,7 +85,7 @@ impl NameMap {
     /// before stand in `bytes`. It begins with the master id behind theirs. `Double` comes exactly where two of these
     /// are the same: all known names, those of the payload among them, and its other names. A refusal changes nothing.
     pub fn add_batch(&mut self, bytes: &[u8], batch: &BatchRef<'_>, at: u64) -> Result<(), MapFault>
-        requires room { at + length (payload_bytes 1 (payload_of batch.now)) < 2 ^ 63 }
+        requires room { at + length (payload_bytes (payload_of batch.now)) < 2 ^ 63 }
         requires follows { (payload_of batch.now).before ≡ self.old.masters }
         ensures added { (added : List Placed) → IsMapOf self.old added → AllStand bytes.now added → OnOk result (IsMapOf self.new (added ++ placed at batch.now ∷ []) × AreDistinct (names_with (payloads_of added) (payload_of batch.now))) }
         ensures double { (added : List Placed) → IsMapOf self.old added → AllStand bytes.now added → result ≡ Err FaultDouble → AreDistinct (names_with (payloads_of added) (payload_of batch.now)) → ⊥ }
@@ -111,7 +111,7 @@ impl NameMap {
     /// Adds a payload as `add_batch` does, where it is known that all known names, those of the payload among them, and its other
     /// names are distinct: none is sought. Want of memory changes nothing.
     pub fn add_new(&mut self, bytes: &[u8], batch: &BatchRef<'_>, at: u64) -> Result<(), AllocError>
-        requires room { at + length (payload_bytes 1 (payload_of batch.now)) < 2 ^ 63 }
+        requires room { at + length (payload_bytes (payload_of batch.now)) < 2 ^ 63 }
         requires follows { (payload_of batch.now).before ≡ self.old.masters }
         ensures added { (added : List Placed) → IsMapOf self.old added → AllStand bytes.now added → AreDistinct (names_with (payloads_of added) (payload_of batch.now))
             → OnOk result (IsMapOf self.new (added ++ placed at batch.now ∷ [])) }

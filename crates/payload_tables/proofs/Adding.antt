@@ -50,7 +50,7 @@ pub are-records : (p : Payload) (bytes : List ℕ) → IsPayload p → bytes ≡
 are-records p bytes h b = record { each = all-first p.master h.cover.flat_master; bytes_are = b }
 
 -- they end where the payload does
-pub masters-fit : (p : Payload) → 22 + length (flat_map segment_bytes p.master) ≤ length (payload_bytes 1 p)
+pub masters-fit : (p : Payload) → master_start p + length (flat_map segment_bytes p.master) ≤ length (payload_bytes p)
 masters-fit p =
     let s = masters-in p in
     let whole = ap (length {A = ℕ}) s.whole in let a = length-append s.front (flat_map segment_bytes p.master ++ s.behind) in let b = length-append (flat_map segment_bytes p.master) s.behind in let c = s.size in
@@ -72,9 +72,9 @@ pub never-broken : (first k : ℕ) (segments : List Segment) → StandInTurn (Ma
 never-broken first k segments h broken = none-broken (MasterMayStandAt first) first segments k h broken
 
 -- the records with them
-pub records-more : (added : List Placed) (a : Placed) (place : ℕ) → place ≡ a.at + master_start → master_records added ++ placed place a.payload.master ≡ master_records (added ++ a ∷ [])
+pub records-more : (added : List Placed) (a : Placed) (place : ℕ) → place ≡ a.at + master_start a.payload → master_records added ++ placed place a.payload.master ≡ master_records (added ++ a ∷ [])
 records-more added a place e =
-    ap (λ n. master_records added ++ placed n a.payload.master) e ∙ sym (flat-snoc (λ (b : Placed). placed (b.at + master_start) b.payload.master) added a)
+    ap (λ n. master_records added ++ placed n a.payload.master) e ∙ sym (flat-snoc (λ (b : Placed). placed (b.at + master_start b.payload) b.payload.master) added a)
 
 kept-append : (xs ys : List PlacedSegment) → kept_of (xs ++ ys) ≡ kept_of xs ++ kept_of ys
 kept-append xs ys = ap (map entry_of) (filter-append (λ (r : PlacedSegment). not (goes_on r.segment)) xs ys)

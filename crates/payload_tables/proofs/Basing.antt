@@ -16,7 +16,8 @@ use Rattle.flat_segments.specs.Maximal.{maximal, cut}
 use Rattle.flat_segments.proofs.Graphs.{maximal-ids, maximal-parents, cut-ids, cut-parents}
 use Rattle.flat_segments.proofs.Standing.{all-segments}
 use Rattle.batch_codec.specs.Payload.{Payload, names_bytes}
-use Rattle.batch_codec.specs.Grammar.{IsPayload, HasOthersParents, AreLawful, count_after}
+use Rattle.batch_codec.specs.Grammar.{IsPayload, HasOthersParents, count_after}
+use Rattle.change_rules.specs.Lawful.{AreLawful}
 use Rattle.flat_segments.specs.Placed.{Placed as PlacedSegment, placed, segments_of, Stand}
 use Rattle.flat_segments.specs.Kept.{IsTableOf, IsSectionOf}
 use Rattle.flat_segments.specs.Joined.{MayJoin}
@@ -37,7 +38,8 @@ use Rattle.payload_tables.specs.Bases.{MayBase, id_row, AreSegmentsOf, flat_segm
 use Rattle.payload_tables.proofs.Lists.{all-append, names-length, parents-known, get-below}
 use Rattle.payload_tables.proofs.Joined.{follow-join, follow-once, rows-follow, front-parents, row-parents, listed-parents, view-segments}
 use Rattle.payload_tables.proofs.Leveling.{listed, listed-long}
-use Rattle.payload_tables.proofs.Viewing.{made-again, level-ends}
+use Rattle.change_rules.proofs.Again.{made-again}
+use Rattle.payload_tables.proofs.Viewing.{level-ends}
 use Rattle.payload_tables.proofs.Standing.{masters-segments, placed-segments, lawful-follow, others-stand, names-stand, names-within}
 
 -- the other ids of a base

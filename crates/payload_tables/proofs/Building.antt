@@ -7,7 +7,8 @@ use Rattle.id_groups.specs.Lists.{AreDistinct}
 use Rattle.segment_codec.specs.Table.{Follow}
 use Rattle.id_groups.specs.Name.{Name}
 use Rattle.batch_codec.specs.Payload.{Payload, known_names}
-use Rattle.batch_codec.specs.Grammar.{IsPayload, AreLawful, MayFollow, count_after, head_names}
+use Rattle.batch_codec.specs.Grammar.{IsPayload, count_after}
+use Rattle.change_rules.specs.Lawful.{AreLawful, MayFollow}
 use Rattle.flat_segments.specs.Placed.{segments_of}
 use Rattle.flat_segments.specs.Kept.{Kept}
 use Rattle.segment_levels.specs.Kept.{Kept as KeptLevels}
@@ -20,12 +21,12 @@ use Rattle.name_map.proofs.More.{own-distinct}
 use Rattle.change_rules.specs.Tables.{remote_heads, cloned_count}
 use Rattle.payload_tables.specs.declared.fault.TableFault.{TableFault}
 use Rattle.payload_tables.specs.declared.fault.TableFault.TheVariants.{Unlawful}
-use Rattle.payload_tables.specs.Kept.{AreTablesOf, AreOthersOf, AreOthersIn, master_records, by_kind, map_fault}
-use Rattle.payload_tables.specs.Build.{PlainBuild, ClonesFit, ArePartsOf, IsBuildOf}
+use Rattle.payload_tables.specs.Kept.{AreTablesOf, AreOthersOf, AreOthersIn, master_records, by_kind, map_fault, version_of, newest_version}
+use Rattle.payload_tables.specs.Build.{PlainBuild, HasPlace, HavePlaces, ArePartsOf, IsBuildOf}
 use Rattle.payload_tables.proofs.Lists.{last-of, count-last, flat-snoc}
 use Rattle.payload_tables.proofs.Joined.{follow-join, follow-once}
 use Rattle.payload_tables.proofs.Standing.{masters-segments}
-use Rattle.payload_tables.proofs.Following.{heads-more, count-more, no-payloads}
+use Rattle.payload_tables.proofs.Following.{heads-more, count-more, may-follow, lawful-more}
 
 -- the master ids of payloads that follow one another
 following-masters : (count : ℕ) (added : List Placed) → Following count added → Follow count (count_after count (payloads_of added)) (flat_map (λ p. p.master) (payloads_of added))
@@ -41,27 +42,27 @@ parts-end table levels names added b =
 
 -- ---- a payload more
 
-clones-more : (before more : List Payload) (p : Payload) → ClonesFit before more → (p.kind ≡ 2 → (before ++ more ≡ []) × (p.heads ≡ head_names p)) → ClonesFit before (more ++ p ∷ [])
-clones-more before [] p h f = (λ e. (subst (λ l. l ≡ []) (append-nil before) (f e).0, (f e).1), tt)
-clones-more before (q ∷ more) p h f = (h.0, clones-more (before ++ q ∷ []) more p h.1 (λ e. (append_assoc before (q ∷ []) more ∙ (f e).0, (f e).1)))
+places-more : (before more : List Payload) (p : Payload) → HavePlaces before more → HasPlace (before ++ more) p → HavePlaces before (more ++ p ∷ [])
+places-more before [] p h f = (subst (λ l. HasPlace l p) (append-nil before) f, tt)
+places-more before (q ∷ more) p h f = (h.0, places-more (before ++ q ∷ []) more p h.1 (subst (λ l. HasPlace l p) (sym (append_assoc before (q ∷ []) more)) f))
 
 last-one : (P : Placed → Type 0) (added : List Placed) (a : Placed) → AllByRecursion P (added ++ a ∷ []) → P a
 last-one P [] a h = h.0
 last-one P (b ∷ added) a h = last-one P added a h.1
 
 pub build-more : (build new : PlainBuild) (added : List Placed) (a : Placed) → IsBuildOf build added → IsPayload a.payload
-    → (a.payload.kind ≡ 2 → (added ≡ []) × (a.payload.heads ≡ head_names a.payload)) → ArePartsOf new.flat new.levels new.names (added ++ a ∷ [])
+    → HasPlace (payloads_of added) a.payload → ArePartsOf new.flat new.levels new.names (added ++ a ∷ [])
     → (AreDistinct a.payload.other_names → AreOthersOf new.others a)
-    → new.heads ≡ by_kind a.payload.kind a.payload.heads build.heads → new.cloned ≡ by_kind a.payload.kind a.payload.after build.cloned → IsBuildOf new (added ++ a ∷ [])
-build-more build new added a b h clone parts others heads cloned =
+    → new.heads ≡ by_kind a.payload.kind a.payload.heads build.heads → new.cloned ≡ by_kind a.payload.kind a.payload.cloned build.cloned → new.version ≡ a.payload.version → IsBuildOf new (added ++ a ∷ [])
+build-more build new added a b h place parts others heads cloned version =
     let all : payloads_of (added ++ a ∷ []) ≡ payloads_of added ++ a.payload ∷ [] = map-append (λ (c : Placed). c.payload) added (a ∷ []) in
-    let first : a.payload.kind ≡ 2 → payloads_of added ≡ [] = λ e. no-payloads added (clone e).0 in
     record {
-      clones = subst (ClonesFit []) (sym all) (clones-more [] (payloads_of added) a.payload b.clones (λ e. (first e, (clone e).1)));
+      places = subst (HavePlaces []) (sym all) (places-more [] (payloads_of added) a.payload b.places place);
       parts = parts;
       others = subst (AreOthersIn new.others) (sym (last-of None added a)) (others (last-one (λ (c : Placed). AreDistinct c.payload.other_names) added a parts.names_of.distinct));
-      heads = heads ∙ ap (by_kind a.payload.kind a.payload.heads) b.heads ∙ heads-more (payloads_of added) a.payload h first ∙ ap remote_heads (sym all);
-      cloned = cloned ∙ ap (by_kind a.payload.kind a.payload.after) b.cloned ∙ count-more (payloads_of added) a.payload h first ∙ ap cloned_count (sym all);
+      heads = heads ∙ ap (by_kind a.payload.kind a.payload.heads) b.heads ∙ heads-more (payloads_of added) a.payload h place.first ∙ ap remote_heads (sym all);
+      cloned = cloned ∙ ap (by_kind a.payload.kind a.payload.cloned) b.cloned ∙ count-more (payloads_of added) a.payload h place.first ∙ ap cloned_count (sym all);
+      version = version ∙ ap version_of (sym (last-of None (payloads_of added) a.payload)) ∙ ap newest_version (sym all);
     }
 
 -- the own names of a payload that may come are distinct
@@ -72,27 +73,29 @@ own-names before p may =
 
 -- ---- all of them
 
-lawful-of : (before : List Payload) (added : List Placed) → Following (count_after 0 before) added → ClonesFit before (payloads_of added) → NamesFit before (payloads_of added) → AreLawful before (payloads_of added)
-lawful-of before [] f c n = tt
-lawful-of before (a ∷ added) f c n = (
-  record { whole = f.0; count = f.1; clone_first = λ e. (c.0 e).0; clone_heads = λ e. (c.0 e).1; distinct = n.0 },
-  lawful-of (before ++ a.payload ∷ []) added (subst (λ m. Following m added) (sym (count-last 0 before a.payload)) f.2) c.1 n.1,
-)
+lawful-of : (before : List Payload) (added : List Placed) → AreLawful [] before → Following (count_after 0 before) added → HavePlaces before (payloads_of added) → NamesFit before (payloads_of added) → AreLawful before (payloads_of added)
+lawful-of before [] done f c n = tt
+lawful-of before (a ∷ added) done f c n =
+    let may = may-follow before a.payload done f.0 f.1 c.0 n.0 in (
+      may,
+      lawful-of (before ++ a.payload ∷ []) added (lawful-more [] before a.payload done may) (subst (λ m. Following m added) (sym (count-last 0 before a.payload)) f.2) c.1 n.1,
+    )
 
 pub names-fit : (before more : List Payload) → AreLawful before more → NamesFit before more
 names-fit before [] h = tt
 names-fit before (p ∷ more) h = (h.0.distinct, names-fit (before ++ p ∷ []) more h.1)
 
 pub tables-of : (build : PlainBuild) (names : PlainMap) (added : List Placed) → IsBuildOf build added → IsMapOf names added → NamesFit [] (payloads_of added)
-    → AreTablesOf (record { flat = build.flat; levels = build.levels; names = names; others = build.others; heads = build.heads; cloned = build.cloned }) added
+    → AreTablesOf (record { flat = build.flat; levels = build.levels; names = names; others = build.others; heads = build.heads; cloned = build.cloned; version = build.version }) added
 tables-of build names added b is fit = record {
-  lawful = lawful-of [] added b.parts.names_of.follow b.clones fit;
+  lawful = lawful-of [] added tt b.parts.names_of.follow b.places fit;
   flat = b.parts.flat;
   levels = b.parts.levels_of;
   names = is;
   others = b.others;
   heads = b.heads;
   cloned = b.cloned;
+  version = b.version;
 }
 
 -- ---- faults handed on

@@ -1,5 +1,5 @@
 -- The heads of a clone, by what its records and known names say.
-use Rattle.std.proofs.Common.{◌≡◌, ◌≢◌, ◌<◌, ◌≤◌, ℕ, zero, suc, ◌+◌, Bool, true, false, cond, ◌||◌, List, [], ◌∷◌, ◌++◌, length, map, flat_map, filter, take, set, replicate, get_or, Option, Some, None, slice_get, refl, sym, ap, ap₂, subst, ◌∙◌, true≢false, arith, nat_eq, append_assoc, append-nil, is_some}
+use Rattle.std.proofs.Common.{◌≡◌, ◌≢◌, ◌<◌, ◌≤◌, ℕ, zero, suc, ◌+◌, ◌-◌, min, Bool, true, false, cond, ◌||◌, List, [], ◌∷◌, ◌++◌, length, map, flat_map, filter, take, set, replicate, get_or, Option, Some, None, slice_get, refl, sym, ap, ap₂, subst, ◌∙◌, true≢false, arith, nat_eq, append_assoc, append-nil, is_some}
 use Rattle.std.specs.List.{AllByRecursion}
 use Rattle.std.proofs.lemmas.List.{map-append, take_more, take_all, get_or-set_other, get_or-replicate}
 use Rattle.std.proofs.lemmas.List.Elements.{filter-append}
@@ -9,29 +9,42 @@ use Rattle.id_groups.specs.Name.{Name, IsName}
 use Rattle.segment_codec.specs.Record.{Segment, IsSegment, segment_bytes}
 use Rattle.segment_codec.specs.Table.{Follow}
 use Rattle.batch_codec.specs.Payload.{Payload, Known, names_bytes}
-use Rattle.batch_codec.specs.Grammar.{IsPayload, head_names}
+use Rattle.batch_codec.specs.Grammar.{IsPayload, cut_below, cloned_head_names}
+use Rattle.std.specs.Prelude.{nat_lt}
+use Rattle.std.proofs.lemmas.Bool.{lt-ltb, le-ltb}
 use Rattle.batch_codec.specs.Reading.{names_in}
 use Rattle.batch_codec.proofs.Entries.{names-size, names-again}
 use Rattle.flat_segments.specs.Placed.{AreRecords}
 use Rattle.flat_segments.proofs.Batches.{left-first, none-left}
 use Rattle.payload_tables.proofs.Lists.{same-self, same-exact}
 
--- so far these are the highest ids and the parents of the records before the rest
-pub record EndsSoFar (highs parents rest : List ℕ) (segments : List Segment) : Type 0 where
+-- a part of segments, and the rest of them, cut at an id
+cut-append : (below : ℕ) (xs ys : List Segment) → cut_below below (xs ++ ys) ≡ cut_below below xs ++ cut_below below ys
+cut-append below [] ys = refl
+cut-append below (x ∷ xs) ys = by_test (nat_lt x.low below) (cut-append below xs ys)
+  where
+    by_test : (b : Bool) → cut_below below (xs ++ ys) ≡ cut_below below xs ++ cut_below below ys
+        → cond b (record x { high = min x.high (below - 1) } ∷ cut_below below (xs ++ ys)) (cut_below below (xs ++ ys))
+        ≡ cond b (record x { high = min x.high (below - 1) } ∷ cut_below below xs) (cut_below below xs) ++ cut_below below ys
+    by_test true e = ap (λ l. record x { high = min x.high (below - 1) } ∷ l) e
+    by_test false e = e
+
+-- so far these are the highest ids and the parents of the records before the rest, of their parts below an id
+pub record EndsSoFar (below : ℕ) (highs parents rest : List ℕ) (segments : List Segment) : Type 0 where
   pub done : List Segment
   pub left : List Segment
   pub parts : segments ≡ done ++ left
   pub rest_is : rest ≡ flat_map segment_bytes left
   pub each_left : AllByRecursion IsSegment left
-  pub highs_are : highs ≡ map (λ s. s.high) done
-  pub parents_are : parents ≡ flat_map (λ s. s.parents) done
+  pub highs_are : highs ≡ map (λ s. s.high) (cut_below below done)
+  pub parents_are : parents ≡ flat_map (λ s. s.parents) (cut_below below done)
 
-pub ends-start : (records : List ℕ) (segments : List Segment) → AreRecords segments records → EndsSoFar [] [] records segments
-ends-start records segments a = record { done = []; left = segments; parts = refl; rest_is = a.bytes_are; each_left = a.each; highs_are = refl; parents_are = refl }
+pub ends-start : (below : ℕ) (records : List ℕ) (segments : List Segment) → AreRecords segments records → EndsSoFar below [] [] records segments
+ends-start below records segments a = record { done = []; left = segments; parts = refl; rest_is = a.bytes_are; each_left = a.each; highs_are = refl; parents_are = refl }
 
-pub ends-more : (highs parents rest : List ℕ) (segments : List Segment) → EndsSoFar highs parents rest segments → (s : Segment) (after : List ℕ) → IsSegment s → rest ≡ segment_bytes s ++ after
-    → (more_highs more_parents : List ℕ) → more_highs ≡ highs ++ s.high ∷ [] → more_parents ≡ parents ++ s.parents → EndsSoFar more_highs more_parents after segments
-ends-more highs parents rest segments f s after whole read more_highs more_parents eh ep =
+pub ends-more : (below : ℕ) (highs parents rest : List ℕ) (segments : List Segment) → EndsSoFar below highs parents rest segments → (s : Segment) (after : List ℕ) → IsSegment s → rest ≡ segment_bytes s ++ after
+    → (more_highs more_parents : List ℕ) → more_highs ≡ highs ++ map (λ q. q.high) (cut_below below (s ∷ [])) → more_parents ≡ parents ++ flat_map (λ q. q.parents) (cut_below below (s ∷ [])) → EndsSoFar below more_highs more_parents after segments
+ends-more below highs parents rest segments f s after whole read more_highs more_parents eh ep =
     let l = left-first s rest after f.left whole read f.each_left f.rest_is in
     record {
       done = f.done ++ s ∷ [];
@@ -39,15 +52,51 @@ ends-more highs parents rest segments f s after whole read more_highs more_paren
       parts = f.parts ∙ ap (λ z. f.done ++ z) l.is ∙ sym (append_assoc f.done (s ∷ []) l.more);
       rest_is = l.after_is;
       each_left = l.each;
-      highs_are = eh ∙ ap (λ z. z ++ s.high ∷ []) f.highs_are ∙ sym (map-append (λ (q : Segment). q.high) f.done (s ∷ []));
-      parents_are = ep ∙ ap₂ (λ a b. a ++ b) f.parents_are (sym (append-nil s.parents)) ∙ sym (flat_map-append (λ (q : Segment). q.parents) f.done (s ∷ []));
+      highs_are = eh ∙ ap (λ z. z ++ map (λ (q : Segment). q.high) (cut_below below (s ∷ []))) f.highs_are
+          ∙ sym (ap (map (λ (q : Segment). q.high)) (cut-append below f.done (s ∷ [])) ∙ map-append (λ (q : Segment). q.high) (cut_below below f.done) (cut_below below (s ∷ [])));
+      parents_are = ep ∙ ap (λ z. z ++ flat_map (λ (q : Segment). q.parents) (cut_below below (s ∷ []))) f.parents_are
+          ∙ sym (ap (flat_map (λ (q : Segment). q.parents)) (cut-append below f.done (s ∷ [])) ∙ flat_map-append (λ (q : Segment). q.parents) (cut_below below f.done) (cut_below below (s ∷ [])));
     }
 
-pub ends-done : (highs parents rest : List ℕ) (segments : List Segment) → EndsSoFar highs parents rest segments → ((s : Segment) (after : List ℕ) → IsSegment s → rest ≡ segment_bytes s ++ after → ⊥)
-    → (highs ≡ map (λ s. s.high) segments) × (parents ≡ flat_map (λ s. s.parents) segments)
-ends-done highs parents rest segments f none =
+pub ends-done : (below : ℕ) (highs parents rest : List ℕ) (segments : List Segment) → EndsSoFar below highs parents rest segments → ((s : Segment) (after : List ℕ) → IsSegment s → rest ≡ segment_bytes s ++ after → ⊥)
+    → (highs ≡ map (λ s. s.high) (cut_below below segments)) × (parents ≡ flat_map (λ s. s.parents) (cut_below below segments))
+ends-done below highs parents rest segments f none =
     let all : segments ≡ f.done = f.parts ∙ ap (λ l. f.done ++ l) (none-left f.left rest f.each_left f.rest_is none) ∙ append-nil f.done in
-    (f.highs_are ∙ ap (map (λ (s : Segment). s.high)) (sym all), f.parents_are ∙ ap (flat_map (λ (s : Segment). s.parents)) (sym all))
+    (f.highs_are ∙ ap (λ l. map (λ (s : Segment). s.high) (cut_below below l)) (sym all), f.parents_are ∙ ap (λ l. flat_map (λ (s : Segment). s.parents) (cut_below below l)) (sym all))
+
+-- the ends of one segment, where it lies below the id and where it doesn't
+pub cut-kept : (below : ℕ) (s : Segment) → s.low < below → cut_below below (s ∷ []) ≡ record s { high = min s.high (below - 1) } ∷ []
+cut-kept below s lt = ap (λ b. cond b (record s { high = min s.high (below - 1) } ∷ []) []) (lt-ltb s.low below lt)
+
+pub cut-gone : (below : ℕ) (s : Segment) → below ≤ s.low → cut_below below (s ∷ []) ≡ []
+cut-gone below s le = ap (λ b. cond b (record s { high = min s.high (below - 1) } ∷ []) []) (le-ltb s.low below le)
+
+-- what holds of the ends of segments holds of those of their parts
+pub cut-highs : (below n : ℕ) (segments : List Segment) → AllByRecursion (λ id. id < n) (map (λ s. s.high) segments) → AllByRecursion (λ id. id < n) (map (λ s. s.high) (cut_below below segments))
+cut-highs below n [] h = tt
+cut-highs below n (s ∷ more) h = by_test (nat_lt s.low below) (cut-highs below n more h.1)
+  where
+    by_test : (b : Bool) → AllByRecursion (λ id. id < n) (map (λ q. q.high) (cut_below below more))
+        → AllByRecursion (λ id. id < n) (map (λ q. q.high) (cond b (record s { high = min s.high (below - 1) } ∷ cut_below below more) (cut_below below more)))
+    by_test true r = ((let a = h.0 in omega (arith, a)), r)
+    by_test false r = r
+
+pub cut-parents : (below n : ℕ) (segments : List Segment) → AllByRecursion (λ id. id < n) (flat_map (λ s. s.parents) segments) → AllByRecursion (λ id. id < n) (flat_map (λ s. s.parents) (cut_below below segments))
+cut-parents below n [] h = tt
+cut-parents below n (s ∷ more) h = by_test (nat_lt s.low below) (cut-parents below n more (right s.parents h))
+  where
+    right : (xs : List ℕ) → AllByRecursion (λ id. id < n) (xs ++ flat_map (λ q. q.parents) more) → AllByRecursion (λ id. id < n) (flat_map (λ q. q.parents) more)
+    right [] k = k
+    right (x ∷ xs) k = right xs k.1
+
+    left : (xs : List ℕ) → AllByRecursion (λ id. id < n) (xs ++ flat_map (λ q. q.parents) more) → (ys : List ℕ) → AllByRecursion (λ id. id < n) ys → AllByRecursion (λ id. id < n) (xs ++ ys)
+    left [] k ys r = r
+    left (x ∷ xs) k ys r = (k.0, left xs k.1 ys r)
+
+    by_test : (b : Bool) → AllByRecursion (λ id. id < n) (flat_map (λ q. q.parents) (cut_below below more))
+        → AllByRecursion (λ id. id < n) (flat_map (λ q. q.parents) (cond b (record s { high = min s.high (below - 1) } ∷ cut_below below more) (cut_below below more)))
+    by_test true r = left s.parents h (flat_map (λ q. q.parents) (cut_below below more)) r
+    by_test false r = r
 
 -- ---- marks
 
@@ -177,7 +226,7 @@ same-names xs ys hx hy e =
     let n : length xs ≡ length ys = omega (arith, a, b, c) in
     sym (names-again xs hx) ∙ ap₂ (λ k l. names_in k l) n e ∙ names-again ys hy
 
-pub head-names-whole : (p : Payload) → IsPayload p → AllByRecursion IsName (head_names p)
+pub head-names-whole : (p : Payload) → IsPayload p → AllByRecursion IsName (cloned_head_names p)
 head-names-whole p h = names-chosen _ p.known h.names
 
 pub any-default : (xs : List ℕ) (i d e : ℕ) → i < length xs → get_or xs i d ≡ get_or xs i e

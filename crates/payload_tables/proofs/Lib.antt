@@ -13,3 +13,5 @@ pub mod Following
 pub mod Pushing
 pub mod Stored
 pub mod Building
+pub mod LevelLists
+pub mod Placing

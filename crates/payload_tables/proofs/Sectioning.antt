@@ -109,7 +109,7 @@ are-others p bytes h e = record {
   follow = h.cover.others;
 }
 
-pub names-fit : (p : Payload) → IsPayload p → names_start p + 20 * length p.other_names ≤ length (payload_bytes 1 p)
+pub names-fit : (p : Payload) → IsPayload p → names_start p + 20 * length p.other_names ≤ length (payload_bytes p)
 names-fit p h =
     let s = other-names-in p h in let whole = ap (length {A = ℕ}) s.whole in let a = length-append s.front (names_bytes p.other_names ++ s.behind) in let b = length-append (names_bytes p.other_names) s.behind in
     let z = names-size p.other_names h.other_names in let size = s.size in omega (arith, whole, a, b, z, size)

@@ -1,32 +1,27 @@
 -- What stands in the log where payloads stand, and which ids their records have.
 use Rattle.std.proofs.Common.{◌≡◌, ◌≤◌, ℕ, ◌+◌, ◌*◌, List, [], ◌∷◌, ◌++◌, length, take, drop, flat_map, refl, sym, ap, ap₂, ◌∙◌, subst, arith, append_assoc, append-nil}
-use Rattle.std.specs.Int.{w16, w32, w64, to_be_bytes}
 use Rattle.std.proofs.lemmas.List.{length-append, length-take, length-drop, take_at, take-append-drop, map-append}
 use Rattle.segment_codec.specs.Record.{Segment, segment_bytes}
 use Rattle.segment_codec.specs.Table.{Follow}
-use Rattle.batch_codec.specs.Payload.{Payload, payload_bytes, known_bytes, names_bytes, master_start, others_start, names_start}
-use Rattle.batch_codec.specs.Grammar.{IsPayload, AreLawful, count_after}
-use Rattle.batch_codec.proofs.Entries.{knowns-size, names-size}
+use Rattle.batch_codec.specs.Payload.{Payload, payload_bytes, names_bytes, master_start, others_start, names_start}
+use Rattle.batch_codec.specs.Grammar.{IsPayload, count_after}
+use Rattle.change_rules.specs.Lawful.{AreLawful}
+use Rattle.batch_codec.proofs.Entries.{names-size}
 use Rattle.flat_segments.specs.Placed.{Placed as PlacedSegment, placed, segments_of, Stand}
 use Rattle.flat_segments.proofs.Callers.{placed-stand}
 use Rattle.name_map.specs.Added.{Placed, AllStand, payloads_of}
-use Rattle.name_map.proofs.Standing.{stand-parts, payload-fits}
+use Rattle.name_map.proofs.Standing.{stand-parts}
 pub use Rattle.name_map.proofs.OtherNames.{Stands, other-names-in}
+use Rattle.batch_codec.proofs.Places.{master-stands, section-stands}
 use Rattle.payload_tables.specs.Kept.{master_records, other_records}
 use Rattle.payload_tables.proofs.Lists.{all-append, count-last}
 use Rattle.payload_tables.proofs.Joined.{follow-join}
 
-pub masters-in : (p : Payload) → Stands p (flat_map segment_bytes p.master) master_start
-unfolding payload_bytes
-masters-in p =
-    let b8 : List ℕ = 1 ∷ p.kind ∷ to_be_bytes w64 p.before in
-    let front : List ℕ = b8 ++ (to_be_bytes w64 p.after ++ to_be_bytes w32 (length p.master)) in
-    let behind : List ℕ = to_be_bytes w32 (length p.known) ++ (flat_map known_bytes p.known
-    ++ (to_be_bytes w16 (length p.heads) ++ (names_bytes p.heads ++ (to_be_bytes w32 (length p.other_names) ++ (to_be_bytes w32 (length p.others) ++ (flat_map segment_bytes p.others ++ names_bytes p.other_names)))))) in
-    record { front = front; behind = behind; whole = sym (simp append_assoc refl); size = refl }
+pub masters-in : (p : Payload) → Stands p (flat_map segment_bytes p.master) (master_start p)
+masters-in p = master-stands p
 
 -- a piece stands in the log
-piece-stands : (bytes : List ℕ) (a : Placed) (piece : List ℕ) (n : ℕ) → Stands a.payload piece n → take (length (payload_bytes 1 a.payload)) (drop a.at bytes) ≡ payload_bytes 1 a.payload
+piece-stands : (bytes : List ℕ) (a : Placed) (piece : List ℕ) (n : ℕ) → Stands a.payload piece n → take (length (payload_bytes a.payload)) (drop a.at bytes) ≡ payload_bytes a.payload
     → drop (a.at + n) bytes ≡ piece ++ drop (length piece) (drop (a.at + n) bytes)
 piece-stands bytes a piece n s h =
     let whole = subst (λ (z : List ℕ). take (length z) (drop a.at bytes) ≡ z) s.whole h in
@@ -38,9 +33,9 @@ piece-stands bytes a piece n s h =
 pub masters-stand : (bytes : List ℕ) (added : List Placed) → AllStand bytes added → Stand bytes (master_records added)
 masters-stand bytes [] h = tt
 masters-stand bytes (a ∷ added) h =
-    all-append _ (placed (a.at + master_start) a.payload.master) (master_records added)
-    (placed-stand bytes (drop (length (flat_map segment_bytes a.payload.master)) (drop (a.at + master_start) bytes)) (a.at + master_start) a.payload.master
-    (piece-stands bytes a (flat_map segment_bytes a.payload.master) master_start (masters-in a.payload) h.0))
+    all-append _ (placed (a.at + master_start a.payload) a.payload.master) (master_records added)
+    (placed-stand bytes (drop (length (flat_map segment_bytes a.payload.master)) (drop (a.at + master_start a.payload) bytes)) (a.at + master_start a.payload) a.payload.master
+    (piece-stands bytes a (flat_map segment_bytes a.payload.master) (master_start a.payload) (masters-in a.payload) h.0))
     (masters-stand bytes added h.1)
 
 pub placed-segments : (at : ℕ) (segments : List Segment) → segments_of (placed at segments) ≡ segments
@@ -50,8 +45,8 @@ placed-segments at (s ∷ more) = ap (λ l. s ∷ l) (placed-segments (at + leng
 pub masters-segments : (added : List Placed) → segments_of (master_records added) ≡ flat_map (λ p. p.master) (payloads_of added)
 masters-segments [] = refl
 masters-segments (a ∷ added) =
-    map-append (λ (r : PlacedSegment). r.segment) (placed (a.at + master_start) a.payload.master) (master_records added)
-    ∙ ap₂ (λ x y. x ++ y) (placed-segments (a.at + master_start) a.payload.master) (masters-segments added)
+    map-append (λ (r : PlacedSegment). r.segment) (placed (a.at + master_start a.payload) a.payload.master) (master_records added)
+    ∙ ap₂ (λ x y. x ++ y) (placed-segments (a.at + master_start a.payload) a.payload.master) (masters-segments added)
 
 -- the master ids of lawful payloads
 pub lawful-follow : (before more : List Payload) → AreLawful before more → Follow (count_after 0 before) (count_after 0 (before ++ more)) (flat_map (λ p. p.master) more)
@@ -64,25 +59,10 @@ lawful-follow before (p ∷ more) h =
     (subst (λ l. Follow (count_after 0 (before ++ p ∷ [])) (count_after 0 l) (flat_map (λ q. q.master) more)) (append_assoc before (p ∷ []) more) rest))
 
 others-in : (p : Payload) → IsPayload p → Stands p (flat_map segment_bytes p.others) (others_start p)
-unfolding payload_bytes
-others-in p h =
-    let b8 : List ℕ = 1 ∷ p.kind ∷ to_be_bytes w64 p.before in
-    let masters : List ℕ = flat_map segment_bytes p.master in
-    let known : List ℕ = flat_map known_bytes p.known in
-    let heads : List ℕ = names_bytes p.heads in
-    let tail : List ℕ = to_be_bytes w32 (length p.other_names) ++ to_be_bytes w32 (length p.others) in
-    let mid : List ℕ = to_be_bytes w16 (length p.heads) ++ (heads ++ tail) in
-    let front : List ℕ = b8 ++ (to_be_bytes w64 p.after ++ (to_be_bytes w32 (length p.master) ++ (masters ++ (to_be_bytes w32 (length p.known) ++ (known ++ mid))))) in
-    record {
-      front = front;
-      behind = names_bytes p.other_names;
-      whole = sym (simp append_assoc refl);
-      size = (let a = length-append {A = ℕ} masters (to_be_bytes w32 (length p.known) ++ (known ++ mid)) in let b = length-append {A = ℕ} known mid in let c = length-append {A = ℕ} heads tail in
-          let d = knowns-size p.known (payload-fits p h) in let e = names-size p.heads h.head_names in omega (arith, a, b, c, d, e));
-    }
+others-in p h = section-stands p h
 
 -- the names of the other ids stand in the log
-pub names-stand : (bytes : List ℕ) (a : Placed) → IsPayload a.payload → take (length (payload_bytes 1 a.payload)) (drop a.at bytes) ≡ payload_bytes 1 a.payload
+pub names-stand : (bytes : List ℕ) (a : Placed) → IsPayload a.payload → take (length (payload_bytes a.payload)) (drop a.at bytes) ≡ payload_bytes a.payload
     → take (20 * length a.payload.other_names) (drop (a.at + names_start a.payload) bytes) ≡ names_bytes a.payload.other_names
 names-stand bytes a h stand =
     let here = piece-stands bytes a (names_bytes a.payload.other_names) (names_start a.payload) (other-names-in a.payload h) stand in
@@ -91,7 +71,7 @@ names-stand bytes a h stand =
     ∙ ap (take (length (names_bytes a.payload.other_names))) here
     ∙ take_at (names_bytes a.payload.other_names) (drop (length (names_bytes a.payload.other_names)) (drop (a.at + names_start a.payload) bytes)) (length (names_bytes a.payload.other_names)) refl
 
-pub names-within : (bytes : List ℕ) (a : Placed) → IsPayload a.payload → take (length (payload_bytes 1 a.payload)) (drop a.at bytes) ≡ payload_bytes 1 a.payload
+pub names-within : (bytes : List ℕ) (a : Placed) → IsPayload a.payload → take (length (payload_bytes a.payload)) (drop a.at bytes) ≡ payload_bytes a.payload
     → a.at + names_start a.payload + 20 * length a.payload.other_names ≤ length bytes
 names-within bytes a h stand =
     let s = other-names-in a.payload h in
@@ -101,11 +81,11 @@ names-within bytes a h stand =
     let z = names-size a.payload.other_names h.other_names in
     let size = s.size in
     let got = ap (length {A = ℕ}) stand in
-    let t = length-take {A = ℕ} (length (payload_bytes 1 a.payload)) (drop a.at bytes) in
+    let t = length-take {A = ℕ} (length (payload_bytes a.payload)) (drop a.at bytes) in
     let d = length-drop {A = ℕ} a.at bytes in
     omega (arith, whole, x, y, z, size, got, t, d)
 
-pub others-stand : (bytes : List ℕ) (a : Placed) → IsPayload a.payload → take (length (payload_bytes 1 a.payload)) (drop a.at bytes) ≡ payload_bytes 1 a.payload → Stand bytes (other_records a)
+pub others-stand : (bytes : List ℕ) (a : Placed) → IsPayload a.payload → take (length (payload_bytes a.payload)) (drop a.at bytes) ≡ payload_bytes a.payload → Stand bytes (other_records a)
 others-stand bytes a h stand =
     placed-stand bytes (drop (length (flat_map segment_bytes a.payload.others)) (drop (a.at + others_start a.payload) bytes)) (a.at + others_start a.payload) a.payload.others
     (piece-stands bytes a (flat_map segment_bytes a.payload.others) (others_start a.payload) (others-in a.payload h) stand)

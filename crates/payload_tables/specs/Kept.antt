@@ -1,9 +1,9 @@
 -- What is kept of the payloads that were added, and which payloads it is that of.
 use Rattle.std.specs.Prelude.{◌≡◌, ℕ, ◌+◌, List, [], Option, Some, None, length, flat_map, ◌==◌, if◌then◌else◌}
 use Rattle.std.specs.List.{last_or}
-use Rattle.batch_codec.specs.Payload.{master_start, others_start, names_start}
+use Rattle.batch_codec.specs.Payload.{Payload, master_start, others_start, names_start}
 use Rattle.id_groups.specs.Name.{Name}
-use Rattle.batch_codec.specs.Grammar.{AreLawful}
+use Rattle.change_rules.specs.Lawful.{AreLawful}
 use Rattle.change_rules.specs.Tables.{remote_heads, cloned_count}
 use Rattle.name_index.specs.Index.{NamedPlace, IsIndexOf}
 use Rattle.name_index.specs.declared.entry.Entry.{Entry}
@@ -37,6 +37,8 @@ pub record PlainTables : Type 0 where
   -- the heads of the remote that was cloned, and how many commits came
   pub heads : List Name
   pub cloned : ℕ
+  -- the version of the newest one, and 0 where there is none
+  pub version : ℕ
 
 -- the records of a payload's other ids, at their places
 abbrev pub other_records : Placed → List PlacedSegment
@@ -69,7 +71,15 @@ last_added added = last_or None added
 
 -- the records of all master ids, at their places
 abbrev pub master_records : List Placed → List PlacedSegment
-master_records added = flat_map (λ a. placed (a.at + master_start) a.payload.master) added
+master_records added = flat_map (λ a. placed (a.at + master_start a.payload) a.payload.master) added
+
+-- the version of the last of these, and 0 where there is none; none before it has a later one
+abbrev pub version_of : Option Payload → ℕ
+version_of None = 0
+version_of (Some p) = p.version
+
+abbrev pub newest_version : List Payload → ℕ
+newest_version payloads = version_of (last_or None payloads)
 
 -- The tables are those of the payloads that were added, in this order, which are lawful.
 pub record AreTablesOf (tables : PlainTables) (added : List Placed) : Type 0 where
@@ -80,6 +90,7 @@ pub record AreTablesOf (tables : PlainTables) (added : List Placed) : Type 0 whe
   pub others : AreOthersIn tables.others (last_added added)
   pub heads : tables.heads ≡ remote_heads (payloads_of added)
   pub cloned : tables.cloned ≡ cloned_count (payloads_of added)
+  pub version : tables.version ≡ newest_version (payloads_of added)
 
 -- the table has the master records of the payloads, and its levels are theirs
 pub record HaveMasters (table : Kept) (levels : KeptLevels) (added : List Placed) : Type 0 where
@@ -98,6 +109,6 @@ abbrev pub map_fault : MapFault → TableFault
 map_fault Double = Unlawful
 map_fault MapMemory = Memory
 
--- what a payload of this kind leaves: a clone its own, a flush what was there
+-- what a payload of this kind leaves: a flush what was there, a clone and a whole store their own
 abbrev pub by_kind : {X : Type 0} → ℕ → X → X → X
-by_kind kind own old = if kind == 2 then own else old
+by_kind kind own old = if kind == 1 then old else own

@@ -4,3 +4,4 @@ pub mod Sections
 pub mod Bases
 pub mod Build
 pub mod Extents
+pub mod Places

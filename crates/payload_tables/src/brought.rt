@@ -7,7 +7,7 @@ ghost use Rattle.batch_codec.specs.Payload.{payload_bytes};
 ghost use Rattle.name_map.specs.Adding.{placed};
 ghost use Rattle.payload_tables.specs.Kept.{AreOthersOf, by_kind};
 
-use crate::heads::{CLONE, heads_of};
+use crate::heads::{FLUSH, heads_of};
 use crate::others::OthersTable;
 use batch_codec::BatchRef;
 use id_groups::Name;
@@ -23,7 +23,7 @@ pub(crate) struct Brought {
 impl Brought {
     /// What the payload brings, which stands, or will stand, at the place `at` in the log.
     pub(crate) fn read(alloc: Global, batch: &BatchRef<'_>, at: u64) -> Result<Brought, AllocError>
-        requires { at + length (payload_bytes 1 (payload_of batch.now)) < 2 ^ 63 }
+        requires { at + length (payload_bytes (payload_of batch.now)) < 2 ^ 63 }
         ensures others { IfOk result (λ brought. AreDistinct (payload_of batch.now).other_names → AreOthersOf brought.others (placed at batch.now)) }
         ensures heads { IfOk result (λ brought. brought.heads.items ≡ (payload_of batch.now).heads) }
     {
@@ -32,7 +32,7 @@ impl Brought {
         Ok(Brought { others, heads })
     }
 
-    /// Keeps the other ids; of a clone also its heads, and how many commits came.
+    /// Keeps the other ids; of a clone or a whole store also its heads, and how many commits were cloned.
     pub(crate) fn keep(
         self,
         batch: &BatchRef<'_>,
@@ -42,12 +42,12 @@ impl Brought {
     )
         ensures others { others.new ≡ self.others }
         ensures heads { heads.new.items ≡ by_kind (payload_of batch.now).kind self.heads.items heads.old.items }
-        ensures cloned { cloned.new ≡ by_kind (payload_of batch.now).kind (payload_of batch.now).after cloned.old }
+        ensures cloned { cloned.new ≡ by_kind (payload_of batch.now).kind (payload_of batch.now).cloned cloned.old }
     {
         *others = self.others;
-        if batch.kind() == CLONE {
+        if batch.kind() != FLUSH {
             *heads = self.heads;
-            *cloned = batch.after();
+            *cloned = batch.cloned();
         }
     }
 }

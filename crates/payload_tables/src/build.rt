@@ -3,7 +3,7 @@
 ghost use Rattle.std.specs.Prelude.{◌≡◌, ◌<◌, ◌+◌, ◌^◌, ◌++◌, ◌∷◌, [], List, length, IfOk, OnOk, Err};
 ghost use Rattle.id_groups.specs.Lists.{AreDistinct};
 ghost use Rattle.batch_codec.specs.Lent.{payload_of};
-ghost use Rattle.batch_codec.specs.Grammar.{MayFollow, AreLawful};
+ghost use Rattle.change_rules.specs.Lawful.{MayFollow, AreLawful, levels_with};
 ghost use Rattle.batch_codec.specs.Payload.{payload_bytes, known_names};
 ghost use Rattle.flat_segments.specs.Kept.{IsTableOf};
 ghost use Rattle.segment_levels.specs.Flats.{flats_of};
@@ -17,8 +17,8 @@ ghost use Rattle.payload_tables.specs.Build.{IsBuildOf, ArePartsOf};
 
 use crate::brought::Brought;
 use crate::fault::TableFault;
-use crate::heads::check_place;
-use crate::masters::extend_segments;
+use crate::heads::{Before, check_place};
+use crate::masters::extend_checked;
 use crate::others::OthersTable;
 use crate::tables::Tables;
 use batch_codec::BatchRef;
@@ -40,6 +40,7 @@ pub struct TablesBuild {
     others: OthersTable,
     heads: Vec<Name>,
     cloned: u64,
+    version: u8,
 }
 
 impl Model for TablesBuild {
@@ -47,11 +48,12 @@ impl Model for TablesBuild {
 
     ghost Value = { PlainBuild };
 
-    ghost view = { λ b. record { flat = b.flat; levels = b.levels; names = b.names; others = b.others; heads = b.heads.items; cloned = b.cloned } };
+    ghost view = { λ b. record { flat = b.flat; levels = b.levels; names = b.names; others = b.others; heads = b.heads.items; cloned = b.cloned; version = b.version } };
 }
 
 /// Adds a payload to all three, where those that were added before stand in `bytes`. What refused it is of no further use.
 fn add_masters(
+    alloc: Global,
     flat: &mut FlatTable,
     levels: &mut Levels,
     names: &mut MapBuild,
@@ -59,7 +61,7 @@ fn add_masters(
     batch: &BatchRef<'_>,
     at: u64,
 ) -> Result<(), TableFault>
-    requires room { at + length (payload_bytes 1 (payload_of batch.now)) < 2 ^ 63 }
+    requires room { at + length (payload_bytes (payload_of batch.now)) < 2 ^ 63 }
     requires parts { (added : List Placed) × ArePartsOf flat.old levels.old names.old added × AllStand bytes.now added }
     requires follows { (payload_of batch.now).before ≡ names.old.masters }
     ensures table { (added : List Placed) → ArePartsOf flat.old levels.old names.old added → AllStand bytes.now added
@@ -67,9 +69,13 @@ fn add_masters(
     ensures levels { (added : List Placed) → ArePartsOf flat.old levels.old names.old added → AllStand bytes.now added
         → OnOk result (AreLevelsOf levels.new (flats_of flat.new (master_records (added ++ placed at batch.now ∷ [])))) }
     ensures names { (added : List Placed) → ArePartsOf flat.old levels.old names.old added → OnOk result (AreNamesOf names.new (added ++ placed at batch.now ∷ [])) }
-    ensures unlawful { result ≡ Err Unlawful → AreDistinct (known_names (payload_of batch.now) ++ (payload_of batch.now).other_names) → ⊥ }
+    ensures sections { (added : List Placed) → ArePartsOf flat.old levels.old names.old added → AllStand bytes.now added
+        → OnOk result ((payload_of batch.now).version ≡ 2 → (payload_of batch.now).levels ≡ levels_with (payloads_of added) (payload_of batch.now)) }
+    ensures unlawful { (added : List Placed) → ArePartsOf flat.old levels.old names.old added → AllStand bytes.now added → result ≡ Err Unlawful
+        → AreDistinct (known_names (payload_of batch.now) ++ (payload_of batch.now).other_names)
+        → ((payload_of batch.now).version ≡ 2 → (payload_of batch.now).levels ≡ levels_with (payloads_of added) (payload_of batch.now)) → ⊥ }
 {
-    extend_segments(flat, levels, bytes, batch, at)?;
+    extend_checked(alloc, flat, levels, bytes, batch, at)?;
     names.add_batch(batch, at)?;
     Ok(())
 }
@@ -87,6 +93,7 @@ impl TablesBuild {
             others: OthersTable::empty(alloc),
             heads: Vec::new(alloc),
             cloned: 0,
+            version: 0,
         }
     }
 
@@ -98,17 +105,24 @@ impl TablesBuild {
         batch: &BatchRef<'_>,
         at: u64,
     ) -> Result<(), TableFault>
-        requires room { at + length (payload_bytes 1 (payload_of batch.now)) < 2 ^ 63 }
+        requires room { at + length (payload_bytes (payload_of batch.now)) < 2 ^ 63 }
         requires build { (added : List Placed) × IsBuildOf self.old added × AllStand bytes.now added }
         ensures added { (added : List Placed) → IsBuildOf self.old added → AllStand bytes.now added → OnOk result (IsBuildOf self.new (added ++ placed at batch.now ∷ [])) }
         ensures unlawful { (added : List Placed) → IsBuildOf self.old added → AllStand bytes.now added → result ≡ Err Unlawful
             → MayFollow (payloads_of added) (payload_of batch.now) → ⊥ }
     {
         batch.is_payload();
-        let is_first = self.names.is_empty();
-        check_place(self.alloc, batch, self.names.master_count(), is_first)?;
+        let masters = self.names.master_count();
+        let is_none = self.names.is_empty();
+        let before = Before {
+            masters,
+            version: self.version,
+            is_none,
+        };
+        check_place(self.alloc, batch, before)?;
         let brought = Brought::read(self.alloc, batch, at)?;
         add_masters(
+            self.alloc,
             &mut self.flat,
             &mut self.levels,
             &mut self.names,
@@ -117,6 +131,7 @@ impl TablesBuild {
             at,
         )?;
         brought.keep(batch, &mut self.others, &mut self.heads, &mut self.cloned);
+        self.version = batch.version();
         Ok(())
     }
 
@@ -135,6 +150,7 @@ impl TablesBuild {
             others: self.others,
             heads: self.heads,
             cloned: self.cloned,
+            version: self.version,
         })
     }
 }

@@ -1,24 +1,28 @@
-//! The heads of a clone, by its segments and its known names.
+//! The heads of a clone or a whole store, by its segments and its known names; and whether a payload is in its place.
 
-ghost use Rattle.std.specs.Prelude.{◌≡◌, ◌<◌, ◌≤◌, ◌^◌, ◌&&◌, ◌++◌, ◌↔◌, [], ℕ, List, IsTrue, false, not, cond, replicate, filter, map, flat_map, length, slice_index_or, IfOk, OnOk, Err, nat_eq};
+ghost use Rattle.std.specs.Prelude.{◌≡◌, ◌≢◌, ◌<◌, ◌≤◌, ◌^◌, ◌&&◌, ◌++◌, ◌↔◌, ◌∷◌, [], ℕ, List, IsTrue, false, not, cond, replicate, filter, map, flat_map, length, slice_index_or, IfOk, OnOk, Err, nat_eq};
 ghost use Rattle.std.specs.List.{AllByRecursion};
 ghost use Rattle.id_groups.specs.Lists.{is_in};
 ghost use Rattle.segment_codec.specs.Record.{Segment};
-ghost use Rattle.segment_codec.specs.Lent.{parents_left};
+ghost use Rattle.segment_codec.specs.Lent.{segment_of, parents_left};
 ghost use Rattle.batch_codec.specs.Payload.{names_bytes};
-ghost use Rattle.batch_codec.specs.Grammar.{head_names};
+ghost use Rattle.batch_codec.specs.Grammar.{cut_below, cloned_head_names};
 ghost use Rattle.batch_codec.specs.Lent.{payload_of, knowns_of};
 ghost use Rattle.flat_segments.specs.Placed.{AreRecords};
 ghost use Rattle.payload_tables.specs.declared.fault.TableFault.TheVariants.{Unlawful};
+ghost use Rattle.payload_tables.specs.Places.{IsPlaced};
 
 use crate::fault::TableFault;
 use batch_codec::{BatchRef, KnownSlice};
 use id_groups::{Id, Name, NameRef};
-use segment_codec::{Parents, read_segment};
+use segment_codec::{Parents, SegmentRef, read_segment};
 use std::alloc::{AllocError, Global};
 
-/// The kind of a clone's payload.
-pub(crate) const CLONE: u8 = 2;
+/// The kind of a flush's payload.
+pub(crate) const FLUSH: u8 = 1;
+
+/// The version of payloads that list no segments of levels.
+pub(crate) const FIRST_VERSION: u8 = 1;
 
 /// The highest ids of records, and the parents of all.
 #[derive(Drop)]
@@ -36,18 +40,37 @@ fn add_parents(alloc: Global, all: &mut Vec<Id>, parents: Parents<'_>) -> Result
     Ok(())
 }
 
-/// The highest ids and the parents of these records.
-fn ends_of(alloc: Global, records: &[u8]) -> Result<Ends, AllocError>
+/// Adds the highest id and the parents of a segment, of the part of it below an id.
+fn add_ends(
+    alloc: Global,
+    highs: &mut Vec<Id>,
+    parents: &mut Vec<Id>,
+    segment: SegmentRef<'_>,
+    below: u64,
+) -> Result<(), AllocError>
+    ensures highs { OnOk result (highs.new.items ≡ highs.old.items ++ map (λ s. s.high) (cut_below below (segment_of segment.entry ∷ []))) }
+    ensures parents { OnOk result (parents.new.items ≡ parents.old.items ++ flat_map (λ s. s.parents) (cut_below below (segment_of segment.entry ∷ []))) }
+{
+    if segment.low().number() >= below {
+        return Ok(());
+    }
+    let high = segment.high().number().min(below - 1);
+    highs.push(Id::from_number(high))?;
+    add_parents(alloc, parents, segment.parents())?;
+    Ok(())
+}
+
+/// The highest ids and the parents of these records, of their parts below an id.
+fn ends_of(alloc: Global, records: &[u8], below: u64) -> Result<Ends, AllocError>
     requires { (segments : List Segment) × AreRecords segments records.now }
-    ensures highs { IfOk result (λ ends. (segments : List Segment) → AreRecords segments records.now → ends.highs.items ≡ map (λ s. s.high) segments) }
-    ensures parents { IfOk result (λ ends. (segments : List Segment) → AreRecords segments records.now → ends.parents.items ≡ flat_map (λ s. s.parents) segments) }
+    ensures highs { IfOk result (λ ends. (segments : List Segment) → AreRecords segments records.now → ends.highs.items ≡ map (λ s. s.high) (cut_below below segments)) }
+    ensures parents { IfOk result (λ ends. (segments : List Segment) → AreRecords segments records.now → ends.parents.items ≡ flat_map (λ s. s.parents) (cut_below below segments)) }
 {
     let mut highs = Vec::new(alloc);
     let mut parents = Vec::new(alloc);
     let mut rest = records;
     'records: while let Some((segment, after)) = read_segment(rest) {
-        highs.push(segment.high())?;
-        add_parents(alloc, &mut parents, segment.parents())?;
+        add_ends(alloc, &mut highs, &mut parents, segment, below)?;
         rest = after;
     }
     Ok(Ends { highs, parents })
@@ -115,25 +138,23 @@ fn names_where(
     Ok(names)
 }
 
-/// The names of the heads by a payload's segments, one after another.
+/// The names of the heads among the cloned ids by a payload's segments, one after another.
 fn head_bytes(alloc: Global, batch: &BatchRef<'_>) -> Result<Vec<u8>, AllocError>
-    requires { (payload_of batch.now).kind ≡ 2 }
-    ensures { IfOk result (λ names. names.items ≡ names_bytes (head_names (payload_of batch.now))) }
+    ensures { IfOk result (λ names. names.items ≡ names_bytes (cloned_head_names (payload_of batch.now))) }
 {
     batch.is_payload();
     let segments = batch.master_segments();
     let n = batch.after() as u32;
-    let ends = ends_of(alloc, segments.bytes())?;
+    let ends = ends_of(alloc, segments.bytes(), batch.cloned())?;
     let highs = marks_of(alloc, n, &ends.highs)?;
     let parents = marks_of(alloc, n, &ends.parents)?;
     let known = batch.known();
     names_where(alloc, &known, &highs, &parents)
 }
 
-/// Whether the heads of a clone's payload are those by its segments: the known names of the ids that are no parent of any id.
+/// Whether the heads of a payload are those of its cloned ids by its segments: their known names that are no parent of one.
 fn has_heads(alloc: Global, batch: &BatchRef<'_>) -> Result<bool, AllocError>
-    requires { (payload_of batch.now).kind ≡ 2 }
-    ensures { IfOk result (λ has. IsTrue has ↔ ((payload_of batch.now).heads ≡ head_names (payload_of batch.now))) }
+    ensures { IfOk result (λ has. IsTrue has ↔ ((payload_of batch.now).heads ≡ cloned_head_names (payload_of batch.now))) }
 {
     batch.is_payload();
     let expected = head_bytes(alloc, batch)?;
@@ -141,12 +162,13 @@ fn has_heads(alloc: Global, batch: &BatchRef<'_>) -> Result<bool, AllocError>
     Ok(expected.as_slice() == heads.bytes())
 }
 
-/// Whether the payload keeps the rules of a clone, if it is one: it comes first, and its heads are those by its segments.
+/// Whether the payload keeps the rules of a clone or of a whole store, if it is one: it comes first, and its heads are those of its
+/// cloned ids by its segments.
 fn has_place(alloc: Global, batch: &BatchRef<'_>, is_first: bool) -> Result<bool, AllocError>
     ensures { IfOk result (λ has. IsTrue has
-        ↔ ((payload_of batch.now).kind ≡ 2 → IsTrue is_first × ((payload_of batch.now).heads ≡ head_names (payload_of batch.now)))) }
+        ↔ ((payload_of batch.now).kind ≢ 1 → IsTrue is_first × ((payload_of batch.now).heads ≡ cloned_head_names (payload_of batch.now)))) }
 {
-    if batch.kind() != CLONE {
+    if batch.kind() == FLUSH {
         return Ok(true);
     }
     if !is_first {
@@ -155,22 +177,28 @@ fn has_place(alloc: Global, batch: &BatchRef<'_>, is_first: bool) -> Result<bool
     has_heads(alloc, batch)
 }
 
-/// Refuses a payload that doesn't begin with the id behind so many master ids, and a clone that breaks a rule of its own.
+/// What was added before a payload: how many master ids, of which version the newest payload is, and whether there is none.
+#[derive(Clone, Copy)]
+pub(crate) struct Before {
+    pub(crate) masters: u64,
+    pub(crate) version: u8,
+    pub(crate) is_none: bool,
+}
+
+/// Refuses a payload that doesn't begin with the id behind the master ids before it or is of an earlier version than the newest,
+/// and a clone or a whole store that breaks a rule of its own.
 pub(crate) fn check_place(
     alloc: Global,
     batch: &BatchRef<'_>,
-    masters: u64,
-    is_first: bool,
+    before: Before,
 ) -> Result<(), TableFault>
-    ensures place { OnOk result (((payload_of batch.now).before ≡ masters)
-        × ((payload_of batch.now).kind ≡ 2 → IsTrue is_first × ((payload_of batch.now).heads ≡ head_names (payload_of batch.now)))) }
-    ensures unlawful { result ≡ Err Unlawful → (payload_of batch.now).before ≡ masters
-        → ((payload_of batch.now).kind ≡ 2 → IsTrue is_first × ((payload_of batch.now).heads ≡ head_names (payload_of batch.now))) → ⊥ }
+    ensures place { OnOk result (IsPlaced before (payload_of batch.now)) }
+    ensures unlawful { result ≡ Err Unlawful → IsPlaced before (payload_of batch.now) → ⊥ }
 {
-    if batch.before() != masters {
+    if batch.before() != before.masters || batch.version() < before.version {
         return Err(TableFault::Unlawful);
     }
-    if !has_place(alloc, batch, is_first)? {
+    if !has_place(alloc, batch, before.is_none)? {
         return Err(TableFault::Unlawful);
     }
     Ok(())

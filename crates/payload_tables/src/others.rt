@@ -54,7 +54,7 @@ impl OthersTable {
     /// The other ids of a payload that stands, or will stand, at the place `at` in the log. Where two of its names are the
     /// same, names aren't found.
     pub fn read(alloc: Global, batch: &BatchRef<'_>, at: u64) -> Result<OthersTable, AllocError>
-        requires { at + length (payload_bytes 1 (payload_of batch.now)) < 2 ^ 63 }
+        requires { at + length (payload_bytes (payload_of batch.now)) < 2 ^ 63 }
         ensures { IfOk result (λ others. AreDistinct (payload_of batch.now).other_names → AreOthersOf others (placed at batch.now)) }
     {
         batch.is_payload();

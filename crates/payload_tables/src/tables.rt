@@ -1,11 +1,13 @@
 //! The tables of a log.
 
-ghost use Rattle.std.specs.Prelude.{◌≡◌, ◌<◌, ◌+◌, ◌^◌, ◌++◌, ◌∷◌, [], List, length, ◌↔◌, IsTrue, IfOk, OnOk, OnErr, Err};
+ghost use Rattle.std.specs.Prelude.{◌≡◌, ◌<◌, ◌+◌, ◌^◌, ◌++◌, ◌∷◌, [], List, flat_map, length, ◌↔◌, IsTrue, IfOk, OnOk, OnErr, Err};
 ghost use Rattle.batch_codec.specs.Lent.{payload_of};
-ghost use Rattle.batch_codec.specs.Grammar.{MayFollow};
+ghost use Rattle.change_rules.specs.Lawful.{MayFollow, levels_with};
+ghost use Rattle.segment_codec.specs.Record.{segment_bytes};
+ghost use Rattle.payload_tables.specs.Places.{BringsMasters};
 ghost use Rattle.name_map.specs.Added.{Placed, AllStand, payloads_of};
 ghost use Rattle.name_map.specs.Adding.{placed};
-ghost use Rattle.batch_codec.specs.Payload.{payload_bytes};
+ghost use Rattle.batch_codec.specs.Payload.{Payload, payload_bytes};
 ghost use Rattle.payload_tables.specs.declared.fault.TableFault.TheVariants.{Unlawful};
 ghost use Rattle.segment_levels.specs.Kept.{AreLevelsOf};
 ghost use Rattle.payload_tables.specs.Kept.{AreTablesOf};
@@ -19,8 +21,8 @@ ghost use Rattle.change_rules.specs.Tables.{StandFor, remote_heads, cloned_count
 use crate::base::BaseRef;
 use crate::brought::Brought;
 use crate::fault::TableFault;
-use crate::heads::check_place;
-use crate::masters::{extend_lawful, extend_masters};
+use crate::heads::{Before, check_place};
+use crate::masters::{extend_lawful, extend_masters, write_levels};
 use crate::others::OthersTable;
 use crate::piece::copied;
 use batch_codec::BatchRef;
@@ -42,6 +44,7 @@ pub struct Tables {
     pub(crate) others: OthersTable,
     pub(crate) heads: Vec<Name>,
     pub(crate) cloned: u64,
+    pub(crate) version: u8,
 }
 
 impl Model for Tables {
@@ -49,7 +52,7 @@ impl Model for Tables {
 
     ghost Value = { PlainTables };
 
-    ghost view = { λ t. record { flat = t.flat; levels = t.levels; names = t.names; others = t.others; heads = t.heads.items; cloned = t.cloned } };
+    ghost view = { λ t. record { flat = t.flat; levels = t.levels; names = t.names; others = t.others; heads = t.heads.items; cloned = t.cloned; version = t.version } };
 }
 
 impl Tables {
@@ -65,6 +68,7 @@ impl Tables {
             others: OthersTable::empty(alloc),
             heads: Vec::new(alloc),
             cloned: 0,
+            version: 0,
         }
     }
 
@@ -83,7 +87,7 @@ impl Tables {
         batch: &BatchRef<'_>,
         at: u64,
     ) -> Result<(), TableFault>
-        requires room { at + length (payload_bytes 1 (payload_of batch.now)) < 2 ^ 63 }
+        requires room { at + length (payload_bytes (payload_of batch.now)) < 2 ^ 63 }
         requires tables { (added : List Placed) × AreTablesOf self.old added × AllStand bytes.now added }
         ensures added { (added : List Placed) → AreTablesOf self.old added → AllStand bytes.now added → OnOk result (AreTablesOf self.new (added ++ placed at batch.now ∷ [])) }
         ensures unlawful { (added : List Placed) → AreTablesOf self.old added → AllStand bytes.now added → result ≡ Err Unlawful
@@ -91,10 +95,17 @@ impl Tables {
         ensures unchanged { OnErr result (self.new ≡ self.old) }
     {
         batch.is_payload();
-        let is_first = self.is_empty();
-        check_place(self.alloc, batch, self.names.master_count(), is_first)?;
+        let masters = self.names.master_count();
+        let is_none = self.is_empty();
+        let before = Before {
+            masters,
+            version: self.version,
+            is_none,
+        };
+        check_place(self.alloc, batch, before)?;
         let brought = Brought::read(self.alloc, batch, at)?;
         extend_masters(
+            self.alloc,
             &mut self.flat,
             &mut self.levels,
             &mut self.names,
@@ -103,6 +114,7 @@ impl Tables {
             at,
         )?;
         brought.keep(batch, &mut self.others, &mut self.heads, &mut self.cloned);
+        self.version = batch.version();
         Ok(())
     }
 
@@ -114,7 +126,7 @@ impl Tables {
         batch: &BatchRef<'_>,
         at: u64,
     ) -> Result<(), AllocError>
-        requires room { at + length (payload_bytes 1 (payload_of batch.now)) < 2 ^ 63 }
+        requires room { at + length (payload_bytes (payload_of batch.now)) < 2 ^ 63 }
         requires lawful { (added : List Placed) × AreTablesOf self.old added × AllStand bytes.now added × MayFollow (payloads_of added) (payload_of batch.now) }
         ensures added { (added : List Placed) → AreTablesOf self.old added → AllStand bytes.now added → MayFollow (payloads_of added) (payload_of batch.now)
             → OnOk result (AreTablesOf self.new (added ++ placed at batch.now ∷ [])) }
@@ -131,7 +143,26 @@ impl Tables {
             at,
         )?;
         brought.keep(batch, &mut self.others, &mut self.heads, &mut self.cloned);
+        self.version = batch.version();
         Ok(())
+    }
+
+    /// Appends the records of the segments of levels that come with these master records, which are those of a payload that may come
+    /// behind the ones that were added, and answers how many they are. The tables stay as they are.
+    pub fn write_levels(
+        &mut self,
+        bytes: &[u8],
+        records: &[u8],
+        out: &mut Vec<u8>,
+    ) -> Result<usize, AllocError>
+        requires { (added : List Placed) × (p : Payload) × BringsMasters self.old.flat self.old.levels bytes.now records.now added p }
+        ensures written { OnOk result ((added : List Placed) (p : Payload) → BringsMasters self.old.flat self.old.levels bytes.now records.now added p
+            → out.new.items ≡ out.old.items ++ flat_map segment_bytes (levels_with (payloads_of added) p)) }
+        ensures count { IfOk result (λ count. (added : List Placed) (p : Payload) → BringsMasters self.old.flat self.old.levels bytes.now records.now added p
+            → count ≡ length (levels_with (payloads_of added) p)) }
+        ensures unchanged { self.new ≡ self.old }
+    {
+        write_levels(&self.flat, &mut self.levels, bytes, records, out)
     }
 
     /// The heads of the remote that was cloned, by ascending id; none without a clone.
@@ -182,6 +213,7 @@ impl Tables {
             others,
             heads,
             cloned: self.cloned,
+            version: self.version,
         })
     }
 

@@ -27,19 +27,20 @@ const FORK: &[Commit] = &[(0xa1, &[]), (0xb1, &[0]), (0xc1, &[0])];
 const MERGE: &[Commit] = &[(0xa1, &[]), (0xb1, &[0]), (0xc1, &[0]), (0xd1, &[1, 2])];
 
 /// The payload that stores the chain outside master.
-const STORED_CHAIN: [u8; 88] = [
-    1, 1, 0, 0, 0, 0, 0, 0, 0, 0, 0, 0, 0, 0, 0, 0, 0, 0, 0, 0, 0, 0, 0, 0, 0, 0, 0, 0, 0, 0, 0, 2,
-    0, 0, 0, 1, 1, 0, 1, 0, 0, 0, 0, 0, 0, 1, 1, 0, 0, 0, 0, 0, 0, 0, 0, 0, 0, 0, 0, 0, 0, 0, 0, 0,
-    0, 0, 0, 0xa1, 0, 0, 0, 0, 0, 0, 0, 0, 0, 0, 0, 0, 0, 0, 0, 0, 0, 0, 0, 0xb1,
+const STORED_CHAIN: [u8; 100] = [
+    2, 1, 0, 0, 0, 0, 0, 0, 0, 0, 0, 0, 0, 0, 0, 0, 0, 0, 0, 0, 0, 0, 0, 0, 0, 0, 0, 0, 0, 0, 0, 0,
+    0, 0, 0, 0, 0, 0, 0, 0, 0, 0, 0, 2, 0, 0, 0, 1, 1, 0, 1, 0, 0, 0, 0, 0, 0, 1, 1, 0, 0, 0, 0, 0,
+    0, 0, 0, 0, 0, 0, 0, 0, 0, 0, 0, 0, 0, 0, 0, 0xa1, 0, 0, 0, 0, 0, 0, 0, 0, 0, 0, 0, 0, 0, 0, 0,
+    0, 0, 0, 0, 0xb1,
 ];
 
 /// The payload that stores the fork, its second child in master.
-const STORED_FORK: [u8; 137] = [
-    1, 1, 0, 0, 0, 0, 0, 0, 0, 0, 0, 0, 0, 0, 0, 0, 0, 2, 0, 0, 0, 1, 1, 0, 0, 0, 0, 0, 0, 0, 0, 1,
-    1, 0, 0, 0, 0, 2, 0, 0, 0, 0, 0, 0, 0, 0, 0, 0, 0, 0, 0, 0, 0, 0, 0, 0, 0, 0, 0, 0, 0, 0, 0, 0,
-    0, 0xa1, 0, 0, 0, 0, 0, 0, 0, 1, 0, 0, 0, 0, 0, 0, 0, 0, 0, 0, 0, 0, 0, 0, 0, 0, 0, 0, 0, 0xc1,
-    0, 0, 0, 0, 0, 1, 0, 0, 0, 1, 0, 0, 1, 0, 0, 0, 0, 0, 0, 0, 0, 1, 0, 0, 0, 0, 0, 0, 0, 0, 0, 0,
-    0, 0, 0, 0, 0, 0, 0, 0, 0, 0, 0xb1,
+const STORED_FORK: [u8; 149] = [
+    2, 1, 0, 0, 0, 0, 0, 0, 0, 0, 0, 0, 0, 0, 0, 0, 0, 2, 0, 0, 0, 0, 0, 0, 0, 0, 0, 0, 0, 1, 1, 0,
+    0, 0, 0, 0, 0, 0, 0, 1, 1, 0, 0, 0, 0, 0, 0, 0, 0, 2, 0, 0, 0, 0, 0, 0, 0, 0, 0, 0, 0, 0, 0, 0,
+    0, 0, 0, 0, 0, 0, 0, 0, 0, 0, 0, 0, 0, 0xa1, 0, 0, 0, 0, 0, 0, 0, 1, 0, 0, 0, 0, 0, 0, 0, 0, 0,
+    0, 0, 0, 0, 0, 0, 0, 0, 0, 0, 0xc1, 0, 0, 0, 0, 0, 1, 0, 0, 0, 1, 0, 0, 1, 0, 0, 0, 0, 0, 0, 0,
+    0, 1, 0, 0, 0, 0, 0, 0, 0, 0, 0, 0, 0, 0, 0, 0, 0, 0, 0, 0, 0, 0, 0xb1,
 ];
 
 /// A log without payloads: its one gate, which is closed.
@@ -155,10 +156,10 @@ fn plan_of(
 fn count_written(alloc: Global, pending: &PendingRows) -> Result<usize, PlanFault>
     requires { MayStore pending.now [] }
 {
-    let tables = Tables::empty(alloc);
+    let mut tables = Tables::empty(alloc);
     let change = plan_change(
         alloc,
-        &tables,
+        &mut tables,
         &FRESH,
         pending,
         &[],
@@ -195,7 +196,7 @@ fn left_and_written(alloc: Global, commits: &[Commit]) -> Result<(bool, usize), 
 }
 
 /// Commits, and how many bytes their plan writes.
-const WRITTEN: [(&[Commit], usize); 3] = [(CHAIN, 88), (FORK, 129), (MERGE, 179)];
+const WRITTEN: [(&[Commit], usize); 3] = [(CHAIN, 100), (FORK, 141), (MERGE, 191)];
 
 #[test]
 fn rows_are_left_and_written(rt: HostRuntime) -> Result<(), Fail> {

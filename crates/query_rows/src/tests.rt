@@ -140,7 +140,7 @@ fn status_of(alloc: Global, lines: &[u8], output: &mut MemorySink) -> Result<u8,
     let mut input = MemorySource::new(alloc, lines, 65_536, &[])?;
     let mut none = Mirrors::new(Vec::new(alloc));
     let limits = Limits::standard();
-    Ok(run_lines(alloc, limits, &mut disk, &mut none, &mut input, output).status)
+    Ok(run_lines(alloc, limits, 1, &mut disk, &mut none, &mut input, output).status)
 }
 
 /// Whether the program replies to the lines so.

@@ -85,7 +85,7 @@ part-more (suc at) n (x ∷ xs) ys e = part-more at n xs ys e
 
 stand-more : (old more : List ℕ) (added : List Placed) → AllStand old added → AllStand (old ++ more) added
 stand-more old more [] h = tt
-stand-more old more (a ∷ added) h = (part-more a.at (length (payload_bytes 1 a.payload)) old more (ap (length {A = ℕ}) h.0) ∙ h.0, stand-more old more added h.1)
+stand-more old more (a ∷ added) h = (part-more a.at (length (payload_bytes a.payload)) old more (ap (length {A = ℕ}) h.0) ∙ h.0, stand-more old more added h.1)
 
 stand-join : (bytes : List ℕ) (front behind : List Placed) → AllStand bytes front → AllStand bytes behind → AllStand bytes (front ++ behind)
 stand-join bytes [] behind h g = g
@@ -93,10 +93,10 @@ stand-join bytes (a ∷ front) behind h g = (h.0, stand-join bytes front behind 
 
 -- ---- a payload more
 
-module _ (old new payload : List ℕ) (f : IsFramed old new payload) (x : Placed) (at : x.at ≡ length old + 8) (is : payload ≡ payload_bytes 1 x.payload) where
+module _ (old new payload : List ℕ) (f : IsFramed old new payload) (x : Placed) (at : x.at ≡ length old + 8) (is : payload ≡ payload_bytes x.payload) where
   newly : StandsAt new x
   newly =
-      let n = length (payload_bytes 1 x.payload) in
+      let n = length (payload_bytes x.payload) in
       let l = length-append old f.frame in let long = f.long in
       let place : x.at ≡ length (old ++ f.frame) = omega (arith, l, long, at) in
       ap (λ bytes. take n (drop x.at bytes)) f.whole ∙ ap (λ k. take n (drop k ((old ++ f.frame) ++ (payload ++ 0 ∷ [])))) place

@@ -135,7 +135,8 @@ pub(crate) fn change_of(
     }
     let newest = tables.newest(bytes);
     let found = names_found(alloc, &newest, heads)?;
-    plan_change(alloc, tables, bytes, pending, heads, &found, limits)
+    let mut copy = tables.copy(alloc)?;
+    plan_change(alloc, &mut copy, bytes, pending, heads, &found, limits)
 }
 
 /// Puts a payload behind the bytes, as a log has it.

@@ -6,3 +6,5 @@ pub mod Deciding
 pub mod Viewing
 pub mod Reading
 pub mod ByGraph
+pub mod Coming
+pub mod Continuing

@@ -1,6 +1,6 @@
 //! Laws of the definitions.
 
-ghost use Rattle.std.specs.Prelude.{◌≡◌, ◌≢◌, ◌≤◌, ◌<◌, ◌+◌, ◌-◌, ◌↔◌, IsTrue, false, ℕ, suc, List, [], ◌∷◌, ◌++◌, length, drop, take, map};
+ghost use Rattle.std.specs.Prelude.{◌≡◌, ◌≢◌, ◌≤◌, ◌<◌, ◌+◌, ◌-◌, ◌↔◌, IsTrue, false, ℕ, suc, List, [], ◌∷◌, ◌++◌, length, drop, take, map, flat_map};
 ghost use Rattle.std.specs.List.{AllByRecursion, range_with_len};
 ghost use Rattle.id_groups.specs.Lists.{IsIn};
 ghost use Rattle.segment_codec.specs.Record.{Segment, IsSegment};
@@ -9,7 +9,8 @@ ghost use Rattle.segment_codec.specs.Flat.{IsFlat};
 ghost use Rattle.flat_segments.specs.ByParents.{AreSegmentsOf};
 ghost use Rattle.flat_segments.specs.Maximal.{maximal, cut};
 ghost use Rattle.segment_rules.specs.Flat.{flat_segments_of};
-ghost use Rattle.segment_rules.specs.Levels.{level_segments, groups, count_grouped, group_size, have_one_head};
+ghost use Rattle.segment_rules.specs.Levels.{level_segments, groups, count_grouped, group_size, have_one_head, top_level};
+ghost use Rattle.segment_rules.specs.NewLevels.{new_levels, high_levels};
 ghost use Rattle.segment_levels.specs.Heads.{HasOneHead, AreHeaded};
 ghost use Rattle.segment_levels.specs.Whole.{IsWhole, Grows};
 
@@ -60,4 +61,13 @@ pub fn segments_of_graph()
         → maximal end records ≡ flat_segments_of 0 (map (parents_at records) (range_with_len 0 end)) }
     ensures below { (below end : ℕ) (records : List Segment) → AllByRecursion IsFlat records → Follow 0 end records → below ≤ end
         → cut below (maximal end records) ≡ flat_segments_of 0 (map (parents_at records) (range_with_len 0 below)) }
+{}
+
+/// A segment of a level never changes once it is made. So where the complete flat segments of one group stay in another, what
+/// comes with the other is what stands behind the old segments on each level; where there was nothing it is all.
+pub fn new_levels_are_behind()
+    ensures behind { (old new : List Segment) (end : ℕ) → IsWhole new end → Grows old new
+        → new_levels old new ≡ flat_map (λ level. drop (length (level_segments old level)) (level_segments new level)) (range_with_len 1 top_level) }
+    ensures all { (new : List Segment) → new_levels [] new ≡ high_levels new }
+    ensures batch { (parents more : List (List ℕ)) → Grows (flat_segments_of 0 parents) (flat_segments_of 0 (parents ++ more)) }
 {}

@@ -6,5 +6,5 @@ mod laws;
 
 pub use laws::{
     groups_are_greatest, heads_by_ids, levels_are_headed, levels_nest, levels_stay,
-    segments_of_graph,
+    new_levels_are_behind, segments_of_graph,
 };

@@ -14,7 +14,8 @@ use Rattle.commit_graph.specs.Ids.{id_in}
 use Rattle.commit_graph.proofs.Histories.{in-append}
 use Rattle.commit_graph.proofs.Down.{in-left, in-right}
 use Rattle.batch_codec.specs.Payload.{Payload}
-use Rattle.batch_codec.specs.Grammar.{AreLawful, IsFlush, IsClone, count_after}
+use Rattle.batch_codec.specs.Grammar.{IsFlush, IsClone, IsWhole, count_after}
+use Rattle.change_rules.specs.Lawful.{AreLawful}
 use Rattle.gated_log.specs.Log.{log_length}
 use Rattle.change_rules.specs.declared.Limits.{Limits}
 use Rattle.change_rules.specs.declared.Limit.{Limit}
@@ -84,7 +85,7 @@ held-sizes payloads w h = (
 -- lawful payloads have a row
 all-hold : (before payloads : List Payload) (n : ℕ) (o : Option Payload) → AreLawful before payloads → (payloads ≡ []) ⊎ ((0 < count_after n payloads) ⊎ (0 < length (other_names_in (last_or o payloads))))
 all-hold before [] n o h = inl refl
-all-hold before (p ∷ []) n o h = inr (⊎_elim (λ (f : IsFlush p). f.something) (λ (c : IsClone p). inl c.something) h.0.whole.by_kind)
+all-hold before (p ∷ []) n o h = inr (⊎_elim (λ (f : IsFlush p). f.something) (λ o. ⊎_elim (λ (c : IsClone p). inl c.something) (λ (w : IsWhole p). w.something) o) h.0.whole.by_kind)
 all-hold before (p ∷ q ∷ payloads) n o h = ⊎_elim (λ e. absurd (let l = ap length e in omega (arith, l))) (λ g. inr g) (all-hold (before ++ p ∷ []) (q ∷ payloads) p.after (Some p) h.1)
 
 no-refusal : (b : Bool) (r : Refusal) → refuse_if b r ≡ None → b ≡ false

@@ -40,17 +40,12 @@ Served payloads w mirrors = (cloned_count payloads ≤ length w.master) × AllSe
 -- a payload that is no clone leaves the count
 count-kept : (payloads : List Payload) (old new : World Name) → cloned_count (payloads ++ flush_change old new ∷ []) ≡ cloned_count payloads
 count-kept [] old new = refl
-count-kept (p ∷ payloads) old new = ap (λ n. if p.kind == 2 then p.after else n) (count-kept payloads old new)
+count-kept (p ∷ payloads) old new = refl
 
 -- a clone has the count, if none is there yet
 count-cloned : (payloads : List Payload) (r : World Name) → (cloned_count (payloads ++ clone_change r ∷ []) ≡ length r.master) ⊎ (cloned_count (payloads ++ clone_change r ∷ []) ≡ cloned_count payloads)
 count-cloned [] r = inl refl
-count-cloned (p ∷ payloads) r = by_test (p.kind == 2) (count-cloned payloads r)
-  where
-    by_test : (b : Bool) → (cloned_count (payloads ++ clone_change r ∷ []) ≡ length r.master) ⊎ (cloned_count (payloads ++ clone_change r ∷ []) ≡ cloned_count payloads)
-        → ((if b then p.after else cloned_count (payloads ++ clone_change r ∷ [])) ≡ length r.master) ⊎ ((if b then p.after else cloned_count (payloads ++ clone_change r ∷ [])) ≡ (if b then p.after else cloned_count payloads))
-    by_test true rec = inr refl
-    by_test false rec = rec
+count-cloned (p ∷ payloads) r = inr refl
 
 take-front : {X : Type 0} (n : ℕ) (xs ys : List X) → n ≤ length xs → take n (xs ++ ys) ≡ take n xs
 take-front zero xs ys le = refl

@@ -6,6 +6,6 @@ use Rattle.batch_codec.proofs.building.append_record.Goals as goal
 
 pub returns-clause-counted : goal.returns-clause-counted
 returns-clause-counted c =
-    let s : Segment = record { low = c.args.low; high = c.args.high; level = 0; parents = c.args.parents.now } in
+    let s : Segment = record { low = c.args.low; high = c.args.high; level = c.args.level; parents = c.args.parents.now } in
     let counted = c.requires.counted in
     omega (arith, counted, ap (length {A = ℕ}) c.in_ok-write_segment.ensures.ok, length-append c.args.out.now.items (segment_bytes s), segment-some s)

@@ -4,4 +4,4 @@ use Rattle.batch_codec.specs.Reading.{knows_needed, segments_in}
 use Rattle.batch_codec.proofs.rules.knows_what_is_needed.Given as goal
 
 abbrev pub invariant-records : goal.invariant-records
-invariant-records l = knows_needed (ids_of l.known) (segments_in (l.section.count - l.counter) l.rest) ≡ knows_needed (ids_of l.known) (segments_of l.section)
+invariant-records l = knows_needed l.cloned (ids_of l.known) (segments_in (l.section.count - l.counter) l.rest) ≡ knows_needed l.cloned (ids_of l.known) (segments_of l.section)

@@ -1,28 +1,30 @@
-use Rattle.std.proofs.Common.{◌≡◌, ◌∙◌, ◌<◌, ◌+◌, ◌++◌, refl, ap, sym, subst, length, arith, inl, inr, ℕ}
+use Rattle.std.proofs.Common.{◌≡◌, ◌∙◌, ◌<◌, ◌+◌, ◌++◌, refl, ap, sym, subst, length, arith, inl, inr, ℕ, List}
 use Rattle.id_groups.specs.Name.{same_name}
 use Rattle.commit_graph.specs.World.{with_pending}
 use Rattle.batch_codec.specs.Payload.{payload_bytes}
-use Rattle.batch_codec.specs.Grammar.{IsPayload}
 use Rattle.assign_ids.specs.Numbers.{AreBelow}
+use Rattle.name_map.specs.Added.{payloads_of, AllStand}
+use Rattle.change_rules.specs.Lawful.{MayFollow}
 use Rattle.change_rules.specs.Flush.{flushed}
+use Rattle.payload_tables.specs.Kept.{PlainTables, AreTablesOf}
 use Rattle.change_rules.specs.declared.Limit.TheVariants.{Log}
 use Rattle.flush_rebuild.specs.Moves.{rest_of, change_in}
 use Rattle.flush_rebuild.specs.Plans.{over, length_with}
 use Rattle.flush_rebuild.proofs.Sizing.{is-zero, not-zero, above-zero, err-match}
 use Rattle.flush_rebuild.proofs.Refusing.{over-none, refused-others, refused-master, down-to-log, nothing-written, written, has-bytes}
-use Rattle.flush_rebuild.proofs.Changing.{master-size, others-size, order-below, n-few, same-world, DoesChange, differs, payload-lawful, payload-written, stays, changes}
+use Rattle.flush_rebuild.proofs.Changing.{master-size, others-size, order-below, n-few, same-world, DoesChange, differs, payload-follows, payload-written, stays, changes}
 use Rattle.flush_rebuild.proofs.plan.change_of.Goals as goal
 use Rattle.flush_rebuild.proofs.plan.change_of.Goals.{else-is_empty-via-then-is_empty+else-names-eq0, else-is_empty-via-else-is_empty}
 
 pub returns-in_err-check-clause-worlds : goal.returns-in_err-check-clause-worlds
-returns-in_err-check-clause-worlds c = λ w rows heads payload m change.
+returns-in_err-check-clause-worlds c = λ w rows heads payload m at by change.
     let a = c.len-others.ensures in let ok = c.args.moves.now.rest.ok.0 in let o = others-size (c.args.names.now.stored.now ++ c.args.names.now.pending.now) (c.args.names.now.count + c.args.names.now.more) c.args.names.now.more c.args.before c.args.log c.args.graph.now c.args.moves.now.order.items c.args.moves.now.rest.items w rows heads m in
     let b = c.len.ensures in let ok2 = c.args.moves.now.order.ok.0 in let s = master-size (c.args.names.now.stored.now ++ c.args.names.now.pending.now) (c.args.names.now.count + c.args.names.now.more) c.args.names.now.more c.args.before c.args.log c.args.graph.now c.args.moves.now.order.items c.args.moves.now.rest.items w rows heads m in
     err-match c.from_residual.result c.in_err-check.field-0.0 _ _ c.from_residual.ensures.1
     (inr (refused-others c.args.limits c.args.log (flushed same_name (with_pending w rows) heads) payload c.from.result c.len-others.result c.in_err-check.field-0.0 c.from.ensures (omega (arith, a, ok, o)) c.in_err-check.ensures.err))
 
 pub returns-in_err-check-2-clause-worlds : goal.returns-in_err-check-2-clause-worlds
-returns-in_err-check-2-clause-worlds c = λ w rows heads payload m change.
+returns-in_err-check-2-clause-worlds c = λ w rows heads payload m at by change.
     let a = c.len-others.ensures in let ok = c.args.moves.now.rest.ok.0 in let o = others-size (c.args.names.now.stored.now ++ c.args.names.now.pending.now) (c.args.names.now.count + c.args.names.now.more) c.args.names.now.more c.args.before c.args.log c.args.graph.now c.args.moves.now.order.items c.args.moves.now.rest.items w rows heads m in
     let b = c.len.ensures in let ok2 = c.args.moves.now.order.ok.0 in let s = master-size (c.args.names.now.stored.now ++ c.args.names.now.pending.now) (c.args.names.now.count + c.args.names.now.more) c.args.names.now.more c.args.before c.args.log c.args.graph.now c.args.moves.now.order.items c.args.moves.now.rest.items w rows heads m in
     err-match c.from_residual-in_err-check-2.result c.in_err-check-2.field-0.0 _ _ c.from_residual-in_err-check-2.ensures.1
@@ -30,7 +32,7 @@ returns-in_err-check-2-clause-worlds c = λ w rows heads payload m change.
     c.from.ensures (omega (arith, a, ok, o)) c.in_ok-check.ensures.ok c.from-2.ensures (omega (arith, b, ok2, s)) c.in_err-check-2.ensures.err))
 
 pub returns-then-names-eq0-clause-worlds : goal.returns-then-names-eq0-clause-worlds
-returns-then-names-eq0-clause-worlds c = λ w rows heads payload m change.
+returns-then-names-eq0-clause-worlds c = λ w rows heads payload m at by change.
     let a = c.len-others.ensures in let ok = c.args.moves.now.rest.ok.0 in let o = others-size (c.args.names.now.stored.now ++ c.args.names.now.pending.now) (c.args.names.now.count + c.args.names.now.more) c.args.names.now.more c.args.before c.args.log c.args.graph.now c.args.moves.now.order.items c.args.moves.now.rest.items w rows heads m in
     let b = c.len.ensures in let ok2 = c.args.moves.now.order.ok.0 in let s = master-size (c.args.names.now.stored.now ++ c.args.names.now.pending.now) (c.args.names.now.count + c.args.names.now.more) c.args.names.now.more c.args.before c.args.log c.args.graph.now c.args.moves.now.order.items c.args.moves.now.rest.items w rows heads m in
     let z = is-zero _ c.if-is_empty.ensures in
@@ -71,7 +73,7 @@ payload_of-requires-clause-rest c =
 
 pub payload_of-requires-clause-payload : goal.payload_of-requires-clause-payload
 payload_of-requires-clause-payload c =
-    let w = c.requires.world.0 in let rows = c.requires.world.1 in let heads = c.requires.world.2 in let m = c.requires.world.3 in
+    let w = c.requires.world.0 in let rows = c.requires.world.1 in let heads = c.requires.world.2 in let m = c.requires.world.3 in let at = c.requires.world.4 in let by = c.requires.world.5 in
     let a = c.len-others.ensures in let ok = c.args.moves.now.rest.ok.0 in let o = others-size (c.args.names.now.stored.now ++ c.args.names.now.pending.now) (c.args.names.now.count + c.args.names.now.more) c.args.names.now.more c.args.before c.args.log c.args.graph.now c.args.moves.now.order.items c.args.moves.now.rest.items w rows heads m in
     let b = c.len.ensures in let ok2 = c.args.moves.now.order.ok.0 in let s = master-size (c.args.names.now.stored.now ++ c.args.names.now.pending.now) (c.args.names.now.count + c.args.names.now.more) c.args.names.now.more c.args.before c.args.log c.args.graph.now c.args.moves.now.order.items c.args.moves.now.rest.items w rows heads m in
     let moved : DoesChange (c.args.names.now.stored.now ++ c.args.names.now.pending.now) (c.args.names.now.count + c.args.names.now.more) c.args.names.now.more c.args.before c.args.log c.args.graph.now c.args.moves.now.order.items c.args.moves.now.rest.items w rows heads m = elim c.else-is_empty.branch [
@@ -80,12 +82,12 @@ payload_of-requires-clause-payload c =
     ] in
     let lo = over-none c.from.result c.len-others.result _ c.in_ok-check.ensures.ok in let lm = over-none c.from-2.result (c.args.before + c.len.result) _ c.in_ok-check-2.ensures.ok in
     let fo = c.from.ensures in let fm = c.from-2.ensures in
-    let lawful = subst (λ l. IsPayload (change_in m.flats (c.args.names.now.stored.now ++ c.args.names.now.pending.now) c.args.before (c.args.names.now.count + c.args.names.now.more) l)) (sym c.deref.ensures.value)
-    (payload-lawful (c.args.names.now.stored.now ++ c.args.names.now.pending.now) (c.args.names.now.count + c.args.names.now.more) c.args.names.now.more c.args.before c.args.log c.args.graph.now c.args.moves.now.order.items c.args.moves.now.rest.items w rows heads m c.args.limits c.requires.limits (omega (arith, lo, fo, a, ok)) (omega (arith, lm, fm, b, ok2)) moved) in
-    (m.flats, m.lawful, m.graph_is, lawful)
+    let follows = subst (λ l. MayFollow (payloads_of m.facts.may.added) (change_in m.flats (c.args.names.now.stored.now ++ c.args.names.now.pending.now) c.args.before (c.args.names.now.count + c.args.names.now.more) l)) (sym c.deref.ensures.value)
+    (payload-follows (c.args.names.now.stored.now ++ c.args.names.now.pending.now) (c.args.names.now.count + c.args.names.now.more) c.args.names.now.more c.args.before c.args.log c.args.graph.now c.args.moves.now.order.items c.args.moves.now.rest.items w rows heads m c.args.limits c.requires.limits (omega (arith, lo, fo, a, ok)) (omega (arith, lm, fm, b, ok2)) moved) in
+    (m.flats, m.lawful, m.graph_is, m.facts.may.added, subst (λ (t : PlainTables). AreTablesOf t m.facts.may.added) at m.facts.may.tables_of, subst (λ (l : List ℕ). AllStand l m.facts.may.added) by m.facts.may.stand, follows)
 
 pub returns-in_err-check-3-clause-worlds : goal.returns-in_err-check-3-clause-worlds
-returns-in_err-check-3-clause-worlds c = λ w rows heads payload m change.
+returns-in_err-check-3-clause-worlds c = λ w rows heads payload m at by change.
     let a = c.len-others.ensures in let ok = c.args.moves.now.rest.ok.0 in let o = others-size (c.args.names.now.stored.now ++ c.args.names.now.pending.now) (c.args.names.now.count + c.args.names.now.more) c.args.names.now.more c.args.before c.args.log c.args.graph.now c.args.moves.now.order.items c.args.moves.now.rest.items w rows heads m in
     let b = c.len.ensures in let ok2 = c.args.moves.now.order.ok.0 in let s = master-size (c.args.names.now.stored.now ++ c.args.names.now.pending.now) (c.args.names.now.count + c.args.names.now.more) c.args.names.now.more c.args.before c.args.log c.args.graph.now c.args.moves.now.order.items c.args.moves.now.rest.items w rows heads m in
     let moved : DoesChange (c.args.names.now.stored.now ++ c.args.names.now.pending.now) (c.args.names.now.count + c.args.names.now.more) c.args.names.now.more c.args.before c.args.log c.args.graph.now c.args.moves.now.order.items c.args.moves.now.rest.items w rows heads m = elim c.else-is_empty.branch [
@@ -94,10 +96,10 @@ returns-in_err-check-3-clause-worlds c = λ w rows heads payload m change.
     ] in
     let lo = over-none c.from.result c.len-others.result _ c.in_ok-check.ensures.ok in let lm = over-none c.from-2.result (c.args.before + c.len.result) _ c.in_ok-check-2.ensures.ok in
     let fo = c.from.ensures in let fm = c.from-2.ensures in
-    let lawful = subst (λ l. IsPayload (change_in m.flats (c.args.names.now.stored.now ++ c.args.names.now.pending.now) c.args.before (c.args.names.now.count + c.args.names.now.more) l)) (sym c.deref.ensures.value)
-    (payload-lawful (c.args.names.now.stored.now ++ c.args.names.now.pending.now) (c.args.names.now.count + c.args.names.now.more) c.args.names.now.more c.args.before c.args.log c.args.graph.now c.args.moves.now.order.items c.args.moves.now.rest.items w rows heads m c.args.limits c.requires.limits (omega (arith, lo, fo, a, ok)) (omega (arith, lm, fm, b, ok2)) moved) in
+    let follows = subst (λ l. MayFollow (payloads_of m.facts.may.added) (change_in m.flats (c.args.names.now.stored.now ++ c.args.names.now.pending.now) c.args.before (c.args.names.now.count + c.args.names.now.more) l)) (sym c.deref.ensures.value)
+    (payload-follows (c.args.names.now.stored.now ++ c.args.names.now.pending.now) (c.args.names.now.count + c.args.names.now.more) c.args.names.now.more c.args.before c.args.log c.args.graph.now c.args.moves.now.order.items c.args.moves.now.rest.items w rows heads m c.args.limits c.requires.limits (omega (arith, lo, fo, a, ok)) (omega (arith, lm, fm, b, ok2)) moved) in
     let is = payload-written (c.args.names.now.stored.now ++ c.args.names.now.pending.now) (c.args.names.now.count + c.args.names.now.more) c.args.names.now.more c.args.before c.args.log c.args.graph.now c.args.moves.now.order.items c.args.moves.now.rest.items w rows heads m payload change moved
-    ∙ sym (c.in_ok-payload.ensures m.flats m.lawful m.graph_is lawful ∙ ap (λ l. payload_bytes 1 (change_in m.flats (c.args.names.now.stored.now ++ c.args.names.now.pending.now) c.args.before (c.args.names.now.count + c.args.names.now.more) l)) c.deref.ensures.value) in
+    ∙ sym (c.in_ok-payload.ensures.payload m.flats m.facts.may.added m.lawful m.graph_is (subst (λ (t : PlainTables). AreTablesOf t m.facts.may.added) at m.facts.may.tables_of) (subst (λ (l : List ℕ). AllStand l m.facts.may.added) by m.facts.may.stand) follows ∙ ap (λ l. payload_bytes (change_in m.flats (c.args.names.now.stored.now ++ c.args.names.now.pending.now) c.args.before (c.args.names.now.count + c.args.names.now.more) l)) c.deref.ensures.value) in
     let size = ap (length {A = ℕ}) is in
     let log = written c.args.log payload (subst (λ l. 0 < length l) (sym (payload-written (c.args.names.now.stored.now ++ c.args.names.now.pending.now) (c.args.names.now.count + c.args.names.now.more) c.args.names.now.more c.args.before c.args.log c.args.graph.now c.args.moves.now.order.items c.args.moves.now.rest.items w rows heads m payload change moved)) (has-bytes (change_in m.flats (c.args.names.now.stored.now ++ c.args.names.now.pending.now) c.args.before (c.args.names.now.count + c.args.names.now.more) c.args.moves.now.order.items))) in
     let len = c.len-2.ensures in let ok3 = c.in_ok-payload.payload.ok.0 in
@@ -108,7 +110,7 @@ returns-in_err-check-3-clause-worlds c = λ w rows heads payload m change.
     (inr (down ∙ ap (λ x. over c.args.limits.log x Log) sum ∙ c.in_err-check-3.ensures.err))
 
 pub returns-clause-worlds : goal.returns-clause-worlds
-returns-clause-worlds c = λ w rows heads payload m change.
+returns-clause-worlds c = λ w rows heads payload m at by change.
     let a = c.len-others.ensures in let ok = c.args.moves.now.rest.ok.0 in let o = others-size (c.args.names.now.stored.now ++ c.args.names.now.pending.now) (c.args.names.now.count + c.args.names.now.more) c.args.names.now.more c.args.before c.args.log c.args.graph.now c.args.moves.now.order.items c.args.moves.now.rest.items w rows heads m in
     let b = c.len.ensures in let ok2 = c.args.moves.now.order.ok.0 in let s = master-size (c.args.names.now.stored.now ++ c.args.names.now.pending.now) (c.args.names.now.count + c.args.names.now.more) c.args.names.now.more c.args.before c.args.log c.args.graph.now c.args.moves.now.order.items c.args.moves.now.rest.items w rows heads m in
     let moved : DoesChange (c.args.names.now.stored.now ++ c.args.names.now.pending.now) (c.args.names.now.count + c.args.names.now.more) c.args.names.now.more c.args.before c.args.log c.args.graph.now c.args.moves.now.order.items c.args.moves.now.rest.items w rows heads m = elim c.else-is_empty.branch [
@@ -117,10 +119,10 @@ returns-clause-worlds c = λ w rows heads payload m change.
     ] in
     let lo = over-none c.from.result c.len-others.result _ c.in_ok-check.ensures.ok in let lm = over-none c.from-2.result (c.args.before + c.len.result) _ c.in_ok-check-2.ensures.ok in
     let fo = c.from.ensures in let fm = c.from-2.ensures in
-    let lawful = subst (λ l. IsPayload (change_in m.flats (c.args.names.now.stored.now ++ c.args.names.now.pending.now) c.args.before (c.args.names.now.count + c.args.names.now.more) l)) (sym c.deref.ensures.value)
-    (payload-lawful (c.args.names.now.stored.now ++ c.args.names.now.pending.now) (c.args.names.now.count + c.args.names.now.more) c.args.names.now.more c.args.before c.args.log c.args.graph.now c.args.moves.now.order.items c.args.moves.now.rest.items w rows heads m c.args.limits c.requires.limits (omega (arith, lo, fo, a, ok)) (omega (arith, lm, fm, b, ok2)) moved) in
+    let follows = subst (λ l. MayFollow (payloads_of m.facts.may.added) (change_in m.flats (c.args.names.now.stored.now ++ c.args.names.now.pending.now) c.args.before (c.args.names.now.count + c.args.names.now.more) l)) (sym c.deref.ensures.value)
+    (payload-follows (c.args.names.now.stored.now ++ c.args.names.now.pending.now) (c.args.names.now.count + c.args.names.now.more) c.args.names.now.more c.args.before c.args.log c.args.graph.now c.args.moves.now.order.items c.args.moves.now.rest.items w rows heads m c.args.limits c.requires.limits (omega (arith, lo, fo, a, ok)) (omega (arith, lm, fm, b, ok2)) moved) in
     let is = payload-written (c.args.names.now.stored.now ++ c.args.names.now.pending.now) (c.args.names.now.count + c.args.names.now.more) c.args.names.now.more c.args.before c.args.log c.args.graph.now c.args.moves.now.order.items c.args.moves.now.rest.items w rows heads m payload change moved
-    ∙ sym (c.in_ok-payload.ensures m.flats m.lawful m.graph_is lawful ∙ ap (λ l. payload_bytes 1 (change_in m.flats (c.args.names.now.stored.now ++ c.args.names.now.pending.now) c.args.before (c.args.names.now.count + c.args.names.now.more) l)) c.deref.ensures.value) in
+    ∙ sym (c.in_ok-payload.ensures.payload m.flats m.facts.may.added m.lawful m.graph_is (subst (λ (t : PlainTables). AreTablesOf t m.facts.may.added) at m.facts.may.tables_of) (subst (λ (l : List ℕ). AllStand l m.facts.may.added) by m.facts.may.stand) follows ∙ ap (λ l. payload_bytes (change_in m.flats (c.args.names.now.stored.now ++ c.args.names.now.pending.now) c.args.before (c.args.names.now.count + c.args.names.now.more) l)) c.deref.ensures.value) in
     let size = ap (length {A = ℕ}) is in
     let log = written c.args.log payload (subst (λ l. 0 < length l) (sym (payload-written (c.args.names.now.stored.now ++ c.args.names.now.pending.now) (c.args.names.now.count + c.args.names.now.more) c.args.names.now.more c.args.before c.args.log c.args.graph.now c.args.moves.now.order.items c.args.moves.now.rest.items w rows heads m payload change moved)) (has-bytes (change_in m.flats (c.args.names.now.stored.now ++ c.args.names.now.pending.now) c.args.before (c.args.names.now.count + c.args.names.now.more) c.args.moves.now.order.items))) in
     let len = c.len-2.ensures in let ok3 = c.in_ok-payload.payload.ok.0 in
@@ -137,7 +139,7 @@ returns-clause-worlds c = λ w rows heads payload m change.
     )
 
 pub returns-then-names-eq0-clause-stored : goal.returns-then-names-eq0-clause-stored
-returns-then-names-eq0-clause-stored c = λ w rows heads added m lawful stand.
+returns-then-names-eq0-clause-stored c = λ w rows heads added m at by lawful stand.
     let a = c.len-others.ensures in let ok = c.args.moves.now.rest.ok.0 in
     let b = c.len.ensures in let ok2 = c.args.moves.now.order.ok.0 in
     let z = is-zero _ c.if-is_empty.ensures in
@@ -147,7 +149,7 @@ returns-then-names-eq0-clause-stored c = λ w rows heads added m lawful stand.
     (omega (arith, b, ok2)) (omega (arith, a, ok)) (omega (arith, lm, fm)) (omega (arith, lo, fo))
 
 pub returns-clause-stored : goal.returns-clause-stored
-returns-clause-stored c = λ w rows heads added m lawful_before stand.
+returns-clause-stored c = λ w rows heads added m at by lawful_before stand.
     let a = c.len-others.ensures in let ok = c.args.moves.now.rest.ok.0 in let o = others-size (c.args.names.now.stored.now ++ c.args.names.now.pending.now) (c.args.names.now.count + c.args.names.now.more) c.args.names.now.more c.args.before c.args.log c.args.graph.now c.args.moves.now.order.items c.args.moves.now.rest.items w rows heads m in
     let b = c.len.ensures in let ok2 = c.args.moves.now.order.ok.0 in let s = master-size (c.args.names.now.stored.now ++ c.args.names.now.pending.now) (c.args.names.now.count + c.args.names.now.more) c.args.names.now.more c.args.before c.args.log c.args.graph.now c.args.moves.now.order.items c.args.moves.now.rest.items w rows heads m in
     let moved : DoesChange (c.args.names.now.stored.now ++ c.args.names.now.pending.now) (c.args.names.now.count + c.args.names.now.more) c.args.names.now.more c.args.before c.args.log c.args.graph.now c.args.moves.now.order.items c.args.moves.now.rest.items w rows heads m = elim c.else-is_empty.branch [
@@ -156,9 +158,9 @@ returns-clause-stored c = λ w rows heads added m lawful_before stand.
     ] in
     let lo = over-none c.from.result c.len-others.result _ c.in_ok-check.ensures.ok in let lm = over-none c.from-2.result (c.args.before + c.len.result) _ c.in_ok-check-2.ensures.ok in
     let fo = c.from.ensures in let fm = c.from-2.ensures in
-    let lawful = subst (λ l. IsPayload (change_in m.flats (c.args.names.now.stored.now ++ c.args.names.now.pending.now) c.args.before (c.args.names.now.count + c.args.names.now.more) l)) (sym c.deref.ensures.value)
-    (payload-lawful (c.args.names.now.stored.now ++ c.args.names.now.pending.now) (c.args.names.now.count + c.args.names.now.more) c.args.names.now.more c.args.before c.args.log c.args.graph.now c.args.moves.now.order.items c.args.moves.now.rest.items w rows heads m c.args.limits c.requires.limits (omega (arith, lo, fo, a, ok)) (omega (arith, lm, fm, b, ok2)) moved) in
-    let is = c.in_ok-payload.ensures m.flats m.lawful m.graph_is lawful ∙ ap (λ l. payload_bytes 1 (change_in m.flats (c.args.names.now.stored.now ++ c.args.names.now.pending.now) c.args.before (c.args.names.now.count + c.args.names.now.more) l)) c.deref.ensures.value in
+    let follows = subst (λ l. MayFollow (payloads_of m.facts.may.added) (change_in m.flats (c.args.names.now.stored.now ++ c.args.names.now.pending.now) c.args.before (c.args.names.now.count + c.args.names.now.more) l)) (sym c.deref.ensures.value)
+    (payload-follows (c.args.names.now.stored.now ++ c.args.names.now.pending.now) (c.args.names.now.count + c.args.names.now.more) c.args.names.now.more c.args.before c.args.log c.args.graph.now c.args.moves.now.order.items c.args.moves.now.rest.items w rows heads m c.args.limits c.requires.limits (omega (arith, lo, fo, a, ok)) (omega (arith, lm, fm, b, ok2)) moved) in
+    let is = c.in_ok-payload.ensures.payload m.flats m.facts.may.added m.lawful m.graph_is (subst (λ (t : PlainTables). AreTablesOf t m.facts.may.added) at m.facts.may.tables_of) (subst (λ (l : List ℕ). AllStand l m.facts.may.added) by m.facts.may.stand) follows ∙ ap (λ l. payload_bytes (change_in m.flats (c.args.names.now.stored.now ++ c.args.names.now.pending.now) c.args.before (c.args.names.now.count + c.args.names.now.more) l)) c.deref.ensures.value in
     let len = c.len-2.ensures in let ok3 = c.in_ok-payload.payload.ok.0 in
     let ll = over-none c.args.limits.log (c.args.log + 9 + c.len-2.result) _ c.in_ok-check-3.ensures.ok in
     changes (c.args.names.now.stored.now ++ c.args.names.now.pending.now) (c.args.names.now.count + c.args.names.now.more) c.args.names.now.more c.args.before c.args.log c.args.graph.now c.args.moves.now.order.items c.args.moves.now.rest.items w rows heads m added lawful_before stand c.args.limits _ c.requires.limits moved is refl

@@ -37,7 +37,7 @@ pub returns-clause-stored : goal.returns-clause-stored
 returns-clause-stored c = λ added p.
     let below = c.in_ok-numbers.ensures.below p.pending_rows.rows p.pending_rows.held in
     let a = asked c.args.tables.now c.args.bytes.now c.args.pending.now c.deref.result.now added p.tables_of p.stand p.pending_rows (subst (AreBelow (c.args.pending.now.first + length p.pending_rows.rows)) (sym c.deref.ensures.value) below) in
-    subst (λ z. IfOk c.plan_moves.result (MayBeStored c.args.limits (length c.args.bytes.now) z)) a.4 (c.plan_moves.ensures.stored a.0 a.1 a.2 a.3)
+    subst (λ z. IfOk c.plan_moves.result (MayBeStored 1 c.args.limits (length c.args.bytes.now) z)) a.4 (c.plan_moves.ensures.stored a.0 a.1 a.2 a.3)
 
 pub returns-clause-worlds : goal.returns-clause-worlds
 returns-clause-worlds c = λ w rows payload f change.

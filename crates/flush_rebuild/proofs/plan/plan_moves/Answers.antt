@@ -79,6 +79,8 @@ change_of-requires-clause-world c =
         pending_is = c.names_of-names.ensures.more;
         log_is = refl;
       },
+      refl,
+      refl,
     )
 
 pub returns-clause-worlds : goal.returns-clause-worlds
@@ -98,7 +100,7 @@ returns-clause-worlds c = λ w rows heads payload m change.
       pending_is = c.names_of-names.ensures.more;
       log_is = refl;
     })
-    change
+    refl refl change
 
 pub returns-clause-stored : goal.returns-clause-stored
 returns-clause-stored c = λ w rows heads m.
@@ -117,4 +119,4 @@ returns-clause-stored c = λ w rows heads m.
       pending_is = c.names_of-names.ensures.more;
       log_is = refl;
     })
-    m.tables_of.lawful m.stand_for
+    refl refl m.tables_of.lawful m.stand_for

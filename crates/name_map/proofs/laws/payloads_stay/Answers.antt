@@ -15,7 +15,7 @@ one-stays (x ∷ whole) bytes more at h =
 
 all-stay : (bytes more : List ℕ) (added : List Placed) → AllStand bytes added → AllStand (bytes ++ more) added
 all-stay bytes more [] h = tt
-all-stay bytes more (a ∷ added) h = (one-stays (payload_bytes 1 a.payload) bytes more a.at h.0, all-stay bytes more added h.1)
+all-stay bytes more (a ∷ added) h = (one-stays (payload_bytes a.payload) bytes more a.at h.0, all-stay bytes more added h.1)
 
 pub returns : goal.returns
 returns c = all-stay

@@ -1,4 +1,3 @@
-use Rattle.std.proofs.Common.{◌∙◌, ◌++◌, ◌∷◌, [], ap}
 use Rattle.segment_codec.specs.Lent.{segment_of}
 use Rattle.flat_segments.proofs.Batches.{shorter}
 use Rattle.payload_tables.proofs.Heading.{ends-more, ends-done}
@@ -9,13 +8,11 @@ records-smaller c = shorter (segment_of c.in-Some.segment) c.records.rest.now c.
 
 pub records-preserved : goal.records-preserved
 records-preserved c = λ segments a.
-    ends-more c.records.highs.items c.records.parents.items c.records.rest.now segments (c.records.invariant segments a) (segment_of c.in-Some.segment) c.in-Some.after.now c.in-Some.ensures.found.0 c.in-Some.ensures.found.1
-    c.push.new.self.items c.add_parents.new.all.items
-    (c.in_ok-push.ensures.items ∙ ap (λ x. c.records.highs.items ++ x ∷ []) c.high.ensures)
-    (c.in_ok-add_parents.ensures ∙ ap (λ l. c.records.parents.items ++ l) c.parents.ensures)
+    ends-more c.args.below c.records.highs.items c.records.parents.items c.records.rest.now segments (c.records.invariant segments a) (segment_of c.in-Some.segment) c.in-Some.after.now c.in-Some.ensures.found.0 c.in-Some.ensures.found.1
+    c.add_ends.new.highs.items c.add_ends.new.parents.items c.in_ok-add_ends.ensures.highs c.in_ok-add_ends.ensures.parents
 
 pub returns-clause-highs : goal.returns-clause-highs
-returns-clause-highs c = λ segments a. (ends-done c.records.highs.items c.records.parents.items c.records.rest.now segments (c.records.invariant segments a) c.in_default.ensures.only).0
+returns-clause-highs c = λ segments a. (ends-done c.args.below c.records.highs.items c.records.parents.items c.records.rest.now segments (c.records.invariant segments a) c.in_default.ensures.only).0
 
 pub returns-clause-parents : goal.returns-clause-parents
-returns-clause-parents c = λ segments a. (ends-done c.records.highs.items c.records.parents.items c.records.rest.now segments (c.records.invariant segments a) c.in_default.ensures.only).1
+returns-clause-parents c = λ segments a. (ends-done c.args.below c.records.highs.items c.records.parents.items c.records.rest.now segments (c.records.invariant segments a) c.in_default.ensures.only).1

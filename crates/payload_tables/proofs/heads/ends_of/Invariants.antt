@@ -5,7 +5,7 @@ use Rattle.payload_tables.proofs.Heading.{EndsSoFar}
 use Rattle.payload_tables.proofs.heads.ends_of.Given as goal
 
 abbrev pub invariant-records : goal.invariant-records
-invariant-records l = (segments : List Segment) → AreRecords segments l.records → EndsSoFar l.highs.items l.parents.items l.rest segments
+invariant-records l = (segments : List Segment) → AreRecords segments l.records → EndsSoFar l.below l.highs.items l.parents.items l.rest segments
 
 abbrev pub decreases-records : goal.decreases-records
 decreases-records l = length l.rest

@@ -6,6 +6,9 @@ use Rattle.batch_codec.proofs.building.BatchBuild.finish.Goals as goal
 pub append_masters-requires-clause-records : goal.append_masters-requires-clause-records
 append_masters-requires-clause-records c = (counts-of c.args.self c.requires.0 c.requires.1 c.requires.2).master
 
+pub append_masters-requires-clause-levels : goal.append_masters-requires-clause-levels
+append_masters-requires-clause-levels c = (counts-of c.args.self c.requires.0 c.requires.1 c.requires.2).levels
+
 pub append_masters-requires-clause-known : goal.append_masters-requires-clause-known
 append_masters-requires-clause-known c = (counts-of c.args.self c.requires.0 c.requires.1 c.requires.2).known_few
 

@@ -2,7 +2,9 @@ use Rattle.std.proofs.Common.{◌∙◌, ap, sym, subst}
 use Rattle.batch_codec.specs.Lent.{payload_of}
 use Rattle.name_map.specs.Adding.{placed}
 use Rattle.payload_tables.specs.Kept.{PlainTables, PlainOthers, AreMastersOf, AreOthersOf, by_kind}
-use Rattle.payload_tables.proofs.Following.{tables-more, clone-rule}
+use Rattle.name_map.specs.Added.{payloads_of}
+use Rattle.payload_tables.proofs.Following.{tables-more}
+use Rattle.payload_tables.proofs.Placing.{place-of}
 use Rattle.payload_tables.proofs.tables.Tables.add_lawful.Goals as goal
 
 pub extend_lawful-requires-clause-follows : goal.extend_lawful-requires-clause-follows
@@ -16,8 +18,9 @@ returns-clause-added c = λ added t stand f.
     let masters : AreMastersOf c.self.inside.flat c.self.inside.levels c.self.inside.names added =
     subst (λ (z : PlainTables). AreMastersOf z.flat z.levels z.names added) (sym c.self.view_is) (record { lawful = t.lawful; flat = t.flat; levels_of = t.levels; names = t.names }) in
     tables-more c.args.self.now _ added (placed c.args.at c.args.batch.now) t c.is_payload.ensures.payload
-    (f.count ∙ sym t.names.masters) (clone-rule added p f)
+    (f.count ∙ sym t.names.masters) (place-of (payloads_of added) p f)
     (c.in_ok-extend_lawful.ensures.table added masters stand) (c.in_ok-extend_lawful.ensures.levels added masters stand) (c.in_ok-extend_lawful.ensures.names added masters stand f.distinct) f.distinct
     (λ d. subst (λ (o : PlainOthers). AreOthersOf o (placed c.args.at c.args.batch.now)) (sym c.keep.ensures.others) (c.in_ok-brought.ensures.others d))
     (c.keep.ensures.heads ∙ ap (λ l. by_kind p.kind l c.self.inside.heads.items) c.in_ok-brought.ensures.heads ∙ ap (λ (z : PlainTables). by_kind p.kind p.heads z.heads) c.self.view_is)
-    (c.keep.ensures.cloned ∙ ap (λ (z : PlainTables). by_kind p.kind p.after z.cloned) c.self.view_is)
+    (c.keep.ensures.cloned ∙ ap (λ (z : PlainTables). by_kind p.kind p.cloned z.cloned) c.self.view_is)
+    c.version-self-inside.ensures
