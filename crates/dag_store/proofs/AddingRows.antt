@@ -14,7 +14,6 @@ use Rattle.commit_graph.proofs.Down.{in-right}
 use Rattle.commit_graph.proofs.Naming.{named-by, name-of, pending-names, pending-there}
 use Rattle.commit_graph.proofs.Places.{id-in-others, place-right}
 use Rattle.segment_codec.proofs.Tables.{le_or_lt}
-use Rattle.batch_codec.specs.Payload.{Payload}
 use Rattle.payload_tables.specs.Pending.{IdRow, PlainPending, HoldsRows, row_names}
 use Rattle.payload_tables.specs.Bases.{ArePending, id_row}
 use Rattle.payload_tables.proofs.Lists.{parents-known}
@@ -22,9 +21,7 @@ use Rattle.payload_tables.proofs.Joined.{seen-id}
 use Rattle.step_rules.specs.Worlds.{has}
 use Rattle.dag_store.proofs.StoredNames.{names-of-rows}
 use Rattle.dag_store.proofs.ParentTests.{distinct-parents}
-use Rattle.dag_store.proofs.AddingTests.{parents-there, parents-once}
-use Rattle.step_rules.specs.Tests.{first_some}
-use Rattle.dag_store.specs.Adding.{parent_refusals}
+use Rattle.step_rules.specs.Tests.{twice}
 
 pub either-group : (ids : List ℕ) → AllByRecursion (λ p. (p < 2 ^ 56) ⊎ (2 ^ 56 ≤ p)) ids
 either-group [] = tt
@@ -37,8 +34,8 @@ no-row w rows name fresh i =
     (pending-there w rows name (subst (IsIn name) (names-of-rows (with_pending w rows) rows) i))
 
 -- a row that may come next behind those that a session sees
-module _ (payloads : List Payload) (w : World Name) (rows : List (Row Name)) (view : IsNamedWorld (with_pending w rows)) (name : Name) (parents : List Name) (named : IsName name) (few : length parents ≤ 8)
-    (fresh : has (with_pending w rows) name ≡ false) (passed : first_some (parent_refusals payloads w rows parents) ≡ None) where
+module _ (w : World Name) (rows : List (Row Name)) (view : IsNamedWorld (with_pending w rows)) (name : Name) (parents : List Name) (named : IsName name) (few : length parents ≤ 8)
+    (fresh : has (with_pending w rows) name ≡ false) (known : AreAllIn parents (names_of (rows_of (with_pending w rows)))) (once : twice [] parents ≡ None) where
   abbrev row : Row Name
   row = record { name = name; parents = parents }
 
@@ -48,14 +45,11 @@ module _ (payloads : List Payload) (w : World Name) (rows : List (Row Name)) (vi
   abbrev more : List (Row Name)
   more = rows ++ record { name = name; parents = parents } ∷ []
 
-  known : AreAllIn parents (names_of (rows_of (with_pending w rows)))
-  known = parents-there payloads w rows parents passed
-
   next : IsNext (names_of (rows_of (with_pending w rows))) (record { name = name; parents = parents })
   next = record {
     fresh = missing same_name same_name-exact same_name-self name (names_of (rows_of (with_pending w rows))) fresh;
     known = known;
-    distinct = distinct-parents parents (parents-once payloads w rows parents passed);
+    distinct = distinct-parents parents once;
     few = few;
   }
 

@@ -1,7 +1,7 @@
 -- A session that is kept sees some world, and with one more row behind it it may still be kept.
-use Rattle.std.proofs.Common.{◌≡◌, ◌<◌, ◌≤◌, ◌+◌, ◌^◌, ℕ, ◌⊎◌, inl, inr, List, [], ◌∷◌, ◌++◌, length, map, take, drop, flat_map, None, refl, sym, ap, subst, ◌∙◌, ⊎_elim, arith, append_assoc}
+use Rattle.std.proofs.Common.{◌≡◌, ◌<◌, ◌≤◌, ◌+◌, ◌^◌, ℕ, ◌⊎◌, inl, inr, List, [], ◌∷◌, ◌++◌, length, map, take, drop, flat_map, refl, sym, ap, subst, ◌∙◌, ⊎_elim, arith, append_assoc}
 use Rattle.std.specs.List.{AllByRecursion}
-use Rattle.std.proofs.lemmas.List.{map-append, length-map, take-append-drop, length-append}
+use Rattle.std.proofs.lemmas.List.{map-append, length-map, take-append-drop}
 use Rattle.id_groups.specs.Lists.{IsIn, AreAllIn, AreDistinct}
 use Rattle.id_groups.specs.Name.{Name, IsName, same_name}
 use Rattle.id_groups.specs.Id.{other_id}
@@ -13,28 +13,33 @@ use Rattle.commit_graph.proofs.Naming.{each, named-by, name-of, pending-names}
 use Rattle.segment_codec.specs.Record.{segment_bytes}
 use Rattle.segment_codec.specs.Flat.{IsFlat}
 use Rattle.batch_codec.specs.Payload.{Payload, known_names}
-use Rattle.batch_codec.specs.Grammar.{AreLawful, count_after}
+use Rattle.batch_codec.specs.Grammar.{count_after}
+use Rattle.change_rules.specs.Lawful.{AreLawful}
 use Rattle.name_map.specs.Added.{Placed, payloads_of}
 use Rattle.flat_segments.specs.Placed.{Placed as PlacedSegment, placed}
 use Rattle.change_rules.specs.Tables.{StandFor, newest, other_names_in}
 use Rattle.payload_tables.specs.declared.base.BaseRef.{BaseRef}
-use Rattle.payload_tables.specs.Pending.{IdRow, PlainPending, HoldsRows, segments_from}
+use Rattle.payload_tables.specs.Pending.{IdRow, PlainPending, HoldsRows, row_names, segments_from}
 use Rattle.payload_tables.specs.Bases.{IsBaseOf, MayView, ArePending, id_row}
-use Rattle.payload_tables.proofs.Lists.{names-length, parents-known}
+use Rattle.payload_tables.proofs.Lists.{all-append, names-length, parents-known}
 use Rattle.payload_tables.proofs.Naming.{whole-names}
 use Rattle.payload_tables.proofs.Rows.{count-rows}
 use Rattle.flush_rebuild.specs.Asked.{others_count, HaveParents, MayStore}
 use Rattle.flush_rebuild.proofs.Numbered.{AllRows, Behind}
 use Rattle.flush_rebuild.proofs.Invented.{FitBehind, some-world}
 use Rattle.flush_rebuild.proofs.Asking.{stored-names, lawful-small}
-use Rattle.step_rules.specs.Tests.{first_some}
 use Rattle.dag_store.specs.Kept.{PlainSession, IsSessionOf, base_added}
-use Rattle.dag_store.specs.Looking.{Sees}
-use Rattle.dag_store.specs.Adding.{IsSeen, MayBeParents, parent_refusals}
-use Rattle.dag_store.proofs.StoredNames.{names-of-rows, stored-there}
-use Rattle.dag_store.proofs.ParentTests.{distinct-parents}
-use Rattle.dag_store.proofs.AddingIds.{ids-below, ids-parts, ids-distinct}
-use Rattle.dag_store.proofs.AddingTests.{parents-there, parents-once}
+use Rattle.dag_store.specs.Looking.{Sees, IsViewId}
+use Rattle.dag_store.specs.Adding.{IsSeen, MayBeParents, Appends}
+use Rattle.dag_store.specs.declared.replies.Added.{Added}
+use Rattle.dag_store.specs.declared.replies.Added.TheVariants.{New, Old}
+use Rattle.step_rules.specs.declared.Refusal.{Refusal}
+use Rattle.dag_store.proofs.StoredNames.{names-of-rows, stored-are, stored-there}
+use Rattle.change_rules.specs.Lazy.{stored_names}
+use Rattle.commit_graph.proofs.Histories.{in-append}
+use Rattle.std.specs.Prelude.{OnErr, Result, Ok, Err}
+use Rattle.payload_tables.specs.Bases.{stored_in}
+use Rattle.dag_store.proofs.AddingIds.{ids-parts}
 
 front-lawful : (before front behind : List Payload) → AreLawful before (front ++ behind) → AreLawful before front
 front-lawful before [] behind h = tt
@@ -139,34 +144,70 @@ sees-of base added x w rows b s = record { base_of = b; stand = s.stand; world =
 pub seen-small : (added : List Placed) (x : PlainSession) (w : World Name) (rows : List (Row Name)) → AreLawful [] (payloads_of added) → IsSeen added x w rows → length w.master ≤ 16777216
 seen-small added x w rows lawful s = let n = lawful-small (base_added added x) (base-lawful added x.payloads lawful) in let c = s.stand.count in omega (arith, n, c)
 
+below-all : (w : World Name) (rows : List (Row Name)) (n : ℕ) → length w.others + length rows ≡ n → length w.master ≤ 16777216 → (ids : List ℕ) → AllByRecursion (IsViewId w rows) ids → AllByRecursion (λ id. id < other_id n) ids
+below-all w rows n e small [] h = tt
+below-all w rows n e small (id ∷ ids) h = (⊎_elim (λ a. omega (arith, a, small)) (λ b. (let lt = b.1 in omega (arith, lt, e))) h.0, below-all w rows n e small ids h.1)
+
 -- the ids of parents that were looked up may be those of a row behind the others
-pub may-be-parents : (payloads : List Payload) (w : World Name) (rows : List (Row Name)) (pending : PlainPending) (parents : List Name) (ids : List ℕ) → length w.master ≤ 16777216 → ArePending w pending rows → length parents ≤ 8
-    → first_some (parent_refusals payloads w rows parents) ≡ None → ids ≡ map (id_in same_name (with_pending w rows)) parents → MayBeParents pending.first (length pending.places) ids
-may-be-parents payloads w rows pending parents ids small p few passed are =
-    let there = parents-there payloads w rows parents passed in
+pub may-be-parents : (w : World Name) (rows : List (Row Name)) (pending : PlainPending) (ids : List ℕ) → length w.master ≤ 16777216 → ArePending w pending rows → length ids ≤ 8 → AreDistinct ids → AllByRecursion (IsViewId w rows) ids
+    → MayBeParents pending.first (length pending.places) ids
+may-be-parents w rows pending ids small p few distinct view =
     let count = count-rows pending (map (id_row (with_pending w rows)) rows) p.held in
     let long = length-map rows (id_row (with_pending w rows)) in
-    let sum = length-append w.others rows in
     let first = p.first in
-    let same : length (w.others ++ rows) ≡ pending.first + length pending.places = omega (arith, count, long, sum, first) in
     record {
-      few = (let e = ap (length {A = ℕ}) are in let l = length-map parents (id_in same_name (with_pending w rows)) in omega (arith, e, l, few));
-      distinct = subst AreDistinct (sym are) (ids-distinct (with_pending w rows) p.view small parents there (distinct-parents parents (parents-once payloads w rows parents passed)));
-      below = subst₂ same (sym are) (ids-below (with_pending w rows) p.view small parents there);
+      few = few;
+      distinct = distinct;
+      below = below-all w rows (pending.first + length pending.places) (omega (arith, count, long, first)) small ids view;
     }
-  where
-    subst₂ : {m n : ℕ} {xs ys : List ℕ} → m ≡ n → xs ≡ ys → AllByRecursion (λ q. q < other_id m) xs → AllByRecursion (λ q. q < other_id n) ys
-    subst₂ {m} {n} {xs} {ys} e f h = subst (λ l. AllByRecursion (λ q. q < other_id n) l) f (subst (λ k. AllByRecursion (λ q. q < other_id k) xs) e h)
 
 -- ---- a session stays kept
 
-pub kept-of : (added : List Placed) (old new : PlainSession) (w : World Name) (rows more : List (Row Name)) → AreLawful [] (payloads_of added) → IsSessionOf added old → IsSeen added old w rows
-    → new ≡ record old { pending = new.pending } → ArePending w new.pending more → IsSessionOf added new
-kept-of added old new w rows more lawful of s is p =
-    subst (IsSessionOf added) (sym is) (record {
-      payloads = of.payloads;
-      below = of.below;
-      others = of.others;
-      pending = may-store (base_added added old) w s.stand (seen-small added old w rows lawful s) new.pending more p;
-      keeps = of.keeps;
-    })
+in-parts : (w : World Name) (rows : List (Row Name)) (masters : ℕ) → masters ≡ length w.master → (ids : List ℕ) → AllByRecursion (IsViewId w rows) ids → AllByRecursion (λ p. (p < masters) ⊎ (2 ^ 56 ≤ p)) ids
+in-parts w rows masters e [] h = tt
+in-parts w rows masters e (id ∷ ids) h = (⊎_elim (λ a. inl (omega (arith, a, e))) (λ b. inr b.0) h.0, in-parts w rows masters e ids h.1)
+
+distinct-more : (xs : List Name) (x : Name) → AreDistinct xs → (IsIn x xs → ⊥) → AreDistinct (xs ++ x ∷ [])
+distinct-more [] x d n = ((λ i. i), tt)
+distinct-more (y ∷ xs) x d n = (
+  (λ i. ⊎_elim (λ j. d.0 j) (λ j. ⊎_elim (λ e. n (inl (sym e))) (λ k. k) j) (in-append y xs (x ∷ []) i)),
+  distinct-more xs x d.1 (λ i. n (inr i)),
+)
+
+-- A row that comes behind those of a session, whatever was told of its parents.
+module _ (added : List Placed) (x : PlainSession) (lawful : AreLawful [] (payloads_of added)) (of : IsSessionOf added x) (w : World Name) (rows : List (Row Name)) (s : IsSeen added x w rows) (name : Name) (ids : List ℕ)
+    (view : AllByRecursion (IsViewId w rows) ids) (unstored : IsIn name (stored_names (payloads_of (base_added added x)) w) → ⊥) (unseen : IsIn name (names_of rows) → ⊥) where
+  abbrev own : List IdRow
+  own = map (id_row (with_pending w rows)) rows
+
+  abbrev front : List Placed
+  front = base_added added x
+
+  its : MayStore x.pending (base_added added x)
+  its = may-store (base_added added x) w s.stand (seen-small added x w rows lawful s) x.pending rows s.pending_rows
+
+  names-more : row_names (map (id_row (with_pending w rows)) rows ++ record { name = name; parents = ids } ∷ []) ≡ names_of rows ++ name ∷ []
+  names-more = map-append (λ (r : IdRow). r.name) (map (id_row (with_pending w rows)) rows) (record { name = name; parents = ids } ∷ []) ∙ ap (λ l. l ++ name ∷ []) (names-of-rows (with_pending w rows) rows)
+
+  pub not-own : IsIn name (row_names (map (id_row (with_pending w rows)) rows)) → ⊥
+  not-own i = unseen (subst (IsIn name) (names-of-rows (with_pending w rows) rows) i)
+
+  pub store-more : (new : PlainPending) → new.first ≡ x.pending.first → HoldsRows new (map (id_row (with_pending w rows)) rows ++ record { name = name; parents = ids } ∷ []) → MayStore new (base_added added x)
+  unfolding its may-store
+  store-more new first held = record {
+    rows = map (id_row (with_pending w rows)) rows ++ record { name = name; parents = ids } ∷ [];
+    held = held;
+    first = first ∙ its.first;
+    parents = all-append (λ (r : IdRow). AllByRecursion (λ p. (p < count_after 0 (payloads_of (base_added added x))) ⊎ (2 ^ 56 ≤ p)) r.parents) (map (id_row (with_pending w rows)) rows) (record { name = name; parents = ids } ∷ [])
+        its.parents (in-parts w rows (count_after 0 (payloads_of (base_added added x))) s.stand.count ids view, tt);
+    distinct = subst AreDistinct (sym names-more) (distinct-more (names_of rows) name (subst AreDistinct (names-of-rows (with_pending w rows) rows) its.distinct) unseen);
+    fresh = λ n i j. ⊎_elim (λ o. its.fresh n (subst (IsIn n) (sym (names-of-rows (with_pending w rows) rows)) o) j)
+        (λ o. ⊎_elim (λ e. unstored (subst (IsIn name) (sym (stored-are (base_added added x) w s.stand)) (subst (λ z. IsIn z (map (λ k. k.name) (stored_in (base_added added x)))) e j))) (λ k. k) o)
+        (in-append n (names_of rows) (name ∷ []) (subst (IsIn n) names-more i));
+  }
+
+  -- the session stays one of the store
+  pub kept-more : (most : ℕ) (result : Result Added Refusal) (new : PlainPending) → Appends most x.pending (map (id_row (with_pending w rows)) rows) name ids result new → OnErr result (new ≡ x.pending) → IsSessionOf added (record x { pending = new })
+  kept-more most (Ok (New id)) new a same = record { payloads = of.payloads; below = of.below; others = of.others; pending = store-more new a.2 a.3; keeps = of.keeps }
+  kept-more most (Ok (Old id)) new a same = absurd a
+  kept-more most (Err refusal) new a same = subst (λ (p : PlainPending). IsSessionOf added (record x { pending = p })) (sym same) of

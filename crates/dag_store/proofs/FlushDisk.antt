@@ -1,10 +1,11 @@
 -- What a flush leaves of the disk and of the store.
-use Rattle.std.proofs.Common.{◌≡◌, ℕ, true, List, [], ◌∷◌, ◌++◌, set, Option, Some, None, sym, ap, subst, ◌∙◌}
+use Rattle.std.proofs.Common.{◌≡◌, ℕ, true, List, [], ◌∷◌, ◌++◌, set, Option, Some, None, sym, ap, ap₂, subst, ◌∙◌}
 use Rattle.disk_trait.specs.Images.{Told}
 use Rattle.disk_trait.specs.Calls.{Goes}
 use Rattle.disk_trait.proofs.Telling.{goes-both, goes-map}
 use Rattle.gated_log.specs.Held.{Held}
 use Rattle.gated_log.specs.Holding.{HasPayloads, KeepsOldOrNew, HasNew}
+use Rattle.lazy_names.specs.Cache.{PlainCache}
 use Rattle.change_rules.specs.declared.Limits.{Limits}
 use Rattle.flush_rebuild.specs.declared.plan.Change.{Change}
 use Rattle.dag_store.specs.declared.replies.Flushed.{Flushed}
@@ -26,10 +27,10 @@ leaves-stored kept after payload clock a b most payloads limit h n =
       on_disk = s.on_disk;
     }) h n
 
--- the same of a store whose log has other room
-module _ (kept : PlainStore) (reserved : Held) (room : HasRoom kept.log reserved) (sessions : List PlainSession) where
+-- the same of a store whose log has other room, and that keeps other names
+module _ (kept : PlainStore) (reserved : Held) (room : HasRoom kept.log reserved) (sessions : List PlainSession) (cache : PlainCache) where
   abbrev other : PlainStore
-  other = record { log = reserved; sessions = sessions; limits = kept.limits }
+  other = record { log = reserved; sessions = sessions; limits = kept.limits; cache = cache }
 
   since : (payload : List ℕ) (a b : Told) → KeepsOldOrNew reserved payload a b → KeepsOldOrNew kept.log payload a b
   since payload a b h = subst (λ l. KeepsOldOrNew l payload a b) room h
@@ -49,18 +50,26 @@ module _ (kept : PlainStore) (reserved : Held) (room : HasRoom kept.log reserved
   pub leaves-room : (payload : List ℕ) (end : Flushed) (a b : Option Told) → Goes (FlushLeaves other payload end) a b → Goes (FlushLeaves kept payload end) a b
   leaves-room payload end a b h = goes-map (FlushLeaves other payload end) (FlushLeaves kept payload end) a b (leaves payload end) h
 
-  pub leaves-store : (s : ℕ) (x : PlainSession) (change : Change) (end : Flushed) → sessions ≡ set kept.sessions s x → Finishes reserved sessions kept.limits change end → LeavesStore kept s end
-  leaves-store s x change (Done new counts (Some clock)) e f = (x, f.1 ∙ ap (λ (l : List PlainSession). record { log = new.log; sessions = l; limits = kept.limits }) e)
+  pub leaves-store : (s : ℕ) (x : PlainSession) (change : Change) (end : Flushed) → sessions ≡ set kept.sessions s x → Finishes reserved sessions kept.limits cache change end → LeavesStore kept s end
+  leaves-store s x change (Done new counts (Some clock)) e f =
+      let names : cache ≡ new.cache = sym (ap (λ (v : PlainStore). v.cache) f.1) in
+      ((x, f.1 ∙ ap₂ (λ (l : List PlainSession) (n : PlainCache). record { log = new.log; sessions = l; limits = kept.limits; cache = n }) e names), f.3.2)
   leaves-store s x change (Done new counts None) e f =
-      let log : new.log ≡ reserved = ap (λ (v : PlainStore). v.log) f.1 in (
-        (x, f.1 ∙ ap (λ (l : List PlainSession). record { log = reserved; sessions = l; limits = kept.limits }) e ∙ ap (λ (g : Held). record { log = g; sessions = set kept.sessions s x; limits = kept.limits }) (sym log)),
+      let log : new.log ≡ reserved = ap (λ (v : PlainStore). v.log) f.1 in
+      let names : cache ≡ new.cache = sym (ap (λ (v : PlainStore). v.cache) f.1) in (
+        (
+          x,
+          f.1 ∙ ap₂ (λ (l : List PlainSession) (n : PlainCache). record { log = reserved; sessions = l; limits = kept.limits; cache = n }) e names
+              ∙ ap (λ (g : Held). record { log = g; sessions = set kept.sessions s x; limits = kept.limits; cache = new.cache }) (sym log),
+        ),
         log ∙ room ∙ ap (λ (g : Held). record kept.log { room = g.room }) (sym log),
+        f.2.2,
       )
   leaves-store s x change (Refused same refusal) e f = absurd f
   leaves-store s x change (Disk fault) e f = tt
 
-pub quiet-same : (log : Held) (sessions : List PlainSession) (limits : Limits) (change : Change) (end : Flushed) → Finishes log sessions limits change end → IsQuiet end → change.same ≡ true
-quiet-same log sessions limits change (Done new counts None) f q = f.0
-quiet-same log sessions limits change (Done new counts (Some clock)) f q = absurd q
-quiet-same log sessions limits change (Refused same refusal) f q = absurd f
-quiet-same log sessions limits change (Disk fault) f q = absurd q
+pub quiet-same : (log : Held) (sessions : List PlainSession) (limits : Limits) (cache : PlainCache) (change : Change) (end : Flushed) → Finishes log sessions limits cache change end → IsQuiet end → change.same ≡ true
+quiet-same log sessions limits cache change (Done new counts None) f q = f.0
+quiet-same log sessions limits cache change (Done new counts (Some clock)) f q = absurd q
+quiet-same log sessions limits cache change (Refused same refusal) f q = absurd f
+quiet-same log sessions limits cache change (Disk fault) f q = absurd q

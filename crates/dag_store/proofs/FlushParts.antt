@@ -1,35 +1,38 @@
 -- What is asked of a rebase and of a plan.
-use Rattle.std.proofs.Common.{◌≡◌, ◌≤◌, ◌<◌, ◌+◌, ◌*◌, ◌^◌, ⊎_elim, ℕ, Bool, not, ◌&&◌, List, [], ◌∷◌, ◌++◌, map, length, drop, Option, None, sym, ap, ap₂, subst, ◌∙◌, arith, le_refl}
-use Rattle.std.specs.Prelude.{◌==◌}
-use Rattle.std.specs.List.{AllZip}
+use Rattle.std.proofs.Common.{◌≡◌, ◌≤◌, ◌<◌, ◌+◌, ◌*◌, ◌^◌, ℕ, Bool, true, false, true≢false, Result, Ok, Err, IfOk, OnOk, List, [], ◌∷◌, ◌++◌, map, length, drop, Option, refl, sym, ap, ap₂, subst, ◌∙◌, arith, le_refl}
+use Rattle.std.specs.declared.alloc.AllocError.{AllocError}
 use Rattle.std.proofs.lemmas.List.{take-append-drop, length-map}
-use Rattle.std.proofs.lemmas.Bool.{cases_eq, eq-eqb, ne_eqb}
+use Rattle.std.proofs.lemmas.Bool.{eq-eqb, ne_eqb}
 use Rattle.id_groups.specs.Lists.{IsIn}
 use Rattle.id_groups.specs.Name.{Name, same_name}
 use Rattle.commit_graph.specs.World.{World, GrowsMaster, names_of}
 use Rattle.batch_codec.specs.Grammar.{count_after}
 use Rattle.gated_log.specs.Held.{Held, log_bytes, longer}
 use Rattle.gated_log.proofs.Places.{length-log}
-use Rattle.batch_codec.specs.Payload.{Payload}
+use Rattle.batch_codec.specs.Payload.{Payload, payload_bytes}
+use Rattle.change_rules.specs.declared.Limits.{Limits}
+use Rattle.change_rules.specs.Lawful.{MayFollow}
 use Rattle.name_map.specs.Added.{Placed, payloads_of, AllStand, Follow as Following}
 use Rattle.change_rules.specs.Change.{text_of}
 use Rattle.change_rules.specs.Lazy.{has_lazy}
 use Rattle.payload_tables.specs.declared.base.BaseRef.{BaseRef}
-use Rattle.payload_tables.specs.Kept.{PlainTables, PlainOthers, AreTablesOf, AreOthersIn, last_added}
-use Rattle.payload_tables.specs.Pending.{IdRow, PlainPending, HoldsRows, row_names}
-use Rattle.payload_tables.specs.Bases.{MayBase, IsBaseOf, ArePending}
+use Rattle.payload_tables.specs.Kept.{PlainTables, AreTablesOf}
+use Rattle.flush_rebuild.specs.declared.plan.Change.{Change}
+use Rattle.payload_tables.specs.Pending.{PlainPending, HoldsRows, row_names}
+use Rattle.payload_tables.specs.Bases.{IsBaseOf, ArePending}
 use Rattle.change_rules.specs.Tables.{StandFor}
 use Rattle.payload_tables.proofs.Basing.{count-front}
-use Rattle.flush_rebuild.specs.Asked.{IsFoundIn, HaveParents, MayRebaseOn}
-use Rattle.flush_rebuild.specs.Plans.{MayRebase, MayFlush}
+use Rattle.flush_rebuild.specs.Asked.{HaveParents, MayRebaseOn}
+use Rattle.flush_rebuild.specs.Plans.{MayBeStored, MayRebase, MayFlush, stored_id}
 use Rattle.change_rules.specs.Rebase.{left_of}
 use Rattle.gated_log.specs.Log.{log_length}
 use Rattle.step_rules.specs.State.{Stored, session, base_of, pending_of}
-use Rattle.step_rules.specs.Tests.{is_on_newest, first_some}
+use Rattle.step_rules.specs.Tests.{is_on_newest}
 use Rattle.step_rules.proofs.Sessions.{newest-now}
 use Rattle.dag_store.specs.Kept.{PlainSession, IsSessionOf, base_added}
-use Rattle.dag_store.specs.Changes.{IsOn, AreOver, AreFound, head_refusal, row_refusal, added_behind, next_place}
-use Rattle.dag_store.proofs.FlushStates.{rows-found, heads-found}
+use Rattle.dag_store.specs.Changes.{IsOn, IsPrepared, AreOver, RowsFound, added_behind, next_place}
+use Rattle.dag_store.specs.Flushes.{HasRoom}
+use Rattle.dag_store.specs.Loading.{IsOnNewest}
 
 module _ (log : Held) (tables : PlainTables) (added : List Placed) (over : AreOver log tables added) (x : PlainSession) (h : IsSessionOf added x) (bytes : List ℕ) (all : bytes ≡ log_bytes log) where
   abbrev before : List Placed
@@ -44,7 +47,7 @@ module _ (log : Held) (tables : PlainTables) (added : List Placed) (over : AreOv
       subst (λ l. count_after 0 (payloads_of before) ≤ count_after 0 (payloads_of l)) whole
       (count-front 0 before (drop x.payloads added) (subst (λ l. Following 0 l) (sym whole) over.tables_of.names.follow))
 
-  pub may-rebase-on : (base : BaseRef) → IsBaseOf base before → (pending : PlainPending) → pending ≡ x.pending → (found : List (Option ℕ)) → ((rows : List IdRow) → HoldsRows x.pending rows → AllZip (IsFoundIn added) (row_names rows) found)
+  pub may-rebase-on : (base : BaseRef) → IsBaseOf base before → (pending : PlainPending) → pending ≡ x.pending → (found : List (Option ℕ)) → RowsFound added x.pending found
       → MayRebaseOn tables bytes base pending found added before
   may-rebase-on base b pending is found f = record {
     tables_of = over.tables_of;
@@ -56,26 +59,22 @@ module _ (log : Held) (tables : PlainTables) (added : List Placed) (over : AreOv
     first = ap (λ (p : PlainPending). p.first) is ∙ h.pending.first;
     parents = subst (λ n. HaveParents n h.pending.rows) (sym b.count) h.pending.parents;
     distinct = h.pending.distinct;
-    found_are = f h.pending.rows h.pending.held;
+    found_are = f (row_names h.pending.rows) (h.pending.rows, h.pending.held, refl);
   }
 
   -- the same for a state
   module _ (began s : ℕ) (st : Stored) (o : IsOn began added x st s) where
-    pub asks-is : (asks unnamed : Bool) → asks ≡ (not (x.payloads == length log.payloads) && unnamed) → unnamed ≡ has_lazy st.payloads st.stored → asks ≡ (not (is_on_newest st s) && has_lazy st.payloads st.stored)
-    asks-is asks unnamed e u = e ∙ ap₂ (λ a b. not a && b) same u
-      where
-        n : length log.payloads ≡ length st.payloads
-        n = ap length over.texts ∙ length-map (payloads_of added) text_of ∙ ap length o.payloads
+    held-many : length log.payloads ≡ length st.payloads
+    held-many = ap length over.texts ∙ length-map (payloads_of added) text_of ∙ ap length o.payloads
 
-        same : (x.payloads == length log.payloads) ≡ is_on_newest st s
-        same =
-            let a = o.session.payloads in let c = o.count in let m = n in
-            ⊎_elim
-            (λ (e : x.payloads ≡ length log.payloads). eq-eqb x.payloads (length log.payloads) e ∙ sym (eq-eqb (session st s).base (length st.past) (omega (arith, a, c, m, e))))
-            (λ (d : x.payloads ≡ length log.payloads → ⊥). ne_eqb x.payloads (length log.payloads) d ∙ sym (ne_eqb (session st s).base (length st.past) (λ z. d (omega (arith, a, c, m, z)))))
-            (cases_eq x.payloads (length log.payloads))
+    -- whether the session is on the newest world
+    pub is-newest : x.payloads ≡ length log.payloads → is_on_newest st s ≡ true
+    is-newest e = let a = o.session.payloads in let c = o.count in let m = held-many in eq-eqb (session st s).base (length st.past) (omega (arith, a, c, m, e))
 
-    pub may-rebase : (base : BaseRef) → IsBaseOf base before → (pending : PlainPending) → pending ≡ x.pending → (found : List (Option ℕ)) → AreFound st (row_refusal st s) (names_of (pending_of st s)) found
+    pub isnt-newest : (x.payloads ≡ length log.payloads → ⊥) → is_on_newest st s ≡ false
+    isnt-newest d = let a = o.session.payloads in let c = o.count in let m = held-many in ne_eqb (session st s).base (length st.past) (λ z. d (omega (arith, a, c, m, z)))
+
+    pub may-rebase : (base : BaseRef) → IsBaseOf base before → (pending : PlainPending) → pending ≡ x.pending → (found : List (Option ℕ)) → found ≡ map (stored_id st.stored) (names_of (pending_of st s))
         → MayRebase tables bytes base pending found st.stored (base_of st s) (pending_of st s)
     may-rebase base b pending is found f = record {
       added = added;
@@ -90,35 +89,22 @@ module _ (log : Held) (tables : PlainTables) (added : List Placed) (over : AreOv
       grows = subst (λ v. GrowsMaster (base_of st s) v) (newest-now st) (o.state.grows (session st s).base (length st.past) (o.state.sessions s).base (le_refl _));
       keeps = o.keeps;
       others_stored = λ name i. h.keeps name (subst (IsIn name) (sym o.base.stand.names) i);
-      found_are = rows-found began s added x st o found f;
-    }
-
--- a session's base
-pub may-base : (bytes : List ℕ) (tables : PlainTables) (added : List Placed) (x : PlainSession) → IsSessionOf added x → AreTablesOf tables added → AllStand bytes added
-    → (others : PlainOthers) (below : ℕ) → others ≡ x.others → below ≡ x.below → MayBase bytes tables others below (base_added added x)
-may-base bytes tables added x h t s others below oe be =
-    let whole : base_added added x ++ drop x.payloads added ≡ added = take-append-drop x.payloads added in
-    record {
-      behind = drop x.payloads added;
-      tables_of = subst (AreTablesOf tables) (sym whole) t;
-      stand = subst (AllStand bytes) (sym whole) s;
-      others_of = subst (λ (o : PlainOthers). AreOthersIn o (last_added (base_added added x))) (sym oe) h.others;
-      count = be ∙ h.below;
+      found_are = f;
     }
 
 module _ (log : Held) (tables : PlainTables) (added : List Placed) (over : AreOver log tables added) (x : PlainSession) (h : IsSessionOf added x) (bytes : List ℕ) (all : bytes ≡ log_bytes log)
     (began s : ℕ) (st : Stored) (o : IsOn began added x st s) where
   pub may-flush : (left : PlainPending) → ArePending st.stored left (left_of same_name st.stored (pending_of st s)) → (heads : List Name) (found : List (Option ℕ))
-      → first_some (map (row_refusal st s) (names_of (pending_of st s))) ≡ None → AreFound st (head_refusal st s) heads found
+      → found ≡ map (stored_id st.stored) heads
       → MayFlush tables bytes left heads found st.stored (left_of same_name st.stored (pending_of st s))
-  may-flush left p heads found r f = record {
+  may-flush left p heads found f = record {
     added = added;
     tables_of = over.tables_of;
     stand = all-stand log tables added over x h bytes all;
     stand_for = subst (λ l. StandFor l st.stored) (sym o.payloads) o.hold.stand;
     world = o.hold.world;
     pending_rows = p;
-    found_are = heads-found began s added x st o heads found r f;
+    found_are = f;
   }
 
   pub log-size : length bytes ≡ log_length log.payloads → length bytes ≡ log_length (map text_of st.payloads)
@@ -146,3 +132,29 @@ few-payloads log payload le =
     let m = many log.payloads in
     let l = length-log log.payloads log.gate in
     omega (arith, m, l, le)
+
+-- memory was taken for the payload of a change
+pub change-ready : (limits : Limits) (old new : Held) (before after : PlainTables) (kind : ℕ) (added : List Placed) (change : Change) → MayBeStored kind limits (length (log_bytes old)) added change → change.same ≡ false
+    → old.limit ≡ limits.log → HasRoom old new → (payload : List ℕ) → payload ≡ change.payload → (result : Result PlainSession AllocError) → OnOk result (longer old payload ≤ new.room)
+    → ((last : Payload) → MayFollow (payloads_of added) last → payload ≡ payload_bytes last → IfOk result (λ x. AreTablesOf after (added_behind old added last) × IsOnNewest (added_behind old added last) x))
+    → IfOk result (IsPrepared limits old new before after added change)
+change-ready limits old new before after kind added change s f limit room payload is (Err e) enough made = tt
+change-ready limits old new before after kind added change s f limit room payload is (Ok x) enough made =
+    let (last, storable) = s.changes f in
+    let both = made last storable.follows (is ∙ storable.payload) in
+    let long : longer new change.payload ≡ longer old change.payload = ap (λ (l : Held). longer l change.payload) room in
+    let long_so : longer old payload ≡ longer old change.payload = ap (longer old) is in
+    let same_limit : new.limit ≡ old.limit = ap (λ (l : Held). l.limit) room in
+    record {
+      same = λ e. absurd (true≢false (sym e ∙ f));
+      ready = λ e. record {
+        room = room;
+        fits = (let fit = storable.fits in omega (arith, fit, long, same_limit, limit));
+        enough = omega (arith, enough, long, long_so);
+        kind = kind;
+        last = last;
+        storable = storable;
+        tables_of = both.0;
+        session_of = both.1;
+      };
+    }

@@ -7,7 +7,8 @@ use Rattle.id_groups.specs.Name.{Name}
 use Rattle.commit_graph.proofs.Histories.{in-append}
 use Rattle.commit_graph.proofs.Down.{in-left, in-right}
 use Rattle.batch_codec.specs.Payload.{Payload, known_names}
-use Rattle.batch_codec.specs.Grammar.{count_after, MayFollow}
+use Rattle.batch_codec.specs.Grammar.{count_after}
+use Rattle.change_rules.specs.Lawful.{MayFollow}
 use Rattle.name_map.specs.Added.{Placed, payloads_of}
 use Rattle.change_rules.specs.Tables.{newest, other_names_in}
 use Rattle.payload_tables.specs.Kept.{PlainOthers, AreOthersIn, AreOthersOf, last_added}

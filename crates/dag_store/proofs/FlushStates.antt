@@ -1,34 +1,24 @@
 -- What the look-ups of a flush and a reload settle, and why nothing is lost.
-use Rattle.std.proofs.Common.{◌≡◌, ◌⊎◌, inl, inr, ⊎_elim, ℕ, Bool, true, false, not, cond, ◌&&◌, List, [], ◌∷◌, ◌++◌, map, length, Option, Some, None, refl, sym, ap, ap₂, subst, ◌∙◌, append_assoc, if◌then◌else◌}
+use Rattle.std.proofs.Common.{◌≡◌, ◌⊎◌, inl, inr, ⊎_elim, ℕ, Bool, true, false, not, cond, ◌&&◌, List, [], ◌∷◌, ◌++◌, length, Some, None, refl, sym, ap, subst, ◌∙◌, append_assoc, if◌then◌else◌}
 use Rattle.std.proofs.lemmas.List.{map-append}
 use Rattle.std.proofs.lemmas.Bool.{eqb-true}
-use Rattle.id_groups.specs.Lists.{IsIn, is_in, AreAllIn}
+use Rattle.id_groups.specs.Lists.{IsIn, is_in}
 use Rattle.id_groups.specs.Name.{Name, same_name}
 use Rattle.id_groups.proofs.Names.{same_name-exact, same_name-self}
-use Rattle.id_groups.proofs.Listing.{found, there, missing}
-use Rattle.commit_graph.specs.World.{Row, World, IsWorld, IsHistory, KeepsRows, names_of, rows_of, with_pending}
-use Rattle.commit_graph.specs.Ids.{id_in}
+use Rattle.id_groups.proofs.Listing.{found, there}
+use Rattle.commit_graph.specs.World.{Row, World, IsWorld, IsHistory, KeepsRows, names_of, row_named, rows_of, with_pending}
 use Rattle.commit_graph.proofs.Histories.{in-append, in-all, history-rest}
 use Rattle.commit_graph.proofs.Down.{in-left, in-right}
-use Rattle.change_rules.specs.Lazy.{has_lazy, stored_names}
-use Rattle.change_rules.specs.Rebase.{left_of, first_lost, first_missing, first_outside, or_else}
+use Rattle.change_rules.specs.Rebase.{left_of, first_conflict, first_lost, first_missing, first_outside, has_parents, or_else}
 use Rattle.change_rules.specs.Tables.{StandFor}
 use Rattle.change_rules.proofs.Flushes.{name-in}
 use Rattle.name_map.specs.Added.{Placed, payloads_of}
-use Rattle.flush_rebuild.specs.Plans.{stored_id}
-use Rattle.step_rules.specs.declared.Refusal.{Refusal}
-use Rattle.step_rules.specs.declared.Refusal.TheVariants as why
 use Rattle.step_rules.specs.State.{Stored, session, world_at, pending_of, base_of}
-use Rattle.step_rules.specs.Asked.{is_asked, found_as}
 use Rattle.step_rules.specs.Worlds.{has}
-use Rattle.step_rules.specs.Tests.{is_on_newest, unknown, named, first_some}
-use Rattle.step_rules.specs.Lone.{lone}
+use Rattle.step_rules.specs.Tests.{is_on_newest}
 use Rattle.step_rules.proofs.Sessions.{newest-now}
-use Rattle.step_rules.proofs.Steps.{some-none, not-refused, first-none-cons}
 use Rattle.dag_store.specs.Kept.{PlainSession}
-use Rattle.dag_store.specs.Changes.{IsOn, AreFound, head_refusal, row_refusal, stored_as}
-use Rattle.dag_store.proofs.FlushNames.{stored-there, all-stored}
-use Rattle.dag_store.proofs.FlushLooks.{lone-named}
+use Rattle.dag_store.specs.Changes.{IsOn}
 
 -- rows that come behind others have new names
 fresh-rows : (before : List Name) (rows : List (Row Name)) → IsHistory before rows → (x : Name) → IsIn x (names_of rows) → IsIn x before → ⊥
@@ -106,6 +96,27 @@ known-rebased w pending x i =
     (λ j. ⊎_elim (λ k. in-left x all left k) (λ k. in-right x all left k) (left-or-there w pending x j))
     (in-append x all (names_of pending) (subst (IsIn x) (both-names w pending) i)))
 
+-- rows that may come behind all rows of a world
+module _ (w : World Name) where
+  is-new : (before : List Name) (r : Row Name) → ((x : Name) → IsIn x (names_of (rows_of w)) → IsIn x before) → (IsIn r.name before → ⊥) → is_in same_name r.name (names_of (rows_of w)) ≡ false
+  is-new before r f fresh = by_test (is_in same_name r.name (names_of (rows_of w))) refl
+    where
+      by_test : (b : Bool) → is_in same_name r.name (names_of (rows_of w)) ≡ b → is_in same_name r.name (names_of (rows_of w)) ≡ false
+      by_test true e = absurd (fresh (f r.name (found same_name same_name-exact same_name-self r.name (names_of (rows_of w)) e)))
+      by_test false e = e
+
+  all-left : (before : List Name) (rows : List (Row Name)) → IsHistory before rows → ((x : Name) → IsIn x (names_of (rows_of w)) → IsIn x before) → left_of same_name w rows ≡ rows
+  all-left before [] h f = refl
+  all-left before (r ∷ rows) h f =
+      ap (λ b. cond (not b) (r ∷ left_of same_name w rows) (left_of same_name w rows)) (is-new before r f h.0.fresh)
+      ∙ ap (λ l. r ∷ l) (all-left (before ++ r.name ∷ []) rows h.1 (λ x i. in-left x before (r.name ∷ []) (f x i)))
+
+  no-conflict : (before : List Name) (rows : List (Row Name)) → IsHistory before rows → ((x : Name) → IsIn x (names_of (rows_of w)) → IsIn x before) → first_conflict same_name w rows ≡ None
+  no-conflict before [] h f = refl
+  no-conflict before (r ∷ rows) h f =
+      ap (λ b. if b && not (has_parents same_name (row_named same_name (rows_of w) r.name) r.parents) then Some r.name else first_conflict same_name w rows) (is-new before r f h.0.fresh)
+      ∙ no-conflict (before ++ r.name ∷ []) rows h.1 (λ x i. in-left x before (r.name ∷ []) (f x i))
+
 -- ---- a state
 
 module _ (began s : ℕ) (added : List Placed) (x : PlainSession) (st : Stored) (o : IsOn began added x st s) where
@@ -128,81 +139,16 @@ module _ (began s : ℕ) (added : List Placed) (x : PlainSession) (st : Stored) 
   pub on-newest : is_on_newest st s ≡ true → base_of st s ≡ w
   on-newest e = ap (world_at st) (eqb-true (session st s).base (length st.past) e) ∙ newest-now st
 
-  by-stored : (name : Name) (b c : Bool) → is_in same_name name (stored_names st.payloads w) ≡ b → has w name ≡ c → b ≡ c → stored_as st name ≡ stored_id w name
-  by-stored name b c e f g =
-      ap (λ b. if b then Some (id_in same_name w name) else None) e ∙ ap (λ b. if b then Some (id_in same_name w name) else None) g ∙ sym (ap (λ b. if b then Some (id_in same_name w name) else None) f)
+  -- rows on the newest world are new there
+  pub new-there : is_on_newest st s ≡ true → (name : Name) → IsIn name (names_of rows) → has w name ≡ false
+  new-there e name i = absent name (names_of (rows_of w)) (λ j. fresh-rows (names_of (rows_of (base_of st s))) rows history name i (subst (λ v. IsIn name (names_of (rows_of v))) (sym (on-newest e)) j))
 
-  stored-has : (name : Name) → is_in same_name name (stored_names st.payloads w) ≡ true → has w name ≡ true
-  stored-has name e = there same_name same_name-exact same_name-self name (names_of (rows_of w))
-      (stored-there added w stand o.hold.world.world name (found same_name same_name-exact same_name-self name (stored_names (payloads_of added) w) (subst (λ l. is_in same_name name (stored_names l w) ≡ true) (sym o.payloads) e)))
+  -- and a rebase leaves them as they are
+  known-there : is_on_newest st s ≡ true → (y : Name) → IsIn y (names_of (rows_of w)) → IsIn y (names_of (rows_of (base_of st s)))
+  known-there e y i = subst (λ v. IsIn y (names_of (rows_of v))) (sym (on-newest e)) i
 
-  unstored-absent : (name : Name) → has_lazy st.payloads w ≡ false → is_in same_name name (stored_names st.payloads w) ≡ false → has w name ≡ false
-  unstored-absent name none e = absent name (names_of (rows_of w)) (λ i.
-      missing same_name same_name-exact same_name-self name (stored_names st.payloads w) e
-      (subst (λ l. IsIn name (stored_names l w)) o.payloads (all-stored added w stand o.hold.world.world (subst (λ l. has_lazy l w ≡ false) (sym o.payloads) none) name i)))
+  pub none-conflict : is_on_newest st s ≡ true → first_conflict same_name w rows ≡ None
+  none-conflict e = no-conflict w (names_of (rows_of (base_of st s))) rows history (known-there e)
 
-  -- a row's name that was looked up is stored, or it isn't in the world
-  pub row-settled : (name : Name) → IsIn name (names_of rows) → row_refusal st s name ≡ None → stored_as st name ≡ stored_id w name
-  row-settled name i h = by_stored (is_in same_name name (stored_names st.payloads w)) refl
-    where
-      by_lazy : (b : Bool) → has_lazy st.payloads w ≡ b → is_on_newest st s ≡ false → is_in same_name name (stored_names st.payloads w) ≡ false → has w name ≡ false
-      by_lazy false e n t = unstored-absent name e t
-      by_lazy true e n t =
-          absurd (some-none {X = Refusal} why.NoRemote (sym (ap₂ (λ n u. lone (named (not n && u) (found_as st w name) None)) n (ap₂ (λ a b. a && not b) e t)) ∙ h))
-
-      by_newest : (b : Bool) → is_on_newest st s ≡ b → is_in same_name name (stored_names st.payloads w) ≡ false → has w name ≡ false
-      by_newest true n t = absent name (names_of (rows_of w)) (λ j. fresh-rows (names_of (rows_of (base_of st s))) rows history name i (subst (λ v. IsIn name (names_of (rows_of v))) (sym (on-newest n)) j))
-      by_newest false n t = by_lazy (has_lazy st.payloads w) refl n t
-
-      by_stored : (b : Bool) → is_in same_name name (stored_names st.payloads w) ≡ b → stored_as st name ≡ stored_id w name
-      by_stored true t = by-stored name true true t (stored-has name t) refl
-      by_stored false t = by-stored name false false t (by_newest (is_on_newest st s) refl t) refl
-
-  -- and so is a head that was looked up, where the rows were
-  pub head-settled : (name : Name) → (IsIn name (names_of rows) → row_refusal st s name ≡ None) → head_refusal st s name ≡ None → stored_as st name ≡ stored_id w name
-  head-settled name r h = by_pending (is_in same_name name (names_of rows)) refl
-    where
-      by_lazy : (b : Bool) → has_lazy st.payloads w ≡ b → is_in same_name name (names_of rows) ≡ false → is_in same_name name (stored_names st.payloads w) ≡ false → has w name ≡ false
-      by_lazy false e p t = unstored-absent name e t
-      by_lazy true e p t =
-          absurd (some-none {X = Refusal} why.NoRemote
-          (sym (ap₂ (λ u p. lone (named (u && not p) (found_as st w name) (unknown (with_pending w rows) name))) (ap₂ (λ a b. a && not b) e t) p) ∙ h))
-
-      by_stored : (b : Bool) → is_in same_name name (stored_names st.payloads w) ≡ b → is_in same_name name (names_of rows) ≡ false → stored_as st name ≡ stored_id w name
-      by_stored true t p = by-stored name true true t (stored-has name t) refl
-      by_stored false t p = by-stored name false false t (by_lazy (has_lazy st.payloads w) refl p t) refl
-
-      by_pending : (b : Bool) → is_in same_name name (names_of rows) ≡ b → stored_as st name ≡ stored_id w name
-      by_pending true p = let i = found same_name same_name-exact same_name-self name (names_of rows) p in row-settled name i (r i)
-      by_pending false p = by_stored (is_in same_name name (stored_names st.payloads w)) refl p
-
-  -- a head that isn't refused is in the world or pending
-  pub head-known : (name : Name) → head_refusal st s name ≡ None → IsIn name (names_of (rows_of (with_pending w rows)))
-  head-known name h = by_test (is_asked st s w name) (sym (lone-named (is_asked st s w name) (unknown (with_pending w rows) name) (found_as st w name)) ∙ h)
-    where
-      by_test : (b : Bool) → (if b then Some why.NoRemote else unknown (with_pending w rows) name) ≡ None → IsIn name (names_of (rows_of (with_pending w rows)))
-      by_test true e = absurd (some-none {X = Refusal} why.NoRemote e)
-      by_test false e = found same_name same_name-exact same_name-self name (names_of (rows_of (with_pending w rows))) (not-refused (has (with_pending w rows) name) (why.Unknown name) e)
-
-  none-refused : (f : Name → Option Refusal) (names : List Name) → first_some (map f names) ≡ None → (y : Name) → IsIn y names → f y ≡ None
-  none-refused f [] h y i = absurd i
-  none-refused f (n ∷ names) h y (inl e) = ap f e ∙ (first-none-cons (f n) (map f names) h).0
-  none-refused f (n ∷ names) h y (inr i) = none-refused f names (first-none-cons (f n) (map f names) h).1 y i
-
-  same-each : (names : List Name) → ((y : Name) → IsIn y names → stored_as st y ≡ stored_id w y) → map (stored_as st) names ≡ map (stored_id w) names
-  same-each [] f = refl
-  same-each (n ∷ names) f = ap₂ (λ a b. a ∷ b) (f n (inl refl)) (same-each names (λ y i. f y (inr i)))
-
-  -- rows, and heads with them, were found as they are in the world
-  pub rows-found : (ids : List (Option ℕ)) → AreFound st (row_refusal st s) (names_of rows) ids → ids ≡ map (stored_id w) (names_of rows)
-  rows-found ids h = h.1 ∙ same-each (names_of rows) (λ y i. row-settled y i (none-refused (row_refusal st s) (names_of rows) h.0 y i))
-
-  pub heads-found : (heads : List Name) (ids : List (Option ℕ)) → first_some (map (row_refusal st s) (names_of rows)) ≡ None → AreFound st (head_refusal st s) heads ids → ids ≡ map (stored_id w) heads
-  heads-found heads ids r h = h.1 ∙ same-each heads (λ y i. head-settled y (none-refused (row_refusal st s) (names_of rows) r y) (none-refused (head_refusal st s) heads h.0 y i))
-
-  pub heads-known : (heads : List Name) → first_some (map (head_refusal st s) heads) ≡ None → AreAllIn heads (names_of (rows_of (with_pending w (left_of same_name w rows))))
-  heads-known heads h = all heads (λ y i. known-rebased w rows y (head-known y (none-refused (head_refusal st s) heads h y i)))
-    where
-      all : (names : List Name) → ((y : Name) → IsIn y names → IsIn y (names_of (rows_of (with_pending w (left_of same_name w rows))))) → AreAllIn names (names_of (rows_of (with_pending w (left_of same_name w rows))))
-      all [] f = tt
-      all (n ∷ names) f = (f n (inl refl), all names (λ y i. f y (inr i)))
+  pub all-stay : is_on_newest st s ≡ true → left_of same_name w rows ≡ rows
+  all-stay e = all-left w (names_of (rows_of (base_of st s))) rows history (known-there e)

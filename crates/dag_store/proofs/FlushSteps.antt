@@ -1,16 +1,18 @@
 -- From a plan, and how it ended, to the step of a state.
-use Rattle.std.proofs.Common.{◌≡◌, ◌<◌, inl, inr, ⊎_elim, ℕ, Bool, true, false, not, List, [], ◌∷◌, ◌++◌, length, map, set, Option, Some, None, MatchOption, Ok, refl, sym, ap, ap₂, subst, ◌∙◌, arith, length-append, le_refl, true≢false, if◌then◌else◌}
-use Rattle.std.proofs.lemmas.List.{map-append, length-map}
-use Rattle.id_groups.specs.Lists.{IsIn, is_in}
-use Rattle.id_groups.specs.Name.{Name, same_name}
+use Rattle.std.proofs.Common.{◌≡◌, ◌<◌, ⊎_elim, ℕ, Bool, true, false, not, List, [], ◌∷◌, ◌++◌, length, map, set, Option, Some, None, Ok, Err, refl, sym, ap, ap₂, subst, ◌∙◌, arith, true≢false, if◌then◌else◌}
+use Rattle.std.specs.List.{AllByRecursion}
+use Rattle.std.proofs.lemmas.List.{map-append}
+use Rattle.id_groups.specs.Lists.{IsIn, is_in, AreAllIn}
+use Rattle.id_groups.specs.Name.{Name, IsName, same_name}
 use Rattle.id_groups.proofs.Names.{same_name-exact, same_name-self}
+use Rattle.id_groups.proofs.Listing.{there}
 use Rattle.commit_graph.specs.World.{Row, World, IsWorld, IsNamedWorld, GrowsMaster, KeepsRows, names_of, rows_of, with_pending}
 use Rattle.commit_graph.proofs.Histories.{in-append}
 use Rattle.commit_graph.proofs.Down.{in-left, in-right}
 use Rattle.commit_graph.proofs.Naming.{named-by, name-of, pending-names, pending-there}
 use Rattle.gated_log.specs.Held.{Held}
 use Rattle.batch_codec.specs.Payload.{Payload}
-use Rattle.name_map.specs.Added.{Placed, payloads_of}
+use Rattle.name_map.specs.Added.{Placed}
 use Rattle.change_rules.specs.declared.Limits.{Limits}
 use Rattle.change_rules.specs.declared.Limit.TheVariants as limit
 use Rattle.change_rules.specs.Standard.{AreLimits}
@@ -19,49 +21,42 @@ use Rattle.change_rules.specs.Holding.{HoldPayloads}
 use Rattle.change_rules.specs.Rebase.{left_of}
 use Rattle.change_rules.proofs.Flushes.{rebase-world, flush-keeps, filtered-names}
 use Rattle.change_rules.proofs.Held.{change-held}
+use Rattle.remote_rules.specs.Mirror.{Mirror}
+use Rattle.lazy_names.specs.Cache.{PlainCache}
 use Rattle.payload_tables.specs.Kept.{PlainTables}
-use Rattle.payload_tables.specs.Bases.{ArePending}
 use Rattle.payload_tables.specs.Pending.{IdRow, HoldsRows}
 use Rattle.flush_rebuild.specs.declared.plan.Change.{Change}
 use Rattle.step_rules.specs.declared.Refusal.{Refusal}
 use Rattle.step_rules.specs.declared.Refusal.TheVariants as why
-use Rattle.step_rules.specs.State.{Stored, base_of, pending_of, with_stored, on_newest}
+use Rattle.step_rules.specs.State.{State, Stored, base_of, pending_of, with_stored, on_newest}
 use Rattle.step_rules.specs.Verb.{Verb, Flush, Reload}
 use Rattle.step_rules.specs.Reply.{Reply, Refused, Reloaded, Flushed}
 use Rattle.step_rules.specs.Worlds.{rebased, flush_of, same_world}
-use Rattle.step_rules.specs.Tests.{first_some, tests, unknown, full, rebase_tests}
-use Rattle.step_rules.specs.Asked.{is_asked, found_as}
-use Rattle.step_rules.specs.Step.{IsRefused, MayWantMemory}
-use Rattle.step_rules.specs.Lone.{lone, LoneStep, LoneAnswers}
+use Rattle.step_rules.specs.Tests.{Test, first_some, refused_first, refuse_if, tests, unknown, full, rebase_tests, pending_test, looked_up}
+use Rattle.step_rules.specs.Asking.{TriesAll}
+use Rattle.step_rules.specs.Step.{CommandStep}
 use Rattle.step_rules.proofs.Own.{refusals}
 use Rattle.step_rules.proofs.Steps.{flushed-world, some-none, first-none-cons, first-none-append}
 use Rattle.step_rules.proofs.Held.{within-limit, has-some}
-use Rattle.step_rules.proofs.States.{alone, at-newest}
+use Rattle.step_rules.proofs.Trying.{tried-all}
 use Rattle.dag_store.specs.declared.replies.Flushed.{Flushed as Ended}
 use Rattle.dag_store.specs.declared.replies.Flushed.TheVariants as ends
 use Rattle.dag_store.specs.Kept.{PlainSession, PlainStore, IsKept, IsSessionOf, session_at, sixteen}
-use Rattle.dag_store.specs.Stands.{Stands}
-use Rattle.dag_store.specs.Flushes.{FlushStep, flush_end, StoresBy, HasRoom}
+use Rattle.dag_store.specs.Stands.{Stands, StandsBeside}
+use Rattle.dag_store.specs.Looking.{AreRight, IsSoundCache, Tried}
+use Rattle.dag_store.specs.Steps.{Leads}
+use Rattle.dag_store.specs.Flushes.{FlushStep, flush_end, StoresBy, HasRoom, refused_flush}
 use Rattle.dag_store.specs.Finishes.{Finishes}
-use Rattle.dag_store.specs.Changes.{IsOn, IsFlushPlan, IsPrepared, IsReady, IsRefusedBy, Rebases, added_behind, next_place, head_refusal, row_refusal, flush_refusals}
-use Rattle.dag_store.proofs.Sees.{once}
-use Rattle.dag_store.proofs.Standing.{stands-with}
+use Rattle.dag_store.specs.Changes.{IsOn, IsFlushPlan, IsPrepared, Prepares, Reloads}
+use Rattle.dag_store.specs.declared.changing.Next.{Next}
 use Rattle.dag_store.proofs.Sizes.{pending-many}
-use Rattle.dag_store.proofs.FlushLooks.{lone-named}
-use Rattle.dag_store.proofs.FlushGathers.{first-behind}
-use Rattle.dag_store.proofs.FlushStates.{names-kept, heads-known}
-use Rattle.dag_store.proofs.FlushRefusals.{worlds-decided, sizes, conflict, lost, rebase-lone, flush-lone}
-use Rattle.dag_store.proofs.FlushStored.{on-of, stands-room, newest-stands, none-pending, stands-stored}
-
--- ---- steps
-
-pub lone-refused : (limits : Limits) (st : Stored) (s : ℕ) (verb : Verb) → MayWantMemory verb → (refusal : Refusal) → IsRefusedBy (map lone (tests limits st s verb)) refusal → LoneStep limits st s verb (Refused refusal) st
-lone-refused limits st s verb may refusal (inl m) = inr (may, (ap Refused m, refl))
-lone-refused limits st s verb may refusal (inr e) =
-    inl (subst (λ o. MatchOption o (LoneAnswers limits st s verb (Refused refusal) st) (λ r. IsRefused st r (Refused refusal) st)) (sym e) (refl, refl))
-
-pub lone-told : (limits : Limits) (st st' : Stored) (s : ℕ) (verb : Verb) (reply : Reply) → first_some (map lone (tests limits st s verb)) ≡ None → LoneAnswers limits st s verb reply st' → LoneStep limits st s verb reply st'
-lone-told limits st st' s verb reply e a = inl (subst (λ o. MatchOption o (LoneAnswers limits st s verb reply st') (λ r. IsRefused st r reply st')) (sym e) a)
+use Rattle.dag_store.proofs.Lines.{all-there}
+use Rattle.dag_store.proofs.Leading.{leads-to, next-goes, outside_next}
+use Rattle.dag_store.proofs.FlushStates.{known-rebased, names-kept}
+use Rattle.dag_store.proofs.FlushTests.{heads-are, sizes, worlds-decided}
+use Rattle.dag_store.proofs.FlushStored.{on-of, stands-room, newest-stands}
+use Rattle.dag_store.proofs.RebaseTests.{conflict, lost}
+use Rattle.dag_store.proofs.Changed.{stands-as-before, stands-changed}
 
 -- ---- the new world
 
@@ -69,46 +64,62 @@ first-skip : {X : Type 0} (o : Option X) (ys : List (Option X)) → o ≡ None �
 first-skip None ys e = refl
 first-skip (Some x) ys e = absurd (some-none x e)
 
-module _ (limits : Limits) (fair : AreLimits limits) (began s : ℕ) (added : List Placed) (x : PlainSession) (st : Stored) (o : IsOn began added x st s) (heads : List Name) (passed : first_some (flush_refusals limits st s heads) ≡ None) where
+first-behind : {X : Type 0} (xs ys : List (Option X)) → first_some xs ≡ None → first_some (xs ++ ys) ≡ first_some ys
+first-behind [] ys e = refl
+first-behind (None ∷ xs) ys e = first-behind xs ys e
+first-behind (Some z ∷ xs) ys e = absurd (some-none z e)
+
+abbrev refusal_in_test : Test → Option Refusal
+refusal_in_test t = t.refusal
+
+module _ (limits : Limits) (fair : AreLimits limits) (began s : ℕ) (added : List Placed) (x : PlainSession) (st : Stored) (o : IsOn began added x st s) (heads : List Name)
+    (passed : refused_first (tests limits st s (Flush heads)) ≡ None) where
   abbrev pub new : World Name
   new = flush_of st s heads
 
-  abbrev tests_of : List (Option Refusal)
-  tests_of = map lone (rebase_tests st s) ++ sizes limits st new
+  abbrev lookups : List Test
+  lookups = map (looked_up st s st.stored (unknown (with_pending st.stored (pending_of st s)))) heads
 
-  parts : (first_some (map (head_refusal st s) heads) ≡ None) × (first_some tests_of ≡ None)
-  parts = first-none-append (map (head_refusal st s) heads) tests_of (sym (ap first_some (flush-lone limits st s heads)) ∙ passed)
+  abbrev rows_tests : List Test
+  rows_tests = map (pending_test st s) (pending_of st s)
 
-  rebase-parts : (first_some (map lone (rebase_tests st s)) ≡ None) × (first_some (sizes limits st new) ≡ None)
-  rebase-parts = first-none-append (map lone (rebase_tests st s)) (sizes limits st new) parts.1
+  both : (first_some (map refusal_in_test (lookups ++ rebase_tests st s)) ≡ None) × (first_some (sizes limits st new) ≡ None)
+  both = first-none-append (map refusal_in_test (lookups ++ rebase_tests st s)) (sizes limits st new) (sym (ap first_some (map-append refusal_in_test (lookups ++ rebase_tests st s) _)) ∙ passed)
 
-  both-none : (conflict st s ≡ None) × (lost st s ≡ None)
+  parts : (first_some (map refusal_in_test lookups) ≡ None) × (first_some (map refusal_in_test (rebase_tests st s)) ≡ None)
+  parts = first-none-append (map refusal_in_test lookups) (map refusal_in_test (rebase_tests st s)) (sym (ap first_some (map-append refusal_in_test lookups (rebase_tests st s))) ∙ both.0)
+
+  both-none : (conflict began s added x st o ≡ None) × (lost began s added x st o ≡ None)
   both-none =
-      let r = first-none-append (map (row_refusal st s) (names_of (pending_of st s))) (conflict st s ∷ lost st s ∷ []) (sym (ap first_some (rebase-lone st s)) ∙ rebase-parts.0) in
-      let c = first-none-cons (conflict st s) (lost st s ∷ []) r.1 in
-      (c.0, (first-none-cons (lost st s) [] c.1).0)
+      let c = conflict began s added x st o in
+      let l = lost began s added x st o in
+      let r = first-none-append (map refusal_in_test rows_tests) (c ∷ l ∷ []) (sym (ap first_some (map-append refusal_in_test rows_tests _)) ∙ parts.1) in
+      let f = first-none-cons c (l ∷ []) r.1 in
+      (f.0, (first-none-cons l [] f.1).0)
 
   sizes-none : (full limit.Others limits.others (length new.others) ≡ None) × (full limit.Master limits.master (length new.master) ≡ None)
   sizes-none =
-      let a = first-none-cons (full limit.Others limits.others (length new.others)) _ rebase-parts.1 in
+      let a = first-none-cons (full limit.Others limits.others (length new.others)) _ both.1 in
       (a.0, (first-none-cons (full limit.Master limits.master (length new.master)) _ a.1).0)
 
-  heads-unknown : (names : List Name) → first_some (map (head_refusal st s) names) ≡ None → first_some (map (unknown (with_pending st.stored (pending_of st s))) names) ≡ None
-  heads-unknown [] e = refl
-  heads-unknown (n ∷ names) e =
-      let p = first-none-cons (head_refusal st s n) (map (head_refusal st s) names) e in
+  heads-there : AreAllIn heads (names_of (rows_of (with_pending st.stored (pending_of st s))))
+  heads-there = all-there st.payloads st.stored (pending_of st s) heads (ap (λ l. first_some (map refusal_in_test l)) (heads-are limits st s heads heads) ∙ parts.0)
+
+  heads-known : (names : List Name) → AreAllIn names (names_of (rows_of (with_pending st.stored (pending_of st s)))) → AreAllIn names (names_of (rows_of (rebased st s)))
+  heads-known [] i = tt
+  heads-known (n ∷ names) i = (known-rebased st.stored (pending_of st s) n i.0, heads-known names i.1)
+
+  heads-unknown : (names : List Name) → AreAllIn names (names_of (rows_of (with_pending st.stored (pending_of st s)))) → first_some (map (unknown (with_pending st.stored (pending_of st s))) names) ≡ None
+  heads-unknown [] i = refl
+  heads-unknown (n ∷ names) i =
       first-skip (unknown (with_pending st.stored (pending_of st s)) n) _
-      (by_test (is_asked st s st.stored n) (sym (lone-named (is_asked st s st.stored n) (unknown (with_pending st.stored (pending_of st s)) n) (found_as st st.stored n)) ∙ p.0))
-      ∙ heads-unknown names p.1
-    where
-      by_test : (b : Bool) → (if b then Some why.NoRemote else unknown (with_pending st.stored (pending_of st s)) n) ≡ None → unknown (with_pending st.stored (pending_of st s)) n ≡ None
-      by_test true e = absurd (some-none {X = Refusal} why.NoRemote e)
-      by_test false e = e
+      (ap (λ b. refuse_if (not b) (why.Unknown n)) (there same_name same_name-exact same_name-self n (names_of (rows_of (with_pending st.stored (pending_of st s)))) i.0))
+      ∙ heads-unknown names i.1
 
   plain-none : first_some (refusals limits (base_of st s) (pending_of st s) st.stored (Flush heads)) ≡ None
   plain-none =
-      first-behind (map (unknown (with_pending st.stored (pending_of st s))) heads) _ (heads-unknown heads parts.0)
-      ∙ first-skip (conflict st s) _ both-none.0 ∙ first-skip (lost st s) _ both-none.1
+      first-behind (map (unknown (with_pending st.stored (pending_of st s))) heads) _ (heads-unknown heads heads-there)
+      ∙ first-skip (conflict began s added x st o) _ both-none.0 ∙ first-skip (lost began s added x st o) _ both-none.1
       ∙ first-skip (full limit.Others limits.others (length new.others)) _ sizes-none.0 ∙ first-skip (full limit.Master limits.master (length new.master)) [] sizes-none.1
 
   facts : IsNamedWorld new × GrowsMaster st.stored new × ((y : Name) → IsIn y (names_of (rows_of st.stored)) → IsIn y (names_of (rows_of new)))
@@ -125,7 +136,7 @@ module _ (limits : Limits) (fair : AreLimits limits) (began s : ℕ) (added : Li
 
   pub new-keeps : KeepsRows st.stored new
   new-keeps row i =
-      flush-keeps same_name same_name-exact same_name-self (rebased st s) seen heads (heads-known began s added x st o heads parts.0) row
+      flush-keeps same_name same_name-exact same_name-self (rebased st s) seen heads (heads-known heads heads-there) row
       (⊎_elim (λ j. in-left row st.stored.master (st.stored.others ++ left_of same_name st.stored (pending_of st s)) j)
       (λ j. in-right row st.stored.master (st.stored.others ++ left_of same_name st.stored (pending_of st s)) (in-left row st.stored.others (left_of same_name st.stored (pending_of st s)) j))
       (in-append row st.stored.master st.stored.others i))
@@ -139,145 +150,148 @@ module _ (limits : Limits) (fair : AreLimits limits) (began s : ℕ) (added : Li
 
 -- ---- how it ends
 
-module _ (began : ℕ) (kept : PlainStore) (tables : PlainTables) (k : IsKept kept.log tables kept.sessions kept.limits) (st : Stored) (h : Stands began kept st) (s : ℕ) (small : s < sixteen) (heads : List Name) where
-  abbrev limits : Limits
-  limits = kept.limits
+module _ (began : ℕ) (kept : PlainStore) (tables : PlainTables) (k : IsKept kept.log tables kept.sessions kept.limits) (st : State) (old left : List Mirror) (b : PlainCache) (h : StandsBeside began kept old st)
+    (s : ℕ) (small : s < sixteen) (right : AreRight st.store.payloads st.store.stored old) (sound : IsSoundCache b) where
+  on : IsOn began k.added (session_at kept.sessions s) st.store s
+  on = on-of kept.log tables kept.sessions kept.limits k began st.store h.stored s small
 
-  abbrev next_world : World Name
-  next_world = flush_of st s heads
+  tries : (verb : Verb) (verdict : Option Refusal) (t : Tried st.store.payloads st.store.stored (tests kept.limits st.store s verb) old left kept.cache b verdict)
+      → TriesAll (Unit {0}) st.outside.mirrors (tests kept.limits st.store s verb) verdict left t.gained
+  tries verb verdict t = subst (λ m. TriesAll (Unit {0}) m (tests kept.limits st.store s verb) verdict left t.gained) (sym h.outside_of.mirrors_are) (t.serving right)
 
-  on : IsOn began k.added (session_at kept.sessions s) st s
-  on = on-of kept.log tables kept.sessions kept.limits k began st h s small
+  passes : (verb : Verb) → Tried st.store.payloads st.store.stored (tests kept.limits st.store s verb) old left kept.cache b None → refused_first (tests kept.limits st.store s verb) ≡ None
+  passes verb t = ⊎_elim (λ e. sym e) (λ n. absurd n) (tried-all (Unit {0}) old left (tests kept.limits st.store s verb) None t.gained (t.serving right))
 
-  pub flush-refused : (reserved : Held) → HasRoom kept.log reserved → (same : PlainStore) → same ≡ record { log = reserved; sessions = kept.sessions; limits = kept.limits } → (payload : List ℕ) (refusal : Refusal)
-      → IsRefusedBy (flush_refusals limits st s heads) refusal → FlushStep began kept st s heads payload (ends.Refused same refusal)
-  flush-refused reserved room same is payload refusal r = (
-    lone-refused limits st s (Flush heads) tt refusal r,
-    subst (λ v. Stands began v st) (sym is) (stands-room began kept.log reserved kept.sessions kept.limits st (ap (λ (l : Held). l.payloads) room) h),
-  )
+  -- ---- a flush
 
-  module _ (reserved : Held) (after : PlainTables) (change : Change) (x : PlainSession) (p : IsPrepared limits kept.log reserved tables after k.added change x) (room : HasRoom kept.log reserved)
-      (plan : IsFlushPlan limits st s heads change) where
-    told : (m o : ℕ) → m ≡ change.master → o ≡ change.others → LoneStep limits st s (Flush heads) (Flushed m o) (flush_end st s heads)
-    told m o em eo = lone-told limits st (flush_end st s heads) s (Flush heads) (Flushed m o) plan.passed (ap₂ {C = Reply} (λ a b. Flushed a b) (em ∙ plan.plan.master) (eo ∙ plan.plan.others), refl)
+  module _ (heads : List Name) (named : AllByRecursion IsName heads) where
+    pub flush-refused : (reserved : Held) → HasRoom kept.log reserved → (same : PlainStore) → same ≡ record { log = reserved; sessions = kept.sessions; limits = kept.limits; cache = b } → (payload : List ℕ) (refusal : Refusal)
+        → Prepares kept.limits st.store s heads old left kept.cache b (Err refusal) → FlushStep began kept st s heads left payload (ends.Refused same refusal)
+    flush-refused reserved room same is payload refusal p =
+        leads-to kept.limits began kept st s (Flush heads) old left b h sound named (Refused refusal) p.tried.gained st.store same (ap (λ (v : PlainStore). v.cache) is)
+        (subst (λ v. Stands began v st.store) (sym is) (stands-room began kept.log reserved kept.sessions kept.limits st.store (ap (λ (l : Held). l.payloads) room) h.stored)) p.tried.keeps
+        (Some refusal, left, p.tried.gained, tries (Flush heads) (Some refusal) p.tried, ((refl, refl), next-goes kept.cache b old left st h.outside_of sound p.tried.gained p.tried.keeps))
 
-    choice : (b : Bool) → same_world next_world st.stored ≡ b → flush_end st s heads ≡ (if b then on_newest st s [] else on_newest (with_stored st next_world (flush_change st.stored next_world)) s [])
-    choice b e = ap (λ (t : Bool). if t then on_newest st s [] else on_newest (with_stored st next_world (flush_change st.stored next_world)) s []) e
+    abbrev next_world : World Name
+    next_world = flush_of st.store s heads
 
-    -- nothing is stored
-    module _ (same : change.same ≡ true) where
-      is-same : same_world next_world st.stored ≡ true
-      is-same = (worlds-decided next_world st.stored).1 (plan.plan.same.0 same)
+    module _ (reserved : Held) (after : PlainTables) (next : Next) (p : IsPrepared kept.limits kept.log reserved tables after k.added next.change next.session) (room : HasRoom kept.log reserved)
+        (made : Prepares kept.limits st.store s heads old left kept.cache b (Ok next)) where
+      abbrev change : Change
+      change = next.change
 
-      end-same : flush_end st s heads ≡ on_newest st s []
-      end-same = choice true is-same
+      plan : IsFlushPlan st.store s heads next.change
+      plan = made.right right
 
-      stands-same : Stands began (record { log = reserved; sessions = set kept.sessions s x; limits = limits }) (flush_end st s heads)
-      stands-same =
-          let q = (p.same same).1 in
-          subst (Stands began (record { log = reserved; sessions = set kept.sessions s x; limits = limits })) (sym end-same)
-          (stands-room began kept.log reserved (set kept.sessions s x) limits (on_newest st s []) (ap (λ (l : Held). l.payloads) room)
-          (newest-stands kept.log tables kept.sessions kept.limits k s small x began st h q.1 []
-          (none-pending k.added x st.stored q (subst (λ l. HoldPayloads l st.stored) (sym on.payloads) on.hold)) (alone st.stored on.hold.world)))
+      passed : refused_first (tests kept.limits st.store s (Flush heads)) ≡ None
+      passed = passes (Flush heads) made.tried
 
-    -- the payload is stored
-    module _ (changes : change.same ≡ false) where
-      differs : next_world ≡ st.stored → ⊥
-      differs e = true≢false (sym (plan.plan.same.1 e) ∙ changes)
+      abbrev end_state : State
+      end_state = record { store = flush_end st.store s heads; outside = outside_next st.outside left made.tried.gained b }
 
-      is-new : same_world next_world st.stored ≡ false
-      is-new = by_test (same_world next_world st.stored) refl
-        where
-          by_test : (b : Bool) → same_world next_world st.stored ≡ b → same_world next_world st.stored ≡ false
-          by_test true e = absurd (differs ((worlds-decided next_world st.stored).0 e))
-          by_test false e = e
+      step : (m o : ℕ) → m ≡ next.change.master → o ≡ next.change.others → CommandStep kept.limits st s (Flush heads) (Flushed m o) end_state
+      step m o em eo = (
+        None,
+        left,
+        made.tried.gained,
+        tries (Flush heads) None made.tried,
+        ((ap₂ {C = Reply} (λ a b. Flushed a b) (em ∙ plan.plan.master) (eo ∙ plan.plan.others), refl), next-goes kept.cache b old left st h.outside_of sound made.tried.gained made.tried.keeps),
+      )
 
-      abbrev new_payload : Payload
-      new_payload = flush_change st.stored next_world
+      leads : (m o : ℕ) → m ≡ next.change.master → o ≡ next.change.others → (new : PlainStore) → new.cache ≡ b → Stands began new (flush_end st.store s heads) → Leads began kept.limits st s (Flush heads) (Flushed m o) new left
+      leads m o em eo new is stands =
+          leads-to kept.limits began kept st s (Flush heads) old left b h sound named (Flushed m o) made.tried.gained (flush_end st.store s heads) new is stands made.tried.keeps (step m o em eo)
 
-      text-is : change.payload ≡ text_of new_payload
-      text-is = plan.plan.payload_is ∙ plan.change_of.some differs
+      choice : (c : Bool) → same_world next_world st.store.stored ≡ c → flush_end st.store s heads ≡ (if c then on_newest st.store s [] else on_newest (with_stored st.store next_world (flush_change st.store.stored next_world)) s [])
+      choice c e = ap (λ (t : Bool). if t then on_newest st.store s [] else on_newest (with_stored st.store next_world (flush_change st.store.stored next_world)) s []) e
 
-      end-new : flush_end st s heads ≡ on_newest (with_stored st next_world new_payload) s []
-      end-new = choice false is-new
+      -- nothing is stored
+      module _ (same : next.change.same ≡ true) where
+        end-same : flush_end st.store s heads ≡ on_newest st.store s []
+        end-same = choice true ((worlds-decided next_world st.store.stored).1 (plan.plan.same.0 same))
 
-      stores : StoresBy st s heads change.payload
-      stores = record {
-        past = ap (λ (z : Stored). z.past) end-new;
-        payloads = ap (λ (z : Stored). z.payloads) end-new;
-        text = text-is;
-      }
+        stands-same : Stands began (record { log = reserved; sessions = set kept.sessions s next.session; limits = kept.limits; cache = b }) (flush_end st.store s heads)
+        stands-same = subst (Stands began (record { log = reserved; sessions = set kept.sessions s next.session; limits = kept.limits; cache = b })) (sym end-same)
+            (stands-as-before began kept tables k st.store h.stored s small reserved after next.change next.session p room same)
 
-      holds : HoldPayloads (st.payloads ++ new_payload ∷ []) next_world
-      holds = new-holds limits k.limits_fit began s k.added (session_at kept.sessions s) st on heads plan.passed is-new
+      -- the payload is stored
+      module _ (changes : next.change.same ≡ false) where
+        differs : next_world ≡ st.store.stored → ⊥
+        differs e = true≢false (sym (plan.plan.same.1 e) ∙ changes)
 
-      ready : IsReady limits kept.log reserved after k.added change x
-      ready = p.ready changes
+        is-new : same_world next_world st.store.stored ≡ false
+        is-new = by_test (same_world next_world st.store.stored) refl
+          where
+            by_test : (c : Bool) → same_world next_world st.store.stored ≡ c → same_world next_world st.store.stored ≡ false
+            by_test true e = absurd (differs ((worlds-decided next_world st.store.stored).0 e))
+            by_test false e = e
 
-      abbrev more : List Placed
-      more = added_behind kept.log k.added ready.last
+        abbrev new_payload : Payload
+        new_payload = flush_change st.store.stored next_world
 
-      are : payloads_of more ≡ st.payloads ++ new_payload ∷ []
-      are = once [] [] (payloads_of more) (st.payloads ++ new_payload ∷ []) ready.tables_of.lawful holds.lawful
-          (ap (map text_of) (map-append (λ (a : Placed). a.payload) k.added (record { at = next_place kept.log; payload = ready.last } ∷ []))
-          ∙ map-append text_of (payloads_of k.added) (ready.last ∷ [])
-          ∙ ap₂ (λ l t. map text_of l ++ t ∷ []) on.payloads (sym ready.storable.payload ∙ text-is)
-          ∙ sym (map-append text_of st.payloads (new_payload ∷ [])))
+        text-is : next.change.payload ≡ text_of new_payload
+        text-is = plan.plan.payload_is ∙ plan.change_of.some differs
 
-      stands-new : (log : Held) → log.payloads ≡ reserved.payloads ++ change.payload ∷ [] → Stands began (record { log = log; sessions = set kept.sessions s x; limits = limits }) (flush_end st s heads)
-      stands-new log is =
-          let o = on in
-          let named = new-named limits k.limits_fit began s k.added (session_at kept.sessions s) st o heads plan.passed in
-          let next = with_stored st next_world new_payload in
-          let last = length (st.past ++ st.stored ∷ []) in
-          let stored = stands-stored began kept st h next_world new_payload named (new-grows limits k.limits_fit began s k.added (session_at kept.sessions s) st o heads plan.passed)
-          (new-keeps limits k.limits_fit began s k.added (session_at kept.sessions s) st o heads plan.passed) holds log
-          (is ∙ ap₂ (λ a b. a ++ b ∷ []) (ap (λ (l : Held). l.payloads) room) text-is) in
-          let n = ready.session_of.1 in
-          let l = length-append k.added (record { at = next_place kept.log; payload = ready.last } ∷ []) in
-          let e = ap length o.payloads in let m = length-map k.added (λ (a : Placed). a.payload) in let c = o.count in let g = length-append st.past (st.stored ∷ []) in
-          subst (Stands began (record { log = log; sessions = set kept.sessions s x; limits = limits })) (sym end-new)
-          (stands-with began (record { log = log; sessions = kept.sessions; limits = limits }) next s x (record { base = last; pending = [] }) small k.count stored
-          (record { base = le_refl _; view = subst (λ w. IsNamedWorld (with_pending w [])) (sym (at-newest st next_world new_payload last refl)) (alone next_world named) })
-          (record {
-            payloads = omega (arith, n, l, e, m, c, g);
-            pending = subst (λ w. ArePending w x.pending []) (sym (at-newest st next_world new_payload last refl)) (none-pending more x next_world ready.session_of (subst (λ l. HoldPayloads l next_world) (sym are) holds));
-          }))
+        end-new : flush_end st.store s heads ≡ on_newest (with_stored st.store next_world new_payload) s []
+        end-new = choice false is-new
 
-    pub flush-finished : (end : Ended) → Finishes reserved (set kept.sessions s x) limits change end → FlushStep began kept st s heads change.payload end
-    flush-finished (ends.Done store counts None) f = (
-      told counts.master counts.others f.2.0 f.2.1,
-      subst (λ v. Stands began v (flush_end st s heads)) (sym f.1) (stands-same f.0),
-      (ap (λ (z : Stored). z.past) (end-same f.0), ap (λ (z : Stored). z.payloads) (end-same f.0)),
-    )
-    flush-finished (ends.Done store counts (Some clock)) f = (
-      told counts.master counts.others f.3.0 f.3.1,
-      subst (λ v. Stands began v (flush_end st s heads)) (sym f.1) (stands-new f.0 store.log f.2),
-      stores f.0,
-    )
-    flush-finished (ends.Refused same refusal) f = absurd f
-    flush-finished (ends.Disk fault) f = (told (length next_world.master) (length next_world.others) (sym plan.plan.master) (sym plan.plan.others), stores f)
+        stores : StoresBy st.store s heads next.change.payload
+        stores = record {
+          past = ap (λ (z : Stored). z.past) end-new;
+          payloads = ap (λ (z : Stored). z.payloads) end-new;
+          text = text-is;
+        }
 
--- ---- a reload
+        stands-new : (log : Held) → log.payloads ≡ reserved.payloads ++ next.change.payload ∷ [] → Stands began (record { log = log; sessions = set kept.sessions s next.session; limits = kept.limits; cache = b }) (flush_end st.store s heads)
+        stands-new log is =
+            let fair = k.limits_fit in
+            subst (Stands began (record { log = log; sessions = set kept.sessions s next.session; limits = kept.limits; cache = b })) (sym end-new)
+            (stands-changed began kept tables k st.store h.stored s small reserved after next.change next.session p room next_world new_payload changes text-is
+            (new-named kept.limits fair began s k.added (session_at kept.sessions s) st.store on heads passed) (new-grows kept.limits fair began s k.added (session_at kept.sessions s) st.store on heads passed)
+            (new-keeps kept.limits fair began s k.added (session_at kept.sessions s) st.store on heads passed) (new-holds kept.limits fair began s k.added (session_at kept.sessions s) st.store on heads passed is-new) log is)
 
-module _ (began : ℕ) (log : Held) (tables : PlainTables) (sessions : List PlainSession) (limits : Limits) (k : IsKept log tables sessions limits) (s : ℕ) (small : s < sixteen) (st : Stored)
-    (h : Stands began (record { log = log; sessions = sessions; limits = limits }) st) where
-  abbrev left : List (Row Name)
-  left = left_of same_name st.stored (pending_of st s)
+      pub flush-finished : (end : Ended) → Finishes reserved (set kept.sessions s next.session) kept.limits b next.change end → FlushStep began kept st s heads left next.change.payload end
+      flush-finished (ends.Done store counts None) f = (
+        leads counts.master counts.others f.2.0 f.2.1 store (ap (λ (v : PlainStore). v.cache) f.1) (subst (λ v. Stands began v (flush_end st.store s heads)) (sym f.1) (stands-same f.0)),
+        subst (λ v. Stands began v (flush_end st.store s heads)) (sym f.1) (stands-same f.0),
+        (ap (λ (z : Stored). z.past) (end-same f.0), ap (λ (z : Stored). z.payloads) (end-same f.0)),
+      )
+      flush-finished (ends.Done store counts (Some clock)) f = (
+        leads counts.master counts.others f.3.0 f.3.1 store (ap (λ (v : PlainStore). v.cache) f.1) (subst (λ v. Stands began v (flush_end st.store s heads)) (sym f.1) (stands-new f.0 store.log f.2)),
+        subst (λ v. Stands began v (flush_end st.store s heads)) (sym f.1) (stands-new f.0 store.log f.2),
+        stores f.0,
+      )
+      flush-finished (ends.Refused same refusal) f = absurd f
+      flush-finished (ends.Disk fault) f = (end_state, step (length next_world.master) (length next_world.others) (sym plan.plan.master) (sym plan.plan.others), refl, refl, stores f)
 
-  at-session : IsOn began k.added (session_at sessions s) st s
-  at-session = on-of log tables sessions limits k began st h s small
+  -- ---- a reload
 
-  rebased-named : IsWorld (with_pending st.stored left) → IsNamedWorld (with_pending st.stored left)
-  rebased-named world = named-by (with_pending st.stored left) world
-      (λ y i. ⊎_elim (λ j. name-of st.stored at-session.hold.world y j)
-      (λ j. name-of (with_pending (base_of st s) (pending_of st s)) (at-session.state.sessions s).view y
-      (pending-there (base_of st s) (pending_of st s) y (filtered-names (λ row. not (is_in same_name row.name (names_of (rows_of st.stored)))) y (pending_of st s) j)))
-      (pending-names st.stored left y i))
+  abbrev left_rows : List (Row Name)
+  left_rows = left_of same_name st.store.stored (pending_of st.store s)
 
-  pub reload-done : (x : PlainSession) (n : ℕ) → IsSessionOf k.added x × (x.payloads ≡ length k.added) → ((rows : List IdRow) → HoldsRows x.pending rows → n ≡ length rows)
-      → Rebases limits st s (Ok x.pending) → LoneStep limits st s Reload (Reloaded n) (on_newest st s left) × Stands began (record { log = log; sessions = set sessions s x; limits = limits }) (on_newest st s left)
-  reload-done x n of len r = (
-    lone-told limits st (on_newest st s left) s Reload (Reloaded n) r.0 (ap Reloaded (pending-many st.stored x.pending left n r.1 len), refl),
-    newest-stands log tables sessions limits k s small x began st h of.1 left r.1 (rebased-named r.1.view),
-  )
+  rebased-named : IsWorld (with_pending st.store.stored left_rows) → IsNamedWorld (with_pending st.store.stored left_rows)
+  rebased-named world = named-by (with_pending st.store.stored left_rows) world
+      (λ y i. ⊎_elim (λ j. name-of st.store.stored on.hold.world y j)
+      (λ j. name-of (with_pending (base_of st.store s) (pending_of st.store s)) (on.state.sessions s).view y
+      (pending-there (base_of st.store s) (pending_of st.store s) y (filtered-names (λ row. not (is_in same_name row.name (names_of (rows_of st.store.stored)))) y (pending_of st.store s) j)))
+      (pending-names st.store.stored left_rows y i))
+
+  pub reload-done : (x : PlainSession) (n : ℕ) → IsSessionOf k.added x × (x.payloads ≡ length k.added) → ((rows : List IdRow) → HoldsRows x.pending rows → n ≡ length rows) → Reloads kept.limits st.store s old left kept.cache b (Ok x)
+      → Leads began kept.limits st s Reload (Reloaded n) (record { log = kept.log; sessions = set kept.sessions s x; limits = kept.limits; cache = b }) left
+  reload-done x n of len r =
+      let p = r.right right in
+      leads-to kept.limits began kept st s Reload old left b h sound tt (Reloaded n) r.tried.gained (on_newest st.store s left_rows) (record { log = kept.log; sessions = set kept.sessions s x; limits = kept.limits; cache = b }) refl
+      (newest-stands kept.log tables kept.sessions kept.limits k s small x began st.store h.stored of.1 left_rows p (rebased-named p.view)) r.tried.keeps
+      (None, left, r.tried.gained, tries Reload None r.tried, ((ap Reloaded (pending-many st.store.stored x.pending left_rows n p len), refl), next-goes kept.cache b old left st h.outside_of sound r.tried.gained r.tried.keeps))
+
+  pub reload-refused : (refusal : Refusal) → Reloads kept.limits st.store s old left kept.cache b (Err refusal)
+      → Leads began kept.limits st s Reload (Refused refusal) (record { log = kept.log; sessions = kept.sessions; limits = kept.limits; cache = b }) left
+  reload-refused refusal r =
+      leads-to kept.limits began kept st s Reload old left b h sound tt (Refused refusal) r.tried.gained st.store (record { log = kept.log; sessions = kept.sessions; limits = kept.limits; cache = b }) refl h.stored r.tried.keeps
+      (Some refusal, left, r.tried.gained, tries Reload (Some refusal) r.tried, ((refl, refl), next-goes kept.cache b old left st h.outside_of sound r.tried.gained r.tried.keeps))
+
+-- a flush that ended isn't refused
+pub finished-passed : (reserved : Held) (sessions : List PlainSession) (limits : Limits) (b : PlainCache) (change : Change) (end : Ended) → Finishes reserved sessions limits b change end → refused_flush end ≡ None
+finished-passed reserved sessions limits b change (ends.Done store counts clock) f = refl
+finished-passed reserved sessions limits b change (ends.Refused same refusal) f = absurd f
+finished-passed reserved sessions limits b change (ends.Disk fault) f = refl

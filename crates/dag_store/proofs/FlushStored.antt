@@ -23,7 +23,7 @@ use Rattle.flush_rebuild.specs.declared.plan.Change.{Change}
 use Rattle.step_rules.specs.State.{Stored, session, world_at, base_of, with_stored, on_newest}
 use Rattle.step_rules.proofs.States.{alone, with_stored-state, at-newest}
 use Rattle.step_rules.proofs.Sessions.{newest-now, world_at-stored}
-use Rattle.dag_store.specs.Kept.{PlainSession, PlainStore, IsKept, IsSessionOf, EndsWithin, session_at, no_session, sixteen, base_added}
+use Rattle.dag_store.specs.Kept.{PlainSession, PlainStore, IsKept, IsSessionOf, EndsWithin, no_cache, session_at, no_session, sixteen, base_added}
 use Rattle.dag_store.specs.Stands.{Stands}
 use Rattle.dag_store.specs.Loading.{IsOnNewest}
 use Rattle.dag_store.specs.Flushes.{HasRoom}
@@ -39,7 +39,7 @@ pub over-of : (log : Held) (tables : PlainTables) (sessions : List PlainSession)
 over-of log tables sessions limits k = record { tables_of = k.tables_of; stand = k.stand; texts = k.texts }
 
 pub on-of : (log : Held) (tables : PlainTables) (sessions : List PlainSession) (limits : Limits) (k : IsKept log tables sessions limits) (began : ℕ) (st : Stored)
-    (h : Stands began (record { log = log; sessions = sessions; limits = limits }) st) (s : ℕ) → s < sixteen → IsOn began k.added (session_at sessions s) st s
+    (h : Stands began (record { log = log; sessions = sessions; limits = limits; cache = no_cache }) st) (s : ℕ) → s < sixteen → IsOn began k.added (session_at sessions s) st s
 on-of log tables sessions limits k began st h s small = record {
   state = h.state;
   payloads = added-are log tables sessions limits k began st h;
@@ -65,7 +65,7 @@ kept-room log new tables sessions limits room k = subst (λ l. IsKept l tables s
 })
 
 pub stands-room : (began : ℕ) (log new : Held) (sessions : List PlainSession) (limits : Limits) (st : Stored) → new.payloads ≡ log.payloads
-    → Stands began (record { log = log; sessions = sessions; limits = limits }) st → Stands began (record { log = new; sessions = sessions; limits = limits }) st
+    → Stands began (record { log = log; sessions = sessions; limits = limits; cache = no_cache }) st → Stands began (record { log = new; sessions = sessions; limits = limits; cache = no_cache }) st
 stands-room began log new sessions limits st same h = record { state = h.state; texts = same ∙ h.texts; count = h.count; worlds = h.worlds; keeps = h.keeps; sessions = h.sessions }
 
 -- ---- the session on the newest payloads
@@ -74,11 +74,11 @@ module _ (log : Held) (tables : PlainTables) (sessions : List PlainSession) (lim
   pub newest-kept : IsSessionOf k.added x → IsKept log tables (set sessions s x) limits
   newest-kept of = kept-with log tables sessions limits k s x small of
 
-  pub newest-stands : (began : ℕ) (st : Stored) → Stands began (record { log = log; sessions = sessions; limits = limits }) st → x.payloads ≡ length k.added → (rows : List (Row Name)) → ArePending st.stored x.pending rows
-      → IsNamedWorld (with_pending st.stored rows) → Stands began (record { log = log; sessions = set sessions s x; limits = limits }) (on_newest st s rows)
+  pub newest-stands : (began : ℕ) (st : Stored) → Stands began (record { log = log; sessions = sessions; limits = limits; cache = no_cache }) st → x.payloads ≡ length k.added → (rows : List (Row Name)) → ArePending st.stored x.pending rows
+      → IsNamedWorld (with_pending st.stored rows) → Stands began (record { log = log; sessions = set sessions s x; limits = limits; cache = no_cache }) (on_newest st s rows)
   newest-stands began st h n rows p named =
       let o = on-of log tables sessions limits k began st h s small in
-      stands-with began (record { log = log; sessions = sessions; limits = limits }) st s x (record { base = length st.past; pending = rows }) small k.count h
+      stands-with began (record { log = log; sessions = sessions; limits = limits; cache = no_cache }) st s x (record { base = length st.past; pending = rows }) small k.count h
       (record { base = le_refl _; view = subst (λ w. IsNamedWorld (with_pending w rows)) (sym (newest-now st)) named })
       (record {
         payloads = (let e = ap length o.payloads in let l = length-map k.added (λ (a : Placed). a.payload) in let c = o.count in omega (arith, n, e, l, c));
@@ -228,7 +228,7 @@ module _ (began : ℕ) (kept : PlainStore) (st : Stored) (h : Stands began kept 
       (λ row there. rows row (subst (λ v. IsIn row (rows_of v)) (newest-now st) (h.keeps i (length st.past) few (le_refl _) row there)))))
       (eq-or-lt_of_le le)
 
-  pub stands-stored : (log : Held) → log.payloads ≡ kept.log.payloads ++ text_of payload ∷ [] → Stands began (record { log = log; sessions = kept.sessions; limits = kept.limits }) next
+  pub stands-stored : (log : Held) → log.payloads ≡ kept.log.payloads ++ text_of payload ∷ [] → Stands began (record { log = log; sessions = kept.sessions; limits = kept.limits; cache = no_cache }) next
   stands-stored log is = record {
     state = with_stored-state st new payload h.state named grows;
     texts = is ∙ ap (λ l. l ++ text_of payload ∷ []) h.texts ∙ sym (map-append text_of st.payloads (payload ∷ []));

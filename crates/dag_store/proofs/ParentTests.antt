@@ -60,7 +60,7 @@ pub distinct-parents : (parents : List Name) → twice [] parents ≡ None → A
 distinct-parents parents h = (apart [] parents h).distinct
 
 -- one more item in front of what is dropped
-behind : {X : Type 0} (xs : List X) (i : ℕ) (y : X) → i < length xs → y ≡ get_or xs i y → drop i xs ≡ y ∷ drop (i + 1) xs
+pub behind : {X : Type 0} (xs : List X) (i : ℕ) (y : X) → i < length xs → y ≡ get_or xs i y → drop i xs ≡ y ∷ drop (i + 1) xs
 behind xs i y below is = rw add-one (drop-cons xs i y below ∙ ap (λ z. z ∷ drop (suc i) xs) (sym is))
 
 -- the search for a name, item by item

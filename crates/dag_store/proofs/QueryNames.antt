@@ -49,7 +49,7 @@ known-are bytes place (k ∷ ks) fits h =
 parts-are : (bytes : List ℕ) (count rank : ℕ) (added : List Placed) → Follow count added → AllStand bytes added → known_in bytes (parts_of rank added) ≡ known_of added
 parts-are bytes count rank [] f s = refl
 parts-are bytes count rank (a ∷ added) f s =
-    ap₂ {C = List Known} (λ x y. x ++ y) (known-are bytes (start_of a) a.payload.known (payload-fits a.payload f.0) (known-in-log bytes a s.0))
+    ap₂ {C = List Known} (λ x y. x ++ y) (known-are bytes (start_of a) a.payload.known (payload-fits a.payload f.0) (known-in-log bytes a f.0 s.0))
     (parts-are bytes a.payload.after (rank + length a.payload.known) added f.2 s.1)
 
 others-are : (bytes : List ℕ) (id place : ℕ) (names : List Name) → AllByRecursion IsName names → take (length (names_bytes names)) (drop place bytes) ≡ names_bytes names

@@ -12,7 +12,8 @@ use Rattle.segment_codec.specs.Record.{segment_bytes}
 use Rattle.segment_codec.specs.Flat.{IsFlat}
 use Rattle.flat_segments.specs.Placed.{Placed as PlacedSegment, placed}
 use Rattle.batch_codec.specs.Payload.{Payload, known_names}
-use Rattle.batch_codec.specs.Grammar.{AreLawful, count_after}
+use Rattle.batch_codec.specs.Grammar.{count_after}
+use Rattle.change_rules.specs.Lawful.{AreLawful}
 use Rattle.name_map.specs.Added.{Placed, payloads_of}
 use Rattle.change_rules.specs.Tables.{newest, other_names_in}
 use Rattle.payload_tables.specs.declared.base.BaseRef.{BaseRef}
@@ -51,7 +52,7 @@ fit-of added pending s = record {
       (λ j. in-right x (flat_map known_names (payloads_of added)) (other_names_in (newest (payloads_of added))) j) d));
 }
 
-lawful-front : (before front behind : List Payload) → AreLawful before (front ++ behind) → AreLawful before front
+pub lawful-front : (before front behind : List Payload) → AreLawful before (front ++ behind) → AreLawful before front
 lawful-front before [] behind h = tt
 lawful-front before (p ∷ front) behind h = (h.0, lawful-front (before ++ p ∷ []) front behind h.1)
 

@@ -1,15 +1,17 @@
 -- What a store's parts say of a state that it stands for.
-use Rattle.std.proofs.Common.{◌≡◌, ◌≤◌, ◌<◌, ◌+◌, ℕ, Bool, true, false, not, ◌&&◌, ◌||◌, List, [], ◌∷◌, ◌++◌, length, map, take, drop, filter, nat_eq, nat_lt, refl, sym, ap, ap₂, subst, ◌∙◌, arith, append-nil, append_assoc, if◌then◌else◌, le_refl}
+use Rattle.std.proofs.Common.{◌≡◌, ◌≤◌, ◌<◌, ◌+◌, ℕ, Bool, true, false, not, ◌&&◌, ◌||◌, List, [], ◌∷◌, ◌++◌, length, map, take, drop, filter, nat_eq, nat_lt, refl, sym, ap, ap₂, subst, ◌∙◌, arith, append-nil, append_assoc, if◌then◌else◌, le_refl, zero-le, true≢false}
 use Rattle.std.specs.List.{AllByRecursion, list_any, range_with_len}
 use Rattle.std.proofs.lemmas.List.{take_all, take-map, take-append-drop, map-append}
 use Rattle.std.proofs.lemmas.List.Elements.{filter-append}
 use Rattle.std.proofs.lemmas.Grind.{flat_map-append}
-use Rattle.std.proofs.lemmas.Bool.{ltb-true, le-ltb, ne_eqb}
+use Rattle.std.proofs.lemmas.Bool.{ltb-true, lt-ltb, le-ltb, ne_eqb}
 use Rattle.id_groups.specs.Lists.{is_in}
 use Rattle.id_groups.specs.Name.{Name, same_name}
+use Rattle.id_groups.proofs.Listing.{any-in, in-any, and_true, both_true}
 use Rattle.commit_graph.specs.World.{World, names_of}
 use Rattle.batch_codec.specs.Payload.{Payload, Known}
-use Rattle.batch_codec.specs.Grammar.{AreLawful, count_after}
+use Rattle.batch_codec.specs.Grammar.{count_after}
+use Rattle.change_rules.specs.Lawful.{AreLawful}
 use Rattle.batch_codec.proofs.Payloads.{one-payload}
 use Rattle.gated_log.specs.Held.{Held}
 use Rattle.name_map.specs.Added.{Placed, payloads_of}
@@ -18,6 +20,7 @@ use Rattle.change_rules.specs.Change.{text_of}
 use Rattle.change_rules.specs.Holding.{HoldPayloads}
 use Rattle.change_rules.specs.Lazy.{is_lazy, has_lazy, stored_names}
 use Rattle.change_rules.specs.Tables.{StandFor, known_in}
+use Rattle.change_rules.proofs.Cloned.{in-range}
 use Rattle.payload_tables.specs.declared.base.BaseRef.{BaseRef}
 use Rattle.payload_tables.specs.Kept.{PlainTables}
 use Rattle.payload_tables.specs.Bases.{IsBaseOf}
@@ -25,7 +28,7 @@ use Rattle.payload_tables.proofs.Lists.{all-append, count-last}
 use Rattle.step_rules.specs.State.{Stored, session, pending_of, base_of, world_at}
 use Rattle.step_rules.specs.Asked.{is_asked}
 use Rattle.step_rules.proofs.Sessions.{newest-now}
-use Rattle.dag_store.specs.Kept.{PlainSession, IsKept, session_at, base_added, sixteen}
+use Rattle.dag_store.specs.Kept.{PlainSession, IsKept, session_at, base_added, no_cache, sixteen}
 use Rattle.dag_store.specs.Stands.{Stands}
 use Rattle.dag_store.specs.Looking.{Sees, is_asked_in}
 
@@ -117,8 +120,21 @@ module _ (front behind : List Payload) (w : World Name) (lawful : AreLawful [] (
       ap (filter p) known-parts ∙ filter-append p (known_in front) (known_in behind)
       ∙ ap (λ l. filter p (known_in front) ++ l) (none-kept (length w.master) (known_in behind) above) ∙ append-nil (filter p (known_in front)))
 
+-- a log with a name for each commit of a world has one for each of a shorter master
+pub none-before : (ps : List Payload) (w v : World Name) → length w.master ≤ length v.master → has_lazy ps v ≡ false → has_lazy ps w ≡ false
+none-before ps w v le none = by_test (has_lazy ps w) refl
+  where
+    by_test : (b : Bool) → has_lazy ps w ≡ b → has_lazy ps w ≡ false
+    by_test false e = e
+    by_test true e =
+        let (id, i, lazy) = any-in (is_lazy ps w) (range_with_len 0 (length w.master)) e in
+        let parts = and_true (nat_lt id (length w.master)) (not (is_in nat_eq id (map (λ (k : Known). k.id) (known_in ps)))) lazy in
+        let lt = ltb-true id (length w.master) parts.0 in
+        let there = both_true (nat_lt id (length v.master)) (not (is_in nat_eq id (map (λ (k : Known). k.id) (known_in ps)))) (lt-ltb id (length v.master) (omega (arith, lt, le))) parts.1 in
+        absurd (true≢false (sym (in-any (is_lazy ps v) (range_with_len 0 (length v.master)) id (in-range 0 (length v.master) id zero-le (omega (arith, lt, le))) there) ∙ none))
+
 module _ (log : Held) (tables : PlainTables) (sessions : List PlainSession) (limits : Limits) (k : IsKept log tables sessions limits) (began : ℕ) (st : Stored)
-    (h : Stands began (record { log = log; sessions = sessions; limits = limits }) st) where
+    (h : Stands began (record { log = log; sessions = sessions; limits = limits; cache = no_cache }) st) where
   whole : take (began + length st.past) st.payloads ≡ st.payloads
   whole = let c = h.count in take_all (began + length st.past) st.payloads (omega (arith, c))
 

@@ -49,7 +49,7 @@ kept-with log tables sessions limits k s x small of = record {
 
 -- it stands for the state with that session
 pub stands-with : (began : ℕ) (kept : PlainStore) (st : Stored) (s : ℕ) (x : PlainSession) (y : Session) → s < sixteen → length kept.sessions ≡ sixteen → Stands began kept st → IsSession st y → IsSessionFor began st x y
-    → Stands began (record { log = kept.log; sessions = set kept.sessions s x; limits = kept.limits }) (with_session st s y)
+    → Stands began (record { log = kept.log; sessions = set kept.sessions s x; limits = kept.limits; cache = kept.cache }) (with_session st s y)
 stands-with began kept st s x y small count h good for = record {
   state = with_session-state st s y h.state good;
   texts = h.texts;

@@ -1,5 +1,5 @@
 -- The stored names of a base, as ids and names of the world for which its payloads stand.
-use Rattle.std.proofs.Common.{◌≡◌, ◌<◌, ◌≤◌, ◌+◌, ◌^◌, ℕ, zero, suc, ◌⊎◌, inl, inr, Bool, true, false, not, ◌&&◌, List, [], ◌∷◌, ◌++◌, length, map, filter, flat_map, nat_eq, nat_lt, Option, Some, None, slice_get, is_some, Ok, refl, sym, ap, ap₂, subst, ◌∙◌, ⊎_elim, arith, true≢false, if◌then◌else◌, zero-le, lit≤}
+use Rattle.std.proofs.Common.{◌≡◌, ◌<◌, ◌≤◌, ◌+◌, ◌^◌, ℕ, zero, suc, ◌⊎◌, inl, inr, Bool, true, false, not, ◌&&◌, List, [], ◌∷◌, ◌++◌, length, map, filter, flat_map, nat_eq, nat_lt, Option, Some, None, slice_get, is_some, refl, sym, ap, ap₂, subst, ◌∙◌, ⊎_elim, arith, true≢false, if◌then◌else◌, zero-le, lit≤}
 use Rattle.std.specs.List.{range_with_len}
 use Rattle.std.proofs.lemmas.List.{map-append}
 use Rattle.std.proofs.lemmas.Bool.{lt-ltb}
@@ -34,7 +34,7 @@ use Rattle.flush_rebuild.proofs.Asking.{stored-names}
 use Rattle.flush_rebuild.proofs.Finding.{head-pending}
 use Rattle.flush_rebuild.proofs.Rebased.{known-from-at}
 use Rattle.flush_rebuild.proofs.Renumber.{in-map, map-in-back}
-use Rattle.dag_store.specs.Looking.{is_asked_in, FindsName}
+use Rattle.dag_store.specs.Looking.{is_asked_in, FindsIn}
 
 pub known-all : (added : List Placed) → known_of added ≡ known_in (payloads_of added)
 known-all [] = refl
@@ -44,7 +44,7 @@ names-known : (payloads : List Payload) → map (λ (k : Known). k.name) (known_
 names-known [] = refl
 names-known (p ∷ more) = map-append (λ (k : Known). k.name) p.known (known_in more) ∙ ap (λ l. known_names p ++ l) (names-known more)
 
-row-of : (rows : List (Row Name)) (i : ℕ) (x : Name) → slice_get (names_of rows) i ≡ Some x → (r : Row Name) × (slice_get rows i ≡ Some r) × (r.name ≡ x)
+pub row-of : (rows : List (Row Name)) (i : ℕ) (x : Name) → slice_get (names_of rows) i ≡ Some x → (r : Row Name) × (slice_get rows i ≡ Some r) × (r.name ≡ x)
 row-of [] i x e = absurd (true≢false (sym (ap is_some e)))
 row-of (r ∷ rows) zero x e = (r, refl, ap some_or e)
   where
@@ -170,7 +170,7 @@ module _ (added : List Placed) (w : World Name) (stand : StandFor (payloads_of a
 
     -- ---- how a search ends
 
-    pub found-stored : (name : Name) (id : ℕ) → IsIn {X = Known} (record { id = id; name = name }) (stored_in added) → FindsName (payloads_of added) w rows name (Ok (Some id))
+    pub found-stored : (name : Name) (id : ℕ) → IsIn {X = Known} (record { id = id; name = name }) (stored_in added) → FindsIn (payloads_of added) w rows name (Some id)
     found-stored name id i =
         let s = stored-id (record { id = id; name = name }) i in (
           asked-not (has_lazy (payloads_of added) w) (is_in same_name name (stored_names (payloads_of added) w)) (is_in same_name name (names_of rows))
@@ -179,7 +179,7 @@ module _ (added : List Placed) (w : World Name) (stand : StandFor (payloads_of a
           s.1,
         )
 
-    pub found-pending : (name : Name) (k id : ℕ) → FindsRow (map (id_row (with_pending w rows)) rows) name (Some k) → id ≡ other_id (length w.others + k) → FindsName (payloads_of added) w rows name (Ok (Some id))
+    pub found-pending : (name : Name) (k id : ℕ) → FindsRow (map (id_row (with_pending w rows)) rows) name (Some k) → id ≡ other_id (length w.others + k) → FindsIn (payloads_of added) w rows name (Some id)
     found-pending name k id f e =
         let h = head-pending w rows whole name k f.0 f.1 f.2 in
         let here : IsIn name (names_of rows) = subst (IsIn name) (names-of-rows (with_pending w rows) rows)
@@ -189,7 +189,7 @@ module _ (added : List Placed) (w : World Name) (stand : StandFor (payloads_of a
           e ∙ h.1,
         )
 
-    not-pending : (name : Name) → FindsRow (map (id_row (with_pending w rows)) rows) name None → IsIn name (names_of rows) → ⊥
+    pub not-pending : (name : Name) → FindsRow (map (id_row (with_pending w rows)) rows) name None → IsIn name (names_of rows) → ⊥
     not-pending name f i = f (subst (IsIn name) (sym (names-of-rows (with_pending w rows) rows)) i)
 
     pub has-to-ask : (name : Name) → (IsStored added name → ⊥) → FindsRow (map (id_row (with_pending w rows)) rows) name None → has_lazy (payloads_of added) w ≡ true
@@ -200,7 +200,7 @@ module _ (added : List Placed) (w : World Name) (stand : StandFor (payloads_of a
         (not-in name (names_of rows) (not-pending name f))
 
     pub found-nowhere : (name : Name) → (IsStored added name → ⊥) → FindsRow (map (id_row (with_pending w rows)) rows) name None → has_lazy (payloads_of added) w ≡ false
-        → FindsName (payloads_of added) w rows name (Ok None)
+        → FindsIn (payloads_of added) w rows name None
     found-nowhere name out f none = (
       ap (λ a. (a && not (is_in same_name name (stored_names (payloads_of added) w))) && not (is_in same_name name (names_of rows))) none,
       not-in name (names_of (rows_of (with_pending w rows))) (λ i. ⊎_elim

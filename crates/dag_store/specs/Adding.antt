@@ -1,53 +1,93 @@
 -- What an add looks up, and what it leaves of a session.
-use Rattle.std.specs.Prelude.{◌≡◌, ◌⊎◌, ◌<◌, ◌≤◌, ◌+◌, ℕ, false, true, List, [], ◌∷◌, ◌++◌, Option, Some, None, Result, Ok, Err, length, map, if◌then◌else◌, ⊤}
+use Rattle.std.specs.Prelude.{◌≡◌, ◌<◌, ◌≤◌, ◌+◌, ℕ, false, true, List, [], ◌∷◌, ◌++◌, None, Result, Ok, Err, IfOk, length, map, if◌then◌else◌, ⊤}
 use Rattle.std.specs.List.{AllByRecursion}
-use Rattle.id_groups.specs.Lists.{AreDistinct}
+use Rattle.std.proofs.Common.{Vec, Global}
+use Rattle.id_groups.specs.Lists.{IsIn, AreDistinct}
 use Rattle.id_groups.specs.Name.{Name, same_name}
 use Rattle.id_groups.specs.Id.{other_id}
-use Rattle.commit_graph.specs.World.{Row, World, IsNamedWorld, with_pending}
+use Rattle.commit_graph.specs.World.{Row, World, IsNamedWorld, names_of, with_pending}
 use Rattle.commit_graph.specs.Ids.{id_in}
 use Rattle.batch_codec.specs.Payload.{Payload}
 use Rattle.name_map.specs.Added.{Placed, payloads_of}
+use Rattle.change_rules.specs.Lazy.{stored_names}
 use Rattle.change_rules.specs.Tables.{StandFor}
 use Rattle.change_rules.specs.declared.Limit.TheVariants as limit
 use Rattle.payload_tables.specs.Bases.{ArePending}
 use Rattle.payload_tables.specs.Pending.{IdRow, PlainPending, HoldsRows}
+use Rattle.remote_rules.specs.Mirror.{Mirror}
+use Rattle.lazy_names.specs.Cache.{PlainCache}
 use Rattle.step_rules.specs.declared.Refusal.{Refusal}
 use Rattle.step_rules.specs.declared.Refusal.TheVariants as why
 use Rattle.step_rules.specs.Worlds.{has}
-use Rattle.step_rules.specs.Tests.{unknown, twice, differs, first_some}
+use Rattle.step_rules.specs.Tests.{Test, plain, unknown, twice, differs, full}
 use Rattle.dag_store.specs.declared.adding.Sought.{Sought}
 use Rattle.dag_store.specs.declared.adding.Sought.TheVariants as sought
 use Rattle.dag_store.specs.declared.replies.Added.{Added}
 use Rattle.dag_store.specs.declared.replies.Added.TheVariants.{New, Old}
 use Rattle.dag_store.specs.Kept.{PlainSession, base_added}
-use Rattle.dag_store.specs.Looking.{is_asked_in}
+use Rattle.dag_store.specs.Looking.{AreRight, IsViewId, Tried, refusal_in, test_in}
 
--- a name that is looked up: it would have to be asked, or it is refused for what is found
-abbrev pub looked : List Payload → World Name → List (Row Name) → (Name → Option Refusal) → Name → Option Refusal
-looked payloads w rows refuse name = if is_asked_in payloads w rows name then Some why.NoRemote else refuse name
+-- a vector as its list
+abbrev pub items_of : {X : Type 0} → Result (Vec X Global) Refusal → Result (List X) Refusal
+items_of (Ok v) = Ok v.items
+items_of (Err refusal) = Err refusal
 
--- why parents are refused
-abbrev pub parent_refusals : List Payload → World Name → List (Row Name) → List Name → List (Option Refusal)
-parent_refusals payloads w rows parents = map (looked payloads w rows (unknown (with_pending w rows))) parents ++ twice [] parents ∷ []
+-- the tests of names that are looked up in a view, and refused where they aren't there
+abbrev pub seen_tests : List Payload → World Name → List (Row Name) → List Name → List Test
+seen_tests payloads w rows names = map (test_in payloads w rows (unknown (with_pending w rows))) names
 
--- why an add is refused, where there is room
-abbrev pub add_refusals : List Payload → World Name → List (Row Name) → Name → List Name → List (Option Refusal)
-add_refusals payloads w rows name parents =
-    looked payloads w rows (λ _. None) name ∷ parent_refusals payloads w rows parents ++ differs (with_pending w rows) name parents ∷ []
+-- the id of a name in a view, or why it is refused
+pub record FindsOne (payloads : List Payload) (w : World Name) (rows : List (Row Name)) (name : Name) (old new : List Mirror) (before now : PlainCache) (result : Result ℕ Refusal) : Type 0 where
+  pub tried : Tried payloads w (seen_tests payloads w rows (name ∷ [])) old new before now (refusal_in result)
+  pub view : IfOk result (IsViewId w rows)
+  pub right : AreRight payloads w old → IfOk result (λ id. id ≡ id_in same_name (with_pending w rows) name)
 
--- it is refused for the first of these, or there was no memory
-abbrev pub IsWhy : List (Option Refusal) → Refusal → Type 0
-IsWhy refusals refusal = (refusal ≡ why.Memory) ⊎ (first_some refusals ≡ Some refusal)
+-- the ids of names in a view, or why the first is that is refused
+pub record FindsAll (payloads : List Payload) (w : World Name) (rows : List (Row Name)) (names : List Name) (old new : List Mirror) (before now : PlainCache) (result : Result (List ℕ) Refusal) : Type 0 where
+  pub tried : Tried payloads w (seen_tests payloads w rows names) old new before now (refusal_in result)
+  pub view : IfOk result (AllByRecursion (IsViewId w rows))
+  pub count : IfOk result (λ ids. length ids ≡ length names)
+  pub right : AreRight payloads w old → IfOk result (λ ids. ids ≡ map (id_in same_name (with_pending w rows)) names)
 
--- what an add comes to before it changes anything: the commit is there with these parents, or these are the parents' ids
-abbrev pub Seeks : List Payload → World Name → List (Row Name) → Name → List Name → Result Sought Refusal → Type 0
-Seeks payloads w rows name parents (Ok (sought.Old id)) =
-    (first_some (add_refusals payloads w rows name parents) ≡ None) × (has (with_pending w rows) name ≡ true) × (id ≡ id_in same_name (with_pending w rows) name)
-Seeks payloads w rows name parents (Ok (sought.New ids)) =
-    (first_some (add_refusals payloads w rows name parents) ≡ None) × (has (with_pending w rows) name ≡ false)
-    × (ids.items ≡ map (id_in same_name (with_pending w rows)) parents)
-Seeks payloads w rows name parents (Err refusal) = IsWhy (add_refusals payloads w rows name parents) refusal
+-- a parent that is given twice
+abbrev pub IsTwice : Refusal → Type 0
+IsTwice (why.Twice name) = ⊤
+IsTwice _ = ⊥
+
+-- the same of parents, none of which is given twice
+pub record FindsParents (payloads : List Payload) (w : World Name) (rows : List (Row Name)) (parents : List Name) (old new : List Mirror) (before now : PlainCache) (result : Result (List ℕ) Refusal) : Type 0 where
+  pub tried : Tried payloads w (seen_tests payloads w rows parents ++ plain (twice [] parents) ∷ []) old new before now (refusal_in result)
+  pub view : IfOk result (AllByRecursion (IsViewId w rows))
+  pub count : IfOk result (λ ids. length ids ≡ length parents)
+  pub right : AreRight payloads w old → IfOk result (λ ids. ids ≡ map (id_in same_name (with_pending w rows)) parents)
+
+-- the tests of an add, where there is room
+abbrev pub add_tests : List Payload → World Name → List (Row Name) → Name → List Name → List Test
+add_tests payloads w rows name parents =
+    test_in payloads w rows (λ _. None) name ∷ seen_tests payloads w rows parents ++ plain (twice [] parents) ∷ plain (differs (with_pending w rows) name parents) ∷ []
+
+-- what an add comes to: the commit is there with these parents, or these are the parents' ids
+abbrev pub IsSought : World Name → List (Row Name) → Name → List Name → Result Sought Refusal → Type 0
+IsSought w rows name parents (Ok (sought.Old id)) = (has (with_pending w rows) name ≡ true) × (id ≡ id_in same_name (with_pending w rows) name)
+IsSought w rows name parents (Ok (sought.New ids)) = (has (with_pending w rows) name ≡ false) × (ids.items ≡ map (id_in same_name (with_pending w rows)) parents)
+IsSought w rows name parents (Err refusal) = ⊤
+
+-- ids of a view for the parents, none of them twice
+abbrev pub AreParents : World Name → List (Row Name) → List Name → Result Sought Refusal → Type 0
+AreParents w rows parents (Ok (sought.New ids)) = AllByRecursion (IsViewId w rows) ids.items × AreDistinct ids.items × (length ids.items ≡ length parents)
+AreParents w rows parents _ = ⊤
+
+-- a commit that isn't there is neither stored nor pending under a name that is known
+abbrev pub IsNewIn : List Payload → World Name → List (Row Name) → Name → Result Sought Refusal → Type 0
+IsNewIn payloads w rows name (Ok (sought.New ids)) = (IsIn name (stored_names payloads w) → ⊥) × (IsIn name (names_of rows) → ⊥)
+IsNewIn payloads w rows name _ = ⊤
+
+-- it comes to this before it changes anything
+pub record Seeks (payloads : List Payload) (w : World Name) (rows : List (Row Name)) (name : Name) (parents : List Name) (old new : List Mirror) (before now : PlainCache) (result : Result Sought Refusal) : Type 0 where
+  pub tried : Tried payloads w (add_tests payloads w rows name parents) old new before now (refusal_in result)
+  pub parents_are : AreParents w rows parents result
+  pub fresh : IsNewIn payloads w rows name result
+  pub right : AreRight payloads w old → IsSought w rows name parents result
 
 -- ids that may be the parents of a row behind so many others
 pub record MayBeParents (first count : ℕ) (ids : List ℕ) : Type 0 where
@@ -72,17 +112,26 @@ pub record IsSeen (added : List Placed) (x : PlainSession) (w : World Name) (row
   pub pending_rows : ArePending w x.pending rows
   pub view : IsNamedWorld (with_pending w rows)
 
+-- whether there is room for the row, where it isn't there
+abbrev pub room_test : ℕ → World Name → List (Row Name) → Name → Test
+room_test most w rows name = plain (if has (with_pending w rows) name then None else full limit.Pending most (length rows + 1))
+
+-- what is right of a row that was added
+abbrev pub IsAddedRow : World Name → List (Row Name) → Name → List Name → Result Added Refusal → PlainPending → Type 0
+IsAddedRow w rows name parents (Ok (New id)) new =
+    (has (with_pending w rows) name ≡ false) × (id ≡ id_in same_name (with_pending w (rows ++ record { name = name; parents = parents } ∷ [])) name)
+    × ArePending w new (rows ++ record { name = name; parents = parents } ∷ [])
+IsAddedRow w rows name parents (Ok (Old id)) new = (has (with_pending w rows) name ≡ true) × (id ≡ id_in same_name (with_pending w rows) name)
+IsAddedRow w rows name parents (Err refusal) new = ⊤
+
+-- what becomes of a session
+abbrev pub LeavesSession : PlainSession → Result Added Refusal → PlainSession → Type 0
+LeavesSession old (Ok (New id)) new = new ≡ record old { pending = new.pending }
+LeavesSession old _ new = new ≡ old
+
 -- A row comes behind those of the session, or it was there; or it is refused, where there is no room last of all.
-abbrev pub AddsRow : ℕ → PlainSession → List Payload → World Name → List (Row Name) → Name → List Name → Result Added Refusal → PlainSession → Type 0
-AddsRow most old payloads w rows name parents (Ok (New id)) new =
-    (first_some (add_refusals payloads w rows name parents) ≡ None) × (has (with_pending w rows) name ≡ false) × (length rows < most)
-    × (id ≡ id_in same_name (with_pending w (rows ++ record { name = name; parents = parents } ∷ [])) name)
-    × (new ≡ record old { pending = new.pending }) × ArePending w new.pending (rows ++ record { name = name; parents = parents } ∷ [])
-AddsRow most old payloads w rows name parents (Ok (Old id)) new =
-    (first_some (add_refusals payloads w rows name parents) ≡ None) × (has (with_pending w rows) name ≡ true)
-    × (id ≡ id_in same_name (with_pending w rows) name) × (new ≡ old)
-AddsRow most old payloads w rows name parents (Err refusal) new =
-    (IsWhy (add_refusals payloads w rows name parents) refusal
-    ⊎ ((first_some (add_refusals payloads w rows name parents) ≡ None) × (has (with_pending w rows) name ≡ false) × (most ≤ length rows)
-    × (refusal ≡ why.Full limit.Pending most)))
-    × (new ≡ old)
+pub record AddsRow (most : ℕ) (session : PlainSession) (payloads : List Payload) (w : World Name) (rows : List (Row Name)) (name : Name) (parents : List Name) (old new : List Mirror) (before now : PlainCache)
+    (result : Result Added Refusal) (next : PlainSession) : Type 0 where
+  pub tried : Tried payloads w (add_tests payloads w rows name parents ++ room_test most w rows name ∷ []) old new before now (refusal_in result)
+  pub leaves : LeavesSession session result next
+  pub right : AreRight payloads w old → IsAddedRow w rows name parents result next.pending

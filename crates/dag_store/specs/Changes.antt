@@ -1,35 +1,38 @@
 -- What a session's change is asked over, and what it answers for each state that the store stands for.
-use Rattle.std.specs.Prelude.{◌≡◌, ◌≤◌, ◌+◌, ◌⊎◌, ◌&&◌, ◌++◌, not, true, false, ℕ, List, [], ◌∷◌, Option, Some, None, Result, Ok, Err, length, map, if◌then◌else◌}
-use Rattle.id_groups.specs.Lists.{is_in}
+use Rattle.std.specs.Prelude.{◌≡◌, ◌≤◌, ◌+◌, ◌⊎◌, ◌++◌, true, false, ℕ, List, [], ◌∷◌, Option, Some, None, Result, Ok, Err, IfOk, length, map, slice_get, slice_index_or}
+use Rattle.std.specs.Option.{option_map}
+use Rattle.std.specs.List.{AllZip}
+use Rattle.id_groups.specs.Lists.{IsIn}
 use Rattle.id_groups.specs.Name.{Name, same_name}
-use Rattle.commit_graph.specs.World.{KeepsRows, with_pending}
-use Rattle.commit_graph.specs.Ids.{id_in}
+use Rattle.commit_graph.specs.World.{Row, World, KeepsRows, names_of, with_pending}
 use Rattle.batch_codec.specs.Payload.{Payload}
 use Rattle.gated_log.specs.Held.{Held, log_bytes, longer}
 use Rattle.name_map.specs.Added.{Placed, payloads_of, AllStand}
 use Rattle.change_rules.specs.declared.Limits.{Limits}
 use Rattle.change_rules.specs.Change.{text_of}
 use Rattle.change_rules.specs.Holding.{HoldPayloads}
-use Rattle.change_rules.specs.Lazy.{stored_names}
-use Rattle.change_rules.specs.Rebase.{left_of}
+use Rattle.change_rules.specs.Rebase.{first_conflict, first_lost, left_of}
 use Rattle.payload_tables.specs.Kept.{PlainTables, AreTablesOf}
-use Rattle.payload_tables.specs.Pending.{PlainPending}
+use Rattle.payload_tables.specs.Pending.{IdRow, PlainPending, HoldsRows, row_names}
 use Rattle.payload_tables.specs.Bases.{ArePending}
+use Rattle.flush_rebuild.specs.Asked.{IsFoundIn}
 use Rattle.flush_rebuild.specs.declared.fault.PlanFault.{PlanFault}
 use Rattle.flush_rebuild.specs.declared.fault.PlanFault.TheVariants as faults
 use Rattle.flush_rebuild.specs.declared.plan.Change.{Change}
-use Rattle.flush_rebuild.specs.Plans.{IsPlanOf, IsChangeOf, IsStorable}
+use Rattle.flush_rebuild.specs.Plans.{IsPlanOf, IsChangeOf, IsStorable, stored_id}
+use Rattle.remote_rules.specs.Mirror.{Mirror}
+use Rattle.lazy_names.specs.Cache.{PlainCache}
 use Rattle.step_rules.specs.declared.Refusal.{Refusal}
 use Rattle.step_rules.specs.declared.Refusal.TheVariants as why
 use Rattle.step_rules.specs.State.{Stored, IsStore, session, pending_of, base_of}
 use Rattle.step_rules.specs.Verb.{Flush, Reload}
-use Rattle.step_rules.specs.Asked.{is_unnamed, found_as}
-use Rattle.step_rules.specs.Tests.{first_some, looked_up, named, unknown, is_on_newest, tests}
+use Rattle.step_rules.specs.Tests.{Test, first_some, unknown, tests}
 use Rattle.step_rules.specs.Worlds.{flush_of}
-use Rattle.step_rules.specs.Lone.{lone}
+use Rattle.dag_store.specs.declared.changing.Next.{Next}
 use Rattle.dag_store.specs.Kept.{PlainSession, base_added}
 use Rattle.dag_store.specs.Stands.{IsSessionFor}
 use Rattle.dag_store.specs.Loading.{IsOnNewest}
+use Rattle.dag_store.specs.Looking.{AreRight, Tried, refusal_in, test_in}
 
 -- the log and the tables are those of the payloads that were added
 pub record AreOver (log : Held) (tables : PlainTables) (added : List Placed) : Type 0 where
@@ -47,56 +50,113 @@ pub record IsOn (began : ℕ) (added : List Placed) (x : PlainSession) (st : Sto
   pub keeps : KeepsRows (base_of st s) st.stored
   pub session : IsSessionFor began st x (session st s)
 
--- why a head is refused that is looked up in the stored world and among the pending rows
-abbrev pub head_refusal : Stored → ℕ → Name → Option Refusal
-head_refusal st s name = lone (looked_up st s st.stored (unknown (with_pending st.stored (pending_of st s))) name)
+-- the pending rows have these names, in order
+abbrev pub HaveNames : PlainPending → List Name → Type 0
+HaveNames pending names = (rows : List IdRow) × HoldsRows pending rows × (row_names rows ≡ names)
 
--- why a pending row's name is that is looked up in the stored world
-abbrev pub row_refusal : Stored → ℕ → Name → Option Refusal
-row_refusal st s name = lone (named (not (is_on_newest st s) && is_unnamed st st.stored name) (found_as st st.stored name) None)
+-- of the name of each pending row something was found in the newest base
+abbrev pub RowsFound : List Placed → PlainPending → List (Option ℕ) → Type 0
+RowsFound added pending found = (names : List Name) → HaveNames pending names → AllZip (IsFoundIn added) names found
 
--- the id of a name in the stored world, where its name is stored
-abbrev pub stored_as : Stored → Name → Option ℕ
-stored_as st name = if is_in same_name name (stored_names st.payloads st.stored) then Some (id_in same_name st.stored name) else None
+-- The test of a head: it is looked up in the stored world, and refused where it is neither there nor pending.
+abbrev pub head_test : List Payload → World Name → List (Row Name) → Name → Test
+head_test payloads w rows = test_in payloads w rows (unknown (with_pending w rows))
 
--- each name is found as it is stored, and none is refused
-abbrev pub AreFound : Stored → (Name → Option Refusal) → List Name → List (Option ℕ) → Type 0
-AreFound st refusal_of names found = (first_some (map refusal_of names) ≡ None) × (found ≡ map (stored_as st) names)
+-- the test of a pending row's name, which is looked up in the stored world and never refused
+abbrev pub row_test : List Payload → World Name → Name → Test
+row_test payloads w = test_in payloads w [] (λ _. None)
+
+-- a head is found as the stored world has it; one that is pending may not be found yet
+abbrev pub IsHeadFound : World Name → List (Row Name) → Name → Option ℕ → Type 0
+IsHeadFound w rows name found = (found ≡ stored_id w name) ⊎ ((found ≡ None) × IsIn name (names_of rows))
+
+-- a row's name is found as the stored world has it
+abbrev pub IsRowFound : World Name → Name → Option ℕ → Type 0
+IsRowFound w name found = found ≡ stored_id w name
+
+-- A name is looked up in the newest base, of the payloads that were added: whatever the mirrors tell, its test is tried, and an id of
+-- the base is found, or the name isn't stored; where the mirrors serve the base's world, it is found rightly.
+pub record FindsIt (added : List Placed) (w : World Name) (test : Name → Test) (Is : Name → Option ℕ → Type 0) (name : Name) (old new : List Mirror) (before now : PlainCache) (result : Result (Option ℕ) Refusal) : Type 0 where
+  pub tried : Tried (payloads_of added) w (test name ∷ []) old new before now (refusal_in result)
+  pub found : IfOk result (IsFoundIn added name)
+  pub right : AreRight (payloads_of added) w old → IfOk result (Is name)
+
+-- names are, from left to right
+pub record FindsEach (added : List Placed) (w : World Name) (test : Name → Test) (Is : Name → Option ℕ → Type 0) (names : List Name) (old new : List Mirror) (before now : PlainCache) (result : Result (List (Option ℕ)) Refusal) : Type 0 where
+  pub tried : Tried (payloads_of added) w (map test names) old new before now (refusal_in result)
+  pub found : IfOk result (AllZip (IsFoundIn added) names)
+  pub right : AreRight (payloads_of added) w old → IfOk result (AllZip Is names)
+
+-- a head, heads, and the names of a session's rows
+abbrev pub FindsHead : List Placed → World Name → List (Row Name) → Name → List Mirror → List Mirror → PlainCache → PlainCache → Result (Option ℕ) Refusal → Type 0
+FindsHead added w rows = FindsIt added w (head_test (payloads_of added) w rows) (IsHeadFound w rows)
+
+abbrev pub FindsHeads : List Placed → World Name → List (Row Name) → List Name → List Mirror → List Mirror → PlainCache → PlainCache → Result (List (Option ℕ)) Refusal → Type 0
+FindsHeads added w rows = FindsEach added w (head_test (payloads_of added) w rows) (IsHeadFound w rows)
+
+abbrev pub FindsRows : List Placed → World Name → List Name → List Mirror → List Mirror → PlainCache → PlainCache → Result (List (Option ℕ)) Refusal → Type 0
+FindsRows added w = FindsEach added w (row_test (payloads_of added) w) (IsRowFound w)
+
+-- what was found of the row with the name, of rows with these names; none where none has it
+abbrev pub IsRowOf : List Name → List (Option ℕ) → Name → Option ℕ → Type 0
+IsRowOf names rows name found = ((IsIn name names → ⊥) × (found ≡ None)) ⊎ ((k : ℕ) × (slice_get names k ≡ Some name) × (found ≡ slice_index_or rows k None))
+
+-- what is found of a head stays, and else it is what was found of the row with its name
+abbrev pub IsTaken : List Name → List (Option ℕ) → Name → Option ℕ → Option ℕ → Type 0
+IsTaken names rows head (Some id) new = new ≡ Some id
+IsTaken names rows head None new = IsRowOf names rows head new
 
 -- the first that refuses does, or there was no memory
 abbrev pub IsRefusedBy : List (Option Refusal) → Refusal → Type 0
 IsRefusedBy refusals refusal = (refusal ≡ why.Memory) ⊎ (first_some refusals ≡ Some refusal)
-
--- why a command is refused
-abbrev pub reload_refusals : Limits → Stored → ℕ → List (Option Refusal)
-reload_refusals limits st s = map lone (tests limits st s Reload)
-
-abbrev pub flush_refusals : Limits → Stored → ℕ → List Name → List (Option Refusal)
-flush_refusals limits st s heads = map lone (tests limits st s (Flush heads))
-
--- what a rebase of the session's rows answers
-abbrev pub Rebases : Limits → Stored → ℕ → Result PlainPending Refusal → Type 0
-Rebases limits st s (Ok left) = (first_some (reload_refusals limits st s) ≡ None) × ArePending st.stored left (left_of same_name st.stored (pending_of st s))
-Rebases limits st s (Err refusal) = IsRefusedBy (reload_refusals limits st s) refusal
-
--- the change is that of the session's flush
-pub record IsFlushPlan (limits : Limits) (st : Stored) (s : ℕ) (heads : List Name) (change : Change) : Type 0 where
-  pub passed : first_some (flush_refusals limits st s heads) ≡ None
-  pub payload : List ℕ
-  pub plan : IsPlanOf change st.stored (flush_of st s heads) payload
-  pub change_of : IsChangeOf st.stored (flush_of st s heads) payload
-
--- what the plan of a flush answers
-abbrev pub PlansFlush : Limits → Stored → ℕ → List Name → Result Change Refusal → Type 0
-PlansFlush limits st s heads (Ok change) = IsFlushPlan limits st s heads change
-PlansFlush limits st s heads (Err refusal) = IsRefusedBy (flush_refusals limits st s heads) refusal
 
 -- a plan's fault as a refusal
 abbrev pub refusal_of : PlanFault → Refusal
 refusal_of (faults.Unknown name) = why.Unknown name
 refusal_of (faults.Conflict name) = why.Conflict name
 refusal_of (faults.Full what limit) = why.Full what limit
+refusal_of (faults.BadClone at) = why.MismatchClone at
 refusal_of faults.Memory = why.Memory
+
+-- the refusal is that of a plan
+abbrev pub IsOfPlan : Refusal → Type 0
+IsOfPlan refusal = (fault : PlanFault) × (refusal ≡ refusal_of fault)
+
+-- the rows of a session that the stored world doesn't have, or why there are none, once the names of all were found
+abbrev pub RebasesAnew : Stored → ℕ → Result PlainPending Refusal → Type 0
+RebasesAnew st s (Ok left) =
+    (first_conflict same_name st.stored (pending_of st s) ≡ None) × (first_lost same_name st.stored (pending_of st s) ≡ None)
+    × ArePending st.stored left (left_of same_name st.stored (pending_of st s))
+RebasesAnew st s (Err refusal) =
+    IsRefusedBy (option_map why.Conflict (first_conflict same_name st.stored (pending_of st s)) ∷ option_map why.Lost (first_lost same_name st.stored (pending_of st s)) ∷ []) refusal
+
+-- A rebase of the session's rows: where the mirrors serve, these are those that the stored world doesn't have, and each of the heads
+-- was found.
+pub record Rebases (limits : Limits) (st : Stored) (s : ℕ) (heads : List Name) (old new : List Mirror) (before now : PlainCache) (found later : List (Option ℕ)) (result : Result PlainPending Refusal) : Type 0 where
+  pub tried : Tried st.payloads st.stored (tests limits st s Reload) old new before now (refusal_in result)
+  pub right : AreRight st.payloads st.stored old → IfOk result (λ left. ArePending st.stored left (left_of same_name st.stored (pending_of st s)))
+  pub heads_are : AreRight st.payloads st.stored old → AllZip (IsHeadFound st.stored (pending_of st s)) heads found → IfOk result (λ left. later ≡ map (stored_id st.stored) heads)
+
+-- the session is on the newest world
+pub record Reloads (limits : Limits) (st : Stored) (s : ℕ) (old new : List Mirror) (before now : PlainCache) (result : Result PlainSession Refusal) : Type 0 where
+  pub tried : Tried st.payloads st.stored (tests limits st s Reload) old new before now (refusal_in result)
+  pub right : AreRight st.payloads st.stored old → IfOk result (λ x. ArePending st.stored x.pending (left_of same_name st.stored (pending_of st s)))
+
+-- the change is that of the session's flush
+pub record IsFlushPlan (st : Stored) (s : ℕ) (heads : List Name) (change : Change) : Type 0 where
+  pub payload : List ℕ
+  pub plan : IsPlanOf change st.stored (flush_of st s heads) payload
+  pub change_of : IsChangeOf st.stored (flush_of st s heads) payload
+
+-- what the plan of a flush answers
+pub record PlansFlush (limits : Limits) (st : Stored) (s : ℕ) (heads : List Name) (old new : List Mirror) (before now : PlainCache) (result : Result Change Refusal) : Type 0 where
+  pub tried : Tried st.payloads st.stored (tests limits st s (Flush heads)) old new before now (refusal_in result)
+  pub right : AreRight st.payloads st.stored old → IfOk result (IsFlushPlan st s heads)
+
+-- the same of what was prepared
+pub record Prepares (limits : Limits) (st : Stored) (s : ℕ) (heads : List Name) (old new : List Mirror) (before now : PlainCache) (result : Result Next Refusal) : Type 0 where
+  pub tried : Tried st.payloads st.stored (tests limits st s (Flush heads)) old new before now (refusal_in result)
+  pub right : AreRight st.payloads st.stored old → IfOk result (λ next. IsFlushPlan st s heads next.change)
 
 -- where the next payload stands in a log
 abbrev pub next_place : Held → ℕ
@@ -111,8 +171,9 @@ pub record IsReady (limits : Limits) (old new : Held) (tables : PlainTables) (ad
   pub room : new ≡ record old { room = new.room }
   pub fits : longer new change.payload ≤ new.limit
   pub enough : longer new change.payload ≤ new.room
+  pub kind : ℕ
   pub last : Payload
-  pub storable : IsStorable limits (length (log_bytes old)) added change last
+  pub storable : IsStorable kind limits (length (log_bytes old)) added change last
   pub tables_of : AreTablesOf tables (added_behind old added last)
   pub session_of : IsOnNewest (added_behind old added last) x
 

@@ -6,16 +6,18 @@ use Rattle.batch_codec.specs.Payload.{Payload}
 use Rattle.gated_log.specs.Held.{Held}
 use Rattle.gated_log.specs.Holding.{HasPayloads, IsOnDisk, KeepsOldOrNew}
 use Rattle.change_rules.specs.Change.{text_of, flush_change}
-use Rattle.step_rules.specs.State.{Stored, worlds}
+use Rattle.remote_rules.specs.Mirror.{Mirror}
+use Rattle.step_rules.specs.declared.Refusal.{Refusal}
+use Rattle.step_rules.specs.State.{State, Stored, worlds}
 use Rattle.step_rules.specs.Verb.{Flush}
 use Rattle.step_rules.specs.Reply.{Flushed as IsFlushed, Refused as IsRefusal}
 use Rattle.step_rules.specs.Worlds.{flush_of, after_flush}
-use Rattle.step_rules.specs.Lone.{LoneStep}
+use Rattle.step_rules.specs.Step.{CommandStep}
 use Rattle.dag_store.specs.declared.replies.Flushed.{Flushed}
 use Rattle.dag_store.specs.declared.replies.Flushed.TheVariants.{Done, Refused, Disk}
 use Rattle.dag_store.specs.Kept.{PlainStore}
 use Rattle.dag_store.specs.Stands.{Stands}
-use Rattle.dag_store.specs.Steps.{ChangesOnly}
+use Rattle.dag_store.specs.Steps.{ChangesOnly, Leads}
 
 -- the state after the flush
 abbrev pub flush_end : Stored → ℕ → List Name → Stored
@@ -39,15 +41,18 @@ Stores (Some clock) st s heads payload = StoresBy st s heads payload
 -- What a flush of a store answers for a state that it stands for: the step's reply, and a store that stands for the state after
 -- it; or the refusal, and the store as it was; or, at a fault of the disk, the store is gone, and the payload is the one of the
 -- step that was to be taken.
-abbrev pub FlushStep : ℕ → PlainStore → Stored → ℕ → List Name → List ℕ → Flushed → Type 0
-FlushStep began old st s heads payload (Done new counts clock) =
-    LoneStep old.limits st s (Flush heads) (IsFlushed counts.master counts.others) (flush_end st s heads)
-    × Stands began new (flush_end st s heads) × Stores clock st s heads payload
-FlushStep began old st s heads payload (Refused same refusal) =
-    LoneStep old.limits st s (Flush heads) (IsRefusal refusal) st × Stands began same st
-FlushStep began old st s heads payload (Disk fault) =
-    LoneStep old.limits st s (Flush heads) (IsFlushed (length (flush_of st s heads).master) (length (flush_of st s heads).others)) (flush_end st s heads)
-    × StoresBy st s heads payload
+abbrev pub FlushStep : ℕ → PlainStore → State → ℕ → List Name → List Mirror → List ℕ → Flushed → Type 0
+FlushStep began old st s heads left payload (Done new counts clock) =
+    Leads began old.limits st s (Flush heads) (IsFlushed counts.master counts.others) new left × Stands began new (flush_end st.store s heads) × Stores clock st.store s heads payload
+FlushStep began old st s heads left payload (Refused same refusal) = Leads began old.limits st s (Flush heads) (IsRefusal refusal) same left
+FlushStep began old st s heads left payload (Disk fault) =
+    (next : State) × CommandStep old.limits st s (Flush heads) (IsFlushed (length (flush_of st.store s heads).master) (length (flush_of st.store s heads).others)) next
+    × (next.store ≡ flush_end st.store s heads) × (next.outside.mirrors ≡ left) × StoresBy st.store s heads payload
+
+-- why a flush is refused, if it is
+abbrev pub refused_flush : Flushed → Option Refusal
+refused_flush (Refused same refusal) = Some refusal
+refused_flush _ = None
 
 -- the same log, with some room
 abbrev pub HasRoom : Held → Held → Type 0
@@ -80,10 +85,10 @@ IsQuiet (Done new counts None) = ⊤
 IsQuiet (Refused same refusal) = ⊤
 IsQuiet (Disk fault) = ⊥
 
--- What a flush leaves of the store: the session alone changes, and the log where something is stored. A refusal hands it back as it
--- was, but for the log's room.
+-- What a flush leaves of the store: the session alone changes, and the log where something is stored; no rows of it are told to be
+-- pending. A refusal hands it back as it was, but for the log's room and the names that are kept.
 abbrev pub LeavesStore : PlainStore → ℕ → Flushed → Type 0
-LeavesStore kept s (Done new counts (Some clock)) = ChangesOnly s (record kept { log = new.log }) new
-LeavesStore kept s (Done new counts None) = ChangesOnly s (record kept { log = new.log }) new × HasRoom kept.log new.log
-LeavesStore kept s (Refused same refusal) = (same ≡ record kept { log = same.log }) × HasRoom kept.log same.log
+LeavesStore kept s (Done new counts (Some clock)) = ChangesOnly s (record kept { log = new.log }) new × (counts.pending ≡ 0)
+LeavesStore kept s (Done new counts None) = ChangesOnly s (record kept { log = new.log }) new × HasRoom kept.log new.log × (counts.pending ≡ 0)
+LeavesStore kept s (Refused same refusal) = (same ≡ record kept { log = same.log; cache = same.cache }) × HasRoom kept.log same.log
 LeavesStore kept s (Disk fault) = ⊤

@@ -13,6 +13,7 @@ use Rattle.change_rules.specs.Tables.{newest, other_names_in}
 use Rattle.payload_tables.specs.Kept.{PlainTables, PlainOthers, AreTablesOf, AreOthersIn, last_added}
 use Rattle.payload_tables.specs.Pending.{PlainPending}
 use Rattle.flush_rebuild.specs.Asked.{MayStore, IsStored}
+use Rattle.lazy_names.specs.Cache.{PlainCache}
 
 -- what is kept of a session
 pub record PlainSession : Type 0 where
@@ -32,11 +33,16 @@ no_session = record {
   pending = record { first = 0; records = []; places = []; names = []; section = record { entries = []; end = 0 }; index = [] };
 }
 
--- what is kept of a store: its log, its sixteen sessions, and its limits
+-- what is kept of a store: its log, its sixteen sessions, its limits, and the names that mirrors gave
 pub record PlainStore : Type 0 where
   pub log : Held
   pub sessions : List PlainSession
   pub limits : Limits
+  pub cache : PlainCache
+
+-- a cache without names and without room, where it doesn't matter
+abbrev pub no_cache : PlainCache
+no_cache = record { entries = []; capacity = 0 }
 
 -- the session of that number
 abbrev pub session_at : List PlainSession → ℕ → PlainSession

@@ -9,5 +9,6 @@ pub mod Steps
 pub mod Loading
 pub mod Flushes
 pub mod Changes
+pub mod Clones
 pub mod Finishes
 pub mod Shown

@@ -2,7 +2,7 @@
 use Rattle.std.specs.Prelude.{◌≡◌, ◌<◌, ◌≤◌, ◌+◌, ℕ, List, [], length, Result, Ok, Err, ⊤}
 use Rattle.id_groups.specs.Name.{Name}
 use Rattle.commit_graph.specs.World.{World}
-use Rattle.disk_trait.specs.Images.{Told, moment_of}
+use Rattle.disk_trait.specs.Images.{Told, IsImage, moment_of}
 use Rattle.disk_trait.specs.Since.{SureSince}
 use Rattle.gated_log.specs.Log.{IsDamaged}
 use Rattle.gated_log.specs.Holding.{IsLogWithin, HasPayloads, IsOnDisk}
@@ -67,6 +67,6 @@ IsNoLogFault (TooLarge size) = ⊤
 IsNoLogFault (Batch k) = ⊤
 IsNoLogFault _ = ⊥
 
--- a read gives what it gave before
-abbrev pub SameBytes : Told → Told → Type 0
-SameBytes old new = new.bytes ≡ old.bytes
+-- Nothing was written: a read gives what it gave before, and a crash at each moment since leaves what it might have left before.
+abbrev pub IsUntouched : Told → Told → Type 0
+IsUntouched old new = (new.bytes ≡ old.bytes) × SureSince (λ moment. IsImage old.now) old new

@@ -5,6 +5,7 @@ use Rattle.id_groups.specs.declared.name.NameRef.{NameRef}
 use Rattle.batch_codec.specs.Payload.{Known}
 use Rattle.name_map.specs.Part.{PlainPart}
 use Rattle.name_map.specs.Added.{Placed}
+use Rattle.lazy_names.specs.declared.fetched.FetchedName.{FetchedName}
 use Rattle.payload_tables.specs.declared.base.BaseRef.{BaseRef}
 use Rattle.payload_tables.specs.Bases.{IsBaseOf}
 use Rattle.payload_tables.specs.Pending.{IdRow, PlainPending, HoldsRows}
@@ -54,14 +55,19 @@ name_or (Some name) other = Some name
 abbrev pub name_in : BaseRef → PlainPending → ℕ → Option Name
 name_in base pending id = name_or (name_among (stored_at base) id) (pending_name pending id)
 
--- the names of ids, up to the first that has none
-abbrev pub named_front : BaseRef → PlainPending → List ℕ → List Name
-named_front base pending [] = []
-named_front base pending (id ∷ ids) = add (name_in base pending id) (named_front base pending ids)
+-- a name that was fetched
+abbrev pub fetched_name : FetchedName → Name
+fetched_name f = f.name
+
+-- the names of ids, where those that have none are named in turn by those that were fetched, up to the first that has none
+abbrev pub named_front : BaseRef → PlainPending → List Name → List ℕ → List Name
+named_front base pending fetched [] = []
+named_front base pending fetched (id ∷ ids) = add (name_in base pending id) fetched (λ rest. named_front base pending rest ids)
   where
-    add : Option Name → List Name → List Name
-    add None names = []
-    add (Some name) names = name ∷ names
+    add : Option Name → List Name → (List Name → List Name) → List Name
+    add (Some name) fetched behind = name ∷ behind fetched
+    add None [] behind = []
+    add None (name ∷ fetched) behind = name ∷ behind fetched
 
 -- the base is that of payloads that stand in the log, and the pending rows are kept as such
 pub record IsLent (base : BaseRef) (pending : PlainPending) : Type 0 where

@@ -1,5 +1,5 @@
 -- What the calls of a session answer, for each state that the store stands for.
-use Rattle.std.specs.Prelude.{◌≡◌, ℕ, List, [], length, map, Result, Ok, Err, slice_set}
+use Rattle.std.specs.Prelude.{◌≡◌, ℕ, List, length, map, Result, Ok, Err, slice_set}
 use Rattle.id_groups.specs.Lists.{AreAllIn}
 use Rattle.id_groups.specs.Name.{Name, same_name}
 use Rattle.commit_graph.specs.World.{names_of, rows_of}
@@ -8,58 +8,67 @@ use Rattle.set_expr.specs.Expr.{Expr}
 use Rattle.set_expr.specs.Meaning.{IsAnswer}
 use Rattle.span_set.specs.Members.{ids_of}
 use Rattle.set_query.specs.declared.evaluation.Answer.{Answer}
-use Rattle.change_rules.specs.Rebase.{left_of}
+use Rattle.change_rules.specs.declared.Limits.{Limits}
+use Rattle.remote_rules.specs.CloneData.{KnownName}
+use Rattle.remote_rules.specs.Mirror.{Mirror}
 use Rattle.step_rules.specs.declared.Refusal.{Refusal}
-use Rattle.step_rules.specs.State.{Stored, pending_of, base_of, view_of, seen_by, on_newest}
-use Rattle.step_rules.specs.Verb.{Add, Reload, IdOf, Query, Count}
-use Rattle.step_rules.specs.Reply.{Added as IsAdded, Old as IsOld, Reloaded, Identified, Listed, Counted, Refused}
+use Rattle.step_rules.specs.State.{State, Stored, base_of, view_of, seen_by}
+use Rattle.step_rules.specs.Verb.{Verb, Query, Count}
+use Rattle.step_rules.specs.Reply.{Reply, Added as IsAdded, Old as IsOld, Reloaded, Identified, Listed, Counted, Refused}
 use Rattle.step_rules.specs.Asked.{lazy_among}
-use Rattle.step_rules.specs.Worlds.{with_added}
-use Rattle.step_rules.specs.Lone.{LoneStep}
+use Rattle.step_rules.specs.Step.{CommandStep}
 use Rattle.dag_store.specs.declared.replies.Added.{Added}
 use Rattle.dag_store.specs.declared.replies.Added.TheVariants.{New, Old}
-use Rattle.dag_store.specs.declared.query.Found.{Found}
 use Rattle.dag_store.specs.Kept.{PlainSession, PlainStore}
-use Rattle.dag_store.specs.Stands.{Stands}
+use Rattle.dag_store.specs.Stands.{StandsBeside}
+use Rattle.lazy_names.specs.declared.fetched.FetchedName.{FetchedName}
+use Rattle.dag_store.specs.declared.query.Found.{Found}
 
--- only the session changes
+-- only the session changes, and names that are kept
 abbrev pub ChangesOnly : ℕ → PlainStore → PlainStore → Type 0
-ChangesOnly s old new = (x : PlainSession) × (new ≡ record { log = old.log; sessions = slice_set old.sessions s x; limits = old.limits })
+ChangesOnly s old new = (x : PlainSession) × (new ≡ record { log = old.log; sessions = slice_set old.sessions s x; limits = old.limits; cache = new.cache })
 
--- an add: the row is pending, or it was there; or nothing changes
-abbrev pub AddStep : ℕ → PlainStore → Stored → ℕ → Name → List Name → Result Added Refusal → PlainStore → Type 0
-AddStep began old st s name parents (Ok (New id)) new =
-    LoneStep old.limits st s (Add name parents) (IsAdded id) (with_added st s name parents) × Stands began new (with_added st s name parents)
-AddStep began old st s name parents (Ok (Old id)) new = LoneStep old.limits st s (Add name parents) (IsOld id) st × (new ≡ old)
-AddStep began old st s name parents (Err refusal) new = LoneStep old.limits st s (Add name parents) (Refused refusal) st × (new ≡ old)
+-- nothing changes but the names that are kept
+abbrev pub KeepsAll : PlainStore → PlainStore → Type 0
+KeepsAll old new = new ≡ record { log = old.log; sessions = old.sessions; limits = old.limits; cache = new.cache }
 
--- a reload: the session is on the newest world, with so many rows; or nothing changes
-abbrev pub ReloadStep : ℕ → PlainStore → Stored → ℕ → Result ℕ Refusal → PlainStore → Type 0
-ReloadStep began old st s (Ok left) new =
-    let next = on_newest st s (left_of same_name st.stored (pending_of st s)) in
-    LoneStep old.limits st s Reload (Reloaded left) next × Stands began new next
-ReloadStep began old st s (Err refusal) new = LoneStep old.limits st s Reload (Refused refusal) st × (new ≡ old)
+-- The command's step with this reply, to a state for which the store stands afterwards, beside the mirrors that are left.
+abbrev pub Leads : ℕ → Limits → State → ℕ → Verb → Reply → PlainStore → List Mirror → Type 0
+Leads began limits st s verb reply new left = (next : State) × CommandStep limits st s verb reply next × StandsBeside began new left next
 
--- the id of a name in the session's view
-abbrev pub IdStep : PlainStore → Stored → ℕ → Name → Result ℕ Refusal → Type 0
-IdStep kept st s name (Ok id) = LoneStep kept.limits st s (IdOf name) (Identified id) st
-IdStep kept st s name (Err refusal) = LoneStep kept.limits st s (IdOf name) (Refused refusal) st
+-- the replies of calls
+abbrev pub add_reply : Result Added Refusal → Reply
+add_reply (Ok (New id)) = IsAdded id
+add_reply (Ok (Old id)) = IsOld id
+add_reply (Err refusal) = Refused refusal
 
--- the ids are those of these names of the session's view, each of which is stored or pending
-pub record AreIdsOf (st : Stored) (s : ℕ) (ids : List ℕ) (names : List Name) : Type 0 where
+abbrev pub reload_reply : Result ℕ Refusal → Reply
+reload_reply (Ok left) = Reloaded left
+reload_reply (Err refusal) = Refused refusal
+
+abbrev pub id_reply : Result ℕ Refusal → Reply
+id_reply (Ok id) = Identified id
+id_reply (Err refusal) = Refused refusal
+
+-- a name that was fetched
+abbrev pub known_name : FetchedName → KnownName
+known_name f = record { id = f.id; name = f.name }
+
+-- The ids are those of these names of the session's view; those of them that aren't stored were fetched, or were in the cache.
+pub record AreIdsOf (st : Stored) (s : ℕ) (ids : List ℕ) (fetched : List KnownName) (names : List Name) : Type 0 where
   pub seen : AreAllIn names (names_of (rows_of (view_of st s)))
   pub ids_are : ids ≡ map (id_in same_name (view_of st s)) names
-  pub stored : lazy_among st (base_of st s) names ≡ []
+  pub lazy : fetched ≡ lazy_among st (base_of st s) names
 
 -- the members of an expression: their names, by their ids
-abbrev pub QueryStep : PlainStore → Stored → ℕ → Expr Name → Result Found Refusal → Type 0
-QueryStep kept st s e (Ok found) =
-    (names : List Name) × LoneStep kept.limits st s (Query e) (Listed names) st × AreIdsOf st s (ids_of found.answer.set) names
-QueryStep kept st s e (Err refusal) = LoneStep kept.limits st s (Query e) (Refused refusal) st
+abbrev pub QueryStep : ℕ → Limits → State → ℕ → Expr Name → Result Found Refusal → PlainStore → List Mirror → Type 0
+QueryStep began limits st s e (Ok found) new left =
+    (names : List Name) × Leads began limits st s (Query e) (Listed names) new left × AreIdsOf st.store s (ids_of found.answer.set) (map known_name found.fetched) names
+QueryStep began limits st s e (Err refusal) new left = Leads began limits st s (Query e) (Refused refusal) new left
 
 -- how many they are: the answer's members, by their ids
-abbrev pub CountStep : PlainStore → Stored → ℕ → Expr Name → Result Answer Refusal → Type 0
-CountStep kept st s e (Ok answer) =
-    (names : List Name) × LoneStep kept.limits st s (Count e) (Counted (length (ids_of answer.set))) st × IsAnswer (seen_by st s) e names
-    × (ids_of answer.set ≡ map (id_in same_name (view_of st s)) names)
-CountStep kept st s e (Err refusal) = LoneStep kept.limits st s (Count e) (Refused refusal) st
+abbrev pub CountStep : ℕ → Limits → State → ℕ → Expr Name → Result Answer Refusal → PlainStore → List Mirror → Type 0
+CountStep began limits st s e (Ok answer) new left =
+    (names : List Name) × Leads began limits st s (Count e) (Counted (length (ids_of answer.set))) new left × IsAnswer (seen_by st.store s) e names
+    × (ids_of answer.set ≡ map (id_in same_name (view_of st.store s)) names)
+CountStep began limits st s e (Err refusal) new left = Leads began limits st s (Count e) (Refused refusal) new left

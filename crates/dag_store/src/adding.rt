@@ -1,29 +1,32 @@
 //! Adding a row, and the id of a name.
 
-ghost use Rattle.std.specs.Prelude.{◌≡◌, ◌<◌, ◌≤◌, ℕ, List, [], None, Some, map, length, OnErr, OnOk, MatchResult};
-ghost use Rattle.id_groups.specs.Lists.{IsIn, is_in};
+ghost use Rattle.std.specs.Prelude.{◌≡◌, ◌<◌, ◌≤◌, ◌+◌, ◌^◌, ℕ, List, [], None, Some, map, length, take, nat_eq, IfOk, OnErr, OnOk, MatchResult};
+ghost use Rattle.id_groups.specs.Lists.{IsIn, AreDistinct, is_in};
 ghost use Rattle.id_groups.specs.Name.{Name as NameBytes, same_name};
-ghost use Rattle.commit_graph.specs.World.{Row, World, with_pending};
-ghost use Rattle.commit_graph.specs.Ids.{id_in};
+ghost use Rattle.commit_graph.specs.World.{Row, World};
 ghost use Rattle.name_map.specs.Added.{Placed, payloads_of, AllStand};
 ghost use Rattle.change_rules.specs.Lazy.{has_lazy};
 ghost use Rattle.payload_tables.specs.Kept.{AreTablesOf};
 ghost use Rattle.payload_tables.specs.Bases.{IsBaseOf, MayView};
 ghost use Rattle.payload_tables.specs.Pending.{IdRow, HoldsRows, row_names};
-ghost use Rattle.step_rules.specs.State.{Stored};
-ghost use Rattle.step_rules.specs.Tests.{twice, unknown, first_some};
+ghost use Rattle.step_rules.specs.State.{State, Stored, base_of, session};
+ghost use Rattle.step_rules.specs.Tests.{twice, tests};
+ghost use Rattle.step_rules.specs.Verb.{Add as ToAdd, IdOf};
 ghost use Rattle.dag_store.specs.Kept.{IsSessionOf, base_added};
-ghost use Rattle.dag_store.specs.Looking.{Sees};
-ghost use Rattle.dag_store.specs.Adding.{IsWhy, looked, parent_refusals, Seeks, MayBeParents, Appends, IsSeen, AddsRow};
-ghost use Rattle.dag_store.specs.Stands.{Stands};
-ghost use Rattle.dag_store.specs.Steps.{AddStep, ChangesOnly, IdStep};
+ghost use Rattle.dag_store.specs.Looking.{AreTablesBehind, Sees, AsksAlike, IsSoundCache, refusal_in};
+ghost use Rattle.dag_store.specs.Adding.{FindsOne, FindsAll, FindsParents, IsTwice, Seeks, MayBeParents, Appends, IsSeen, AddsRow, items_of};
+ghost use Rattle.dag_store.specs.Stands.{IsRight, Stands, StandsBeside};
+ghost use Rattle.dag_store.specs.Steps.{ChangesOnly, KeepsAll, Leads, add_reply, id_reply};
 
-use crate::lookup::{find, has_parents, has_unnamed};
+use crate::lookup::{are_names, find, has_parents, has_unnamed};
 use crate::replies::Added;
 use crate::session::Session;
 use crate::store::Store;
 use flush_rebuild::{BaseRef, Limit, PendingRows, Tables};
 use id_groups::{Id, Name};
+use lazy_names::LazyNames;
+use mirror_set::Mirrors;
+use remote_trait::Remote;
 use std::alloc::Global;
 use step_rules::Refusal;
 
@@ -61,69 +64,151 @@ fn refuse_twice(parents: &[Name]) -> Result<(), Refusal>
     Ok(())
 }
 
-/// The id of a parent. `Unknown` where it isn't there, and `NoRemote` where it has to be asked.
-pub(crate) fn find_parent(
+/// The id of a name in a session's view. `Unknown` where it isn't there.
+pub(crate) fn find_seen<R: Remote>(
+    alloc: Global,
+    bytes: &[u8],
+    tables: &Tables,
     base: &BaseRef<'_>,
     unnamed: bool,
     pending: &PendingRows,
-    parent: &Name,
+    cache: &mut LazyNames,
+    mirrors: &mut Vec<R>,
+    name: &Name,
 ) -> Result<Id, Refusal>
-    requires base { (added : List Placed) × IsBaseOf base.now added }
-    requires pending { (rows : List IdRow) × HoldsRows pending.now rows }
-    ensures { (added : List Placed) (w : World NameBytes) (rows : List (Row NameBytes)) → Sees base.now pending.now added w rows
-        → unnamed ≡ has_lazy (payloads_of added) w → MatchResult result
-        (λ id. (looked (payloads_of added) w rows (unknown (with_pending w rows)) parent.now ≡ None) × (id ≡ id_in same_name (with_pending w rows) parent.now))
-        (λ refusal. looked (payloads_of added) w rows (unknown (with_pending w rows)) parent.now ≡ Some refusal) }
+    requires mirrors { length mirrors.old.items < 2 ^ 32 }
+    requires view { (added : List Placed) × IsBaseOf base.now added × MayView base.now added pending.now }
+    ensures finds { (added : List Placed) (w : World NameBytes) (rows : List (Row NameBytes)) → Sees base.now pending.now added w rows → AreTablesBehind tables.now bytes.now added
+        → unnamed ≡ has_lazy (payloads_of added) w
+        → FindsOne (payloads_of added) w rows name.now (map R.shown mirrors.old.items) (map R.shown mirrors.new.items) cache.old cache.new result }
+    ensures sound { IsSoundCache cache.old → IsSoundCache cache.new }
+    ensures len { length mirrors.new.items ≡ length mirrors.old.items }
 {
-    match find(base, unnamed, pending, parent)? {
+    match find(
+        alloc, bytes, tables, base, unnamed, pending, cache, mirrors, name,
+    )? {
         Some(id) => Ok(id),
-        None => Err(Refusal::Unknown(*parent)),
+        None => Err(Refusal::Unknown(*name)),
     }
 }
 
-/// The ids of parents, in order. They are looked up from left to right, and no two may be the same.
-fn find_parents(
+/// The ids of names in a session's view, in order. They are looked up from left to right.
+fn find_all<R: Remote>(
     alloc: Global,
+    bytes: &[u8],
+    tables: &Tables,
     base: &BaseRef<'_>,
     unnamed: bool,
     pending: &PendingRows,
-    parents: &[Name],
+    cache: &mut LazyNames,
+    mirrors: &mut Vec<R>,
+    names: &[Name],
 ) -> Result<Vec<Id>, Refusal>
-    requires base { (added : List Placed) × IsBaseOf base.now added }
-    requires pending { (rows : List IdRow) × HoldsRows pending.now rows }
-    ensures { (added : List Placed) (w : World NameBytes) (rows : List (Row NameBytes)) → Sees base.now pending.now added w rows
-        → unnamed ≡ has_lazy (payloads_of added) w → MatchResult result
-        (λ ids. (first_some (parent_refusals (payloads_of added) w rows parents.now) ≡ None) × (ids.items ≡ map (id_in same_name (with_pending w rows)) parents.now))
-        (λ refusal. IsWhy (parent_refusals (payloads_of added) w rows parents.now) refusal) }
+    requires mirrors { length mirrors.old.items < 2 ^ 32 }
+    requires view { (added : List Placed) × IsBaseOf base.now added × MayView base.now added pending.now }
+    ensures finds { (added : List Placed) (w : World NameBytes) (rows : List (Row NameBytes)) → Sees base.now pending.now added w rows → AreTablesBehind tables.now bytes.now added
+        → unnamed ≡ has_lazy (payloads_of added) w
+        → FindsAll (payloads_of added) w rows names.now (map R.shown mirrors.old.items) (map R.shown mirrors.new.items) cache.old cache.new (items_of result) }
+    ensures count { IfOk result (λ ids. length ids.items ≡ length names.now) }
+    ensures sound { IsSoundCache cache.old → IsSoundCache cache.new }
+    ensures len { length mirrors.new.items ≡ length mirrors.old.items }
 {
-    let Ok(mut ids) = Vec::with_capacity(alloc, parents.len()) else {
+    let Ok(mut ids) = Vec::with_capacity(alloc, names.len()) else {
         return Err(Refusal::Memory);
     };
-    'parents: for parent in parents {
-        let id = find_parent(base, unnamed, pending, parent)?;
+    'names: for name in names {
+        let id = find_seen(
+            alloc, bytes, tables, base, unnamed, pending, cache, mirrors, name,
+        )?;
         let Ok(()) = ids.push(id) else {
             return Err(Refusal::Memory);
         };
     }
+    Ok(ids)
+}
+
+/// Whether the id is one of these.
+fn has_id(ids: &[Id], id: Id) -> bool
+    ensures { result ≡ is_in nat_eq id ids.now }
+{
+    for known in ids {
+        if known.number() == id.number() {
+            return true;
+        }
+    }
+    false
+}
+
+/// Refuses the first parent that was found as an earlier one: mirrors that lie may give two names one id.
+fn refuse_same(ids: &[Id], parents: &[Name]) -> Result<(), Refusal>
+    requires { length parents.now ≡ length ids.now }
+    ensures { MatchResult result (λ _. AreDistinct ids.now) (λ refusal. (AreDistinct ids.now → ⊥) × IsTwice refusal) }
+{
+    'ids: for place in 0..ids.len() {
+        if has_id(&ids[..place], ids[place]) {
+            return Err(Refusal::Twice(parents[place]));
+        }
+    }
+    Ok(())
+}
+
+/// The ids of parents, in order, no two of which may be the same.
+fn find_parents<R: Remote>(
+    alloc: Global,
+    bytes: &[u8],
+    tables: &Tables,
+    base: &BaseRef<'_>,
+    unnamed: bool,
+    pending: &PendingRows,
+    cache: &mut LazyNames,
+    mirrors: &mut Vec<R>,
+    parents: &[Name],
+) -> Result<Vec<Id>, Refusal>
+    requires mirrors { length mirrors.old.items < 2 ^ 32 }
+    requires view { (added : List Placed) × IsBaseOf base.now added × MayView base.now added pending.now }
+    ensures finds { (added : List Placed) (w : World NameBytes) (rows : List (Row NameBytes)) → Sees base.now pending.now added w rows → AreTablesBehind tables.now bytes.now added
+        → unnamed ≡ has_lazy (payloads_of added) w
+        → FindsParents (payloads_of added) w rows parents.now (map R.shown mirrors.old.items) (map R.shown mirrors.new.items) cache.old cache.new (items_of result) }
+    ensures distinct { IfOk result (λ ids. AreDistinct ids.items) }
+    ensures sound { IsSoundCache cache.old → IsSoundCache cache.new }
+    ensures len { length mirrors.new.items ≡ length mirrors.old.items }
+{
+    let ids = find_all(
+        alloc, bytes, tables, base, unnamed, pending, cache, mirrors, parents,
+    )?;
     refuse_twice(parents)?;
+    refuse_same(&ids, parents)?;
     Ok(ids)
 }
 
 /// Looks up a commit and its parents, and refuses it for all but the number of rows.
-fn seek(
+fn seek<R: Remote>(
     alloc: Global,
+    bytes: &[u8],
+    tables: &Tables,
     base: &BaseRef<'_>,
     unnamed: bool,
     pending: &PendingRows,
+    cache: &mut LazyNames,
+    mirrors: &mut Vec<R>,
     name: &Name,
     parents: &[Name],
 ) -> Result<Sought, Refusal>
+    requires mirrors { length mirrors.old.items < 2 ^ 32 }
     requires view { (added : List Placed) × IsBaseOf base.now added × MayView base.now added pending.now }
-    ensures { (added : List Placed) (w : World NameBytes) (rows : List (Row NameBytes)) → Sees base.now pending.now added w rows
-        → unnamed ≡ has_lazy (payloads_of added) w → Seeks (payloads_of added) w rows name.now parents.now result }
+    requires few { length parents.now ≤ 8 }
+    ensures seeks { (added : List Placed) (w : World NameBytes) (rows : List (Row NameBytes)) → Sees base.now pending.now added w rows → AreTablesBehind tables.now bytes.now added
+        → unnamed ≡ has_lazy (payloads_of added) w
+        → Seeks (payloads_of added) w rows name.now parents.now (map R.shown mirrors.old.items) (map R.shown mirrors.new.items) cache.old cache.new result }
+    ensures sound { IsSoundCache cache.old → IsSoundCache cache.new }
+    ensures len { length mirrors.new.items ≡ length mirrors.old.items }
 {
-    let found = find(base, unnamed, pending, name)?;
-    let ids = find_parents(alloc, base, unnamed, pending, parents)?;
+    let found = find(
+        alloc, bytes, tables, base, unnamed, pending, cache, mirrors, name,
+    )?;
+    let ids = find_parents(
+        alloc, bytes, tables, base, unnamed, pending, cache, mirrors, parents,
+    )?;
     let Some(id) = found else {
         return Ok(Sought::New(ids));
     };
@@ -158,45 +243,106 @@ fn append(
 }
 
 /// Adds a commit to the rows of a session, of which there may be so many.
-fn add_row(
+fn add_row<R: Remote>(
     alloc: Global,
     bytes: &[u8],
     tables: &Tables,
     most: u32,
     session: &mut Session,
+    cache: &mut LazyNames,
+    mirrors: &mut Vec<R>,
     name: &Name,
     parents: &[Name],
 ) -> Result<Added, Refusal>
+    requires mirrors { length mirrors.old.items < 2 ^ 32 }
     requires session { (added : List Placed) × AreTablesOf tables.now added × AllStand bytes.now added × IsSessionOf added session.old }
     requires limit { most ≤ 65536 }
     requires few { length parents.now ≤ 8 }
     ensures adds { (added : List Placed) (w : World NameBytes) (rows : List (Row NameBytes)) → AreTablesOf tables.now added → AllStand bytes.now added
         → IsSessionOf added session.old → IsSeen added session.old w rows
-        → AddsRow most session.old (payloads_of (base_added added session.old)) w rows name.now parents.now result session.new }
+        → AddsRow most session.old (payloads_of (base_added added session.old)) w rows name.now parents.now (map R.shown mirrors.old.items) (map R.shown mirrors.new.items) cache.old cache.new result session.new }
     ensures kept { (added : List Placed) → AreTablesOf tables.now added → AllStand bytes.now added → IsSessionOf added session.old → IsSessionOf added session.new }
     ensures refused { OnErr result (session.new ≡ session.old) }
+    ensures sound { IsSoundCache cache.old → IsSoundCache cache.new }
+    ensures len { length mirrors.new.items ≡ length mirrors.old.items }
 {
     let base = session.base(bytes, tables);
     let unnamed = has_unnamed(tables, session.below);
-    match seek(alloc, &base, unnamed, &session.pending, name, parents)? {
+    match seek(
+        alloc,
+        bytes,
+        tables,
+        &base,
+        unnamed,
+        &session.pending,
+        cache,
+        mirrors,
+        name,
+        parents,
+    )? {
         Sought::Old(id) => Ok(Added::Old(id)),
         Sought::New(ids) => append(&mut session.pending, most, name, &ids),
     }
 }
 
+/// The id of a name that a session sees.
+fn find_id<R: Remote>(
+    alloc: Global,
+    bytes: &[u8],
+    tables: &Tables,
+    session: &Session,
+    cache: &mut LazyNames,
+    mirrors: &mut Vec<R>,
+    name: &Name,
+) -> Result<Id, Refusal>
+    requires mirrors { length mirrors.old.items < 2 ^ 32 }
+    requires session { (added : List Placed) × AreTablesOf tables.now added × AllStand bytes.now added × IsSessionOf added session.now }
+    ensures finds { (added : List Placed) (w : World NameBytes) (rows : List (Row NameBytes)) → AreTablesOf tables.now added → AllStand bytes.now added
+        → IsSessionOf added session.now → IsSeen added session.now w rows
+        → FindsOne (payloads_of (base_added added session.now)) w rows name.now (map R.shown mirrors.old.items) (map R.shown mirrors.new.items) cache.old cache.new result }
+    ensures sound { IsSoundCache cache.old → IsSoundCache cache.new }
+    ensures len { length mirrors.new.items ≡ length mirrors.old.items }
+{
+    let base = session.base(bytes, tables);
+    let unnamed = has_unnamed(tables, session.below);
+    find_seen(
+        alloc,
+        bytes,
+        tables,
+        &base,
+        unnamed,
+        &session.pending,
+        cache,
+        mirrors,
+        name,
+    )
+}
+
 impl Store {
     /// Adds a commit to the pending rows of a session; one that the session sees with the same parents stays as it is.
     ///
-    /// `NoRemote` where a name would have to be asked of a mirror, `Unknown` for the first parent that the session doesn't see,
-    /// `Twice` for the first parent that equals an earlier one, `Differs` where the commit is there with other parents, and `Full`
-    /// where the session has as many rows as it may.
-    pub fn add(&mut self, s: u8, name: &Name, parents: &[Name]) -> Result<Added, Refusal>
+    /// `Unknown` for the first parent that the session doesn't see, `Twice` for the first parent that equals an earlier one, `Differs`
+    /// where the commit is there with other parents, and `Full` where the session has as many rows as it may. Where a name has to be
+    /// asked, `NoRemote` where there is no mirror, `Remote` where all failed, and `MismatchPath` where the answer disagrees with the log.
+    pub fn add(
+        &mut self,
+        s: u8,
+        mirrors: &mut Mirrors,
+        name: &Name,
+        parents: &[Name],
+    ) -> Result<Added, Refusal>
         requires session { s < 16 }
         requires few { length parents.now ≤ 8 }
-        ensures step { (began : ℕ) (st : Stored) → Stands began self.old st → AddStep began self.old st s name.now parents.now result self.new }
+        ensures step { let first = map (λ b. (⟦<dyn Remote as Remote>⟧ b.vtable).shown b.value) mirrors.old.list.items in let left = map (λ b. (⟦<dyn Remote as Remote>⟧ b.vtable).shown b.value) mirrors.new.list.items in
+            (began : ℕ) (st : State) → StandsBeside began self.old first st → IsRight st → Leads began self.old.limits st s (ToAdd name.now parents.now) (add_reply result) self.new left }
+        ensures asks { let first = map (λ b. (⟦<dyn Remote as Remote>⟧ b.vtable).shown b.value) mirrors.old.list.items in let left = map (λ b. (⟦<dyn Remote as Remote>⟧ b.vtable).shown b.value) mirrors.new.list.items in
+            (began : ℕ) (st : Stored) → Stands began self.old st
+            → AsksAlike (take (began + (session st s).base) st.payloads) (base_of st s) (tests self.old.limits st s (ToAdd name.now parents.now)) first left (refusal_in result) }
         ensures alone { OnOk result (ChangesOnly s self.old self.new) }
-        ensures refused { OnErr result (self.new ≡ self.old) }
+        ensures refused { OnErr result (KeepsAll self.old self.new) }
     {
+        let _name = name.lend();
+        are_names(parents);
         let session = &mut self.sessions[usize::from(s)];
         add_row(
             self.alloc,
@@ -204,24 +350,33 @@ impl Store {
             &self.tables,
             self.limits.pending,
             session,
+            &mut self.names,
+            &mut mirrors.list,
             name,
             parents,
         )
     }
 
-    /// The id of a commit that a session sees. `NoRemote` where the name would have to be asked of a mirror, `Unknown` where the
-    /// session doesn't see it.
-    pub fn id(&self, s: u8, name: &Name) -> Result<Id, Refusal>
+    /// The id of a commit that a session sees. `Unknown` where the session doesn't see it. Where the name has to be asked, `NoRemote`
+    /// where there is no mirror, `Remote` where all failed, and `MismatchPath` where the answer disagrees with the log.
+    pub fn id(&mut self, s: u8, mirrors: &mut Mirrors, name: &Name) -> Result<Id, Refusal>
         requires { s < 16 }
-        ensures { (began : ℕ) (st : Stored) → Stands began self.now st → IdStep self.now st s name.now result }
+        ensures step { let first = map (λ b. (⟦<dyn Remote as Remote>⟧ b.vtable).shown b.value) mirrors.old.list.items in let left = map (λ b. (⟦<dyn Remote as Remote>⟧ b.vtable).shown b.value) mirrors.new.list.items in
+            (began : ℕ) (st : State) → StandsBeside began self.old first st → IsRight st → Leads began self.old.limits st s (IdOf name.now) (id_reply result) self.new left }
+        ensures asks { let first = map (λ b. (⟦<dyn Remote as Remote>⟧ b.vtable).shown b.value) mirrors.old.list.items in let left = map (λ b. (⟦<dyn Remote as Remote>⟧ b.vtable).shown b.value) mirrors.new.list.items in
+            (began : ℕ) (st : Stored) → Stands began self.old st
+            → AsksAlike (take (began + (session st s).base) st.payloads) (base_of st s) (tests self.old.limits st s (IdOf name.now)) first left (refusal_in result) }
+        ensures kept { KeepsAll self.old self.new }
     {
         let session = &self.sessions[usize::from(s)];
-        let tables: &Tables = &self.tables;
-        let base = session.base(self.log.bytes(), tables);
-        let unnamed = has_unnamed(tables, session.below);
-        match find(&base, unnamed, &session.pending, name)? {
-            Some(id) => Ok(id),
-            None => Err(Refusal::Unknown(*name)),
-        }
+        find_id(
+            self.alloc,
+            self.log.bytes(),
+            &self.tables,
+            session,
+            &mut self.names,
+            &mut mirrors.list,
+            name,
+        )
     }
 }

@@ -1,26 +1,23 @@
 //! A session's change, from its plan to the disk.
 
-ghost use Rattle.std.specs.Prelude.{◌≡◌, ◌<◌, ◌≤◌, ◌+◌, ◌^◌, ℕ, List, [], ◌∷◌, ◌++◌, true, false, length, Ok, IfOk, IfSome, OnErr, OnOk, MatchResult};
+ghost use Rattle.std.specs.Prelude.{◌≡◌, ◌<◌, ◌≤◌, ◌+◌, ◌^◌, ℕ, List, [], ◌∷◌, ◌++◌, true, false, length, Ok, IfOk, IfSome, OnErr, OnOk, map};
 ghost use Rattle.outside.specs.Counts.{Rose};
 ghost use Rattle.disk_trait.specs.Calls.{Goes};
 ghost use Rattle.batch_codec.specs.Payload.{Payload, payload_bytes};
-ghost use Rattle.batch_codec.specs.Grammar.{MayFollow};
+ghost use Rattle.change_rules.specs.Lawful.{MayFollow};
 ghost use Rattle.batch_codec.specs.Lent.{payload_of};
 ghost use Rattle.gated_log.specs.Held.{Held, log_bytes, longer};
 ghost use Rattle.gated_log.specs.Holding.{IsOnDisk};
 ghost use Rattle.name_map.specs.Added.{Placed, payloads_of};
 ghost use Rattle.change_rules.specs.Standard.{AreLimits};
-ghost use Rattle.change_rules.specs.Lazy.{has_lazy};
-ghost use Rattle.change_rules.specs.Tables.{StandFor};
-ghost use Rattle.id_groups.specs.Name.{Name as NameBytes};
-ghost use Rattle.commit_graph.specs.World.{World};
 ghost use Rattle.flush_rebuild.specs.Asked.{MayStore};
 ghost use Rattle.flush_rebuild.specs.Plans.{MayBeStored};
 ghost use Rattle.payload_tables.specs.Kept.{AreTablesOf};
 ghost use Rattle.step_rules.specs.State.{Stored};
 ghost use Rattle.dag_store.specs.Kept.{IsSessionOf, IsKept};
 ghost use Rattle.dag_store.specs.Loading.{IsOnNewest};
-ghost use Rattle.dag_store.specs.Changes.{AreOver, IsOn, IsPrepared, IsFlushPlan, IsRefusedBy, Rebases, added_behind, flush_refusals, reload_refusals};
+ghost use Rattle.dag_store.specs.Looking.{IsSoundCache};
+ghost use Rattle.dag_store.specs.Changes.{AreOver, IsOn, IsPrepared, Prepares, Reloads, added_behind};
 ghost use Rattle.dag_store.specs.Flushes.{HasRoom, FlushLeaves};
 ghost use Rattle.dag_store.specs.Finishes.{Finishes, IsBehind};
 
@@ -33,16 +30,10 @@ use disk_trait::Disk;
 use flush_rebuild::{Change, Limits, OthersTable, PendingRows, Tables};
 use gated_log::{Committed, Log, ReserveFault};
 use id_groups::Name;
+use lazy_names::LazyNames;
+use remote_trait::Remote;
 use std::alloc::{AllocError, Global};
 use step_rules::Refusal;
-
-/// Whether some master id has no stored name.
-fn lacks_names(tables: &Tables) -> bool
-    ensures { (added : List Placed) (w : World NameBytes) → AreTablesOf tables.now added → StandFor (payloads_of added) w → result ≡ has_lazy (payloads_of added) w }
-{
-    let count = tables.master_count();
-    tables.names().known_below(count) < count
-}
 
 /// The session on so many payloads, of which these are the tables, with these rows.
 fn session_with(
@@ -64,20 +55,25 @@ fn session_with(
 }
 
 /// The session on the newest world, with its rows that this doesn't have.
-pub(crate) fn reloaded(
+pub(crate) fn reloaded<R: Remote>(
     alloc: Global,
     log: &Log,
     tables: &Tables,
     session: &Session,
+    cache: &mut LazyNames,
+    mirrors: &mut Vec<R>,
 ) -> Result<Session, Refusal>
-    requires { (added : List Placed) × AreOver log.now tables.now added × IsSessionOf added session.now }
+    requires mirrors { length mirrors.old.items < 2 ^ 32 }
+    requires over { (added : List Placed) × AreOver log.now tables.now added × IsSessionOf added session.now }
     ensures session { (added : List Placed) → AreOver log.now tables.now added → IsSessionOf added session.now
         → IfOk result (λ x. IsSessionOf added x × (x.payloads ≡ length added)) }
     ensures step { (began s : ℕ) (added : List Placed) (st : Stored) (limits : _) → AreOver log.now tables.now added → IsSessionOf added session.now
-        → IsOn began added session.now st s → MatchResult result (λ x. Rebases limits st s (Ok x.pending)) (IsRefusedBy (reload_refusals limits st s)) }
+        → IsOn began added session.now st s
+        → Reloads limits st s (map R.shown mirrors.old.items) (map R.shown mirrors.new.items) cache.old cache.new result }
+    ensures sound { IsSoundCache cache.old → IsSoundCache cache.new }
+    ensures len { length mirrors.new.items ≡ length mirrors.old.items }
 {
-    let unnamed = lacks_names(tables);
-    let left = rebased(alloc, log, tables, session, unnamed)?;
+    let left = rebased(alloc, log, tables, session, cache, mirrors, &[], &mut [])?;
     match session_with(alloc, tables, log.batch_count(), left) {
         Ok(session) => Ok(session),
         Err(AllocError) => Err(Refusal::Memory),
@@ -91,7 +87,7 @@ fn stored_session(
     batch: &BatchRef<'_>,
     at: u64,
 ) -> Result<Session, AllocError>
-    requires room { at + length (payload_bytes 1 (payload_of batch.now)) < 2 ^ 63 }
+    requires room { at + length (payload_bytes (payload_of batch.now)) < 2 ^ 63 }
     requires follows { (added : List Placed) × MayFollow (payloads_of added) (payload_of batch.now) }
     ensures { (added : List Placed) → MayFollow (payloads_of added) (payload_of batch.now) → payloads ≡ length added + 1
         → IfOk result (IsOnNewest (added ++ record { at = at; payload = payload_of batch.now } ∷ [])) }
@@ -115,11 +111,11 @@ fn add_change(
     payload: &[u8],
 ) -> Result<Session, AllocError>
     requires fits { (longer log.old payload.now ≤ log.old.limit) × (log.old.limit ≤ 2 ^ 32) }
-    requires lawful { (added : List Placed) × (last : Payload) × AreOver log.old tables.old added × MayFollow (payloads_of added) last × (payload.now ≡ payload_bytes 1 last) }
+    requires lawful { (added : List Placed) × (last : Payload) × AreOver log.old tables.old added × MayFollow (payloads_of added) last × (payload.now ≡ payload_bytes last) }
     ensures room { HasRoom log.old log.new }
     ensures refused { OnErr result (tables.new ≡ tables.old) }
     ensures enough { OnOk result (longer log.old payload.now ≤ log.new.room) }
-    ensures added { (added : List Placed) (last : Payload) → AreOver log.old tables.old added → MayFollow (payloads_of added) last → payload.now ≡ payload_bytes 1 last
+    ensures added { (added : List Placed) (last : Payload) → AreOver log.old tables.old added → MayFollow (payloads_of added) last → payload.now ≡ payload_bytes last
         → IfOk result (λ x. AreTablesOf tables.new (added_behind log.old added last) × IsOnNewest (added_behind log.old added last) x) }
 {
     match log.reserve(payload.len() as u64) {
@@ -138,9 +134,9 @@ fn add_payload(
     payload: &[u8],
 ) -> Result<Session, AllocError>
     requires fits { longer log.now payload.now ≤ 2 ^ 32 }
-    requires lawful { (added : List Placed) × (last : Payload) × AreOver log.now tables.old added × MayFollow (payloads_of added) last × (payload.now ≡ payload_bytes 1 last) }
+    requires lawful { (added : List Placed) × (last : Payload) × AreOver log.now tables.old added × MayFollow (payloads_of added) last × (payload.now ≡ payload_bytes last) }
     ensures refused { OnErr result (tables.new ≡ tables.old) }
-    ensures added { (added : List Placed) (last : Payload) → AreOver log.now tables.old added → MayFollow (payloads_of added) last → payload.now ≡ payload_bytes 1 last
+    ensures added { (added : List Placed) (last : Payload) → AreOver log.now tables.old added → MayFollow (payloads_of added) last → payload.now ≡ payload_bytes last
         → IfOk result (λ x. AreTablesOf tables.new (added_behind log.now added last) × IsOnNewest (added_behind log.now added last) x) }
 {
     let Some(batch) = BatchRef::read(payload) else {
@@ -155,7 +151,7 @@ fn add_payload(
 
 /// Takes the memory for a change: where nothing changes, the session is on the newest payloads without rows; or the log and the
 /// tables are ready for the payload, and the session is on it.
-fn take_change(
+pub(crate) fn take_change(
     alloc: Global,
     log: &mut Log,
     tables: &mut Tables,
@@ -164,10 +160,10 @@ fn take_change(
 ) -> Result<Session, AllocError>
     requires limits { AreLimits limits }
     requires limit { log.old.limit ≡ limits.log }
-    requires stored { (added : List Placed) × AreOver log.old tables.old added × MayBeStored limits (length (log_bytes log.old)) added change.now }
+    requires stored { (kind : ℕ) × (added : List Placed) × AreOver log.old tables.old added × MayBeStored kind limits (length (log_bytes log.old)) added change.now }
     ensures room { HasRoom log.old log.new }
     ensures refused { OnErr result (tables.new ≡ tables.old) }
-    ensures ready { (added : List Placed) → AreOver log.old tables.old added → MayBeStored limits (length (log_bytes log.old)) added change.now
+    ensures ready { (kind : ℕ) (added : List Placed) → AreOver log.old tables.old added → MayBeStored kind limits (length (log_bytes log.old)) added change.now
         → IfOk result (IsPrepared limits log.old log.new tables.old tables.new added change.now) }
 {
     if change.same {
@@ -184,14 +180,17 @@ pub(crate) struct Next {
 }
 
 /// Plans the flush of a session, and takes all memory for it.
-pub(crate) fn prepare(
+pub(crate) fn prepare<R: Remote>(
     alloc: Global,
     log: &mut Log,
     tables: &mut Tables,
     session: &Session,
+    cache: &mut LazyNames,
+    mirrors: &mut Vec<R>,
     heads: &[Name],
     limits: Limits,
 ) -> Result<Next, Refusal>
+    requires mirrors { length mirrors.old.items < 2 ^ 32 }
     requires limits { AreLimits limits }
     requires limit { log.old.limit ≡ limits.log }
     requires kept { (added : List Placed) × AreOver log.old tables.old added × IsSessionOf added session.now }
@@ -200,10 +199,12 @@ pub(crate) fn prepare(
     ensures ready { (added : List Placed) → AreOver log.old tables.old added → IsSessionOf added session.now
         → IfOk result (λ next. IsPrepared limits log.old log.new tables.old tables.new added next.change next.session) }
     ensures step { (began s : ℕ) (added : List Placed) (st : Stored) → AreOver log.old tables.old added → IsSessionOf added session.now
-        → IsOn began added session.now st s → MatchResult result (λ next. IsFlushPlan limits st s heads.now next.change) (IsRefusedBy (flush_refusals limits st s heads.now)) }
+        → IsOn began added session.now st s
+        → Prepares limits st s heads.now (map R.shown mirrors.old.items) (map R.shown mirrors.new.items) cache.old cache.new result }
+    ensures sound { IsSoundCache cache.old → IsSoundCache cache.new }
+    ensures len { length mirrors.new.items ≡ length mirrors.old.items }
 {
-    let unnamed = lacks_names(tables);
-    let change = plan(alloc, log, tables, session, unnamed, heads, limits)?;
+    let change = plan(alloc, log, tables, session, cache, mirrors, heads, limits)?;
     match take_change(alloc, log, tables, &change, limits) {
         Ok(session) => Ok(Next { change, session }),
         Err(AllocError) => Err(Refusal::Memory),
@@ -218,6 +219,7 @@ pub(crate) fn commit<D: Disk>(
     tables: Box<Tables>,
     sessions: Vec<Session>,
     limits: Limits,
+    names: LazyNames,
     change: Change,
 ) -> Flushed
     requires begins { IfSome (D.told disk.old) (IsOnDisk log) }
@@ -225,8 +227,8 @@ pub(crate) fn commit<D: Disk>(
     requires same { change.same ≡ true → IsKept log tables.value sessions.items limits }
     requires room { change.same ≡ false → (longer log change.payload ≤ log.limit) × (longer log change.payload ≤ log.room) }
     requires stored { (new : Held) → change.same ≡ false → IsBehind log change.payload new → IsKept new tables.value sessions.items limits }
-    ensures finishes { Finishes log sessions.items limits change result }
-    ensures leaves { Goes (FlushLeaves (record { log = log; sessions = sessions.items; limits = limits }) change.payload result) (D.told disk.old) (D.told disk.new) }
+    ensures finishes { Finishes log sessions.items limits names change result }
+    ensures leaves { Goes (FlushLeaves (record { log = log; sessions = sessions.items; limits = limits; cache = names }) change.payload result) (D.told disk.old) (D.told disk.new) }
     ensures quiet { change.same ≡ true → disk.new ≡ disk.old }
     ensures later { D.faults disk.old ≤ D.faults disk.new }
     ensures cause { (fault : _) → result ≡ Flushed.Disk fault → Rose (D.faults disk.old) (D.faults disk.new) }
@@ -243,6 +245,7 @@ pub(crate) fn commit<D: Disk>(
             tables,
             sessions,
             limits,
+            names,
         };
         return Flushed::Done(store, counts, None);
     }
@@ -254,6 +257,7 @@ pub(crate) fn commit<D: Disk>(
                 tables,
                 sessions,
                 limits,
+                names,
             };
             Flushed::Done(store, counts, Some(clock))
         }

@@ -1,66 +1,85 @@
 //! Looking up in the newest base what a flush and a reload name.
 
-ghost use Rattle.std.specs.Prelude.{◌≡◌, ◌&&◌, not, ℕ, List, IfOk, MatchResult, None};
-ghost use Rattle.std.specs.List.{AllZip};
-ghost use Rattle.name_map.specs.Added.{Placed};
+ghost use Rattle.std.specs.Prelude.{◌≡◌, ◌<◌, ◌^◌, ℕ, List, [], None, IfOk, length, map, slice_index_or};
+ghost use Rattle.name_map.specs.Added.{Placed, payloads_of};
+ghost use Rattle.id_groups.specs.Name.{Name as NameBytes};
+ghost use Rattle.commit_graph.specs.World.{Row, World, names_of};
 ghost use Rattle.change_rules.specs.Lazy.{has_lazy};
-ghost use Rattle.payload_tables.specs.Bases.{IsBaseOf};
-ghost use Rattle.payload_tables.specs.Pending.{IdRow, HoldsRows, row_names};
-ghost use Rattle.flush_rebuild.specs.Asked.{IsFoundIn};
-ghost use Rattle.step_rules.specs.State.{Stored, pending_of};
-ghost use Rattle.step_rules.specs.Tests.{is_on_newest};
-ghost use Rattle.commit_graph.specs.World.{names_of};
-ghost use Rattle.dag_store.specs.Kept.{PlainSession, IsSessionOf};
-ghost use Rattle.dag_store.specs.Changes.{IsOn, AreFound, IsRefusedBy, head_refusal, row_refusal, stored_as};
-ghost use Rattle.std.specs.Prelude.{map};
+ghost use Rattle.payload_tables.specs.Bases.{IsBaseOf, MayView};
+ghost use Rattle.payload_tables.specs.Pending.{IdRow, HoldsRows};
+ghost use Rattle.dag_store.specs.Kept.{IsSessionOf};
+ghost use Rattle.dag_store.specs.Looking.{AreTablesBehind, IsSoundCache, Sees};
+ghost use Rattle.dag_store.specs.Adding.{items_of};
+ghost use Rattle.dag_store.specs.Changes.{HaveNames, FindsHead, FindsHeads, FindsRows, IsRowOf, IsTaken};
 
+use crate::adding::find_seen;
+use crate::lookup::find;
 use crate::session::Session;
-use flush_rebuild::BaseRef;
-use id_groups::{Id, Name, NameRef};
+use flush_rebuild::{BaseRef, PendingRows, Tables};
+use id_groups::{Id, Name};
+use lazy_names::LazyNames;
+use remote_trait::Remote;
 use std::alloc::Global;
 use step_rules::Refusal;
 
 /// The id of a head in the newest base, where `unnamed` says whether that has an id without a stored name; none where it is pending
-/// alone. `NoRemote` where it has to be asked, and `Unknown` where it is nowhere.
-fn find_head(
+/// and not stored. `none` are no rows behind that base. A head that is neither stored nor pending is asked of a mirror there, and
+/// `Unknown` where it is nowhere.
+fn find_head<R: Remote>(
+    alloc: Global,
+    bytes: &[u8],
+    tables: &Tables,
     newest: &BaseRef<'_>,
     unnamed: bool,
+    none: &PendingRows,
     session: &Session,
+    cache: &mut LazyNames,
+    mirrors: &mut Vec<R>,
     head: &Name,
 ) -> Result<Option<Id>, Refusal>
-    requires base { (added : List Placed) × IsBaseOf newest.now added × IsSessionOf added session.now }
-    ensures found { (added : List Placed) → IsBaseOf newest.now added → IfOk result (IsFoundIn added head.now) }
-    ensures step { (began s : ℕ) (added : List Placed) (st : Stored) → IsBaseOf newest.now added → IsOn began added session.now st s → unnamed ≡ has_lazy st.payloads st.stored
-        → MatchResult result (λ found. (head_refusal st s head.now ≡ None) × (found ≡ stored_as st head.now)) (λ refusal. head_refusal st s head.now ≡ Some refusal) }
+    requires mirrors { length mirrors.old.items < 2 ^ 32 }
+    requires base { (added : List Placed) × IsBaseOf newest.now added × IsSessionOf added session.now × MayView newest.now added none.now }
+    ensures finds { (added : List Placed) (w : World NameBytes) (rows : List (Row NameBytes)) → Sees newest.now none.now added w [] → AreTablesBehind tables.now bytes.now added
+        → HaveNames session.now.pending (names_of rows) → unnamed ≡ has_lazy (payloads_of added) w
+        → FindsHead added w rows head.now (map R.shown mirrors.old.items) (map R.shown mirrors.new.items) cache.old cache.new result }
+    ensures sound { IsSoundCache cache.old → IsSoundCache cache.new }
+    ensures len { length mirrors.new.items ≡ length mirrors.old.items }
 {
-    if let Some(id) = newest.id(head.lend()) {
-        return Ok(Some(id));
-    }
     if session.pending.find(head.lend()).is_some() {
-        return Ok(None);
+        return Ok(newest.id(head.lend()));
     }
-    if unnamed {
-        return Err(Refusal::NoRemote);
-    }
-    Err(Refusal::Unknown(*head))
+    let id = find_seen(
+        alloc, bytes, tables, newest, unnamed, none, cache, mirrors, head,
+    )?;
+    Ok(Some(id))
 }
 
 /// The ids of these heads in the newest base. The first that is refused is.
-pub(crate) fn look_up_heads(
+pub(crate) fn look_up_heads<R: Remote>(
     alloc: Global,
+    bytes: &[u8],
+    tables: &Tables,
     newest: &BaseRef<'_>,
     unnamed: bool,
+    none: &PendingRows,
     session: &Session,
+    cache: &mut LazyNames,
+    mirrors: &mut Vec<R>,
     heads: &[Name],
 ) -> Result<Vec<Option<Id>>, Refusal>
-    requires base { (added : List Placed) × IsBaseOf newest.now added × IsSessionOf added session.now }
-    ensures found { (added : List Placed) → IsBaseOf newest.now added → IfOk result (λ found. AllZip (IsFoundIn added) heads.now found.items) }
-    ensures step { (began s : ℕ) (added : List Placed) (st : Stored) → IsBaseOf newest.now added → IsOn began added session.now st s → unnamed ≡ has_lazy st.payloads st.stored
-        → MatchResult result (λ found. AreFound st (head_refusal st s) heads.now found.items) (IsRefusedBy (map (head_refusal st s) heads.now)) }
+    requires mirrors { length mirrors.old.items < 2 ^ 32 }
+    requires base { (added : List Placed) × IsBaseOf newest.now added × IsSessionOf added session.now × MayView newest.now added none.now }
+    ensures finds { (added : List Placed) (w : World NameBytes) (rows : List (Row NameBytes)) → Sees newest.now none.now added w [] → AreTablesBehind tables.now bytes.now added
+        → HaveNames session.now.pending (names_of rows) → unnamed ≡ has_lazy (payloads_of added) w
+        → FindsHeads added w rows heads.now (map R.shown mirrors.old.items) (map R.shown mirrors.new.items) cache.old cache.new (items_of result) }
+    ensures sound { IsSoundCache cache.old → IsSoundCache cache.new }
+    ensures len { length mirrors.new.items ≡ length mirrors.old.items }
 {
     let mut found = Vec::new(alloc);
     'heads: for head in heads {
-        let id = find_head(newest, unnamed, session, head)?;
+        let id = find_head(
+            alloc, bytes, tables, newest, unnamed, none, session, cache, mirrors, head,
+        )?;
         let Ok(()) = found.push(id) else {
             return Err(Refusal::Memory);
         };
@@ -68,43 +87,78 @@ pub(crate) fn look_up_heads(
     Ok(found)
 }
 
-/// The id of a pending row's name in the newest base. `NoRemote` where `asks` says that a name which isn't stored has to be asked.
-fn find_row(newest: &BaseRef<'_>, asks: bool, name: NameRef<'_>) -> Result<Option<Id>, Refusal>
-    requires base { (added : List Placed) × IsBaseOf newest.now added }
-    ensures found { (added : List Placed) → IsBaseOf newest.now added → IfOk result (IsFoundIn added name.entry.bytes.now) }
-    ensures step { (began s : ℕ) (added : List Placed) (x : PlainSession) (st : Stored) → IsBaseOf newest.now added → IsOn began added x st s
-        → asks ≡ (not (is_on_newest st s) && has_lazy st.payloads st.stored)
-        → MatchResult result (λ found. (row_refusal st s name.entry.bytes.now ≡ None) × (found ≡ stored_as st name.entry.bytes.now)) (λ refusal. row_refusal st s name.entry.bytes.now ≡ Some refusal) }
-{
-    if let Some(id) = newest.id(name) {
-        return Ok(Some(id));
-    }
-    if asks {
-        return Err(Refusal::NoRemote);
-    }
-    Ok(None)
-}
-
-/// The ids in the newest base of the names of a session's rows. `NoRemote` where one has to be asked.
-pub(crate) fn look_up_rows(
+/// The ids in the newest base of the names of a session's rows. One that isn't stored is asked of a mirror, where `unnamed` says that
+/// the base has an id without a stored name.
+pub(crate) fn look_up_rows<R: Remote>(
     alloc: Global,
+    bytes: &[u8],
+    tables: &Tables,
     newest: &BaseRef<'_>,
-    asks: bool,
+    unnamed: bool,
+    none: &PendingRows,
     session: &Session,
+    cache: &mut LazyNames,
+    mirrors: &mut Vec<R>,
 ) -> Result<Vec<Option<Id>>, Refusal>
-    requires base { (added : List Placed) × IsBaseOf newest.now added × IsSessionOf added session.now }
-    ensures found { (added : List Placed) (rows : List IdRow) → IsBaseOf newest.now added → HoldsRows session.now.pending rows → IfOk result (λ found. AllZip (IsFoundIn added) (row_names rows) found.items) }
-    ensures step { (began s : ℕ) (added : List Placed) (st : Stored) → IsBaseOf newest.now added → IsOn began added session.now st s
-        → asks ≡ (not (is_on_newest st s) && has_lazy st.payloads st.stored)
-        → MatchResult result (λ found. AreFound st (row_refusal st s) (names_of (pending_of st s)) found.items) (IsRefusedBy (map (row_refusal st s) (names_of (pending_of st s)))) }
+    requires mirrors { length mirrors.old.items < 2 ^ 32 }
+    requires base { (added : List Placed) × IsBaseOf newest.now added × IsSessionOf added session.now × MayView newest.now added none.now }
+    ensures finds { (added : List Placed) (w : World NameBytes) (names : List NameBytes) → Sees newest.now none.now added w [] → AreTablesBehind tables.now bytes.now added
+        → HaveNames session.now.pending names → unnamed ≡ has_lazy (payloads_of added) w
+        → FindsRows added w names (map R.shown mirrors.old.items) (map R.shown mirrors.new.items) cache.old cache.new (items_of result) }
+    ensures count { (rows : List IdRow) → HoldsRows session.now.pending rows → IfOk result (λ found. length found.items ≡ length rows) }
+    ensures sound { IsSoundCache cache.old → IsSoundCache cache.new }
+    ensures len { length mirrors.new.items ≡ length mirrors.old.items }
 {
     let pending = &session.pending;
     let mut found = Vec::new(alloc);
     'rows: for i in 0..pending.len() {
-        let id = find_row(newest, asks, pending.name(i))?;
+        let name = pending.name(i).to_name();
+        let id = find(
+            alloc, bytes, tables, newest, unnamed, none, cache, mirrors, &name,
+        )?;
         let Ok(()) = found.push(id) else {
             return Err(Refusal::Memory);
         };
     }
     Ok(found)
+}
+
+/// Takes over for a head that was found nowhere, but is pending, what was found of that row.
+pub(crate) fn take_rows(
+    pending: &PendingRows,
+    heads: &[Name],
+    rows: &[Option<Id>],
+    found: &mut [Option<Id>],
+)
+    requires heads { length found.old ≡ length heads.now }
+    requires rows { (held : List IdRow) × HoldsRows pending.now held × (length rows.now ≡ length held) }
+    ensures taken { (names : List NameBytes) → HaveNames pending.now names → (i : ℕ) → i < length heads.now
+        → IsTaken names rows.now (slice_index_or heads.now i []) (slice_index_or found.old i None) (slice_index_or found.new i None) }
+    ensures len { length found.new ≡ length found.old }
+{
+    'heads: for i in 0..heads.len() {
+        found[i] = taken(pending, rows, &heads[i], found[i]);
+    }
+}
+
+/// What was found of a head; or, where it was found nowhere, of the pending row with its name.
+fn taken(pending: &PendingRows, rows: &[Option<Id>], head: &Name, found: Option<Id>) -> Option<Id>
+    requires { (held : List IdRow) × HoldsRows pending.now held × (length rows.now ≡ length held) }
+    ensures { (names : List NameBytes) → HaveNames pending.now names → IsTaken names rows.now head.now found result }
+{
+    match found {
+        Some(id) => Some(id),
+        None => found_row(pending, rows, head),
+    }
+}
+
+/// What was found of the pending row with the name; none where none has it.
+fn found_row(pending: &PendingRows, rows: &[Option<Id>], name: &Name) -> Option<Id>
+    requires { (held : List IdRow) × HoldsRows pending.now held × (length rows.now ≡ length held) }
+    ensures { (names : List NameBytes) → HaveNames pending.now names → IsRowOf names rows.now name.now result }
+{
+    match pending.find(name.lend()) {
+        Some(k) => rows[k as usize],
+        None => None,
+    }
 }

@@ -1,35 +1,51 @@
 //! Storing a session's rows, and going to the newest world.
 
-ghost use Rattle.std.specs.Prelude.{◌≡◌, ◌<◌, ◌≤◌, ℕ, List, IfSome, OnErr, OnOk};
+ghost use Rattle.std.specs.Prelude.{◌≡◌, ◌<◌, ◌≤◌, ℕ, List, map, IfSome, OnErr, OnOk};
 ghost use Rattle.outside.specs.Counts.{Rose};
 ghost use Rattle.disk_trait.specs.Calls.{Goes};
 ghost use Rattle.gated_log.specs.Holding.{IsOnDisk};
-ghost use Rattle.step_rules.specs.State.{Stored};
-ghost use Rattle.dag_store.specs.Stands.{Stands};
-ghost use Rattle.dag_store.specs.Steps.{ChangesOnly, ReloadStep};
-ghost use Rattle.dag_store.specs.Flushes.{FlushStep, FlushLeaves, IsQuiet, LeavesStore};
+ghost use Rattle.step_rules.specs.State.{State, Stored};
+ghost use Rattle.step_rules.specs.Tests.{tests};
+ghost use Rattle.step_rules.specs.Verb.{Flush as ToFlush, Reload as ToReload};
+ghost use Rattle.dag_store.specs.Stands.{IsRight, Stands, StandsBeside};
+ghost use Rattle.dag_store.specs.Looking.{AsksAlike, refusal_in};
+ghost use Rattle.dag_store.specs.Steps.{ChangesOnly, KeepsAll, Leads, reload_reply};
+ghost use Rattle.dag_store.specs.Flushes.{FlushStep, FlushLeaves, IsQuiet, LeavesStore, refused_flush};
 
 use crate::changing::{Next, commit, prepare, reloaded};
+use crate::lookup::are_names;
 use crate::replies::Flushed;
 use crate::store::Store;
 use disk_trait::Disk;
 use id_groups::Name;
+use mirror_set::Mirrors;
+use remote_trait::Remote;
 use step_rules::Refusal;
 
 impl Store {
     /// Puts a session on the newest world, with its rows that this doesn't have, and answers how many these are.
     ///
-    /// `NoRemote` where the name of a row would have to be asked of a mirror, `Conflict` for the first row that is stored with
-    /// other parents.
-    pub fn reload(&mut self, s: u8) -> Result<u32, Refusal>
+    /// `Conflict` for the first row that is stored with other parents. Where the name of a row has to be asked, `NoRemote` where there
+    /// is no mirror, `Remote` where all failed, and `MismatchPath` where the answer disagrees with the log.
+    pub fn reload(&mut self, s: u8, mirrors: &mut Mirrors) -> Result<u32, Refusal>
         requires { s < 16 }
-        ensures step { (began : ℕ) (st : Stored) → Stands began self.old st → ReloadStep began self.old st s result self.new }
+        ensures step { let first = map (λ b. (⟦<dyn Remote as Remote>⟧ b.vtable).shown b.value) mirrors.old.list.items in let left = map (λ b. (⟦<dyn Remote as Remote>⟧ b.vtable).shown b.value) mirrors.new.list.items in
+            (began : ℕ) (st : State) → StandsBeside began self.old first st → IsRight st → Leads began self.old.limits st s ToReload (reload_reply result) self.new left }
+        ensures asks { let first = map (λ b. (⟦<dyn Remote as Remote>⟧ b.vtable).shown b.value) mirrors.old.list.items in let left = map (λ b. (⟦<dyn Remote as Remote>⟧ b.vtable).shown b.value) mirrors.new.list.items in
+            (began : ℕ) (st : Stored) → Stands began self.old st → AsksAlike st.payloads st.stored (tests self.old.limits st s ToReload) first left (refusal_in result) }
         ensures alone { OnOk result (ChangesOnly s self.old self.new) }
-        ensures refused { OnErr result (self.new ≡ self.old) }
+        ensures refused { OnErr result (KeepsAll self.old self.new) }
     {
         let alloc = self.alloc;
         let at = usize::from(s);
-        let next = reloaded(alloc, &self.log, &self.tables, &self.sessions[at])?;
+        let next = reloaded(
+            alloc,
+            &self.log,
+            &self.tables,
+            &self.sessions[at],
+            &mut self.names,
+            &mut mirrors.list,
+        )?;
         let left = next.pending.len();
         self.sessions[at] = next;
         Ok(left)
@@ -40,11 +56,20 @@ impl Store {
     ///
     /// All memory is taken before the first call of the disk. At each moment a crash leaves the payloads from before or, from the
     /// opening of the gate on, those with the new one.
-    pub fn flush<D: Disk>(self, disk: &mut D, s: u8, heads: &[Name]) -> Flushed
+    pub fn flush<D: Disk>(
+        self,
+        disk: &mut D,
+        s: u8,
+        mirrors: &mut Mirrors,
+        heads: &[Name],
+    ) -> Flushed
         requires session { s < 16 }
         requires begins { IfSome (D.told disk.old) (IsOnDisk self.log) }
-        ensures step { (payload : List ℕ) × Goes (FlushLeaves self payload result) (D.told disk.old) (D.told disk.new)
-            × ((began : ℕ) (st : Stored) → Stands began self st → FlushStep began self st s heads.now payload result) }
+        ensures step { let first = map (λ b. (⟦<dyn Remote as Remote>⟧ b.vtable).shown b.value) mirrors.old.list.items in let left = map (λ b. (⟦<dyn Remote as Remote>⟧ b.vtable).shown b.value) mirrors.new.list.items in
+            (payload : List ℕ) × Goes (FlushLeaves self payload result) (D.told disk.old) (D.told disk.new)
+            × ((began : ℕ) (st : State) → StandsBeside began self first st → IsRight st → FlushStep began self st s heads.now left payload result) }
+        ensures asks { let first = map (λ b. (⟦<dyn Remote as Remote>⟧ b.vtable).shown b.value) mirrors.old.list.items in let left = map (λ b. (⟦<dyn Remote as Remote>⟧ b.vtable).shown b.value) mirrors.new.list.items in
+            (began : ℕ) (st : Stored) → Stands began self st → AsksAlike st.payloads st.stored (tests self.limits st s (ToFlush heads.now)) first left (refused_flush result) }
         ensures leaves { LeavesStore self s result }
         ensures quiet { IsQuiet result → disk.new ≡ disk.old }
         ensures later { D.faults disk.old ≤ D.faults disk.new }
@@ -56,13 +81,25 @@ impl Store {
             mut tables,
             mut sessions,
             limits,
+            mut names,
         } = self;
+        are_names(heads);
         let at = usize::from(s);
-        match prepare(alloc, &mut log, &mut tables, &sessions[at], heads, limits) {
+        let list = &mut mirrors.list;
+        match prepare(
+            alloc,
+            &mut log,
+            &mut tables,
+            &sessions[at],
+            &mut names,
+            list,
+            heads,
+            limits,
+        ) {
             Ok(next) => {
                 let Next { change, session } = next;
                 sessions[at] = session;
-                commit(disk, alloc, log, tables, sessions, limits, change)
+                commit(disk, alloc, log, tables, sessions, limits, names, change)
             }
             Err(refusal) => {
                 let store = Store {
@@ -71,6 +108,7 @@ impl Store {
                     tables,
                     sessions,
                     limits,
+                    names,
                 };
                 Flushed::Refused(store, refusal)
             }

@@ -4,6 +4,7 @@
 
 mod adding;
 mod changing;
+mod cloning;
 mod finding;
 mod flushing;
 mod laws;
@@ -23,5 +24,5 @@ pub use names::Names;
 pub use query::Found;
 pub use replies::{Added, Counts, Flushed, LoadFault};
 pub use set_query::{Answer, Expr};
-pub use step_rules::Refusal;
+pub use step_rules::{Refusal, isolation_law};
 pub use store::Store;

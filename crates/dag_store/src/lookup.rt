@@ -1,8 +1,9 @@
-//! Looking up names, where there are no mirrors.
+//! Looking up names, among mirrors.
 
-ghost use Rattle.std.specs.Prelude.{◌≡◌, List, nat_eq};
+ghost use Rattle.std.specs.Prelude.{◌≡◌, ◌<◌, ◌^◌, List, nat_eq, true, length, map};
+ghost use Rattle.std.specs.List.{AllByRecursion};
 ghost use Rattle.std.specs.Cmp.Lexicographic.{pointwise};
-ghost use Rattle.id_groups.specs.Name.{Name as NameBytes};
+ghost use Rattle.id_groups.specs.Name.{Name as NameBytes, IsName};
 ghost use Rattle.commit_graph.specs.World.{Row, World};
 ghost use Rattle.segment_codec.specs.Lent.{parents_left};
 ghost use Rattle.segment_codec.specs.Table.{parents_at};
@@ -11,16 +12,28 @@ ghost use Rattle.name_map.specs.Added.{Placed, payloads_of};
 ghost use Rattle.change_rules.specs.Tables.{StandFor};
 ghost use Rattle.change_rules.specs.Lazy.{has_lazy};
 ghost use Rattle.payload_tables.specs.Kept.{AreTablesOf};
-ghost use Rattle.payload_tables.specs.Bases.{IsBaseOf};
-ghost use Rattle.payload_tables.specs.Pending.{IdRow, HoldsRows};
+ghost use Rattle.payload_tables.specs.Bases.{IsBaseOf, MayView};
+ghost use Rattle.flush_rebuild.specs.Asked.{IsStored};
 ghost use Rattle.dag_store.specs.Kept.{PlainSession, IsSessionOf, base_added};
-ghost use Rattle.dag_store.specs.Looking.{Sees, FindsName};
+ghost use Rattle.dag_store.specs.Looking.{AreTablesBehind, Sees, Asked, Looks, IsSoundCache, as_refused, asking_refusal};
 
 use flush_rebuild::{BaseRef, PendingRows, Tables};
 use high_segments::View;
 use id_groups::{Id, Name};
+use lazy_names::{LazyFault, LazyNames};
+use remote_trait::Remote;
 use segment_codec::{Parents, SegmentTable, Steps};
+use std::alloc::Global;
 use step_rules::Refusal;
+
+/// That each of these names has its 20 bytes, for proofs of what is done with them.
+pub(crate) fn are_names(names: &[Name])
+    ensures { AllByRecursion IsName names.now }
+{
+    for name in names {
+        let _bytes = name.lend();
+    }
+}
 
 /// Whether some of the first master ids has no stored name.
 pub(crate) fn has_unnamed(tables: &Tables, below: u64) -> bool
@@ -30,18 +43,83 @@ pub(crate) fn has_unnamed(tables: &Tables, below: u64) -> bool
     tables.names().known_below(below) < below
 }
 
-/// The id of a name that a base has or that is pending, where `unnamed` says whether the base has an id without a stored name.
-/// `NoRemote` where the name has to be asked. The pending rows are tried first: there are few, and most parents are among them.
-pub(crate) fn find(
+/// A fault of asking, as a command is refused for it.
+pub(crate) fn refusal_of(fault: LazyFault) -> Refusal
+    ensures { result ≡ asking_refusal fault }
+{
+    match fault {
+        LazyFault::NoRemote => Refusal::NoRemote,
+        LazyFault::AllFailed(count) => Refusal::Remote(count),
+        LazyFault::BadPath(from, back) => Refusal::MismatchPath(from, back),
+        LazyFault::BadNames(asked, got) => Refusal::MismatchNames(asked, got),
+        LazyFault::Memory => Refusal::Memory,
+    }
+}
+
+/// What was found, or why the command is refused.
+fn or_refused(found: Result<Option<Id>, LazyFault>) -> Result<Option<Id>, Refusal>
+    ensures { result ≡ as_refused found }
+{
+    match found {
+        Ok(found) => Ok(found),
+        Err(fault) => Err(refusal_of(fault)),
+    }
+}
+
+/// Asks a mirror for the id of a name that the base doesn't store, where it has an id without a stored name. The pending rows are
+/// any that may stand behind the base.
+pub(crate) fn ask_name<R: Remote>(
+    alloc: Global,
+    bytes: &[u8],
+    tables: &Tables,
+    base: &BaseRef<'_>,
+    pending: &PendingRows,
+    cache: &mut LazyNames,
+    mirrors: &mut Vec<R>,
+    name: &Name,
+) -> Result<Option<Id>, Refusal>
+    requires mirrors { length mirrors.old.items < 2 ^ 32 }
+    requires view { (added : List Placed) × IsBaseOf base.now added × MayView base.now added pending.now }
+    ensures asked { (added : List Placed) (w : World NameBytes) (rows : List (Row NameBytes)) → Sees base.now pending.now added w rows → AreTablesBehind tables.now bytes.now added
+        → has_lazy (payloads_of added) w ≡ true → (IsStored added name.now → ⊥)
+        → Asked (payloads_of added) w name.now (map R.shown mirrors.old.items) (map R.shown mirrors.new.items) cache.old cache.new result }
+    ensures sound { IsSoundCache cache.new }
+    ensures len { length mirrors.new.items ≡ length mirrors.old.items }
+{
+    let found = cache.find_among(
+        alloc,
+        &base.view(pending),
+        tables.names(),
+        bytes,
+        tables.heads(),
+        mirrors,
+        name,
+    );
+    let _sound = cache.len();
+    or_refused(found)
+}
+
+/// The id of a name that a base has or that is pending, where `unnamed` says whether the base has an id without a stored name. A name
+/// that is neither stored nor pending is asked of a mirror there. The pending rows are tried first: there are few, and most parents
+/// are among them.
+pub(crate) fn find<R: Remote>(
+    alloc: Global,
+    bytes: &[u8],
+    tables: &Tables,
     base: &BaseRef<'_>,
     unnamed: bool,
     pending: &PendingRows,
+    cache: &mut LazyNames,
+    mirrors: &mut Vec<R>,
     name: &Name,
 ) -> Result<Option<Id>, Refusal>
-    requires base { (added : List Placed) × IsBaseOf base.now added }
-    requires pending { (rows : List IdRow) × HoldsRows pending.now rows }
-    ensures { (added : List Placed) (w : World NameBytes) (rows : List (Row NameBytes)) → Sees base.now pending.now added w rows
-        → unnamed ≡ has_lazy (payloads_of added) w → FindsName (payloads_of added) w rows name.now result }
+    requires mirrors { length mirrors.old.items < 2 ^ 32 }
+    requires view { (added : List Placed) × IsBaseOf base.now added × MayView base.now added pending.now }
+    ensures looks { (added : List Placed) (w : World NameBytes) (rows : List (Row NameBytes)) → Sees base.now pending.now added w rows → AreTablesBehind tables.now bytes.now added
+        → unnamed ≡ has_lazy (payloads_of added) w
+        → Looks (payloads_of added) w rows name.now (map R.shown mirrors.old.items) (map R.shown mirrors.new.items) cache.old cache.new result }
+    ensures sound { IsSoundCache cache.old → IsSoundCache cache.new }
+    ensures len { length mirrors.new.items ≡ length mirrors.old.items }
 {
     if let Some(k) = pending.find(name.lend()) {
         return Ok(Some(Id::other(pending.first() + u64::from(k))));
@@ -49,10 +127,10 @@ pub(crate) fn find(
     if let Some(id) = base.id(name.lend()) {
         return Ok(Some(id));
     }
-    if unnamed {
-        return Err(Refusal::NoRemote);
+    if !unnamed {
+        return Ok(None);
     }
-    Ok(None)
+    ask_name(alloc, bytes, tables, base, pending, cache, mirrors, name)
 }
 
 /// Whether these are the ids, in order.

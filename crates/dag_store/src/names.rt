@@ -1,35 +1,39 @@
 //! The names of an answer, as they are lent.
 
-ghost use Rattle.std.specs.Prelude.{◌≡◌, List};
+ghost use Rattle.std.specs.Prelude.{◌≡◌, ◌<◌, ◌+◌, ◌^◌, List, IfSome, map, slice_get};
 ghost use Rattle.name_map.specs.Added.{Placed};
 ghost use Rattle.payload_tables.specs.Bases.{IsBaseOf};
 ghost use Rattle.payload_tables.specs.Pending.{IdRow, HoldsRows};
-ghost use Rattle.dag_store.specs.Names.{lent_name, name_in, named_front, names_left, pending_name};
+ghost use Rattle.dag_store.specs.Names.{fetched_name, lent_name, name_in, named_front, names_left, pending_name};
 ghost use Rattle.span_set.specs.Down.{ids_left};
 
 use flush_rebuild::{BaseRef, PendingRows};
 use id_groups::{FIRST_OTHER, Id, NameRef};
+use lazy_names::Fetched;
 use span_set::IdsDown;
 use std::marker::Model;
 
-/// The names of the ids of an answer in a session's view, the greatest id first, lent from the log and from the pending rows; up to
-/// the first id that has no stored name, of which an answer has none. Contracts see the names that are left.
+/// The names of the ids of an answer in a session's view, the greatest id first, lent from the log, from the pending rows and from
+/// the names that were fetched; up to the first id that has none of these, of which an answer has none. Contracts see the names that
+/// are left.
 #[derive(Drop)]
 pub struct Names<'a> {
     pub(crate) ids: IdsDown<'a>,
     pub(crate) base: BaseRef<'a>,
     pub(crate) pending: &'a PendingRows,
+    pub(crate) fetched: &'a Fetched,
+    pub(crate) next: u32,
 }
 
 impl<'a> Model for Names<'a> {
-    ghost use Rattle.std.specs.Prelude.{List};
+    ghost use Rattle.std.specs.Prelude.{List, drop, map};
     ghost use Rattle.id_groups.specs.Name.{Name};
     ghost use Rattle.span_set.specs.Down.{ids_left};
-    ghost use Rattle.dag_store.specs.Names.{named_front, IsLent};
+    ghost use Rattle.dag_store.specs.Names.{named_front, fetched_name, IsLent};
 
     ghost Value = { List Name };
 
-    ghost view = { λ names. named_front names.base names.pending.now (ids_left names.ids) };
+    ghost view = { λ names. named_front names.base names.pending.now (drop names.next (map fetched_name names.fetched.now)) (ids_left names.ids) };
 
     ghost invariant = { λ names. IsLent names.base names.pending.now };
 }
@@ -58,14 +62,37 @@ fn name_of_id<'a>(base: &BaseRef<'a>, pending: &'a PendingRows, id: Id) -> Optio
     name_of_row(pending, id)
 }
 
+/// The name at this place of those that were fetched, if there is one.
+fn fetched_at<'a>(fetched: &'a Fetched, place: u32) -> Option<NameRef<'a>>
+    ensures name { lent_name result ≡ slice_get (map fetched_name fetched.now) place }
+    ensures next { IfSome result (λ _. place + 1 < 2 ^ 32) }
+{
+    if place < fetched.len() {
+        Some(fetched.name(place))
+    } else {
+        None
+    }
+}
+
 impl<'a> Names<'a> {
     /// The names of these ids.
-    pub(crate) fn over(ids: IdsDown<'a>, base: BaseRef<'a>, pending: &'a PendingRows) -> Names<'a>
+    pub(crate) fn over(
+        ids: IdsDown<'a>,
+        base: BaseRef<'a>,
+        pending: &'a PendingRows,
+        fetched: &'a Fetched,
+    ) -> Names<'a>
         requires base { (added : List Placed) × IsBaseOf base added }
         requires pending { (rows : List IdRow) × HoldsRows pending.now rows }
-        ensures { names_left result ≡ named_front base.entry pending.now (ids_left ids.entry) }
+        ensures { names_left result ≡ named_front base.entry pending.now (map fetched_name fetched.now) (ids_left ids.entry) }
     {
-        Names { ids, base, pending }
+        Names {
+            ids,
+            base,
+            pending,
+            fetched,
+            next: 0,
+        }
     }
 }
 
@@ -82,7 +109,12 @@ impl<'a> Iterator for Names<'a> {
     fn next(&mut self) -> Option<NameRef<'a>> {
         let mut ids = self.ids;
         let id = ids.next()?;
-        let name = name_of_id(&self.base, self.pending, id)?;
+        if let Some(name) = name_of_id(&self.base, self.pending, id) {
+            self.ids = ids;
+            return Some(name);
+        }
+        let name = fetched_at(self.fetched, self.next)?;
+        self.next += 1;
         self.ids = ids;
         Some(name)
     }

@@ -1,46 +1,49 @@
 //! The answers of expressions in a session's view.
 
-ghost use Rattle.std.specs.Prelude.{◌≡◌, ◌<◌, ◌≤◌, ℕ, List, None, Some, length, map, not, IfOk, MatchResult};
-ghost use Rattle.std.specs.List.{list_all, list_any};
+ghost use Rattle.std.specs.Prelude.{◌≡◌, ◌<◌, ◌≤◌, ◌+◌, ◌^◌, ℕ, List, None, Some, length, map, take, IfOk, MatchResult};
 ghost use Rattle.id_groups.specs.Lists.{AreAllIn};
 ghost use Rattle.id_groups.specs.Name.{Name as NameBytes, same_name};
 ghost use Rattle.commit_graph.specs.World.{Row, World, names_of, rows_of, with_pending};
 ghost use Rattle.commit_graph.specs.Ids.{id_in};
 ghost use Rattle.name_map.specs.Added.{Placed, payloads_of, AllStand};
-ghost use Rattle.span_set.specs.Members.{ids_of};
+ghost use Rattle.span_set.specs.Members.{IsMember, ids_of};
 ghost use Rattle.set_expr.specs.Expr.{commits_in};
 ghost use Rattle.set_expr.specs.Whole.{tree_of};
 ghost use Rattle.change_rules.specs.Lazy.{has_lazy};
 ghost use Rattle.payload_tables.specs.Kept.{AreTablesOf};
-ghost use Rattle.payload_tables.specs.Bases.{IsBaseOf};
-ghost use Rattle.payload_tables.specs.Pending.{IdRow, HoldsRows};
-ghost use Rattle.step_rules.specs.State.{Stored, base_of, pending_of, view_of};
-ghost use Rattle.step_rules.specs.Tests.{first_some};
+ghost use Rattle.payload_tables.specs.Bases.{IsBaseOf, MayView};
+ghost use Rattle.step_rules.specs.State.{State, Stored, base_of, pending_of, session, view_of};
+ghost use Rattle.step_rules.specs.Tests.{tests};
+ghost use Rattle.step_rules.specs.Verb.{Query as ToQuery, Count as ToCount};
 ghost use Rattle.dag_store.specs.Kept.{IsSessionOf, base_added};
-ghost use Rattle.dag_store.specs.Stands.{Stands};
-ghost use Rattle.dag_store.specs.Looking.{Sees};
-ghost use Rattle.dag_store.specs.Adding.{IsSeen, IsWhy};
+ghost use Rattle.dag_store.specs.Stands.{IsRight, Stands, StandsBeside};
+ghost use Rattle.dag_store.specs.Looking.{AreTablesBehind, Sees, AreRight, AsksAlike, IsSoundCache, refusal_in};
+ghost use Rattle.dag_store.specs.Adding.{FindsAll, IsSeen, items_of};
 ghost use Rattle.dag_store.specs.Bounds.{EndsWithoutParents, ancestors_of, most_looks};
-ghost use Rattle.dag_store.specs.Names.{names_left, stored_at};
-ghost use Rattle.dag_store.specs.Querying.{Evaluates, answer_refusals, is_lazy_name, is_named_id, name_refusals};
-ghost use Rattle.dag_store.specs.Steps.{AreIdsOf, CountStep, QueryStep};
+ghost use Rattle.dag_store.specs.Names.{names_left};
+ghost use Rattle.dag_store.specs.Querying.{AreViewIds, AsksQuery, Evaluates, Fetches, FindsMembers, IsTooLong};
+ghost use Rattle.dag_store.specs.Steps.{AreIdsOf, CountStep, KeepsAll, QueryStep, known_name};
 
-use crate::adding::find_parent;
-use crate::lookup::has_unnamed;
+use crate::adding::find_seen;
+use crate::lookup::{has_unnamed, refusal_of};
 use crate::names::Names;
 use crate::session::Session;
 use crate::store::Store;
 use flush_rebuild::{BaseRef, PendingRows, Tables};
-use id_groups::{FIRST_OTHER, Id};
+use id_groups::Id;
+use lazy_names::{Fetched, LazyNames};
+use mirror_set::Mirrors;
+use remote_trait::Remote;
 use set_query::{Answer, Expr, eval};
 use span_set::IdSet;
 use std::alloc::Global;
 use step_rules::Refusal;
 
-/// The answer of a query, whose names are all stored or pending.
+/// The answer of a query, and the names of those of its ids that have no stored one.
 #[derive(Drop)]
 pub struct Found {
     answer: Answer,
+    fetched: Fetched,
 }
 
 impl Found {
@@ -52,25 +55,39 @@ impl Found {
     }
 }
 
-/// The ids of the names of an expression, in text order. `Unknown` for the first that isn't there, and `NoRemote` for the first that
-/// has to be asked.
-fn find_names(
+/// The ids of the names of an expression, in text order. They are looked up from left to right.
+fn find_names<R: Remote>(
     alloc: Global,
+    bytes: &[u8],
+    tables: &Tables,
     base: &BaseRef<'_>,
     unnamed: bool,
     pending: &PendingRows,
+    cache: &mut LazyNames,
+    mirrors: &mut Vec<R>,
     expr: &Expr,
 ) -> Result<Vec<Id>, Refusal>
-    requires base { (added : List Placed) × IsBaseOf base.now added }
-    requires pending { (rows : List IdRow) × HoldsRows pending.now rows }
-    ensures { (added : List Placed) (w : World NameBytes) (rows : List (Row NameBytes)) → Sees base.now pending.now added w rows
-        → unnamed ≡ has_lazy (payloads_of added) w → MatchResult result
-        (λ ids. (first_some (name_refusals (payloads_of added) w rows (commits_in (tree_of expr.now))) ≡ None) × (ids.items ≡ map (id_in same_name (with_pending w rows)) (commits_in (tree_of expr.now))))
-        (λ refusal. IsWhy (name_refusals (payloads_of added) w rows (commits_in (tree_of expr.now))) refusal) }
+    requires mirrors { length mirrors.old.items < 2 ^ 32 }
+    requires view { (added : List Placed) × IsBaseOf base.now added × MayView base.now added pending.now }
+    ensures finds { (added : List Placed) (w : World NameBytes) (rows : List (Row NameBytes)) → Sees base.now pending.now added w rows → AreTablesBehind tables.now bytes.now added
+        → unnamed ≡ has_lazy (payloads_of added) w
+        → FindsAll (payloads_of added) w rows (commits_in (tree_of expr.now)) (map R.shown mirrors.old.items) (map R.shown mirrors.new.items) cache.old cache.new (items_of result) }
+    ensures sound { IsSoundCache cache.old → IsSoundCache cache.new }
+    ensures len { length mirrors.new.items ≡ length mirrors.old.items }
 {
     let mut ids = Vec::new(alloc);
     'names: for k in 0..expr.name_count() {
-        let id = find_parent(base, unnamed, pending, expr.name_at(k))?;
+        let id = find_seen(
+            alloc,
+            bytes,
+            tables,
+            base,
+            unnamed,
+            pending,
+            cache,
+            mirrors,
+            expr.name_at(k),
+        )?;
         let Ok(()) = ids.push(id) else {
             return Err(Refusal::Memory);
         };
@@ -79,27 +96,43 @@ fn find_names(
 }
 
 /// The members of an expression in the view of a session.
-fn members(
+fn members<R: Remote>(
     alloc: Global,
     bytes: &[u8],
     tables: &Tables,
     session: &Session,
+    cache: &mut LazyNames,
+    mirrors: &mut Vec<R>,
     expr: &Expr,
 ) -> Result<Answer, Refusal>
-    requires { (added : List Placed) × AreTablesOf tables.now added × AllStand bytes.now added × IsSessionOf added session.now }
+    requires mirrors { length mirrors.old.items < 2 ^ 32 }
+    requires session { (added : List Placed) × AreTablesOf tables.now added × AllStand bytes.now added × IsSessionOf added session.now }
     ensures answer { (added : List Placed) (w : World NameBytes) (rows : List (Row NameBytes)) → AreTablesOf tables.now added → AllStand bytes.now added
         → IsSessionOf added session.now → IsSeen added session.now w rows
-        → Evaluates (payloads_of (base_added added session.now)) w rows (tree_of expr.now) result }
+        → Evaluates (payloads_of (base_added added session.now)) w rows (tree_of expr.now) (map R.shown mirrors.old.items) (map R.shown mirrors.new.items) cache.old cache.new result }
     ensures few { (added : List Placed) (w : World NameBytes) (rows : List (Row NameBytes)) (name : NameBytes) → AreTablesOf tables.now added → AllStand bytes.now added
         → IsSessionOf added session.now → IsSeen added session.now w rows → tree_of expr.now ≡ ancestors_of name
         → IfOk result (λ answer. answer.steps ≤ most_looks w rows answer.set) }
     ensures one { (added : List Placed) (w : World NameBytes) (rows : List (Row NameBytes)) (name : NameBytes) → AreTablesOf tables.now added → AllStand bytes.now added
         → IsSessionOf added session.now → IsSeen added session.now w rows → tree_of expr.now ≡ ancestors_of name
-        → EndsWithoutParents w (id_in same_name (with_pending w rows) name) → IfOk result (λ answer. answer.steps ≤ 8) }
+        → EndsWithoutParents w (id_in same_name (with_pending w rows) name)
+        → AreRight (payloads_of (base_added added session.now)) w (map R.shown mirrors.old.items) → IfOk result (λ answer. answer.steps ≤ 8) }
+    ensures sound { IsSoundCache cache.old → IsSoundCache cache.new }
+    ensures len { length mirrors.new.items ≡ length mirrors.old.items }
 {
     let base = session.base(bytes, tables);
     let unnamed = has_unnamed(tables, session.below);
-    let ids = find_names(alloc, &base, unnamed, &session.pending, expr)?;
+    let ids = find_names(
+        alloc,
+        bytes,
+        tables,
+        &base,
+        unnamed,
+        &session.pending,
+        cache,
+        mirrors,
+        expr,
+    )?;
     let Ok(answer) = eval(alloc, &base.view(&session.pending), expr, &ids) else {
         return Err(Refusal::Memory);
     };
@@ -107,115 +140,151 @@ fn members(
     Ok(answer)
 }
 
-/// Whether the id has a stored name, where it is a master id.
-fn is_named(base: &BaseRef<'_>, id: Id) -> bool
-    requires { (added : List Placed) × IsBaseOf base.now added }
-    ensures { result ≡ is_named_id (stored_at base.now) id }
-{
-    id.number() >= FIRST_OTHER || base.name(id).is_some()
-}
-
-/// Whether each master id of the set has a stored name.
-fn are_named(base: &BaseRef<'_>, set: &IdSet) -> bool
-    requires { (added : List Placed) × IsBaseOf base.now added }
-    ensures { result ≡ list_all (is_named_id (stored_at base.now)) (ids_of set.now) }
-{
-    'ids: for id in set.ids_down() {
-        if !is_named(base, id) {
-            return false;
-        }
-    }
-    true
-}
-
-/// Whether each id of a set in the view of a session has a stored name, or is pending.
-fn has_all_names(bytes: &[u8], tables: &Tables, session: &Session, set: &IdSet) -> bool
-    requires { (added : List Placed) × AreTablesOf tables.now added × AllStand bytes.now added × IsSessionOf added session.now }
-    ensures { (added : List Placed) (w : World NameBytes) (rows : List (Row NameBytes)) (names : List NameBytes) → AreTablesOf tables.now added → AllStand bytes.now added
-        → IsSessionOf added session.now → IsSeen added session.now w rows → AreAllIn names (names_of (rows_of (with_pending w rows)))
-        → ids_of set.now ≡ map (id_in same_name (with_pending w rows)) names → result ≡ not (list_any (is_lazy_name (payloads_of (base_added added session.now)) w) names) }
-{
-    if !has_unnamed(tables, session.below) {
-        return true;
-    }
-    let base = session.base(bytes, tables);
-    are_named(&base, set)
-}
-
-/// Refuses an answer that has more names than so many, or one that isn't stored.
-fn check_names(
-    bytes: &[u8],
-    tables: &Tables,
-    session: &Session,
-    most: u32,
-    answer: &Answer,
-) -> Result<(), Refusal>
-    requires { (added : List Placed) × AreTablesOf tables.now added × AllStand bytes.now added × IsSessionOf added session.now }
-    ensures { (added : List Placed) (w : World NameBytes) (rows : List (Row NameBytes)) (names : List NameBytes) → AreTablesOf tables.now added → AllStand bytes.now added
-        → IsSessionOf added session.now → IsSeen added session.now w rows → AreAllIn names (names_of (rows_of (with_pending w rows)))
-        → ids_of answer.now.set ≡ map (id_in same_name (with_pending w rows)) names → MatchResult result
-        (λ done. first_some (answer_refusals most (payloads_of (base_added added session.now)) w names) ≡ None)
-        (λ refusal. first_some (answer_refusals most (payloads_of (base_added added session.now)) w names) ≡ Some refusal) }
+/// Refuses an answer that has more names than so many.
+fn check_count(most: u32, answer: &Answer) -> Result<(), Refusal>
+    ensures { MatchResult result (λ _. length (ids_of answer.now.set) ≤ most) (λ refusal. IsTooLong most (length (ids_of answer.now.set)) refusal) }
 {
     let count = answer.count();
     if count > u64::from(most) {
         return Err(Refusal::Answer(count));
     }
-    if !has_all_names(bytes, tables, session, answer.set()) {
-        return Err(Refusal::NoRemote);
-    }
     Ok(())
+}
+
+/// The names of a set's ids that have no stored one, in the view of a session: from the cache, or asked of a mirror.
+fn fetch_names<R: Remote>(
+    alloc: Global,
+    bytes: &[u8],
+    tables: &Tables,
+    session: &Session,
+    cache: &mut LazyNames,
+    mirrors: &mut Vec<R>,
+    set: &IdSet,
+) -> Result<Fetched, Refusal>
+    requires mirrors { length mirrors.old.items < 2 ^ 32 }
+    requires few { length (ids_of set.now) < 2 ^ 32 }
+    requires session { (added : List Placed) × AreTablesOf tables.now added × AllStand bytes.now added × IsSessionOf added session.now × AreViewIds added session.now set.now }
+    ensures fetches { (added : List Placed) (w : World NameBytes) (rows : List (Row NameBytes)) → AreTablesOf tables.now added → AllStand bytes.now added
+        → IsSessionOf added session.now → IsSeen added session.now w rows
+        → Fetches (payloads_of (base_added added session.now)) w rows (ids_of set.now) (map R.shown mirrors.old.items) (map R.shown mirrors.new.items) cache.old cache.new result }
+    ensures sound { IsSoundCache cache.old → IsSoundCache cache.new }
+    ensures len { length mirrors.new.items ≡ length mirrors.old.items }
+{
+    if !has_unnamed(tables, session.below) {
+        return Ok(Fetched::none(alloc));
+    }
+    let base = session.base(bytes, tables);
+    let view = base.view(&session.pending);
+    let fetched = cache.fetch_among(alloc, &view, tables.names(), bytes, mirrors, set);
+    let _sound = cache.len();
+    match fetched {
+        Ok(fetched) => Ok(fetched),
+        Err(fault) => Err(refusal_of(fault)),
+    }
+}
+
+/// The answer of a query in the view of a session, with the names that aren't stored, of which there may be so many.
+fn found_in<R: Remote>(
+    alloc: Global,
+    bytes: &[u8],
+    tables: &Tables,
+    most: u32,
+    session: &Session,
+    cache: &mut LazyNames,
+    mirrors: &mut Vec<R>,
+    answer: Answer,
+) -> Result<Found, Refusal>
+    requires mirrors { length mirrors.old.items < 2 ^ 32 }
+    requires most { most ≤ 1048576 }
+    requires session { (added : List Placed) × AreTablesOf tables.now added × AllStand bytes.now added × IsSessionOf added session.now × AreViewIds added session.now answer.set }
+    ensures finds { (added : List Placed) (w : World NameBytes) (rows : List (Row NameBytes)) → AreTablesOf tables.now added → AllStand bytes.now added
+        → IsSessionOf added session.now → IsSeen added session.now w rows
+        → FindsMembers most (payloads_of (base_added added session.now)) w rows (ids_of answer.set) (map R.shown mirrors.old.items) (map R.shown mirrors.new.items) cache.old cache.new result }
+    ensures answer { IfOk result (λ found. found.answer ≡ answer) }
+    ensures sound { IsSoundCache cache.old → IsSoundCache cache.new }
+    ensures len { length mirrors.new.items ≡ length mirrors.old.items }
+{
+    check_count(most, &answer)?;
+    let fetched = fetch_names(alloc, bytes, tables, session, cache, mirrors, answer.set())?;
+    Ok(Found { answer, fetched })
 }
 
 impl Store {
     /// The members of an expression in a session's view.
     ///
-    /// `NoRemote` for the first name of the expression that would have to be asked of a mirror, or `Unknown` for one that the
-    /// session doesn't see; `Answer` where there are more members than an answer may have; and `NoRemote` where the name of one
-    /// isn't stored.
+    /// `Unknown` for the first name of the expression that the session doesn't see, and `Answer` where there are more members than an
+    /// answer may have. Where a name has to be asked, of the expression or of a member, `NoRemote` where there is no mirror, `Remote`
+    /// where all failed, and `MismatchPath` or `MismatchNames` where the answer disagrees with the log.
     ///
     /// For `ancestors` of one name the answer takes at most eight look-ups more than eight for each flat segment of the session's
     /// base and each pending row that it has, and at most eight where a segment of master without parents, of any level, ends at
     /// the name's id.
-    pub fn query(&self, s: u8, expr: &Expr) -> Result<Found, Refusal>
+    pub fn query(&mut self, s: u8, mirrors: &mut Mirrors, expr: &Expr) -> Result<Found, Refusal>
         requires { s < 16 }
-        ensures step { (began : ℕ) (st : Stored) → Stands began self.now st → QueryStep self.now st s (tree_of expr.now) result }
-        ensures few { (began : ℕ) (st : Stored) (name : NameBytes) → Stands began self.now st → tree_of expr.now ≡ ancestors_of name
+        ensures step { let first = map (λ b. (⟦<dyn Remote as Remote>⟧ b.vtable).shown b.value) mirrors.old.list.items in let left = map (λ b. (⟦<dyn Remote as Remote>⟧ b.vtable).shown b.value) mirrors.new.list.items in
+            (began : ℕ) (st : State) → StandsBeside began self.old first st → IsRight st → QueryStep began self.old.limits st s (tree_of expr.now) result self.new left }
+        ensures asks { let first = map (λ b. (⟦<dyn Remote as Remote>⟧ b.vtable).shown b.value) mirrors.old.list.items in let left = map (λ b. (⟦<dyn Remote as Remote>⟧ b.vtable).shown b.value) mirrors.new.list.items in
+            (began : ℕ) (st : Stored) → Stands began self.old st
+            → AsksQuery self.old.limits.answer (take (began + (session st s).base) st.payloads) (base_of st s) (tests self.old.limits st s (ToQuery (tree_of expr.now))) first left result }
+        ensures kept { KeepsAll self.old self.new }
+        ensures few { (began : ℕ) (st : Stored) (name : NameBytes) → Stands began self.old st → tree_of expr.now ≡ ancestors_of name
             → IfOk result (λ found. found.answer.steps ≤ most_looks (base_of st s) (pending_of st s) found.answer.set) }
-        ensures one { (began : ℕ) (st : Stored) (name : NameBytes) → Stands began self.now st → tree_of expr.now ≡ ancestors_of name
-            → EndsWithoutParents (base_of st s) (id_in same_name (view_of st s) name) → IfOk result (λ found. found.answer.steps ≤ 8) }
+        ensures one { let first = map (λ b. (⟦<dyn Remote as Remote>⟧ b.vtable).shown b.value) mirrors.old.list.items in
+            (began : ℕ) (st : State) (name : NameBytes) → StandsBeside began self.old first st → IsRight st → tree_of expr.now ≡ ancestors_of name
+            → EndsWithoutParents (base_of st.store s) (id_in same_name (view_of st.store s) name) → IfOk result (λ found. found.answer.steps ≤ 8) }
     {
         let session = &self.sessions[usize::from(s)];
         let bytes = self.log.bytes();
         let tables: &Tables = &self.tables;
-        let answer = members(self.alloc, bytes, tables, session, expr)?;
-        check_names(bytes, tables, session, self.limits.answer, &answer)?;
-        Ok(Found { answer })
+        let most = self.limits.answer;
+        let cache = &mut self.names;
+        let list = &mut mirrors.list;
+        let answer = members(self.alloc, bytes, tables, session, cache, list, expr)?;
+        found_in(
+            self.alloc, bytes, tables, most, session, cache, list, answer,
+        )
     }
 
-    /// How many members an expression has in a session's view. `NoRemote` and `Unknown` as for a query, and as few look-ups.
-    pub fn count(&self, s: u8, expr: &Expr) -> Result<Answer, Refusal>
+    /// How many members an expression has in a session's view. It is refused for the names of the expression as a query is, and takes
+    /// as few look-ups.
+    pub fn count(&mut self, s: u8, mirrors: &mut Mirrors, expr: &Expr) -> Result<Answer, Refusal>
         requires { s < 16 }
-        ensures step { (began : ℕ) (st : Stored) → Stands began self.now st → CountStep self.now st s (tree_of expr.now) result }
-        ensures few { (began : ℕ) (st : Stored) (name : NameBytes) → Stands began self.now st → tree_of expr.now ≡ ancestors_of name
+        ensures step { let first = map (λ b. (⟦<dyn Remote as Remote>⟧ b.vtable).shown b.value) mirrors.old.list.items in let left = map (λ b. (⟦<dyn Remote as Remote>⟧ b.vtable).shown b.value) mirrors.new.list.items in
+            (began : ℕ) (st : State) → StandsBeside began self.old first st → IsRight st → CountStep began self.old.limits st s (tree_of expr.now) result self.new left }
+        ensures asks { let first = map (λ b. (⟦<dyn Remote as Remote>⟧ b.vtable).shown b.value) mirrors.old.list.items in let left = map (λ b. (⟦<dyn Remote as Remote>⟧ b.vtable).shown b.value) mirrors.new.list.items in
+            (began : ℕ) (st : Stored) → Stands began self.old st
+            → AsksAlike (take (began + (session st s).base) st.payloads) (base_of st s) (tests self.old.limits st s (ToCount (tree_of expr.now))) first left (refusal_in result) }
+        ensures kept { KeepsAll self.old self.new }
+        ensures few { (began : ℕ) (st : Stored) (name : NameBytes) → Stands began self.old st → tree_of expr.now ≡ ancestors_of name
             → IfOk result (λ answer. answer.steps ≤ most_looks (base_of st s) (pending_of st s) answer.set) }
-        ensures one { (began : ℕ) (st : Stored) (name : NameBytes) → Stands began self.now st → tree_of expr.now ≡ ancestors_of name
-            → EndsWithoutParents (base_of st s) (id_in same_name (view_of st s) name) → IfOk result (λ answer. answer.steps ≤ 8) }
+        ensures one { let first = map (λ b. (⟦<dyn Remote as Remote>⟧ b.vtable).shown b.value) mirrors.old.list.items in
+            (began : ℕ) (st : State) (name : NameBytes) → StandsBeside began self.old first st → IsRight st → tree_of expr.now ≡ ancestors_of name
+            → EndsWithoutParents (base_of st.store s) (id_in same_name (view_of st.store s) name) → IfOk result (λ answer. answer.steps ≤ 8) }
     {
         let session = &self.sessions[usize::from(s)];
-        members(self.alloc, self.log.bytes(), &self.tables, session, expr)
+        members(
+            self.alloc,
+            self.log.bytes(),
+            &self.tables,
+            session,
+            &mut self.names,
+            &mut mirrors.list,
+            expr,
+        )
     }
 
     /// The names of an answer in the view of the session that was asked, lent.
     pub fn names<'a>(&'a self, s: u8, found: &'a Found) -> Names<'a>
         requires { s < 16 }
-        ensures { (began : ℕ) (st : Stored) (names : List NameBytes) → Stands began self.now st → AreIdsOf st s (ids_of found.now.answer.set) names → names_left result ≡ names }
+        ensures { (began : ℕ) (st : Stored) (names : List NameBytes) → Stands began self.now st
+            → AreIdsOf st s (ids_of found.now.answer.set) (map known_name found.now.fetched) names → names_left result ≡ names }
     {
         let session = &self.sessions[usize::from(s)];
         Names::over(
             found.answer.set().ids_down(),
             session.base(self.log.bytes(), &self.tables),
             &session.pending,
+            &found.fetched,
         )
     }
 }

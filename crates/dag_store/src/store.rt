@@ -12,13 +12,13 @@ ghost use Rattle.change_rules.specs.Change.{text_of};
 ghost use Rattle.change_rules.specs.Holding.{HoldAs};
 ghost use Rattle.change_rules.specs.Unlawful.{IsNoLog};
 ghost use Rattle.gated_log.specs.Load.{LoadCalls, WithinCalls};
-ghost use Rattle.step_rules.specs.State.{Stored, with_pending_rows};
+ghost use Rattle.step_rules.specs.State.{State, with_pending_rows};
 ghost use Rattle.step_rules.specs.Verb.{Discard, Levels, Status};
 ghost use Rattle.step_rules.specs.Reply.{Discarded, LevelSizes, Sizes};
-ghost use Rattle.step_rules.specs.Lone.{LoneStep};
+ghost use Rattle.step_rules.specs.Step.{CommandStep};
 ghost use Rattle.dag_store.specs.Stands.{Stands};
 ghost use Rattle.dag_store.specs.Steps.{ChangesOnly};
-ghost use Rattle.dag_store.specs.Loading.{LoadAnswers, Opens, KeepsHolding, IsLoadedStore, IsNoLogFault, SameBytes};
+ghost use Rattle.dag_store.specs.Loading.{LoadAnswers, Opens, KeepsHolding, IsLoadedStore, IsNoLogFault, IsUntouched};
 
 use crate::loading::{boxed_tables, new_sessions};
 use crate::replies::{Counts, LoadFault};
@@ -27,11 +27,12 @@ use disk_trait::Disk;
 use flush_rebuild::{Limits, PendingRows, Tables};
 use gated_log::Log;
 use high_segments::LevelCounts;
+use lazy_names::LazyNames;
 use std::alloc::Global;
 use std::marker::Model;
 
-/// A log, its tables, and sixteen sessions on it. Contracts see the log, what is kept of each session, and the limits. The tables
-/// stand behind a box, since a store is handed on by value with each line.
+/// A log, its tables, sixteen sessions on it, and names that mirrors gave. Contracts see the log, what is kept of each session, the
+/// limits and these names. The tables stand behind a box, since a store is handed on by value with each line.
 #[derive(Drop)]
 pub struct Store {
     pub(crate) alloc: Global,
@@ -39,6 +40,7 @@ pub struct Store {
     pub(crate) tables: Box<Tables>,
     pub(crate) sessions: Vec<Session>,
     pub(crate) limits: Limits,
+    pub(crate) names: LazyNames,
 }
 
 impl Model for Store {
@@ -46,15 +48,23 @@ impl Model for Store {
 
     ghost Value = { PlainStore };
 
-    ghost view = { λ s. record { log = s.log; sessions = s.sessions.items; limits = s.limits } };
+    ghost view = { λ s. record { log = s.log; sessions = s.sessions.items; limits = s.limits; cache = s.names } };
 
     ghost invariant = { λ s. IsKept s.log s.tables.value s.sessions.items s.limits };
 }
 
 impl Store {
-    /// The store of a log: sixteen sessions on its newest world. While it is loaded, a crash leaves what holds that world.
-    pub fn load<D: Disk>(alloc: Global, disk: &mut D, limits: Limits) -> Result<Store, LoadFault>
-        requires { AreLimits limits }
+    /// The store of a log: sixteen sessions on its newest world, and room for so many names of mirrors. While it is loaded, a crash
+    /// leaves what holds that world.
+    pub fn load<D: Disk>(
+        alloc: Global,
+        disk: &mut D,
+        limits: Limits,
+        cache: u32,
+    ) -> Result<Store, LoadFault>
+        requires limits { AreLimits limits }
+        requires cache { 0 < cache }
+        ensures cache { IfOk result (λ store. store.cache ≡ record { entries = []; capacity = cache }) }
         ensures limits { IfOk result (λ store. store.limits ≡ limits) }
         ensures answers { IfSome (D.bytes disk.old) (λ bytes. LoadAnswers limits bytes result) }
         ensures opens { (payloads : List Payload) (w : World NameBytes) → IfSome (D.bytes disk.old) (λ bytes. HoldAs limits.log bytes payloads w → Opens limits payloads w result) }
@@ -64,7 +74,7 @@ impl Store {
         ensures done { IfOk result (λ store. Goes (IsLoadedStore store) (D.told disk.old) (D.told disk.new)) }
         ensures calls { Goes (WithinCalls 4) (D.told disk.old) (D.told disk.new) }
         ensures within { Goes LoadCalls (D.told disk.old) (D.told disk.new) }
-        ensures unwritten { IfErr result (λ fault. IsNoLogFault fault → Goes SameBytes (D.told disk.old) (D.told disk.new)) }
+        ensures unwritten { IfErr result (λ fault. IsNoLogFault fault → Goes IsUntouched (D.told disk.old) (D.told disk.new)) }
         ensures lawful { IfOk result (λ store. IfSome (D.bytes disk.old) (λ bytes. IsNoLog limits.log bytes → ⊥)) }
         ensures later { D.faults disk.old ≤ D.faults disk.new }
         ensures cause { (fault : _) → result ≡ Err (LoadFault.Disk fault) → Rose (D.faults disk.old) (D.faults disk.new) }
@@ -72,12 +82,14 @@ impl Store {
         let log = Log::load(alloc, disk, limits.log)?;
         let tables = boxed_tables(alloc, &log)?;
         let sessions = new_sessions(alloc, &log, &tables)?;
+        let names = LazyNames::new(alloc, cache)?;
         Ok(Store {
             alloc,
             log,
             tables,
             sessions,
             limits,
+            names,
         })
     }
 
@@ -92,8 +104,8 @@ impl Store {
     /// The sizes of what a session works on.
     pub fn status(&self, s: u8) -> Counts
         requires { s < 16 }
-        ensures { (began : ℕ) (st : Stored) → Stands began self.now st
-            → LoneStep self.now.limits st s Status (Sizes result.master result.others result.pending) st }
+        ensures { (began : ℕ) (st : State) → Stands began self.now st.store
+            → CommandStep self.now.limits st s Status (Sizes result.master result.others result.pending) st }
     {
         let session = &self.sessions[usize::from(s)];
         Counts {
@@ -105,7 +117,7 @@ impl Store {
 
     /// How many segments the stored master has, level by level.
     pub fn levels(&self) -> LevelCounts
-        ensures { (began s : ℕ) (st : Stored) → Stands began self.now st → LoneStep self.now.limits st s Levels (LevelSizes result) st }
+        ensures { (began s : ℕ) (st : State) → Stands began self.now st.store → CommandStep self.now.limits st s Levels (LevelSizes result) st }
     {
         self.tables.levels().counts()
     }
@@ -113,9 +125,10 @@ impl Store {
     /// Lets the pending rows of a session go, and answers how many they were.
     pub fn discard(&mut self, s: u8) -> u32
         requires { s < 16 }
-        ensures step { (began : ℕ) (st : Stored) → Stands began self.old st
-            → LoneStep self.old.limits st s Discard (Discarded result) (with_pending_rows st s []) × Stands began self.new (with_pending_rows st s []) }
+        ensures step { (began : ℕ) (st : State) → Stands began self.old st.store
+            → CommandStep self.old.limits st s Discard (Discarded result) (record st { store = with_pending_rows st.store s [] }) × Stands began self.new (with_pending_rows st.store s []) }
         ensures alone { ChangesOnly s self.old self.new }
+        ensures cache { self.new.cache ≡ self.old.cache }
     {
         let alloc = self.alloc;
         let session = &mut self.sessions[usize::from(s)];

@@ -57,11 +57,14 @@ module _ (all gained : ℕ) (before now : List Mirror) where
   few : (counts : List ℕ) → total counts ≤ all → sum-of counts ≤ all + 0
   few counts le = let same = same-sum counts in omega (arith, same, le)
 
+  pub fetch-asks : (fault : Option LazyFault) (h : AsksFor all gained before now fault) → AsksForNames 0 all h.answered before h.end now
+  fetch-asks fault h =
+      let same = same-sum h.counts in let le = h.few in
+      (h.counts, each-one h.counts h.some, omega (arith, same, le), λ bad. absurd (omega (arith, bad)), turns-ruled h.answered h.counts h.end before now h.asked)
+
   pub fetch-ruled : (fault : Option LazyFault) → AsksFor all gained before now fault
       → (answered : ℕ) × (end : Option MirrorFault) × (gained ≤ answered) × AsksForNames 0 all answered before end now
-  fetch-ruled fault h =
-      let same = same-sum h.counts in let le = h.few in
-      (h.answered, h.end, h.gain, (h.counts, each-one h.counts h.some, omega (arith, same, le), λ bad. absurd (omega (arith, bad)), turns-ruled h.answered h.counts h.end before now h.asked))
+  fetch-ruled fault h = (h.answered, h.end, h.gain, fetch-asks fault h)
 
   pub whole-ruled : AsksFor all gained before now None → AsksForNames all 0 all before None now
   whole-ruled h =

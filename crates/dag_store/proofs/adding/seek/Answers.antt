@@ -1,41 +1,66 @@
-use Rattle.std.proofs.Common.{◌∙◌, Ok, sym, subst}
+use Rattle.std.proofs.Common.{◌∙◌, ℕ, Option, Some, Ok, map, subst}
 use Rattle.high_segments.specs.Views.{flats_in}
 use Rattle.name_map.specs.Added.{payloads_of}
-use Rattle.dag_store.specs.Looking.{FindsName}
-use Rattle.dag_store.proofs.AddingTests.{name-refused, parents-refused, new-passes, old-passes, differs-refused}
-use Rattle.dag_store.proofs.AddingSeek.{seek-err, same-parents}
+use Rattle.dag_store.specs.Looking.{Looks}
+use Rattle.dag_store.proofs.Seeking.{err-seeks, parents-there, same-parents, seek-differs, seek-new, seek-old, seek-parents, seek-unfound, seen-yes, serves}
 use Rattle.dag_store.proofs.adding.seek.Goals as goal
 
-pub returns-in_err-found : goal.returns-in_err-found
-returns-in_err-found c = λ added w rows s u.
-    seek-err (payloads_of added) w rows c.args.name.now c.args.parents.now c.from_residual.result c.in_err-found.field-0.0 c.from_residual.ensures.1
-    (name-refused (payloads_of added) w rows c.args.parents.now c.args.name.now c.in_err-found.field-0.0 (c.in_err-found.ensures added w rows s u))
+pub returns-in_err-found-clause-seeks : goal.returns-in_err-found-clause-seeks
+returns-in_err-found-clause-seeks g c = λ added w rows s b u.
+    let old = map g.R.Remote.shown c.args.mirrors.now.items in
+    let mid = map g.R.Remote.shown c.find.new.mirrors.items in
+    err-seeks (payloads_of added) w rows c.args.name.now c.args.parents.now old mid c.args.cache.now c.find.new.cache c.from_residual.result c.in_err-found.field-0.0 c.from_residual.ensures.1
+    (seek-unfound (payloads_of added) w rows c.args.name.now c.args.parents.now old mid mid c.args.cache.now c.find.new.cache c.find.new.cache c.in_err-found.field-0.0 (c.in_err-found.ensures.looks added w rows s b u))
 
-pub returns-in_err-ids : goal.returns-in_err-ids
-returns-in_err-ids c = λ added w rows s u.
-    seek-err (payloads_of added) w rows c.args.name.now c.args.parents.now c.from_residual-in_err-ids.result c.in_err-ids.field-0.0 c.from_residual-in_err-ids.ensures.1
-    (parents-refused (payloads_of added) w rows c.args.parents.now c.args.name.now c.in_ok-found.found c.in_err-ids.field-0.0 (c.in_ok-found.ensures added w rows s u) (c.in_err-ids.ensures added w rows s u))
+pub returns-in_err-ids-clause-seeks : goal.returns-in_err-ids-clause-seeks
+returns-in_err-ids-clause-seeks g c = λ added w rows s b u.
+    let old = map g.R.Remote.shown c.args.mirrors.now.items in
+    let mid = map g.R.Remote.shown c.find.new.mirrors.items in
+    let new = map g.R.Remote.shown c.find_parents.new.mirrors.items in
+    err-seeks (payloads_of added) w rows c.args.name.now c.args.parents.now old new c.args.cache.now c.find_parents.new.cache c.from_residual-in_err-ids.result c.in_err-ids.field-0.0 c.from_residual-in_err-ids.ensures.1
+    (seek-parents (payloads_of added) w rows c.args.name.now c.args.parents.now old mid new c.args.cache.now c.find.new.cache c.find_parents.new.cache c.in_ok-found.found (c.in_ok-found.ensures.looks added w rows s b u) c.in_err-ids.field-0.0 (c.in_err-ids.ensures.finds added w rows s b u))
 
-pub returns-in_default : goal.returns-in_default
-returns-in_default c = λ added w rows s u.
-    let f = subst (λ o. FindsName (payloads_of added) w rows c.args.name.now (Ok o)) c.in_default.is (c.in_ok-found.ensures added w rows s u) in
-    let ids = c.in_ok-ids.ensures added w rows s u in
-    (new-passes (payloads_of added) w rows c.args.parents.now c.args.name.now f ids.0, f.1, ids.1)
+pub returns-in_default-clause-seeks : goal.returns-in_default-clause-seeks
+returns-in_default-clause-seeks g c = λ added w rows s b u.
+    let old = map g.R.Remote.shown c.args.mirrors.now.items in
+    let mid = map g.R.Remote.shown c.find.new.mirrors.items in
+    let new = map g.R.Remote.shown c.find_parents.new.mirrors.items in
+    seek-new (payloads_of added) w rows c.args.name.now c.args.parents.now old mid new c.args.cache.now c.find.new.cache c.find_parents.new.cache
+    (subst (λ (o : Option ℕ). Looks (payloads_of added) w rows c.args.name.now old mid c.args.cache.now c.find.new.cache (Ok o)) c.in_default.is (c.in_ok-found.ensures.looks added w rows s b u))
+    c.in_ok-ids.ids (c.in_ok-ids.ensures.finds added w rows s b u) c.in_ok-ids.ensures.distinct
 
-pub returns-then-not-has_parents : goal.returns-then-not-has_parents
-returns-then-not-has_parents c = λ added w rows s u.
-    let f = subst (λ o. FindsName (payloads_of added) w rows c.args.name.now (Ok o)) c.in-Some.is (c.in_ok-found.ensures added w rows s u) in
-    let ids = c.in_ok-ids.ensures added w rows s u in
-    let same = c.has_parents.ensures
-    ∙ same-parents c.args.base.now c.args.pending.now added w rows s c.args.name.now c.args.parents.now c.in-Some.id c.deref.result.now (flats_in c.view.result)
-    (c.view.ensures.graph added w rows s.base_of s.stand s.pending_rows) f ids.0 (c.deref.ensures.value ∙ ids.1) in
-    differs-refused (payloads_of added) w rows c.args.parents.now c.args.name.now c.in-Some.id f ids.0 (sym same ∙ c.if-not-has_parents.true)
+pub returns-then-not-has_parents-clause-seeks : goal.returns-then-not-has_parents-clause-seeks
+returns-then-not-has_parents-clause-seeks g c = λ added w rows s b u.
+    let old = map g.R.Remote.shown c.args.mirrors.now.items in
+    let mid = map g.R.Remote.shown c.find.new.mirrors.items in
+    let new = map g.R.Remote.shown c.find_parents.new.mirrors.items in
+    let ids = c.in_ok-ids.ids.items in
+    let looks = subst (λ (o : Option ℕ). Looks (payloads_of added) w rows c.args.name.now old mid c.args.cache.now c.find.new.cache (Ok o)) c.in-Some.is (c.in_ok-found.ensures.looks added w rows s b u) in
+    let finds = c.in_ok-ids.ensures.finds added w rows s b u in
+    let flats = flats_in c.view.result in
+    let segs = c.view.ensures.graph added w rows s.base_of s.stand s.pending_rows in
+    seek-differs (payloads_of added) w rows c.args.name.now c.args.parents.now old mid new c.args.cache.now c.find.new.cache c.find_parents.new.cache c.in-Some.id looks ids finds c.has_parents.result
+    (λ serving.
+    let y = seen-yes (payloads_of added) w rows c.args.name.now c.args.parents.now old mid new c.args.cache.now c.find.new.cache c.find_parents.new.cache c.in-Some.id (looks.right serving) in
+    let on = serves (payloads_of added) w rows c.args.name.now c.args.parents.now old mid new c.args.cache.now c.find.new.cache c.find_parents.new.cache (Some c.in-Some.id) looks serving in
+    c.has_parents.ensures ∙ same-parents c.args.base.now c.args.pending.now added w rows s c.args.name.now c.args.parents.now c.in-Some.id c.deref.result.now flats segs y.0 y.1
+    (parents-there (payloads_of added) w rows c.args.name.now c.args.parents.now mid new c.find.new.cache c.find_parents.new.cache ids finds on) (c.deref.ensures.value ∙ finds.right on))
+    c.if-not-has_parents.true
 
-pub returns : goal.returns
-returns c = λ added w rows s u.
-    let f = subst (λ o. FindsName (payloads_of added) w rows c.args.name.now (Ok o)) c.in-Some.is (c.in_ok-found.ensures added w rows s u) in
-    let ids = c.in_ok-ids.ensures added w rows s u in
-    let same = c.has_parents.ensures
-    ∙ same-parents c.args.base.now c.args.pending.now added w rows s c.args.name.now c.args.parents.now c.in-Some.id c.deref.result.now (flats_in c.view.result)
-    (c.view.ensures.graph added w rows s.base_of s.stand s.pending_rows) f ids.0 (c.deref.ensures.value ∙ ids.1) in
-    (old-passes (payloads_of added) w rows c.args.parents.now c.args.name.now c.in-Some.id f ids.0 (sym same ∙ c.if-not-has_parents.false), f.1, f.2)
+pub returns-clause-seeks : goal.returns-clause-seeks
+returns-clause-seeks g c = λ added w rows s b u.
+    let old = map g.R.Remote.shown c.args.mirrors.now.items in
+    let mid = map g.R.Remote.shown c.find.new.mirrors.items in
+    let new = map g.R.Remote.shown c.find_parents.new.mirrors.items in
+    let ids = c.in_ok-ids.ids.items in
+    let looks = subst (λ (o : Option ℕ). Looks (payloads_of added) w rows c.args.name.now old mid c.args.cache.now c.find.new.cache (Ok o)) c.in-Some.is (c.in_ok-found.ensures.looks added w rows s b u) in
+    let finds = c.in_ok-ids.ensures.finds added w rows s b u in
+    let flats = flats_in c.view.result in
+    let segs = c.view.ensures.graph added w rows s.base_of s.stand s.pending_rows in
+    seek-old (payloads_of added) w rows c.args.name.now c.args.parents.now old mid new c.args.cache.now c.find.new.cache c.find_parents.new.cache c.in-Some.id looks ids finds c.has_parents.result
+    (λ serving.
+    let y = seen-yes (payloads_of added) w rows c.args.name.now c.args.parents.now old mid new c.args.cache.now c.find.new.cache c.find_parents.new.cache c.in-Some.id (looks.right serving) in
+    let on = serves (payloads_of added) w rows c.args.name.now c.args.parents.now old mid new c.args.cache.now c.find.new.cache c.find_parents.new.cache (Some c.in-Some.id) looks serving in
+    c.has_parents.ensures ∙ same-parents c.args.base.now c.args.pending.now added w rows s c.args.name.now c.args.parents.now c.in-Some.id c.deref.result.now flats segs y.0 y.1
+    (parents-there (payloads_of added) w rows c.args.name.now c.args.parents.now mid new c.find.new.cache c.find_parents.new.cache ids finds on) (c.deref.ensures.value ∙ finds.right on))
+    c.if-not-has_parents.false

@@ -1,5 +1,5 @@
 use Rattle.std.proofs.Common.{◌+◌, ap, subst, arith, length, sym}
-use Rattle.batch_codec.specs.Grammar.{MayFollow}
+use Rattle.change_rules.specs.Lawful.{MayFollow}
 use Rattle.batch_codec.specs.Lent.{payload_of}
 use Rattle.name_map.specs.Added.{AllStand, payloads_of}
 use Rattle.payload_tables.specs.Kept.{AreTablesOf}

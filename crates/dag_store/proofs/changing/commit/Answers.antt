@@ -20,6 +20,6 @@ pub returns-in-Done-clause-leaves : goal.returns-in-Done-clause-leaves
 returns-in-Done-clause-leaves g c =
     let a = c.in-Done.ensures.answers in
     let sent = c.bytes.ensures in
-    leaves-stored (record { log = c.args.log; sessions = c.args.sessions.items; limits = c.args.limits }) (record { log = c.in-Done.log; sessions = c.args.sessions.items; limits = c.args.limits }) c.args.change.payload c.in-Done.clock
+    leaves-stored (record { log = c.args.log; sessions = c.args.sessions.items; limits = c.args.limits; cache = c.args.names }) (record { log = c.in-Done.log; sessions = c.args.sessions.items; limits = c.args.limits; cache = c.args.names }) c.args.change.payload c.in-Done.clock
     (g.D.Disk.told c.args.disk.now) (g.D.Disk.told c.commit.new.disk) c.requires.limit (a.1 ∙ ap (λ (p : List ℕ). c.args.log.payloads ++ p ∷ []) sent) a.3
     (subst (λ (p : List ℕ). Goes (KeepsOldOrNew c.args.log p) (g.D.Disk.told c.args.disk.now) (g.D.Disk.told c.commit.new.disk)) sent c.in-Done.ensures.moments) (c.in-Done.ensures.done c.in-Done.log c.in-Done.clock refl)

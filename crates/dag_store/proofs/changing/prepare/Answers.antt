@@ -1,14 +1,28 @@
-use Rattle.std.proofs.lemmas.Result.{err_from_is_err_and}
-use Rattle.dag_store.proofs.FlushParts.{lacking}
+use Rattle.std.proofs.Common.{map, refl, subst, sym}
+use Rattle.dag_store.specs.Changes.{AreOver, IsPrepared}
+use Rattle.dag_store.proofs.ChangeTests.{prepares-done, prepares-memory, prepares-refused}
 use Rattle.dag_store.proofs.changing.prepare.Goals as goal
 
 pub returns-in_err-change-clause-step : goal.returns-in_err-change-clause-step
-returns-in_err-change-clause-step c = λ began s added st v x o.
-    let p = err_from_is_err_and c.from_residual.result c.from_residual.ensures.1 in
-    rw (p.1, p.2) (c.in_err-change.ensures.step began s added st v x o
-    (lacking began s added c.args.session.now st o c.lacks_names-unnamed.result (λ w stand. c.lacks_names-unnamed.ensures added w v.tables_of stand)))
+returns-in_err-change-clause-step g c = λ began s added st v x o.
+    let old = map g.R.Remote.shown c.args.mirrors.now.items in
+    let new = map g.R.Remote.shown c.plan.new.mirrors.items in
+    prepares-refused c.args.limits st s old new c.args.cache.now c.plan.new.cache c.args.heads.now c.from_residual.result c.in_err-change.field-0.0 c.from_residual.ensures.1 (c.in_err-change.ensures.step began s added st v x o)
 
 pub returns-in-Ok-clause-step : goal.returns-in-Ok-clause-step
-returns-in-Ok-clause-step c = λ began s added st v x o.
-    c.in_ok-change.ensures.step began s added st v x o
-    (lacking began s added c.args.session.now st o c.lacks_names-unnamed.result (λ w stand. c.lacks_names-unnamed.ensures added w v.tables_of stand))
+returns-in-Ok-clause-step g c = λ began s added st v x o.
+    let old = map g.R.Remote.shown c.args.mirrors.now.items in
+    let new = map g.R.Remote.shown c.plan.new.mirrors.items in
+    prepares-done c.args.limits st s old new c.args.cache.now c.plan.new.cache c.args.heads.now c.in_ok-change.change (c.in_ok-change.ensures.step began s added st v x o) _ refl
+
+pub returns-in-Ok-clause-ready : goal.returns-in-Ok-clause-ready
+returns-in-Ok-clause-ready g c = λ added v x.
+    let same = c.plan.ensures.unchanged in
+    subst (λ before. IsPrepared c.args.limits c.args.log.now c.take_change.new.log before c.take_change.new.tables added c.in_ok-change.change c.in-Ok.session) same
+    (c.in-Ok.ensures.ready 1 added (subst (λ t. AreOver c.args.log.now t added) (sym same) v) (c.in_ok-change.ensures.stored added v x))
+
+pub returns-in-Err-clause-step : goal.returns-in-Err-clause-step
+returns-in-Err-clause-step g c = λ began s added st v x o.
+    let old = map g.R.Remote.shown c.args.mirrors.now.items in
+    let new = map g.R.Remote.shown c.plan.new.mirrors.items in
+    prepares-memory c.args.limits st s old new c.args.cache.now c.plan.new.cache c.args.heads.now c.in_ok-change.change (c.in_ok-change.ensures.step began s added st v x o)

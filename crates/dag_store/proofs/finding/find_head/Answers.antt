@@ -1,40 +1,35 @@
-use Rattle.std.proofs.Common.{◌^◌, Some, None, sym, ap, subst, ◌∙◌}
+use Rattle.std.proofs.Common.{◌^◌, [], map, sym, ap, subst, ◌∙◌}
+use Rattle.commit_graph.specs.World.{names_of}
 use Rattle.name_map.specs.Map.{IsIdOf}
 use Rattle.payload_tables.specs.Bases.{stored_in}
+use Rattle.payload_tables.specs.Pending.{PlainPending}
 use Rattle.dag_store.specs.Kept.{PlainSession}
-use Rattle.dag_store.proofs.FlushNames.{found-in}
-use Rattle.dag_store.proofs.FlushLooks.{head-found, head-pending, head-asked, head-nowhere, pending-there, pending-nowhere}
+use Rattle.dag_store.specs.Changes.{HaveNames}
+use Rattle.dag_store.proofs.HeadTests.{err-head, head-found, head-pending, head-refused, pending-nowhere, pending-there}
 use Rattle.dag_store.proofs.finding.find_head.Goals as goal
 
-pub returns-in-Some-clause-found : goal.returns-in-Some-clause-found
-returns-in-Some-clause-found c = λ added b. found-in c.args.newest.now added b c.args.head.now (Some c.in-Some.id)
-    (subst (λ z. IsIdOf (stored_in added) z (2 ^ 57) (Some c.in-Some.id)) c.lend.ensures (c.in-Some.ensures added b))
+pub returns-then-is_some-clause-finds : goal.returns-then-is_some-clause-finds
+returns-then-is_some-clause-finds g c = λ added w rows s b n u.
+    let here = subst (λ (p : PlainPending). HaveNames p (names_of rows)) (sym (ap (λ (x : PlainSession). x.pending) c.session.view_is)) n in
+    head-pending c.args.newest.now c.args.none.now added w s c.args.head.now rows
+    (pending-there c.session.inside.pending (names_of rows) here c.lend.result.bytes.now c.args.head.now c.lend.ensures c.find.result c.find.ensures (sym c.is_some.ensures ∙ c.if-is_some.true))
+    c.id.result (subst (λ z. IsIdOf (stored_in added) z (2 ^ 57) c.id.result) c.lend-then-is_some.ensures (c.id.ensures added s.base_of)) _ c.args.cache.now
 
-pub returns-in-Some-clause-step : goal.returns-in-Some-clause-step
-returns-in-Some-clause-step c = λ began s added st b o u. head-found began s added c.args.session.now st o c.args.newest.now b c.args.head.now c.in-Some.id
-    (subst (λ z. IsIdOf (stored_in added) z (2 ^ 57) (Some c.in-Some.id)) c.lend.ensures (c.in-Some.ensures added b))
+pub returns-in_err-id-clause-finds : goal.returns-in_err-id-clause-finds
+returns-in_err-id-clause-finds g c = λ added w rows s b n u.
+    let here = subst (λ (p : PlainPending). HaveNames p (names_of rows)) (sym (ap (λ (x : PlainSession). x.pending) c.session.view_is)) n in
+    let old = map g.R.Remote.shown c.args.mirrors.now.items in
+    let new = map g.R.Remote.shown c.find_seen.new.mirrors.items in
+    err-head added w rows c.args.head.now old new c.args.cache.now c.find_seen.new.cache c.from_residual.result c.in_err-id.field-0.0 c.from_residual.ensures.1
+    (head-refused c.args.newest.now c.args.none.now added w s c.args.head.now rows
+    (pending-nowhere c.session.inside.pending (names_of rows) here c.lend.result.bytes.now c.args.head.now c.lend.ensures c.find.result c.find.ensures (sym c.is_some.ensures ∙ c.if-is_some.false))
+    old new c.args.cache.now c.find_seen.new.cache c.in_err-id.field-0.0 (c.in_err-id.ensures.finds added w [] s b u))
 
-pub returns-then-is_some-clause-found : goal.returns-then-is_some-clause-found
-returns-then-is_some-clause-found c = λ added b. found-in c.args.newest.now added b c.args.head.now None
-    (subst (λ z. IsIdOf (stored_in added) z (2 ^ 57) None) c.lend.ensures (c.in_default.ensures added b))
-
-pub returns-then-is_some-clause-step : goal.returns-then-is_some-clause-step
-returns-then-is_some-clause-step c = λ began s added st b o u.
-    head-pending began s added c.args.session.now st o c.args.newest.now b c.args.head.now
-    (subst (λ z. IsIdOf (stored_in added) z (2 ^ 57) None) c.lend.ensures (c.in_default.ensures added b))
-    (pending-there began s added c.args.session.now st o c.session.inside.pending (ap (λ (x : PlainSession). x.pending) c.session.view_is)
-    c.lend-2.result.bytes.now c.args.head.now c.lend-2.ensures c.find.result c.find.ensures (sym c.is_some.ensures ∙ c.if-is_some.true))
-
-pub returns-then-unnamed-clause-step : goal.returns-then-unnamed-clause-step
-returns-then-unnamed-clause-step c = λ began s added st b o u.
-    head-asked began s added c.args.session.now st o c.args.newest.now b c.args.head.now c.args.unnamed u c.if-unnamed.true
-    (subst (λ z. IsIdOf (stored_in added) z (2 ^ 57) None) c.lend.ensures (c.in_default.ensures added b))
-    (pending-nowhere began s added c.args.session.now st o c.session.inside.pending (ap (λ (x : PlainSession). x.pending) c.session.view_is)
-    c.lend-2.result.bytes.now c.args.head.now c.lend-2.ensures c.find.result c.find.ensures (sym c.is_some.ensures ∙ c.if-is_some.false))
-
-pub returns-clause-step : goal.returns-clause-step
-returns-clause-step c = λ began s added st b o u.
-    head-nowhere began s added c.args.session.now st o c.args.newest.now b c.args.head.now c.args.unnamed u c.if-unnamed.false
-    (subst (λ z. IsIdOf (stored_in added) z (2 ^ 57) None) c.lend.ensures (c.in_default.ensures added b))
-    (pending-nowhere began s added c.args.session.now st o c.session.inside.pending (ap (λ (x : PlainSession). x.pending) c.session.view_is)
-    c.lend-2.result.bytes.now c.args.head.now c.lend-2.ensures c.find.result c.find.ensures (sym c.is_some.ensures ∙ c.if-is_some.false))
+pub returns-clause-finds : goal.returns-clause-finds
+returns-clause-finds g c = λ added w rows s b n u.
+    let here = subst (λ (p : PlainPending). HaveNames p (names_of rows)) (sym (ap (λ (x : PlainSession). x.pending) c.session.view_is)) n in
+    let old = map g.R.Remote.shown c.args.mirrors.now.items in
+    let new = map g.R.Remote.shown c.find_seen.new.mirrors.items in
+    head-found c.args.newest.now c.args.none.now added w s c.args.head.now rows
+    (pending-nowhere c.session.inside.pending (names_of rows) here c.lend.result.bytes.now c.args.head.now c.lend.ensures c.find.result c.find.ensures (sym c.is_some.ensures ∙ c.if-is_some.false))
+    old new c.args.cache.now c.find_seen.new.cache c.in_ok-id.id (c.in_ok-id.ensures.finds added w [] s b u)

@@ -1,28 +1,52 @@
-use Rattle.std.proofs.Common.{inr, arith}
-use Rattle.std.proofs.lemmas.Result.{err_from_is_err_and}
-use Rattle.dag_store.specs.Changes.{head_refusal}
-use Rattle.dag_store.proofs.FlushGathers.{zip-next, found-next, refused-here, found-all, zip-all}
+use Rattle.std.proofs.Common.{◌∙◌, map, refl, arith}
+use Rattle.name_map.specs.Added.{payloads_of}
+use Rattle.dag_store.specs.Changes.{IsHeadFound, head_test}
+use Rattle.dag_store.proofs.FindLists.{each-more, each-none, each-refused, each-unkept, each-whole, err-each}
 use Rattle.dag_store.proofs.finding.look_up_heads.Goals as goal
 
-pub returns-in_err-id-clause-step : goal.returns-in_err-id-clause-step
-returns-in_err-id-clause-step c = λ began s added st b o u.
-    let p = err_from_is_err_and c.from_residual.result c.from_residual.ensures.1 in
-    rw (p.1, p.2) (inr (refused-here st (head_refusal st s) c.args.heads.now c.heads.head-index c.head-item.result c.heads-test.true c.head-item.is c.heads.found.items c.in_err-id.field-0.0
-    (c.heads.invariant.step began s added st b o u) (c.in_err-id.ensures.step began s added st b o u)))
-
-pub heads-preserved : goal.heads-preserved
-heads-preserved c = record {
-  found = λ added b. zip-next added c.args.heads.now c.heads.head-index c.head-item.result c.heads.found.items c.push.new.self.items c.in_ok-id.id c.heads-test.true c.head-item.is
-      (c.heads.invariant.found added b) (c.in_ok-id.ensures.found added b) c.in-Ok.ensures.items;
-  step = λ began s added st b o u.
-      let r = c.in_ok-id.ensures.step began s added st b o u in
-      found-next st (head_refusal st s) c.args.heads.now c.heads.head-index c.head-item.result c.heads-test.true c.head-item.is c.heads.found.items c.push.new.self.items c.in_ok-id.id
-      (c.heads.invariant.step began s added st b o u) r.0 r.1 c.in-Ok.ensures.items;
+pub heads-init : goal.heads-init
+heads-init g c = record {
+  finds_are = λ added w rows s b n u. each-none added w (head_test (payloads_of added) w rows) (IsHeadFound w rows) _ c.args.cache.now _ c.new-found.ensures.items;
+  sound_is = λ h. h;
+  len_is = refl;
 }
 
-pub returns-clause-found : goal.returns-clause-found
-returns-clause-found c = λ added b. zip-all added c.args.heads.now c.heads.head-index c.heads.found.items (let n = c.heads-test.false in omega (arith, n)) (c.heads.invariant.found added b)
+pub returns-in_err-id-clause-finds : goal.returns-in_err-id-clause-finds
+returns-in_err-id-clause-finds g c = λ added w rows s b n u.
+    let old = map g.R.Remote.shown c.args.mirrors.now.items in
+    let mid = map g.R.Remote.shown c.heads.mirrors.items in
+    let new = map g.R.Remote.shown c.find_head.new.mirrors.items in
+    err-each added w (head_test (payloads_of added) w rows) (IsHeadFound w rows) c.args.heads.now old new c.args.cache.now c.find_head.new.cache c.from_residual.result c.in_err-id.field-0.0 c.from_residual.ensures.1
+    (each-refused added w (head_test (payloads_of added) w rows) (IsHeadFound w rows) c.args.heads.now c.heads.head-index c.head-item.result c.heads-test.true c.head-item.is old mid new c.args.cache.now c.heads.cache c.find_head.new.cache
+    c.heads.found.items (c.heads.invariant.finds_are added w rows s b n u) c.in_err-id.field-0.0 (c.in_err-id.ensures.finds added w rows s b n u))
 
-pub returns-clause-step : goal.returns-clause-step
-returns-clause-step c = λ began s added st b o u.
-    found-all st (head_refusal st s) c.args.heads.now c.heads.head-index c.heads.found.items (let n = c.heads-test.false in omega (arith, n)) (c.heads.invariant.step began s added st b o u)
+pub returns-in_err-id-clause-sound : goal.returns-in_err-id-clause-sound
+returns-in_err-id-clause-sound g c = λ h. c.find_head.ensures.sound (c.heads.invariant.sound_is h)
+
+pub returns-in_err-id-clause-len : goal.returns-in_err-id-clause-len
+returns-in_err-id-clause-len g c = c.find_head.ensures.len ∙ c.heads.invariant.len_is
+
+pub returns-in_default-clause-finds : goal.returns-in_default-clause-finds
+returns-in_default-clause-finds g c = λ added w rows s b n u.
+    let old = map g.R.Remote.shown c.args.mirrors.now.items in
+    let mid = map g.R.Remote.shown c.heads.mirrors.items in
+    let new = map g.R.Remote.shown c.find_head.new.mirrors.items in
+    each-unkept added w (head_test (payloads_of added) w rows) (IsHeadFound w rows) c.args.heads.now c.heads.head-index c.head-item.result c.heads-test.true c.head-item.is old mid new c.args.cache.now c.heads.cache c.find_head.new.cache
+    c.heads.found.items c.in_ok-id.id (c.heads.invariant.finds_are added w rows s b n u) (c.in_ok-id.ensures.finds added w rows s b n u)
+
+pub heads-preserved : goal.heads-preserved
+heads-preserved g c = record {
+  finds_are = λ added w rows s b n u.
+      let old = map g.R.Remote.shown c.args.mirrors.now.items in
+      let mid = map g.R.Remote.shown c.heads.mirrors.items in
+      let new = map g.R.Remote.shown c.find_head.new.mirrors.items in
+      each-more added w (head_test (payloads_of added) w rows) (IsHeadFound w rows) c.args.heads.now c.heads.head-index c.head-item.result c.heads-test.true c.head-item.is old mid new c.args.cache.now c.heads.cache c.find_head.new.cache
+      c.heads.found.items (c.heads.invariant.finds_are added w rows s b n u) c.in_ok-id.id c.push.new.self.items (c.in_ok-id.ensures.finds added w rows s b n u) c.in-Ok.ensures.items;
+  sound_is = λ h. c.find_head.ensures.sound (c.heads.invariant.sound_is h);
+  len_is = c.find_head.ensures.len ∙ c.heads.invariant.len_is;
+}
+
+pub returns-clause-finds : goal.returns-clause-finds
+returns-clause-finds g c = λ added w rows s b n u.
+    each-whole added w (head_test (payloads_of added) w rows) (IsHeadFound w rows) c.args.heads.now c.heads.head-index (let ge = c.heads-test.false in omega (arith, ge)) _ _ c.args.cache.now c.heads.cache c.heads.found.items
+    (c.heads.invariant.finds_are added w rows s b n u)

@@ -1,42 +1,70 @@
-use Rattle.std.proofs.Common.{inr, sym, subst, arith}
-use Rattle.std.proofs.lemmas.Result.{err_from_is_err_and}
-use Rattle.payload_tables.specs.Pending.{HoldsRows, row_names}
-use Rattle.commit_graph.specs.World.{names_of}
-use Rattle.step_rules.specs.State.{pending_of}
-use Rattle.dag_store.specs.Changes.{row_refusal}
-use Rattle.dag_store.proofs.FlushGathers.{zip-next, found-next, refused-here, found-all, zip-all, row-at, state-row, state-over, rows-over}
+use Rattle.std.proofs.Common.{◌∙◌, ◌∷◌, [], Err, Ok, map, length, refl, sym, ap, subst, arith, length-append, zero-le}
+use Rattle.name_map.specs.Added.{payloads_of}
+use Rattle.payload_tables.specs.Pending.{PlainPending}
+use Rattle.dag_store.specs.Changes.{HaveNames, IsRowFound, row_test}
+use Rattle.dag_store.specs.Kept.{PlainSession}
+use Rattle.dag_store.specs.Looking.{Looks}
+use Rattle.dag_store.proofs.HeadTests.{row-finds}
+use Rattle.dag_store.proofs.FindLists.{each-more, each-none, each-refused, each-unkept, each-whole, err-each, name-there, names-over}
 use Rattle.dag_store.proofs.finding.look_up_rows.Goals as goal
 
-pub returns-in_err-id-clause-step : goal.returns-in_err-id-clause-step
-returns-in_err-id-clause-step c = λ began s added st b o a.
-    let p = err_from_is_err_and c.from_residual.result c.from_residual.ensures.1 in
-    let r = state-row began s added c.args.session.now st o c.session.inside.pending c.rows.invariant.pending_is c.rows.i c.len-i-end.result c.name.result.bytes.now c.rows-test.true c.len-i-end.ensures.len c.name.ensures in
-    rw (p.1, p.2) (inr (refused-here st (row_refusal st s) (names_of (pending_of st s)) c.rows.i c.name.result.bytes.now r.0 r.1 c.rows.found.items c.in_err-id.field-0.0
-    (c.rows.invariant.step began s added st b o a) (c.in_err-id.ensures.step began s added c.args.session.now st b o a)))
-
-pub rows-preserved : goal.rows-preserved
-rows-preserved c = record {
-  pending_is = c.rows.invariant.pending_is;
-  found = λ added rows b h.
-      let held = subst (λ p. HoldsRows p rows) (sym c.rows.invariant.pending_is) h in
-      let n = c.len-i-end.ensures.len rows held in
-      let lt = c.rows-test.true in
-      let r = row-at rows c.rows.i c.name.result.bytes.now (omega (arith, n, lt)) (λ row at. c.name.ensures rows row held at) in
-      zip-next added (row_names rows) c.rows.i c.name.result.bytes.now c.rows.found.items c.push.new.self.items c.in_ok-id.id r.0 r.1
-      (c.rows.invariant.found added rows b h) (c.in_ok-id.ensures.found added b) c.in-Ok.ensures.items;
-  step = λ began s added st b o a.
-      let r = state-row began s added c.args.session.now st o c.session.inside.pending c.rows.invariant.pending_is c.rows.i c.len-i-end.result c.name.result.bytes.now c.rows-test.true c.len-i-end.ensures.len c.name.ensures in
-      let f = c.in_ok-id.ensures.step began s added c.args.session.now st b o a in
-      found-next st (row_refusal st s) (names_of (pending_of st s)) c.rows.i c.name.result.bytes.now r.0 r.1 c.rows.found.items c.push.new.self.items c.in_ok-id.id
-      (c.rows.invariant.step began s added st b o a) f.0 f.1 c.in-Ok.ensures.items;
+pub rows-init : goal.rows-init
+rows-init g c = record {
+  pending_is = ap (λ (x : PlainSession). x.pending) c.session.view_is;
+  finds_are = λ added w names s b n u. each-none added w (row_test (payloads_of added) w) (IsRowFound w) _ c.args.cache.now _ c.new-found.ensures.items;
+  count_is = (ap (length {A = _}) c.new-found.ensures.items, zero-le);
+  sound_is = λ h. h;
+  len_is = refl;
 }
 
-pub returns-clause-found : goal.returns-clause-found
-returns-clause-found c = λ added rows b h.
-    let n = c.len-i-end.ensures.len rows (subst (λ p. HoldsRows p rows) (sym c.rows.invariant.pending_is) h) in
-    zip-all added (row_names rows) c.rows.i c.rows.found.items (rows-over rows c.rows.i c.len-i-end.result c.rows-test.false n) (c.rows.invariant.found added rows b h)
+pub returns-in_err-id-clause-finds : goal.returns-in_err-id-clause-finds
+returns-in_err-id-clause-finds g c = λ added w names s b n u.
+    let old = map g.R.Remote.shown c.args.mirrors.now.items in
+    let mid = map g.R.Remote.shown c.rows.mirrors.items in
+    let new = map g.R.Remote.shown c.find.new.mirrors.items in
+    let here = subst (λ (p : PlainPending). HaveNames p names) (sym c.rows.invariant.pending_is) n in
+    let at = name-there c.session.inside.pending names here c.len-i-end.result c.len-i-end.ensures.len c.rows.i c.name.result.bytes.now c.rows-test.true c.name.ensures in
+    err-each added w (row_test (payloads_of added) w) (IsRowFound w) names old new c.args.cache.now c.find.new.cache c.from_residual.result c.in_err-id.field-0.0 c.from_residual.ensures.1
+    (each-refused added w (row_test (payloads_of added) w) (IsRowFound w) names c.rows.i c.name.result.bytes.now at.0 at.1 old mid new c.args.cache.now c.rows.cache c.find.new.cache
+    c.rows.found.items (c.rows.invariant.finds_are added w names s b n u) c.in_err-id.field-0.0
+    (row-finds c.args.newest.now c.args.none.now added w s c.name.result.bytes.now mid new c.rows.cache c.find.new.cache (Err c.in_err-id.field-0.0)
+    (subst (λ z. Looks (payloads_of added) w [] z mid new c.rows.cache c.find.new.cache (Err c.in_err-id.field-0.0)) c.to_name-name.ensures (c.in_err-id.ensures.looks added w [] s b u))))
 
-pub returns-clause-step : goal.returns-clause-step
-returns-clause-step c = λ began s added st b o a.
-    found-all st (row_refusal st s) (names_of (pending_of st s)) c.rows.i c.rows.found.items
-    (state-over began s added c.args.session.now st o c.session.inside.pending c.rows.invariant.pending_is c.rows.i c.len-i-end.result c.rows-test.false c.len-i-end.ensures.len) (c.rows.invariant.step began s added st b o a)
+pub returns-in_default-clause-finds : goal.returns-in_default-clause-finds
+returns-in_default-clause-finds g c = λ added w names s b n u.
+    let old = map g.R.Remote.shown c.args.mirrors.now.items in
+    let mid = map g.R.Remote.shown c.rows.mirrors.items in
+    let new = map g.R.Remote.shown c.find.new.mirrors.items in
+    let here = subst (λ (p : PlainPending). HaveNames p names) (sym c.rows.invariant.pending_is) n in
+    let at = name-there c.session.inside.pending names here c.len-i-end.result c.len-i-end.ensures.len c.rows.i c.name.result.bytes.now c.rows-test.true c.name.ensures in
+    each-unkept added w (row_test (payloads_of added) w) (IsRowFound w) names c.rows.i c.name.result.bytes.now at.0 at.1 old mid new c.args.cache.now c.rows.cache c.find.new.cache
+    c.rows.found.items c.in_ok-id.id (c.rows.invariant.finds_are added w names s b n u)
+    (row-finds c.args.newest.now c.args.none.now added w s c.name.result.bytes.now mid new c.rows.cache c.find.new.cache (Ok c.in_ok-id.id)
+    (subst (λ z. Looks (payloads_of added) w [] z mid new c.rows.cache c.find.new.cache (Ok c.in_ok-id.id)) c.to_name-name.ensures (c.in_ok-id.ensures.looks added w [] s b u)))
+
+pub rows-preserved : goal.rows-preserved
+rows-preserved g c = record {
+  pending_is = c.rows.invariant.pending_is;
+  finds_are = λ added w names s b n u.
+      let old = map g.R.Remote.shown c.args.mirrors.now.items in
+      let mid = map g.R.Remote.shown c.rows.mirrors.items in
+      let new = map g.R.Remote.shown c.find.new.mirrors.items in
+      let here = subst (λ (p : PlainPending). HaveNames p names) (sym c.rows.invariant.pending_is) n in
+      let at = name-there c.session.inside.pending names here c.len-i-end.result c.len-i-end.ensures.len c.rows.i c.name.result.bytes.now c.rows-test.true c.name.ensures in
+      each-more added w (row_test (payloads_of added) w) (IsRowFound w) names c.rows.i c.name.result.bytes.now at.0 at.1 old mid new c.args.cache.now c.rows.cache c.find.new.cache
+      c.rows.found.items (c.rows.invariant.finds_are added w names s b n u) c.in_ok-id.id c.push.new.self.items
+      (row-finds c.args.newest.now c.args.none.now added w s c.name.result.bytes.now mid new c.rows.cache c.find.new.cache (Ok c.in_ok-id.id)
+      (subst (λ z. Looks (payloads_of added) w [] z mid new c.rows.cache c.find.new.cache (Ok c.in_ok-id.id)) c.to_name-name.ensures (c.in_ok-id.ensures.looks added w [] s b u))) c.in-Ok.ensures.items;
+  count_is = (
+    ap (length {A = _}) c.in-Ok.ensures.items ∙ length-append c.rows.found.items (c.in_ok-id.id ∷ []) ∙ (let n = c.rows.invariant.count_is.0 in omega (arith, n)),
+    (let lt = c.rows-test.true in omega (arith, lt)),
+  );
+  sound_is = λ h. c.find.ensures.sound (c.rows.invariant.sound_is h);
+  len_is = c.find.ensures.len ∙ c.rows.invariant.len_is;
+}
+
+pub returns-clause-finds : goal.returns-clause-finds
+returns-clause-finds g c = λ added w names s b n u.
+    let here = subst (λ (p : PlainPending). HaveNames p names) (sym c.rows.invariant.pending_is) n in
+    each-whole added w (row_test (payloads_of added) w) (IsRowFound w) names c.rows.i (names-over c.session.inside.pending names here c.len-i-end.result c.len-i-end.ensures.len c.rows.i c.rows-test.false) _ _ c.args.cache.now c.rows.cache
+    c.rows.found.items (c.rows.invariant.finds_are added w names s b n u)

@@ -1,20 +1,24 @@
-use Rattle.std.proofs.Common.{◌≡◌, ◌&&◌, not, ℕ, List, take}
-use Rattle.std.specs.List.{AllZip}
-use Rattle.name_map.specs.Added.{Placed}
-use Rattle.commit_graph.specs.World.{names_of}
+use Rattle.std.proofs.Common.{◌≡◌, ◌≤◌, List, [], map, length, take, Ok}
+use Rattle.id_groups.specs.Name.{Name}
+use Rattle.commit_graph.specs.World.{World}
+use Rattle.name_map.specs.Added.{Placed, payloads_of}
 use Rattle.change_rules.specs.Lazy.{has_lazy}
-use Rattle.payload_tables.specs.Bases.{IsBaseOf}
-use Rattle.payload_tables.specs.Pending.{IdRow, HoldsRows, row_names}
-use Rattle.flush_rebuild.specs.Asked.{IsFoundIn}
-use Rattle.step_rules.specs.State.{Stored, pending_of}
-use Rattle.step_rules.specs.Tests.{is_on_newest}
-use Rattle.dag_store.specs.Changes.{IsOn, AreFound, row_refusal}
+use Rattle.dag_store.specs.Looking.{AreTablesBehind, IsSoundCache, Sees}
+use Rattle.dag_store.specs.Changes.{FindsRows, HaveNames}
 use Rattle.dag_store.proofs.finding.look_up_rows.Given as goal
 
+pub record Found (same : Type 0) (finds : Type 0) (count : Type 0) (sound : Type 0) (len : Type 0) : Type 0 where
+  pub pending_is : same
+  pub finds_are : finds
+  pub count_is : count
+  pub sound_is : sound
+  pub len_is : len
+
 abbrev pub invariant-rows : goal.invariant-rows
-invariant-rows l = record {
-  pending_is : l.pending ≡ l.session.pending;
-  found : (added : List Placed) (rows : List IdRow) → IsBaseOf l.newest added → HoldsRows l.session.pending rows → AllZip (IsFoundIn added) (take l.i (row_names rows)) l.found.items;
-  step : (began s : ℕ) (added : List Placed) (st : Stored) → IsBaseOf l.newest added → IsOn began added l.session st s → l.asks ≡ (not (is_on_newest st s) && has_lazy st.payloads st.stored)
-      → AreFound st (row_refusal st s) (take l.i (names_of (pending_of st s))) l.found.items;
-}
+invariant-rows g l = Found
+    (l.pending ≡ l.session.pending)
+    ((added : List Placed) (w : World Name) (names : List Name) → Sees l.newest l.none added w [] → AreTablesBehind l.tables l.bytes added → HaveNames l.session.pending names → l.unnamed ≡ has_lazy (payloads_of added) w
+    → FindsRows added w (take l.i names) (map g.R.Remote.shown l.fn.mirrors.items) (map g.R.Remote.shown l.mirrors.items) l.fn.cache l.cache (Ok l.found.items))
+    ((length l.found.items ≡ l.i) × (l.i ≤ l.i-end))
+    (IsSoundCache l.fn.cache → IsSoundCache l.cache)
+    (length l.mirrors.items ≡ length l.fn.mirrors.items)

@@ -1,46 +1,51 @@
-use Rattle.std.proofs.Common.{◌≡◌, ◌<◌, ◌∙◌, None, length, map, refl, inr, sym, ap, subst, arith}
+use Rattle.std.proofs.Common.{map, sym, refl, ◌∙◌, arith}
 use Rattle.std.proofs.lemmas.Option.{get_or_from_slice_get}
-use Rattle.id_groups.specs.Name.{same_name}
-use Rattle.name_map.specs.Added.{payloads_of}
-use Rattle.commit_graph.specs.World.{with_pending}
-use Rattle.commit_graph.specs.Ids.{id_in}
 use Rattle.set_expr.specs.Expr.{commits_in}
 use Rattle.set_expr.specs.Whole.{tree_of}
-use Rattle.step_rules.specs.Tests.{unknown, first_some}
-use Rattle.dag_store.specs.Adding.{looked}
-use Rattle.dag_store.proofs.AddingTests.{err-match, refused-here, none-more, ids-more, all-gone-over}
+use Rattle.name_map.specs.Added.{payloads_of}
+use Rattle.dag_store.proofs.Lines.{err-items, finds-more, finds-none, finds-refused, finds-unkept, finds-whole}
 use Rattle.dag_store.proofs.query.find_names.Goals as goal
 
 pub names-init : goal.names-init
-names-init c = λ added w rows s u. (refl, c.new-ids.ensures.items)
+names-init g c = record {
+  finds_are = λ added w rows s b u. finds-none (payloads_of added) w rows _ c.args.cache.now _ c.new-ids.ensures.items;
+  sound_is = λ h. h;
+  len_is = refl;
+}
 
-pub returns-in_err-id : goal.returns-in_err-id
-returns-in_err-id c = λ added w rows s u.
+pub returns-in_err-id-clause-finds : goal.returns-in_err-id-clause-finds
+returns-in_err-id-clause-finds g c = λ added w rows s b u.
     let names = commits_in (tree_of c.args.expr.now) in
-    let f = looked (payloads_of added) w rows (unknown (with_pending w rows)) in
-    let lt = c.names-test.true in
-    err-match c.from_residual.result c.in_err-id.field-0.0 _ _ c.from_residual.ensures.1
-    (inr (refused-here f names c.names.k c.name_at.result.now c.in_err-id.field-0.0 (let n = c.name_count-k-end.ensures in omega (arith, lt, n)) (sym (get_or_from_slice_get names c.names.k c.name_at.result.now c.name_at.result.now c.name_at.ensures))
-    (c.names.invariant added w rows s u).0 (c.in_err-id.ensures added w rows s u)))
+    let old = map g.R.Remote.shown c.args.mirrors.now.items in
+    let mid = map g.R.Remote.shown c.names.mirrors.items in
+    let new = map g.R.Remote.shown c.find_seen.new.mirrors.items in
+    err-items (payloads_of added) w rows names old new c.args.cache.now c.find_seen.new.cache c.from_residual.result c.in_err-id.field-0.0 c.from_residual.ensures.1
+    (finds-refused (payloads_of added) w rows names c.names.k c.name_at.result.now (let lt = c.names-test.true in let n = c.name_count-k-end.ensures in omega (arith, lt, n)) (sym (get_or_from_slice_get names c.names.k c.name_at.result.now c.name_at.result.now c.name_at.ensures)) old mid new c.args.cache.now c.names.cache c.find_seen.new.cache c.names.ids.items
+    (c.names.invariant.finds_are added w rows s b u) c.in_err-id.field-0.0 (c.in_err-id.ensures.finds added w rows s b u))
+
+pub returns-in_default-clause-finds : goal.returns-in_default-clause-finds
+returns-in_default-clause-finds g c = λ added w rows s b u.
+    let names = commits_in (tree_of c.args.expr.now) in
+    let old = map g.R.Remote.shown c.args.mirrors.now.items in
+    let mid = map g.R.Remote.shown c.names.mirrors.items in
+    let new = map g.R.Remote.shown c.find_seen.new.mirrors.items in
+    finds-unkept (payloads_of added) w rows names c.names.k c.name_at.result.now (let lt = c.names-test.true in let n = c.name_count-k-end.ensures in omega (arith, lt, n)) (sym (get_or_from_slice_get names c.names.k c.name_at.result.now c.name_at.result.now c.name_at.ensures)) old mid new c.args.cache.now c.names.cache c.find_seen.new.cache c.names.ids.items c.in_ok-id.id
+    (c.names.invariant.finds_are added w rows s b u) (c.in_ok-id.ensures.finds added w rows s b u)
 
 pub names-preserved : goal.names-preserved
-names-preserved c = λ added w rows s u.
-    let names = commits_in (tree_of c.args.expr.now) in
-    let f = looked (payloads_of added) w rows (unknown (with_pending w rows)) in
-    let so_far = c.names.invariant added w rows s u in
-    let here = c.in_ok-id.ensures added w rows s u in
-    let within : c.names.k < length names = let lt = c.names-test.true in let n = c.name_count-k-end.ensures in omega (arith, lt, n) in
-    let is = sym (get_or_from_slice_get names c.names.k c.name_at.result.now c.name_at.result.now c.name_at.ensures) in (
-      none-more f names c.names.k c.name_at.result.now within is so_far.0 here.0,
-      ids-more (id_in same_name (with_pending w rows)) names c.names.k c.name_at.result.now c.names.ids.items c.push.new.self.items c.in_ok-id.id within is so_far.1 here.1 c.in-Ok.ensures.items,
-    )
+names-preserved g c = record {
+  finds_are = λ added w rows s b u.
+      let names = commits_in (tree_of c.args.expr.now) in
+      let old = map g.R.Remote.shown c.args.mirrors.now.items in
+      let mid = map g.R.Remote.shown c.names.mirrors.items in
+      let new = map g.R.Remote.shown c.find_seen.new.mirrors.items in
+      finds-more (payloads_of added) w rows names c.names.k c.name_at.result.now (let lt = c.names-test.true in let n = c.name_count-k-end.ensures in omega (arith, lt, n)) (sym (get_or_from_slice_get names c.names.k c.name_at.result.now c.name_at.result.now c.name_at.ensures)) old mid new c.args.cache.now c.names.cache c.find_seen.new.cache c.names.ids.items
+      (c.names.invariant.finds_are added w rows s b u) c.in_ok-id.id c.push.new.self.items (c.in_ok-id.ensures.finds added w rows s b u) c.in-Ok.ensures.items;
+  sound_is = λ h. c.find_seen.ensures.sound (c.names.invariant.sound_is h);
+  len_is = c.find_seen.ensures.len ∙ c.names.invariant.len_is;
+}
 
-pub returns : goal.returns
-returns c = λ added w rows s u.
+pub returns-clause-finds : goal.returns-clause-finds
+returns-clause-finds g c = λ added w rows s b u.
     let names = commits_in (tree_of c.args.expr.now) in
-    let f = looked (payloads_of added) w rows (unknown (with_pending w rows)) in
-    let so_far = c.names.invariant added w rows s u in
-    let all = all-gone-over names c.names.k (let ge = c.names-test.false in let n = c.name_count-k-end.ensures in omega (arith, ge, n)) in (
-      subst (λ l. first_some (map f l) ≡ None) all so_far.0,
-      so_far.1 ∙ ap (map (id_in same_name (with_pending w rows))) all,
-    )
+    finds-whole (payloads_of added) w rows names c.names.k (let ge = c.names-test.false in let n = c.name_count-k-end.ensures in omega (arith, ge, n)) _ _ c.args.cache.now c.names.cache c.names.ids.items (c.names.invariant.finds_are added w rows s b u)

@@ -1,17 +1,22 @@
-use Rattle.std.proofs.Common.{◌≡◌, List, None, map, take}
-use Rattle.id_groups.specs.Name.{Name, same_name}
-use Rattle.commit_graph.specs.World.{Row, World, with_pending}
-use Rattle.commit_graph.specs.Ids.{id_in}
+use Rattle.std.proofs.Common.{◌≡◌, List, map, length, take, Ok}
+use Rattle.id_groups.specs.Name.{Name}
+use Rattle.commit_graph.specs.World.{Row, World}
 use Rattle.name_map.specs.Added.{Placed, payloads_of}
+use Rattle.change_rules.specs.Lazy.{has_lazy}
 use Rattle.set_expr.specs.Expr.{commits_in}
 use Rattle.set_expr.specs.Whole.{tree_of}
-use Rattle.change_rules.specs.Lazy.{has_lazy}
-use Rattle.step_rules.specs.Tests.{first_some}
-use Rattle.dag_store.specs.Looking.{Sees}
-use Rattle.dag_store.specs.Querying.{name_refusals}
+use Rattle.dag_store.specs.Looking.{AreTablesBehind, IsSoundCache, Sees}
+use Rattle.dag_store.specs.Adding.{FindsAll}
 use Rattle.dag_store.proofs.query.find_names.Given as goal
 
+pub record Found (finds : Type 0) (sound : Type 0) (len : Type 0) : Type 0 where
+  pub finds_are : finds
+  pub sound_is : sound
+  pub len_is : len
+
 abbrev pub invariant-names : goal.invariant-names
-invariant-names l = (added : List Placed) (w : World Name) (rows : List (Row Name)) → Sees l.base l.pending added w rows → l.unnamed ≡ has_lazy (payloads_of added) w
-    → (first_some (name_refusals (payloads_of added) w rows (take l.k (commits_in (tree_of l.expr)))) ≡ None)
-    × (l.ids.items ≡ map (id_in same_name (with_pending w rows)) (take l.k (commits_in (tree_of l.expr))))
+invariant-names g l = Found
+    ((added : List Placed) (w : World Name) (rows : List (Row Name)) → Sees l.base l.pending added w rows → AreTablesBehind l.tables l.bytes added → l.unnamed ≡ has_lazy (payloads_of added) w
+    → FindsAll (payloads_of added) w rows (take l.k (commits_in (tree_of l.expr))) (map g.R.Remote.shown l.fn.mirrors.items) (map g.R.Remote.shown l.mirrors.items) l.fn.cache l.cache (Ok l.ids.items))
+    (IsSoundCache l.fn.cache → IsSoundCache l.cache)
+    (length l.mirrors.items ≡ length l.fn.mirrors.items)

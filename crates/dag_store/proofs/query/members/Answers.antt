@@ -1,11 +1,14 @@
-use Rattle.std.proofs.Common.{sym, ap, subst, ◌∙◌, ◌++◌, length, map}
+use Rattle.std.proofs.Common.{ℕ, sym, ap, subst, ◌∙◌, ◌++◌, length, map}
+use Rattle.id_groups.specs.Lists.{IsIn}
 use Rattle.id_groups.specs.Id.{other_id}
 use Rattle.id_groups.specs.Name.{same_name}
 use Rattle.commit_graph.specs.Ids.{id_in}
 use Rattle.commit_graph.specs.World.{with_pending}
 use Rattle.set_expr.specs.Expr.{commits_in}
 use Rattle.set_expr.specs.Whole.{tree_of}
+use Rattle.set_query.proofs.Ids.{member-held}
 use Rattle.span_set.specs.Members.{IsCanonical}
+use Rattle.span_set.proofs.Counts.{ids-descending}
 use Rattle.high_segments.specs.Views.{flats_in}
 use Rattle.high_segments.proofs.Viewing.{lawful_flats}
 use Rattle.name_map.specs.Added.{payloads_of}
@@ -14,46 +17,56 @@ use Rattle.payload_tables.specs.Pending.{segments_from}
 use Rattle.dag_store.specs.Kept.{PlainSession, base_added}
 use Rattle.dag_store.specs.Looking.{Sees}
 use Rattle.dag_store.proofs.QueryWorld.{some-seen, may-view, seen-by}
-use Rattle.dag_store.proofs.QueryAnswers.{found-held, evaluated, count-found, err-evaluates}
+use Rattle.dag_store.proofs.QueryAnswers.{err-evaluates, evaluated, found-held, held-view, unanswered}
 use Rattle.dag_store.proofs.Bounding.{few-looks, ends-whole}
+use Rattle.dag_store.proofs.Lines.{found-there}
+use Rattle.dag_store.proofs.Leading.{tables-behind}
 use Rattle.dag_store.proofs.query.members.Goals as goal
 
 pub returns-in_err-ids-clause-answer : goal.returns-in_err-ids-clause-answer
-returns-in_err-ids-clause-answer c = λ added w rows t stand of h.
+returns-in_err-ids-clause-answer g c = λ added w rows t stand of h.
     let x = c.args.session.now in
     let base = c.base-base.result in
     let b = c.base-base.ensures added of t stand in
     let pending = ap (λ (q : PlainSession). q.pending) c.session.view_is in
     let sees = subst (λ p. Sees base p (base_added added x) w rows) (sym pending) (seen-by c.args.tables.now added x t of base b w rows h) in
     let unnamed = c.has_unnamed-unnamed.ensures added x w t of (ap (λ (q : PlainSession). q.below) c.session.view_is) h.stand in
-    err-evaluates (payloads_of (base_added added x)) w rows (tree_of c.args.expr.now) c.from_residual.result c.in_err-ids.field-0.0 c.from_residual.ensures.1
-    (c.in_err-ids.ensures (base_added added x) w rows sees unnamed)
+    err-evaluates (payloads_of (base_added added x)) w rows (tree_of c.args.expr.now) _ _ c.args.cache.now c.find_names.new.cache c.from_residual.result c.in_err-ids.field-0.0 c.from_residual.ensures.1
+    (c.in_err-ids.ensures.finds (base_added added x) w rows sees (tables-behind c.args.tables.now c.args.bytes.now added x t stand) unnamed)
+
+pub find_names-requires-clause-view : goal.find_names-requires-clause-view
+find_names-requires-clause-view g c =
+    let x = c.args.session.now in
+    let (added, t, stand, of) = c.requires.session in
+    let b = c.base-base.ensures added of t stand in
+    let pending = ap (λ (q : PlainSession). q.pending) c.session.view_is in
+    (base_added added x, b, subst (MayView c.base-base.result (base_added added x)) (sym pending) (may-view c.args.tables.now added x t of c.base-base.result b))
 
 pub view-requires : goal.view-requires
-view-requires c =
+view-requires g c =
     let x = c.args.session.now in
-    let (added, t, stand, of) = c.requires in
+    let (added, t, stand, of) = c.requires.session in
     let b = c.base-base.ensures added of t stand in
     let pending = ap (λ (q : PlainSession). q.pending) c.session.view_is in
     (base_added added x, b, subst (MayView c.base-base.result (base_added added x)) (sym pending) (may-view c.args.tables.now added x t of c.base-base.result b))
 
 pub eval-requires-clause-count : goal.eval-requires-clause-count
-eval-requires-clause-count c =
+eval-requires-clause-count g c =
     let x = c.args.session.now in
-    let (added, t, stand, of) = c.requires in
+    let (added, t, stand, of) = c.requires.session in
     let (w, rows, h) = some-seen c.args.tables.now added x t of in
     let base = c.base-base.result in
     let b = c.base-base.ensures added of t stand in
     let pending = ap (λ (q : PlainSession). q.pending) c.session.view_is in
     let sees = subst (λ p. Sees base p (base_added added x) w rows) (sym pending) (seen-by c.args.tables.now added x t of base b w rows h) in
     let unnamed = c.has_unnamed-unnamed.ensures added x w t of (ap (λ (q : PlainSession). q.below) c.session.view_is) h.stand in
-    let ids = c.in_ok-ids.ensures (base_added added x) w rows sees unnamed in
-    count-found (id_in same_name (with_pending w rows)) (commits_in (tree_of c.args.expr.now)) c.deref.result.now (c.deref.ensures.value ∙ ids.1)
+    let ids = c.in_ok-ids.ensures.finds (base_added added x) w rows sees (tables-behind c.args.tables.now c.args.bytes.now added x t stand) unnamed in
+    ap (length {A = ℕ}) c.deref.ensures.value ∙ ids.count
 
 pub eval-requires-clause-held : goal.eval-requires-clause-held
-eval-requires-clause-held c =
+eval-requires-clause-held g c =
     let x = c.args.session.now in
-    let (added, t, stand, of) = c.requires in
+    let (added, t, stand, of) = c.requires.session in
     let (w, rows, h) = some-seen c.args.tables.now added x t of in
     let base = c.base-base.result in
     let b = c.base-base.ensures added of t stand in
@@ -61,28 +74,48 @@ eval-requires-clause-held c =
     let seen = seen-by c.args.tables.now added x t of base b w rows h in
     let sees = subst (λ p. Sees base p (base_added added x) w rows) (sym pending) seen in
     let unnamed = c.has_unnamed-unnamed.ensures added x w t of (ap (λ (q : PlainSession). q.below) c.session.view_is) h.stand in
-    let ids = c.in_ok-ids.ensures (base_added added x) w rows sees unnamed in
+    let ids = c.in_ok-ids.ensures.finds (base_added added x) w rows sees (tables-behind c.args.tables.now c.args.bytes.now added x t stand) unnamed in
     let segments = c.view.ensures.graph (base_added added x) w rows b h.stand (subst (λ p. ArePending w p rows) (sym pending) h.pending_rows) in
-    found-held base x.pending (base_added added x) w rows seen (flats_in c.view.result) segments (commits_in (tree_of c.args.expr.now)) ids.0 c.deref.result.now (c.deref.ensures.value ∙ ids.1)
+    λ y i. found-held base x.pending (base_added added x) w rows seen (flats_in c.view.result) segments c.in_ok-ids.ids.items ids.view y (subst (IsIn y) c.deref.ensures.value i)
 
-pub returns-clause-answer : goal.returns-clause-answer
-returns-clause-answer c = λ added w rows t stand of h.
+pub returns-in_default-clause-answer : goal.returns-in_default-clause-answer
+returns-in_default-clause-answer g c = λ added w rows t stand of h.
     let x = c.args.session.now in
     let base = c.base-base.result in
+    let b = c.base-base.ensures added of t stand in
+    let pending = ap (λ (q : PlainSession). q.pending) c.session.view_is in
+    let sees = subst (λ p. Sees base p (base_added added x) w rows) (sym pending) (seen-by c.args.tables.now added x t of base b w rows h) in
+    let unnamed = c.has_unnamed-unnamed.ensures added x w t of (ap (λ (q : PlainSession). q.below) c.session.view_is) h.stand in
+    unanswered (payloads_of (base_added added x)) w rows (tree_of c.args.expr.now) _ _ c.args.cache.now c.find_names.new.cache c.in_ok-ids.ids.items
+    (c.in_ok-ids.ensures.finds (base_added added x) w rows sees (tables-behind c.args.tables.now c.args.bytes.now added x t stand) unnamed)
+
+pub returns-clause-answer : goal.returns-clause-answer
+returns-clause-answer g c = λ added w rows t stand of h.
+    let x = c.args.session.now in
+    let e = tree_of c.args.expr.now in
+    let base = c.base-base.result in
+    let flats = flats_in c.view.result in
     let b = c.base-base.ensures added of t stand in
     let pending = ap (λ (q : PlainSession). q.pending) c.session.view_is in
     let seen = seen-by c.args.tables.now added x t of base b w rows h in
     let sees = subst (λ p. Sees base p (base_added added x) w rows) (sym pending) seen in
     let unnamed = c.has_unnamed-unnamed.ensures added x w t of (ap (λ (q : PlainSession). q.below) c.session.view_is) h.stand in
-    let ids = c.in_ok-ids.ensures (base_added added x) w rows sees unnamed in
+    let ids = c.in_ok-ids.ensures.finds (base_added added x) w rows sees (tables-behind c.args.tables.now c.args.bytes.now added x t stand) unnamed in
     let segments = c.view.ensures.graph (base_added added x) w rows b h.stand (subst (λ p. ArePending w p rows) (sym pending) h.pending_rows) in
     let same = c.set.ensures in
-    let r = evaluated base x.pending (base_added added x) w rows seen (flats_in c.view.result) segments (lawful_flats c.view.result) (tree_of c.args.expr.now) ids.0
-    c.deref.result.now (c.deref.ensures.value ∙ ids.1) c.in-Ok.answer.set (subst IsCanonical same c.spans-spans.ensures.canonical) c.in-Ok.ensures.members in
-    (ids.0, r.0, r.1, r.2, r.3)
+    record {
+      tried = ids.tried;
+      view = λ id m. held-view base x.pending (base_added added x) w rows seen flats segments id
+          (member-held flats (lawful_flats c.view.result) c.deref.result.now
+          (λ y i. found-held base x.pending (base_added added x) w rows seen flats segments c.in_ok-ids.ids.items ids.view y (subst (IsIn y) c.deref.ensures.value i)) e (ap (length {A = ℕ}) c.deref.ensures.value ∙ ids.count) id ((c.in-Ok.ensures.members id).0 m));
+      descending = ids-descending c.in-Ok.answer.set (subst IsCanonical same c.spans-spans.ensures.canonical);
+      right = λ serving. evaluated base x.pending (base_added added x) w rows seen flats segments (lawful_flats c.view.result) e
+          (found-there (payloads_of (base_added added x)) w rows (commits_in e) _ _ c.args.cache.now c.find_names.new.cache c.in_ok-ids.ids.items ids serving)
+          c.deref.result.now (c.deref.ensures.value ∙ ids.right serving) c.in-Ok.answer.set (subst IsCanonical same c.spans-spans.ensures.canonical) c.in-Ok.ensures.members;
+    }
 
 pub returns-clause-few : goal.returns-clause-few
-returns-clause-few c = λ added w rows name t stand of h tree.
+returns-clause-few g c = λ added w rows name t stand of h tree.
     let x = c.args.session.now in
     let base = c.base-base.result in
     let b = c.base-base.ensures added of t stand in
@@ -91,7 +124,7 @@ returns-clause-few c = λ added w rows name t stand of h tree.
     few-looks w rows h.pending_rows.view c.in-Ok.answer.set (flats_in c.view.result) flats c.in-Ok.answer.steps (c.in-Ok.ensures.few name tree)
 
 pub returns-clause-one : goal.returns-clause-one
-returns-clause-one c = λ added w rows name t stand of h tree ends.
+returns-clause-one g c = λ added w rows name t stand of h tree ends serving.
     let x = c.args.session.now in
     let base = c.base-base.result in
     let b = c.base-base.ensures added of t stand in
@@ -99,9 +132,9 @@ returns-clause-one c = λ added w rows name t stand of h tree ends.
     let v = with_pending w rows in
     let sees = subst (λ p. Sees base p (base_added added x) w rows) (sym pending) (seen-by c.args.tables.now added x t of base b w rows h) in
     let unnamed = c.has_unnamed-unnamed.ensures added x w t of (ap (λ (q : PlainSession). q.below) c.session.view_is) h.stand in
-    let ids = c.in_ok-ids.ensures (base_added added x) w rows sees unnamed in
+    let ids = c.in_ok-ids.ensures.finds (base_added added x) w rows sees (tables-behind c.args.tables.now c.args.bytes.now added x t stand) unnamed in
     let flats = c.view.ensures.flats (base_added added x) w rows b h.stand (subst (λ p. ArePending w p rows) (sym pending) h.pending_rows) in
-    c.in-Ok.ensures.one name (id_in same_name v name) tree (c.deref.ensures.value ∙ ids.1 ∙ ap (λ e. map (id_in same_name v) (commits_in e)) tree)
+    c.in-Ok.ensures.one name (id_in same_name v name) tree (c.deref.ensures.value ∙ ids.right serving ∙ ap (λ e. map (id_in same_name v) (commits_in e)) tree)
     (ends-whole base (base_added added x) b w h.stand c.view.result (segments_from (other_id (length w.others)) (map (id_row v) rows)) flats
     (λ level id. c.view.ensures.endings (base_added added x) (base_added added x ++ b.behind) b b.tables_of b.stand level id)
     (id_in same_name v name) ends)

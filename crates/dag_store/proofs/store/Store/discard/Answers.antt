@@ -1,8 +1,8 @@
 use Rattle.std.proofs.Common.{sym, ap, subst, ◌∙◌, ℕ, [], set}
-use Rattle.step_rules.specs.State.{Stored, with_pending_rows}
+use Rattle.step_rules.specs.State.{State, with_pending_rows}
 use Rattle.step_rules.specs.Verb.{Discard}
 use Rattle.step_rules.specs.Reply.{Discarded}
-use Rattle.step_rules.specs.Lone.{LoneStep}
+use Rattle.step_rules.specs.Step.{CommandStep}
 use Rattle.payload_tables.specs.Pending.{HoldsRows}
 use Rattle.dag_store.specs.Kept.{PlainSession, PlainStore, IsKept, session_at}
 use Rattle.dag_store.specs.Stands.{Stands}
@@ -35,11 +35,11 @@ returns-clause-step c =
     let first = c.empty.ensures.first ∙ c.first.ensures ∙ ap (λ (q : PlainSession). q.pending.first) x in
     let same = ap (λ n. set items n (record { payloads = c.session.inside.payloads; below = c.session.inside.below; others = c.session.inside.others; pending = none })) c.from.ensures
     ∙ ap (λ (q : PlainSession). set items c.args.s (record q { pending = none })) x in
-    subst (λ (q : PlainStore). (began : ℕ) (st : Stored) → Stands began q st → LoneStep q.limits st c.args.s Discard (Discarded c.len-count.result) (with_pending_rows st c.args.s [])
-    × Stands began (record { log = i.log; sessions = set items c.from.result (record { payloads = c.session.inside.payloads; below = c.session.inside.below; others = c.session.inside.others; pending = none }); limits = i.limits }) (with_pending_rows st c.args.s []))
+    subst (λ (q : PlainStore). (began : ℕ) (st : State) → Stands began q st.store → CommandStep q.limits st c.args.s Discard (Discarded c.len-count.result) (record st { store = with_pending_rows st.store c.args.s [] })
+    × Stands began (record { log = i.log; sessions = set items c.from.result (record { payloads = c.session.inside.payloads; below = c.session.inside.below; others = c.session.inside.others; pending = none }); limits = i.limits; cache = i.names }) (with_pending_rows st.store c.args.s []))
     c.self.view_is
-    (subst (λ l. (began : ℕ) (st : Stored) → Stands began (record { log = i.log; sessions = items; limits = i.limits }) st → LoneStep i.limits st c.args.s Discard (Discarded c.len-count.result) (with_pending_rows st c.args.s [])
-    × Stands began (record { log = i.log; sessions = l; limits = i.limits }) (with_pending_rows st c.args.s [])) (sym same)
+    (subst (λ l. (began : ℕ) (st : State) → Stands began (record { log = i.log; sessions = items; limits = i.limits; cache = i.names }) st.store → CommandStep i.limits st c.args.s Discard (Discarded c.len-count.result) (record st { store = with_pending_rows st.store c.args.s [] })
+    × Stands began (record { log = i.log; sessions = l; limits = i.limits; cache = i.names }) (with_pending_rows st.store c.args.s [])) (sym same)
     (discard-step i.log i.tables.value items i.limits k c.args.s c.requires c.len-count.result none
     (λ rows held. c.len-count.ensures.len rows (subst (λ (q : PlainSession). HoldsRows q.pending rows) (sym x) held)) c.empty.ensures.rows first))
 
@@ -48,5 +48,5 @@ returns-clause-alone c =
     let i = c.self.inside in
     let items = i.sessions.items in
     let changed : PlainSession = record { payloads = c.session.inside.payloads; below = c.session.inside.below; others = c.session.inside.others; pending = c.empty.result } in
-    subst (λ (q : PlainStore). ChangesOnly c.args.s q (record { log = i.log; sessions = set items c.from.result changed; limits = i.limits })) c.self.view_is
-    (changed, ap (λ n. record { log = i.log; sessions = set items n changed; limits = i.limits }) c.from.ensures)
+    subst (λ (q : PlainStore). ChangesOnly c.args.s q (record { log = i.log; sessions = set items c.from.result changed; limits = i.limits; cache = i.names })) c.self.view_is
+    (changed, ap (λ n. record { log = i.log; sessions = set items n changed; limits = i.limits; cache = i.names }) c.from.ensures)

@@ -1,4 +1,4 @@
-use Rattle.std.proofs.Common.{Ok, Err, refl, ap, sym, subst}
+use Rattle.std.proofs.Common.{Ok, Err, refl, ap, sym, subst, arith}
 use Rattle.std.proofs.lemmas.Result.{err_from_is_err_and}
 use Rattle.gated_log.specs.Load.{Loads, IsLogOf}
 use Rattle.change_rules.specs.Holding.{HoldAs}
@@ -9,20 +9,23 @@ use Rattle.dag_store.proofs.Opening.{loaded-kept, opened, refused, log-refused, 
 use Rattle.disk_trait.proofs.Telling.{of_told}
 use Rattle.name_map.specs.Added.{payloads_of}
 use Rattle.change_rules.specs.Unlawful.{IsNoLog}
-use Rattle.dag_store.proofs.Lawful.{lawful-log, log-unwritten, tables-unwritten}
+use Rattle.dag_store.proofs.Lawful.{lawful-log, log-untouched, tables-untouched}
 use Rattle.dag_store.proofs.store.Store.load.Goals as goal
 
 pub returns-in_err-log-clause-images : goal.returns-in_err-log-clause-images
-returns-in_err-log-clause-images g c = λ w. load-keeps c.args.limits w (g.D.Disk.told c.args.disk.now) (g.D.Disk.told c.load.new.disk) c.requires (g.met.D.Disk.sound c.args.disk.now) c.in_err-log.ensures.fresh
+returns-in_err-log-clause-images g c = λ w. load-keeps c.args.limits w (g.D.Disk.told c.args.disk.now) (g.D.Disk.told c.load.new.disk) c.requires.limits (g.met.D.Disk.sound c.args.disk.now) c.in_err-log.ensures.fresh
 
 pub returns-in_err-tables-clause-images : goal.returns-in_err-tables-clause-images
-returns-in_err-tables-clause-images g c = λ w. load-keeps c.args.limits w (g.D.Disk.told c.args.disk.now) (g.D.Disk.told c.load.new.disk) c.requires (g.met.D.Disk.sound c.args.disk.now) c.in_ok-log.ensures.fresh
+returns-in_err-tables-clause-images g c = λ w. load-keeps c.args.limits w (g.D.Disk.told c.args.disk.now) (g.D.Disk.told c.load.new.disk) c.requires.limits (g.met.D.Disk.sound c.args.disk.now) c.in_ok-log.ensures.fresh
 
 pub returns-in_err-sessions-clause-images : goal.returns-in_err-sessions-clause-images
-returns-in_err-sessions-clause-images g c = λ w. load-keeps c.args.limits w (g.D.Disk.told c.args.disk.now) (g.D.Disk.told c.load.new.disk) c.requires (g.met.D.Disk.sound c.args.disk.now) c.in_ok-log.ensures.fresh
+returns-in_err-sessions-clause-images g c = λ w. load-keeps c.args.limits w (g.D.Disk.told c.args.disk.now) (g.D.Disk.told c.load.new.disk) c.requires.limits (g.met.D.Disk.sound c.args.disk.now) c.in_ok-log.ensures.fresh
+
+pub returns-in_err-names-clause-images : goal.returns-in_err-names-clause-images
+returns-in_err-names-clause-images g c = λ w. load-keeps c.args.limits w (g.D.Disk.told c.args.disk.now) (g.D.Disk.told c.load.new.disk) c.requires.limits (g.met.D.Disk.sound c.args.disk.now) c.in_ok-log.ensures.fresh
 
 pub returns-clause-images : goal.returns-clause-images
-returns-clause-images g c = λ w. load-keeps c.args.limits w (g.D.Disk.told c.args.disk.now) (g.D.Disk.told c.load.new.disk) c.requires (g.met.D.Disk.sound c.args.disk.now) c.in_ok-log.ensures.fresh
+returns-clause-images g c = λ w. load-keeps c.args.limits w (g.D.Disk.told c.args.disk.now) (g.D.Disk.told c.load.new.disk) c.requires.limits (g.met.D.Disk.sound c.args.disk.now) c.in_ok-log.ensures.fresh
 
 pub returns-in_err-log-clause-opens : goal.returns-in_err-log-clause-opens
 returns-in_err-log-clause-opens g c = λ payloads w.
@@ -43,11 +46,11 @@ invariant_of-result g c =
     let read = c.in_ok-tables.ensures.ok in
     let lent = subst (λ t. AreTablesOf t read.0) (sym c.deref.ensures) read.1 in
     loaded-kept c.in_ok-log.log c.in_ok-tables.tables.value c.in_ok-sessions.sessions.items c.args.limits read.0 read.1 read.2 read.3 read.4 c.in_ok-sessions.ensures.count
-    (λ s small. c.in_ok-sessions.ensures.each read.0 s lent read.3 small) c.requires c.in_ok-log.ensures.limit
+    (λ s small. c.in_ok-sessions.ensures.each read.0 s lent read.3 small) c.requires.limits c.in_ok-log.ensures.limit
 
 pub returns-clause-opens : goal.returns-clause-opens
 returns-clause-opens g c = λ payloads w.
-    let store : PlainStore = record { log = c.in_ok-log.log; sessions = c.in_ok-sessions.sessions.items; limits = c.args.limits } in
+    let store : PlainStore = record { log = c.in_ok-log.log; sessions = c.in_ok-sessions.sessions.items; limits = c.args.limits; cache = c.in_ok-names.names } in
     let read = c.in_ok-tables.ensures.ok in
     let lent = subst (λ t. AreTablesOf t read.0) (sym c.deref.ensures) read.1 in
     if-some (λ bytes. IsLogOf c.args.limits.log bytes c.in_ok-log.log) (λ bytes. HoldAs c.args.limits.log bytes payloads w → Opens c.args.limits payloads w (Ok store)) (g.D.Disk.bytes c.args.disk.now)
@@ -55,21 +58,24 @@ returns-clause-opens g c = λ payloads w.
 
 pub returns-clause-done : goal.returns-clause-done
 returns-clause-done g c =
-    load-done c.args.limits (record { log = c.in_ok-log.log; sessions = c.in_ok-sessions.sessions.items; limits = c.args.limits }) (g.D.Disk.told c.args.disk.now) (g.D.Disk.told c.load.new.disk) refl c.in_ok-log.ensures.limit c.in_ok-log.ensures.done
+    load-done c.args.limits (record { log = c.in_ok-log.log; sessions = c.in_ok-sessions.sessions.items; limits = c.args.limits; cache = c.in_ok-names.names }) (g.D.Disk.told c.args.disk.now) (g.D.Disk.told c.load.new.disk) refl c.in_ok-log.ensures.limit c.in_ok-log.ensures.done
 
 pub returns-in_err-log-clause-unwritten : goal.returns-in_err-log-clause-unwritten
 returns-in_err-log-clause-unwritten g c =
     let p = err_from_is_err_and c.from_residual.result c.from_residual.ensures.1 in
     let fault = c.in_err-log.field-0.0 in
-    rw (p.1, p.2) (log-unwritten fault (g.D.Disk.told c.args.disk.now) (g.D.Disk.told c.load.new.disk) (λ size e. c.in_err-log.ensures.too_large size (ap Err e)) (λ at e. c.in_err-log.ensures.damaged at (ap Err e)))
+    let fair = c.requires.limits.log.0 in
+    rw (p.1, p.2) (log-untouched c.args.limits.log fault (g.D.Disk.told c.args.disk.now) (g.D.Disk.told c.load.new.disk) (omega (arith, fair))
+    (of_told (λ bytes. Loads c.args.limits.log bytes (Err fault)) (g.D.Disk.bytes c.args.disk.now) (g.D.Disk.told c.args.disk.now) (g.met.D.Disk.tells c.args.disk.now) c.in_err-log.ensures.answers)
+    c.in_err-log.ensures.images (λ size e. c.in_err-log.ensures.too_large size (ap Err e)) (λ at e. c.in_err-log.ensures.damaged at (ap Err e)))
 
 pub returns-in_err-tables-clause-unwritten : goal.returns-in_err-tables-clause-unwritten
 returns-in_err-tables-clause-unwritten g c =
     let p = err_from_is_err_and c.from_residual-in_err-tables.result c.from_residual-in_err-tables.ensures.1 in
     let fault = c.in_err-tables.field-0.0 in
     let log = c.in_ok-log.log in
-    rw (p.1, p.2) (tables-unwritten c.args.limits.log log fault (g.D.Disk.told c.args.disk.now) (g.D.Disk.told c.load.new.disk) c.in_err-tables.ensures.err
-    (of_told (λ bytes. IsLogOf c.args.limits.log bytes log) (g.D.Disk.bytes c.args.disk.now) (g.D.Disk.told c.args.disk.now) (g.met.D.Disk.tells c.args.disk.now) c.in_ok-log.ensures.answers) c.in_ok-log.ensures.unwritten)
+    rw (p.1, p.2) (tables-untouched c.args.limits.log log fault (g.D.Disk.told c.args.disk.now) (g.D.Disk.told c.load.new.disk) c.in_err-tables.ensures.err
+    (of_told (λ bytes. IsLogOf c.args.limits.log bytes log) (g.D.Disk.bytes c.args.disk.now) (g.D.Disk.told c.args.disk.now) (g.met.D.Disk.tells c.args.disk.now) c.in_ok-log.ensures.answers) c.in_ok-log.ensures.images c.in_ok-log.ensures.unwritten)
 
 pub returns-clause-lawful : goal.returns-clause-lawful
 returns-clause-lawful g c =

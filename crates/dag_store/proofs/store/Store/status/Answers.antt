@@ -1,8 +1,8 @@
 use Rattle.std.proofs.Common.{sym, ap, subst, ◌∙◌, ℕ}
-use Rattle.step_rules.specs.State.{Stored}
+use Rattle.step_rules.specs.State.{State}
 use Rattle.step_rules.specs.Verb.{Status}
 use Rattle.step_rules.specs.Reply.{Sizes}
-use Rattle.step_rules.specs.Lone.{LoneStep}
+use Rattle.step_rules.specs.Step.{CommandStep}
 use Rattle.payload_tables.specs.Pending.{HoldsRows}
 use Rattle.dag_store.specs.Kept.{PlainSession, PlainStore}
 use Rattle.dag_store.specs.Stands.{Stands}
@@ -14,7 +14,7 @@ pub returns : goal.returns
 returns c =
     let i = c.self.inside in
     let x = c.session.view_is ∙ session-there i.sessions.items c.args.s c.from.result c.index-session.result.now _ c.requires c.self.invariant.count c.from.ensures c.index-session.ensures in
-    subst (λ (k : PlainStore). (began : ℕ) (st : Stored) → Stands began k st → LoneStep k.limits st c.args.s Status (Sizes c.session.inside.below c.from-2.result c.from-3.result) st) c.self.view_is
+    subst (λ (k : PlainStore). (began : ℕ) (st : State) → Stands began k st.store → CommandStep k.limits st c.args.s Status (Sizes c.session.inside.below c.from-2.result c.from-3.result) st) c.self.view_is
     (status-step i.log i.tables.value i.sessions.items i.limits c.self.invariant c.args.s c.requires c.session.inside.below c.from-2.result c.from-3.result
     (ap (λ (s : PlainSession). s.below) x)
     (c.from-2.ensures ∙ c.count.ensures ∙ ap (λ (s : PlainSession). s.others.count) x)
