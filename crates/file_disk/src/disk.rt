@@ -1,6 +1,6 @@
 //! The disk over a file.
 
-ghost use Rattle.std.specs.Prelude.{◌≡◌, ◌≤◌, ◌^◌, ◌%◌, length, None, IfOk};
+ghost use Rattle.std.specs.Prelude.{◌≡◌, ◌≤◌, ◌+◌, ◌*◌, ◌^◌, ◌%◌, min, length, None, IfOk};
 ghost use Rattle.outside.specs.Counts.{HasCause};
 ghost use Rattle.disk_trait.specs.Images.{last_moment};
 
@@ -48,7 +48,8 @@ impl<R: Files + Drop> FileDisk<R> {
 
     /// Begins a call: counts it, and opens the file where that wasn't done yet.
     fn begin(&mut self) -> io::Result<()>
-        ensures { self.new.faults ≡ self.old.faults }
+        ensures calls { self.new.calls ≡ min (self.old.calls + 1) (2 ^ 61) }
+        ensures faults { self.new.faults ≡ self.old.faults }
     {
         if self.calls >= CALL_LIMIT {
             return Err(ErrorKind::Other.into());
@@ -61,7 +62,8 @@ impl<R: Files + Drop> FileDisk<R> {
     }
 
     fn try_size(&mut self) -> io::Result<u64>
-        ensures { self.new.faults ≡ self.old.faults }
+        ensures calls { self.new.calls ≡ min (self.old.calls + 1) (2 ^ 61) }
+        ensures faults { self.new.faults ≡ self.old.faults }
     {
         self.begin()?;
         match &self.file {
@@ -72,6 +74,7 @@ impl<R: Files + Drop> FileDisk<R> {
 
     fn try_read(&mut self, at: u64, out: &mut [u8]) -> io::Result<usize>
         ensures bound { IfOk result (λ count. count ≤ length out.old) }
+        ensures calls { self.new.calls ≡ min (self.old.calls + 1) (2 ^ 61) }
         ensures faults { self.new.faults ≡ self.old.faults }
     {
         self.begin()?;
@@ -82,7 +85,8 @@ impl<R: Files + Drop> FileDisk<R> {
     }
 
     fn try_write(&mut self, at: u64, piece: &[u8]) -> io::Result<()>
-        ensures { self.new.faults ≡ self.old.faults }
+        ensures calls { self.new.calls ≡ min (self.old.calls + 1) (2 ^ 61) }
+        ensures faults { self.new.faults ≡ self.old.faults }
     {
         self.begin()?;
         match &mut self.file {
@@ -92,7 +96,8 @@ impl<R: Files + Drop> FileDisk<R> {
     }
 
     fn try_sync(&mut self) -> io::Result<()>
-        ensures { self.new.faults ≡ self.old.faults }
+        ensures calls { self.new.calls ≡ min (self.old.calls + 1) (2 ^ 61) }
+        ensures faults { self.new.faults ≡ self.old.faults }
     {
         self.begin()?;
         match &self.file {
@@ -105,6 +110,7 @@ impl<R: Files + Drop> FileDisk<R> {
     fn end<T: Drop>(&mut self, answer: io::Result<T>) -> Result<T, DiskFault>
         ensures cause { HasCause self.old.faults self.new.faults result }
         ensures value { IfOk result (λ value. answer ≡ Ok value) }
+        ensures calls { self.new.calls ≡ self.old.calls }
     {
         match answer {
             Ok(value) => Ok(value),
@@ -113,6 +119,15 @@ impl<R: Files + Drop> FileDisk<R> {
                 Err(DiskFault)
             }
         }
+    }
+}
+
+impl<R: Files + Drop> FileDisk<R> {
+    /// How many calls were begun and have returned, together.
+    fn moment(&self) -> u64
+        ensures { result ≡ 2 * self.now.calls }
+    {
+        2 * self.calls
     }
 }
 
@@ -150,6 +165,6 @@ impl<R: Files + Drop> Disk for FileDisk<R> {
     }
 
     fn clock(&self) -> u64 {
-        2 * self.calls
+        self.moment()
     }
 }

@@ -1,0 +1,4 @@
+pub mod Master
+pub mod Lines
+pub mod Marks
+pub mod Paths

@@ -1,0 +1,11 @@
+pub mod Telling
+pub mod Texts
+pub mod Holding
+pub mod NameLemmas
+pub mod Mastering
+pub mod ReadLemmas
+pub mod Mirroring
+pub mod Counting
+pub mod Fitting
+pub mod Honest
+pub mod Sound

@@ -1,0 +1,49 @@
+use Rattle.std.proofs.Common.{◌≡◌, ◌≤◌, ◌⊎◌, Some, Err, IfSome, true, refl, ap, sym, subst, arith}
+use Rattle.std.specs.Prelude.{is_some}
+use Rattle.outside.specs.Counts.{Rose}
+use Rattle.remote_store.specs.Told.{texts_within}
+use Rattle.remote_store.specs.Fit.{IsUnfit}
+use Rattle.remote_store.specs.Loaded.{Peeks}
+use Rattle.remote_store.specs.Remote.{PlainStore, Reads, IsCause, bytes_in}
+use Rattle.remote_store.proofs.Mirroring.{IsKeptOf, told-bytes, kept-still, kept-new, if-map}
+use Rattle.remote_store.proofs.remote.StoreRemote.peek.Goals as goal
+
+pub invariant_of-self : goal.invariant_of-self
+invariant_of-self g c =
+    let d = c.self.inside.disk in
+    (c.self.invariant.0, c.self.invariant.1, subst (IsKeptOf c.self.inside.limits.log (g.D.Disk.told c.peek.new.disk)) (sym c.replace.ensures.after) (kept-new c.self.inside.limits.log (g.D.Disk.told d) (g.D.Disk.told c.peek.new.disk) (g.D.Disk.bytes d) c.in-Ok.loaded c.peek.ensures.reads (g.met.D.Disk.tells d) c.in-Ok.ensures.answers))
+
+pub invariant_of-self-in-Err-Memory : goal.invariant_of-self-in-Err-Memory
+invariant_of-self-in-Err-Memory g c =
+    (c.self.invariant.0, c.self.invariant.1, kept-still c.self.inside.limits.log (g.D.Disk.told c.self.inside.disk) (g.D.Disk.told c.peek.new.disk) c.self.inside.kept c.peek.ensures.reads c.self.invariant.2)
+
+pub invariant_of-self-in-Err-Failed : goal.invariant_of-self-in-Err-Failed
+invariant_of-self-in-Err-Failed g c =
+    (c.self.invariant.0, c.self.invariant.1, kept-still c.self.inside.limits.log (g.D.Disk.told c.self.inside.disk) (g.D.Disk.told c.peek.new.disk) c.self.inside.kept c.peek.ensures.reads c.self.invariant.2)
+
+pub returns-in-Ok : goal.returns-in-Ok
+returns-in-Ok g c =
+    let d = c.self.inside.disk in
+    let limit = c.self.inside.limits.log in
+    let now : PlainStore = record { limit = limit; told = g.D.Disk.told c.peek.new.disk; disk_faults = g.D.Disk.faults c.peek.new.disk; faults = c.self.inside.faults; asked = c.self.inside.asked; is_kept = is_some c.replace.new.dest } in
+    subst (λ (old : PlainStore). Reads old now × (c.self.inside.faults ≡ old.faults) × (is_some c.replace.new.dest ≡ true) × IfSome (bytes_in old.told) (λ bytes. IsUnfit old.limit bytes → ⊥)) c.self.view_is (
+      record { limit = refl; told = c.peek.ensures.reads; disk_faults = c.peek.ensures.later; asked = refl },
+      refl,
+      ap is_some c.replace.ensures.after,
+      told-bytes (g.D.Disk.told d) (g.D.Disk.bytes d) (λ bytes. IsUnfit limit bytes → ⊥) (g.met.D.Disk.tells d)
+          (if-map (g.D.Disk.bytes d) (λ bytes. (texts_within limit bytes ≡ Some c.in-Ok.loaded) × (IsUnfit limit bytes → ⊥)) (λ bytes. IsUnfit limit bytes → ⊥) (λ bytes h. h.1) c.in-Ok.ensures.answers),
+    )
+
+pub returns-in-Err-Failed : goal.returns-in-Err-Failed
+returns-in-Err-Failed g c =
+    let d = c.self.inside.disk in
+    let limit = c.self.inside.limits.log in
+    let rose = c.saturating_add-self-inside.ensures in
+    let now : PlainStore = record { limit = limit; told = g.D.Disk.told c.peek.new.disk; disk_faults = g.D.Disk.faults c.peek.new.disk; faults = c.saturating_add-self-inside.result; asked = c.self.inside.asked; is_kept = is_some c.self.inside.kept } in
+    subst (λ (old : PlainStore). Reads old now × Rose old.faults c.saturating_add-self-inside.result × (old.faults ≤ c.saturating_add-self-inside.result) × IsCause old now) c.self.view_is (
+      record { limit = refl; told = c.peek.ensures.reads; disk_faults = c.peek.ensures.later; asked = refl },
+      omega (arith, rose),
+      (let f = c.self.ranges.1.1.1.0.1 in omega (arith, rose, f)),
+      told-bytes (g.D.Disk.told d) (g.D.Disk.bytes d) (λ bytes. Rose (g.D.Disk.faults d) (g.D.Disk.faults c.peek.new.disk) ⊎ IsUnfit limit bytes) (g.met.D.Disk.tells d)
+          (subst (λ f. IfSome (g.D.Disk.bytes d) (λ bytes. Peeks limit bytes (g.D.Disk.faults d) (g.D.Disk.faults c.peek.new.disk) (Err f))) c.in-Err-Failed.field-0-is c.in-Err-Failed.ensures.answers),
+    )
