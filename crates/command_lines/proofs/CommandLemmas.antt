@@ -51,6 +51,7 @@ word-no-blank word = clear (word_text word) (all word)
     all words.Id = refl
     all words.Status = refl
     all words.Levels = refl
+    all words.Clone = refl
     all words.Mirrors = refl
     all words.DropAt = refl
 
@@ -65,6 +66,7 @@ word_in text =
     else if pointwise nat_eq text (codes "id") then Some words.Id
     else if pointwise nat_eq text (codes "status") then Some words.Status
     else if pointwise nat_eq text (codes "levels") then Some words.Levels
+    else if pointwise nat_eq text (codes "clone") then Some words.Clone
     else if pointwise nat_eq text (codes "mirrors") then Some words.Mirrors
     else Some words.DropAt
 
@@ -78,6 +80,7 @@ word-again words.Count = refl
 word-again words.Id = refl
 word-again words.Status = refl
 word-again words.Levels = refl
+word-again words.Clone = refl
 word-again words.Mirrors = refl
 word-again words.DropAt = refl
 
@@ -126,7 +129,7 @@ verb-parts text (Count e) b h = (words.Count, Some h.0, (refl, h.1), h.2)
 verb-parts text (IdOf name) b h = (words.Id, Some h.0, (refl, h.1), h.2)
 verb-parts text Status b h = (words.Status, None, (refl, tt), bare text (codes "status") h)
 verb-parts text Levels b h = (words.Levels, None, (refl, tt), bare text (codes "levels") h)
-verb-parts text Clone b h = cc b
+verb-parts text Clone b h = (words.Clone, None, (refl, tt), bare text (codes "clone") h)
 verb-parts text Pull b h = cc b
 verb-parts text (Strip names) b h = cc b
 verb-parts text CountMirrors b h = (words.Mirrors, None, (refl, tt), bare text (codes "mirrors") h)
@@ -150,9 +153,9 @@ parts-verb verb behind word e h = from verb behind h word e
     from (IdOf name) (Some args) h word e = subst (λ w. Spelled w (Some args) (IdOf name)) (some-same words.Id word e) (refl, (args, h, refl))
     from Status None h word e = subst (λ w. Spelled w None Status) (some-same words.Status word e) (refl, refl)
     from Levels None h word e = subst (λ w. Spelled w None Levels) (some-same words.Levels word e) (refl, refl)
+    from Clone None h word e = subst (λ w. Spelled w None Clone) (some-same words.Clone word e) (refl, refl)
     from CountMirrors None h word e = subst (λ w. Spelled w None CountMirrors) (some-same words.Mirrors word e) (refl, refl)
     from (Drop k) (Some args) h word e = subst (λ w. Spelled w (Some args) (Drop k)) (some-same words.DropAt word e) (refl, (args, h, refl))
-    from Clone behind h word e = cc e
     from Pull behind h word e = cc e
     from (Strip names) behind h word e = cc e
     from (Add name parents) None h word e = absurd h
@@ -163,6 +166,7 @@ parts-verb verb behind word e h = from verb behind h word e
     from (IdOf name) None h word e = absurd h
     from Status (Some args) h word e = absurd h
     from Levels (Some args) h word e = absurd h
+    from Clone (Some args) h word e = absurd h
     from CountMirrors (Some args) h word e = absurd h
     from (Drop k) None h word e = absurd h
 
@@ -203,9 +207,9 @@ fits-none front behind word is f verb h =
     none (IdOf name) (Some args) h word e f = let g = subst (λ w. FitsNone w (Some args)) (sym (some-same words.Id word e)) f in g name h
     none Status None h word e f = subst (λ w. FitsNone w None) (sym (some-same words.Status word e)) f
     none Levels None h word e f = subst (λ w. FitsNone w None) (sym (some-same words.Levels word e)) f
+    none Clone None h word e f = subst (λ w. FitsNone w None) (sym (some-same words.Clone word e)) f
     none CountMirrors None h word e f = subst (λ w. FitsNone w None) (sym (some-same words.Mirrors word e)) f
     none (Drop k) (Some args) h word e f = let g = subst (λ w. FitsNone w (Some args)) (sym (some-same words.DropAt word e)) f in g k h
-    none Clone behind h word e f = cc e
     none Pull behind h word e f = cc e
     none (Strip names) behind h word e f = cc e
     none (Add name parents) None h word e f = absurd h
@@ -216,6 +220,7 @@ fits-none front behind word is f verb h =
     none (IdOf name) None h word e f = absurd h
     none Status (Some args) h word e f = absurd h
     none Levels (Some args) h word e f = absurd h
+    none Clone (Some args) h word e f = absurd h
     none CountMirrors (Some args) h word e f = absurd h
     none (Drop k) None h word e f = absurd h
 

@@ -5,7 +5,7 @@ use Rattle.outside.specs.Parts.{split_at}
 use Rattle.id_groups.specs.Name.{Name, SpellsName}
 use Rattle.set_expr.specs.Expr.{Expr}
 use Rattle.set_expr.specs.Spelling.{SpellsExpr, SpellsNumber}
-use Rattle.step_rules.specs.Verb.{Verb, Add, Flush, Reload, Discard, Query, Count, IdOf, Status, Levels, CountMirrors, Drop}
+use Rattle.step_rules.specs.Verb.{Verb, Add, Flush, Reload, Discard, Query, Count, IdOf, Status, Levels, Clone, CountMirrors, Drop}
 use Rattle.command_lines.specs.declared.words.Word.{Word}
 use Rattle.command_lines.specs.declared.words.Word.TheVariants as words
 
@@ -20,6 +20,7 @@ word_text words.Count = codes "count"
 word_text words.Id = codes "id"
 word_text words.Status = codes "status"
 word_text words.Levels = codes "levels"
+word_text words.Clone = codes "clone"
 word_text words.Mirrors = codes "mirrors"
 word_text words.DropAt = codes "drop"
 
@@ -29,6 +30,7 @@ IsChange words.Add = ⊤
 IsChange words.Flush = ⊤
 IsChange words.Reload = ⊤
 IsChange words.Discard = ⊤
+IsChange words.Clone = ⊤
 IsChange words.DropAt = ⊤
 IsChange _ = ⊥
 
@@ -43,6 +45,7 @@ verb_word (Count e) = Some words.Count
 verb_word (IdOf name) = Some words.Id
 verb_word Status = Some words.Status
 verb_word Levels = Some words.Levels
+verb_word Clone = Some words.Clone
 verb_word CountMirrors = Some words.Mirrors
 verb_word (Drop k) = Some words.DropAt
 verb_word _ = None
@@ -63,6 +66,7 @@ SpellsArgs (Count e) (Some args) = SpellsExpr args e
 SpellsArgs (IdOf name) (Some args) = SpellsName args name
 SpellsArgs Status None = ⊤
 SpellsArgs Levels None = ⊤
+SpellsArgs Clone None = ⊤
 SpellsArgs CountMirrors None = ⊤
 SpellsArgs (Drop k) (Some args) = SpellsNumber args k
 SpellsArgs _ _ = ⊥
@@ -88,6 +92,7 @@ FitsNone words.Reload None = ⊥
 FitsNone words.Discard None = ⊥
 FitsNone words.Status None = ⊥
 FitsNone words.Levels None = ⊥
+FitsNone words.Clone None = ⊥
 FitsNone words.Mirrors None = ⊥
 FitsNone _ _ = ⊤
 

@@ -47,6 +47,8 @@ pub enum Verb {
     Status,
     /// Prints how many segments the stored master has, level by level.
     Levels,
+    /// Stores the master of a mirror, where nothing is stored yet.
+    Clone,
     /// Counts the mirrors.
     Mirrors,
     /// Drops the mirror at this place.
@@ -183,6 +185,7 @@ fn parse_bare(alloc: Global, word: Word) -> Result<Verb, CommandFault>
         Word::Discard => Ok(Verb::Discard),
         Word::Status => Ok(Verb::Status),
         Word::Levels => Ok(Verb::Levels),
+        Word::Clone => Ok(Verb::Clone),
         Word::Mirrors => Ok(Verb::Mirrors),
         _ => Err(CommandFault::Syntax),
     }

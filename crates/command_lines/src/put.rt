@@ -142,6 +142,7 @@ fn reply_words(reply: &Reply) -> &'static [u8]
         Reply::Added(_) => b"ok added",
         Reply::Old(_) => b"ok old",
         Reply::Flushed(_) => b"ok flushed",
+        Reply::Cloned(_) => b"ok cloned",
         Reply::Reloaded(_) => b"ok reloaded",
         Reply::Discarded(_) => b"ok discarded",
         Reply::Dropped(_) => b"ok dropped",
@@ -164,7 +165,9 @@ pub fn put_reply<O: Sink>(reply: &Reply, output: &mut O) -> Result<(), SinkFault
         Reply::Reloaded(rows) | Reply::Discarded(rows) => {
             put_number(output, words, u64::from(*rows))
         }
-        Reply::Counted(number) | Reply::Dropped(number) => put_number(output, words, *number),
+        Reply::Cloned(number) | Reply::Counted(number) | Reply::Dropped(number) => {
+            put_number(output, words, *number)
+        }
         Reply::Sizes(counts) => put_line(output, &sizes_line(counts)),
         Reply::LevelSizes(counts) => put_levels(output, counts),
         Reply::Refused(refusal) => put_line(output, &refusal_line(refusal)),

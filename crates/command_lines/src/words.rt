@@ -29,6 +29,8 @@ pub enum Word {
     Status,
     /// The sizes of the levels.
     Levels,
+    /// A mirror's master to be stored.
+    Clone,
     /// How many mirrors there are.
     Mirrors,
     /// A mirror to be dropped.
@@ -85,6 +87,8 @@ fn change_of(text: &[u8]) -> Option<Word>
         Some(Word::Reload)
     } else if text == b"discard".as_slice() {
         Some(Word::Discard)
+    } else if text == b"clone".as_slice() {
+        Some(Word::Clone)
     } else if text == b"drop".as_slice() {
         Some(Word::DropAt)
     } else {

@@ -18,6 +18,7 @@ fn shown(verb: &Verb) -> (&'static str, u64) {
         Verb::Id(_) => ("id", 1),
         Verb::Status => ("status", 0),
         Verb::Levels => ("levels", 0),
+        Verb::Clone => ("clone", 0),
         Verb::Mirrors => ("mirrors", 0),
         Verb::DropAt(place) => ("drop", *place),
     }
@@ -54,7 +55,8 @@ fn add_line(alloc: Global, parents: u32) -> Result<Vec<u8>, AllocError> {
 /// A line, its session, its verb's word, and how many names stand in its arguments, or the number that does.
 type Read = (&'static str, u8, &'static str, u64);
 
-const READ: [Read; 20] = [
+const READ: [Read; 21] = [
+    ("7 clone", 7, "clone", 0),
     ("0 status", 0, "status", 0),
     ("15 status", 15, "status", 0),
     ("10 levels", 10, "levels", 0),
@@ -164,7 +166,7 @@ const REFUSED: [&str; 40] = [
     "0 id all",
     "0 query",
     "0 query nothing",
-    "0 clone",
+    "0 clone all",
     "0 pull",
     "0 strip 00000000000000000000000000000000000000a1",
 ];
@@ -218,6 +220,7 @@ fn wrong_reply(alloc: Global) -> Result<Option<&'static str>, AllocError> {
         (Reply::Added(Id::other(1)), "ok added N1\n"),
         (Reply::Old(Id::master(0)), "ok old 0\n"),
         (Reply::Flushed(counts), "ok flushed 2 0\n"),
+        (Reply::Cloned(10), "ok cloned 10\n"),
         (Reply::Reloaded(4), "ok reloaded 4\n"),
         (Reply::Discarded(0), "ok discarded 0\n"),
         (

@@ -1,5 +1,5 @@
 -- What holds from line to line of a demonstration.
-use Rattle.std.proofs.Common.{ℕ, zero, suc, ◌≡◌, ◌≤◌, ◌<◌, ◌-◌, map, take, get_or, inl, inr, ⊎_elim, true, false, List, [], ◌∷◌, ◌++◌, length, codes, refl, sym, ◌∙◌, ap, subst, ap₂, subst₂, ◌+◌, zero-le, append_assoc, append-nil, length-append, Option, Some, Ok, Err, IfOk, IfSome, arith}
+use Rattle.std.proofs.Common.{ℕ, zero, suc, ◌≡◌, ◌≤◌, ◌<◌, ◌-◌, map, take, get_or, inl, inr, ⊎_elim, true, false, List, [], ◌∷◌, ◌++◌, length, codes, refl, sym, ◌∙◌, ap, subst, ap₂, subst₂, ◌+◌, zero-le, append_assoc, append-nil, length-append, Option, Some, Ok, Err, IfOk, IfSome, arith, is_some, true≢false, rules}
 use Rattle.std.specs.List.{AllByRecursion}
 use Rattle.std.proofs.lemmas.List.{take_more, map-append}
 use Rattle.std.specs.declared.result.Result.{Result}
@@ -12,28 +12,67 @@ use Rattle.disk_trait.proofs.Telling.{if_forth}
 use Rattle.gated_log.specs.Holding.{IsOnDisk}
 use Rattle.line_io.specs.Memory.{MemoryOutput}
 use Rattle.line_io.specs.Lines.{is_silent, is_empty_or_comment}
-use Rattle.change_rules.specs.Standard.{standard}
+use Rattle.change_rules.specs.Standard.{AreLimits, standard}
 use Rattle.change_rules.specs.Holding.{HoldAs}
-use Rattle.step_rules.specs.State.{at_start, start}
+use Rattle.step_rules.specs.State.{State, at_start, start}
 use Rattle.step_rules.specs.Reply.{Reply, reply_text}
-use Rattle.run_rules.specs.Run.{Run, output_of}
+use Rattle.run_rules.specs.Run.{Run, Step, output_of}
+use Rattle.run_rules.proofs.Starts.{from-start}
+use Rattle.run_rules.proofs.Matched.{run-matched}
+use Rattle.step_rules.specs.Rises.{EachWas}
+use Rattle.step_rules.proofs.Matched.{IsLater}
 use Rattle.demo_input.specs.Lines.{ancestors_text, commit_lines, last_lines}
 use Rattle.demo_input.proofs.Lengths.{ancestors-short}
 use Rattle.dag_store.specs.Kept.{PlainStore}
-use Rattle.dag_store.specs.Stands.{Stands}
+use Rattle.dag_store.specs.Stands.{Stands, StandsBeside}
 use Rattle.dag_store.specs.Loading.{Opens}
-use Rattle.dag_run.specs.Alone.{alone, StepAlone}
-use Rattle.dag_run.specs.Demo.{IsReady, IsBehind, IsAnswered, LeadsOn, AllAnswered, AreLastReplies, DemoMeans}
+use Rattle.dag_run.specs.Enough.{AreEnough, HasEnough}
+use Rattle.dag_run.specs.Demo.{RunsAfresh, IsReady, IsBehind, IsAnswered, LeadsOn, AllAnswered, AreLastReplies, DemoMeans}
 use Rattle.dag_run.specs.Lines.{LineReplies, LineLeaves}
 use Rattle.dag_run.specs.declared.stops.Stop.{Stop}
 use Rattle.dag_run.proofs.Doing.{text-short, short-silent, ready-line}
 use Rattle.remote_rules.specs.Mirror.{Mirror}
 use Rattle.dag_run.proofs.Runs.{run-silent, run-step, output-append}
-use Rattle.dag_run.proofs.Solo.{alone-beside}
+use Rattle.dag_run.proofs.Mirrors.{start-beside}
+
+-- where there are no mirrors, each serves, and there is room for no more
+pub none-enough : AreEnough [] empty_world []
+none-enough = inl (record { each = tt; first_clone = λ none. inl zero-le })
+
+-- an empty file holds the empty world
+pub held : (limit : ℕ) → HoldAs limit [] [] empty_world
+held limit = record {
+  within = zero-le;
+  texts = [];
+  log = inl (zero-le, refl);
+  spelled = tt;
+  hold = record { lawful = tt; stand = record { count = refl; master = refl; known = tt; others = refl; names = refl }; world = record { world = tt; names = tt } };
+}
 
 -- before the first line
-pub behind-nothing : (store : PlainStore) → Stands 0 store (start empty_world []) → IsBehind [] [] store
-behind-nothing store stands = record { last = start empty_world []; run = λ room. (refl, refl); stands = stands }
+pub behind-nothing : (store : PlainStore) → store.cache ≡ record { entries = []; capacity = 1 } → Stands 0 store (start empty_world []) → IsBehind [] [] store
+behind-nothing store cache stands = record {
+  last = at_start empty_world [] 1 [];
+  run = (refl, refl);
+  stands = start-beside standard.log [] empty_world [] 1 [] store (held standard.log) none-enough cache stands;
+}
+
+-- a run without mirrors from the empty world needs no more
+afresh-enough : (lines : List (List ℕ)) (replies : List Reply) (last : State) → RunsAfresh lines replies last → HasEnough last
+afresh-enough lines replies last run =
+    let fair : AreLimits standard = search rules in
+    let whole = from-start standard [] empty_world [] 1 [] lines replies last fair (held standard.log) (record { each = tt; first_clone = λ none. inl zero-le }) run in
+    (inr whole.2, λ none. whole.2)
+
+-- and leaves none
+none-of : (Was : Mirror → Mirror → Type 0) (left : List Mirror) → EachWas Was [] left → left ≡ []
+none-of Was [] h = refl
+none-of Was (m ∷ left) ([], d, z) = absurd z
+none-of Was (m ∷ left) (zero ∷ places, d, z) = absurd (true≢false (sym (ap is_some z.0.1)))
+none-of Was (m ∷ left) (suc p ∷ places, d, z) = absurd (true≢false (sym (ap is_some z.0.1)))
+
+afresh-none : (lines : List (List ℕ)) (replies : List Reply) (last : State) → RunsAfresh lines replies last → last.outside.mirrors ≡ []
+afresh-none lines replies last run = none-of IsLater last.outside.mirrors (run-matched standard lines (at_start empty_world [] 1 []) last replies run [] ([], tt, tt)).0
 
 -- one line
 pub leads-on : (left : List Mirror) (SinkFailed : Type 0) (line : List ℕ) (store next : PlainStore) (payload : List ℕ) (clock : Option ℕ) (before now : List ℕ) → store.limits ≡ standard
@@ -42,26 +81,26 @@ leads-on left SinkFailed line store next payload clock before now same told = λ
     ⊎_elim
     (λ passed. (
       [],
-      λ heard. absurd (let no : true ≡ false = sym passed.1.0 ∙ heard in cc no),
+      λ heard. absurd (let no : true ≡ false = sym passed.0 ∙ heard in cc no),
       record {
         last = h.last;
-        run = λ room. subst (λ rs. Run standard (at_start empty_world [] room []) (lines ++ line ∷ []) rs (alone h.last room)) (sym (append-nil replies)) (run-silent standard (at_start empty_world [] room []) (alone h.last room) lines replies line (h.run room) passed.1.0);
-        stands = passed.1.2;
+        run = subst (λ rs. RunsAfresh (lines ++ line ∷ []) rs h.last) (sym (append-nil replies)) (run-silent standard (at_start empty_world [] 1 []) h.last lines replies line h.run passed.0);
+        stands = subst (λ ms. StandsBeside 0 next ms h.last) (sym passed.2.outside_of.mirrors_are ∙ h.stands.outside_of.mirrors_are) passed.2;
       },
-      passed.1.3 ∙ sym (append-nil before),
+      passed.3 ∙ sym (append-nil before),
     ))
-    (λ replied. (
+    (λ replied.
+    let run = run-step standard (at_start empty_world [] 1 []) h.last replied.1.1 lines replies line replied.1.0 h.run replied.0 (subst (λ m. Step m h.last line replied.1.0 replied.1.1) same replied.1.2) in (
       replied.1.0 ∷ [],
       λ heard. refl,
       record {
         last = replied.1.1;
-        run = λ room. run-step standard (at_start empty_world [] room []) (alone h.last room) (alone replied.1.1 room) lines replies line replied.1.0 (h.run room) replied.0
-            (subst (λ m. StepAlone m h.last line replied.1.0 replied.1.1) same (alone-beside store.limits left h.last line replied.1.0 replied.1.1 replied.1.2) room);
-        stands = replied.1.4;
+        run = run;
+        stands = subst (λ ms. StandsBeside 0 next ms replied.1.1) (sym replied.1.4.outside_of.mirrors_are ∙ afresh-none (lines ++ line ∷ []) (replies ++ replied.1.0 ∷ []) replied.1.1 run) replied.1.4;
       },
       replied.1.5 ∙ ap (λ t. before ++ t) (sym (append-nil (reply_text replied.1.0))),
     ))
-    (told 0 h.last h.stands)
+    (told 0 h.last h.stands (afresh-enough lines replies h.last h.run))
 
 -- the last lines get replies
 answered : (line : List ℕ) → length line ≤ 128 → is_empty_or_comment line ≡ false → IsAnswered line
@@ -75,19 +114,9 @@ last-answered size =
     let tops = answered (codes "0 count heads(all)") (omega arith) refl in
     (status, (ancestors, (merges, (tops, tt))))
 
--- an empty file holds the empty world
-pub held : (limit : ℕ) → HoldAs limit [] [] empty_world
-held limit = record {
-  within = zero-le;
-  texts = [];
-  log = inl (zero-le, refl);
-  spelled = tt;
-  hold = record { lawful = tt; stand = record { count = refl; master = refl; known = tt; others = refl; names = refl }; world = record { world = tt; names = tt } };
-}
-
 -- the store of a new log
-pub opened : (store : PlainStore) (d : Option Told) → d ≡ Some (fresh_disk []) → IfSome d (λ t. HoldAs standard.log t.bytes [] empty_world → Opens standard [] empty_world (Ok store)) → IsBehind [] [] store
-opened store d e h = behind-nothing store (subst (λ o. IfSome o (λ t. HoldAs standard.log t.bytes [] empty_world → Opens standard [] empty_world (Ok store))) e h (held standard.log))
+pub opened : (store : PlainStore) (d : Option Told) → store.cache ≡ record { entries = []; capacity = 1 } → d ≡ Some (fresh_disk []) → IfSome d (λ t. HoldAs standard.log t.bytes [] empty_world → Opens standard [] empty_world (Ok store)) → IsBehind [] [] store
+opened store d cache e h = behind-nothing store cache (subst (λ o. IfSome o (λ t. HoldAs standard.log t.bytes [] empty_world → Opens standard [] empty_world (Ok store))) e h (held standard.log))
 
 -- what a line leaves
 pub ready-next : (store : PlainStore) (payload : List ℕ) (clock : Option ℕ) (r : Result PlainStore Stop) (d e : Option Told) → IsReady store d → IfOk r (λ next. next.limits ≡ store.limits)

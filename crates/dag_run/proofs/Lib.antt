@@ -2,8 +2,7 @@ pub mod Seeing
 pub mod Reading
 pub mod Runs
 pub mod Named
-pub mod Unasked
-pub mod UnaskedMeans
+pub mod Mirrors
 pub mod Solo
 pub mod Staying
 pub mod Going

@@ -1,16 +1,15 @@
 -- Logs that have a name for each commit go on so.
-use Rattle.std.proofs.Common.{◌≡◌, ◌<◌, ◌≤◌, ◌+◌, not, ℕ, zero, suc, Bool, true, false, inl, inr, ⊎_elim, List, [], ◌∷◌, ◌++◌, length, map, nat_lt, nat_eq, drop, Option, Some, None, refl, sym, ap, ◌∙◌, subst, arith, MatchOption, zero-le, true≢false, eq-or-lt_of_le, ◌-◌, append-nil}
+use Rattle.std.proofs.Common.{◌≡◌, ◌<◌, ◌≤◌, ◌+◌, not, ℕ, zero, suc, Bool, true, false, inl, inr, ⊎_elim, List, [], ◌∷◌, ◌++◌, length, map, nat_lt, nat_eq, drop, Option, Some, None, refl, sym, ap, ◌∙◌, subst, arith, MatchOption, zero-le, true≢false, eq-or-lt_of_le, ◌-◌, append-nil, length-append, le_refl}
 use Rattle.std.proofs.lemmas.Bool.{ltb-true, lt-ltb}
 use Rattle.std.proofs.lemmas.List.{map-append, length-map, length-drop}
 use Rattle.std.proofs.lemmas.Grind.{flat_map-append}
-use Rattle.std.specs.Prelude.{slice_index_or}
 use Rattle.std.specs.Bool.{MatchBool}
-use Rattle.std.specs.List.{AllByRecursion, range_with_len}
+use Rattle.std.specs.List.{range_with_len}
 use Rattle.assign_ids.proofs.NumberLemmas.{same-exact, same-self}
 use Rattle.id_groups.specs.Lists.{IsIn, is_in}
 use Rattle.id_groups.specs.Name.{Name, same_name}
 use Rattle.id_groups.proofs.Listing.{any-in, in-any, found, there, and_true, both_true, not_true}
-use Rattle.commit_graph.specs.World.{World, names_of, empty_world}
+use Rattle.commit_graph.specs.World.{World, GrowsMaster, names_of}
 use Rattle.commit_graph.proofs.Down.{in-left, in-right}
 use Rattle.segment_codec.proofs.Tables.{le_or_lt}
 use Rattle.batch_codec.specs.Payload.{Payload, Known}
@@ -22,7 +21,8 @@ use Rattle.change_rules.specs.Strip.{stripped}
 use Rattle.change_rules.proofs.Cloned.{in-range}
 use Rattle.step_rules.specs.declared.Refusal.{Refusal}
 use Rattle.step_rules.specs.declared.Refusal.TheVariants as why
-use Rattle.step_rules.specs.State.{Stored, worlds, start}
+use Rattle.step_rules.specs.State.{Stored, IsStore, base_of, session}
+use Rattle.step_rules.proofs.Sessions.{newest-now}
 use Rattle.step_rules.specs.Verb.{Verb, Add, Flush, Reload, Discard, Query, Count, IdOf, Status, Levels, Clone, Pull, Strip, CountMirrors, Drop}
 use Rattle.step_rules.specs.Reply.{Reply, Listed}
 use Rattle.step_rules.specs.Step.{Told, UnlessRefused, IsRefused}
@@ -60,11 +60,6 @@ ids-more payloads p =
     ap (map (λ (k : Known). k.id)) (flat_map-append (λ (q : Payload). q.known) payloads (p ∷ []))
     ∙ map-append (λ (k : Known). k.id) (known_in payloads) (known_in (p ∷ []))
 
--- one more payload takes no name away
-named-more : (payloads : List Payload) (p : Payload) (w : World Name) → has_lazy payloads w ≡ false → has_lazy (payloads ++ p ∷ []) w ≡ false
-named-more payloads p w none =
-    all-named (payloads ++ p ∷ []) w (λ id lt. subst (IsIn id) (sym (ids-more payloads p)) (in-left id (ids payloads) (map (λ (k : Known). k.id) (known_in (p ∷ []))) (named-id payloads w none id lt)))
-
 from-id : (from id : ℕ) (names : List Name) → from ≤ id → id < from + length names → IsIn id (map (λ (k : Known). k.id) (known_from from names))
 from-id from id [] low high = absurd (omega (arith, low, high))
 from-id from id (x ∷ names) low high = ⊎_elim (λ e. inl (sym e)) (λ lt. inr (from-id (from + 1) id names (omega (arith, lt)) (omega (arith, high)))) (eq-or-lt_of_le low)
@@ -88,66 +83,47 @@ named-new payloads old new none =
         (from-id (length old.master) id names high (omega (arith, lt, high, count)))
 
 -- ---- states
--- the log has a name for each commit of each world that was stored
-abbrev pub AllNamed : Stored → Type 0
-AllNamed st = AllByRecursion (λ (w : World Name). has_lazy st.payloads w ≡ false) (worlds st)
+-- the log has a name for each commit of the newest world
+abbrev pub IsNamed : Stored → Type 0
+IsNamed st = has_lazy st.payloads st.stored ≡ false
 
-pub start-named : (w : World Name) (payloads : List Payload) → has_lazy payloads w ≡ false → AllNamed (start w payloads)
-start-named w payloads none = (none, tt)
+-- and of each world from which its master goes on
+base-named : (st : Stored) (w : World Name) → GrowsMaster w st.stored → IsNamed st → has_lazy st.payloads w ≡ false
+base-named st w grows none =
+    all-named st.payloads w (λ id lt. named-id st.payloads st.stored none id (let l = ap length grows.1 ∙ length-append w.master grows.0 in omega (arith, lt, l)))
 
-all-index : (P : World Name → Type 0) (ws : List (World Name)) (i : ℕ) → AllByRecursion P ws → P empty_world → P (slice_index_or ws i empty_world)
-all-index P [] i all none = none
-all-index P (w ∷ ws) zero all none = all.0
-all-index P (w ∷ ws) (suc i) all none = all-index P ws i all.1 none
-
-all-last : (P : World Name → Type 0) (ws : List (World Name)) (w : World Name) → AllByRecursion P (ws ++ w ∷ []) → P w
-all-last P [] w all = all.0
-all-last P (v ∷ ws) w all = all-last P ws w all.1
-
-all-append : (P : World Name → Type 0) (ws : List (World Name)) (w : World Name) → AllByRecursion P ws → P w → AllByRecursion P (ws ++ w ∷ [])
-all-append P [] w all h = (h, tt)
-all-append P (v ∷ ws) w all h = (all.0, all-append P ws w all.1 h)
-
-all-map : (P Q : World Name → Type 0) (ws : List (World Name)) → ((w : World Name) → P w → Q w) → AllByRecursion P ws → AllByRecursion Q ws
-all-map P Q [] f all = tt
-all-map P Q (w ∷ ws) f all = (f w all.0, all-map P Q ws f all.1)
-
-pub named-session : (st : Stored) (s : ℕ) → AllNamed st → HasAllNames st s
-named-session st s all = record {
-  stored = all-last (λ w. has_lazy st.payloads w ≡ false) st.past st.stored all;
-  base = all-index (λ w. has_lazy st.payloads w ≡ false) (worlds st) _ all refl;
+pub named-session : (st : Stored) (s : ℕ) → IsStore st → IsNamed st → HasAllNames st s
+named-session st s is none = record {
+  stored = none;
+  base = base-named st (base_of st s)
+      (subst (GrowsMaster (base_of st s)) (newest-now st) (is.grows (session st s).base (length st.past) (is.sessions s).base (le_refl _))) none;
 }
 
-named-flush : (st : Stored) (s : ℕ) (new : World Name) → AllNamed st → AllNamed (after_flush st s new)
+named-flush : (st : Stored) (s : ℕ) (new : World Name) → IsNamed st → IsNamed (after_flush st s new)
 named-flush st s new all = by_test (same_world new st.stored) refl
   where
-    p : Payload
-    p = flush_change st.stored new
+    stored : has_lazy (st.payloads ++ flush_change st.stored new ∷ []) new ≡ false
+    stored = named-new st.payloads st.stored new all
 
-    stored : AllByRecursion (λ (w : World Name). has_lazy (st.payloads ++ flush_change st.stored new ∷ []) w ≡ false) ((st.past ++ st.stored ∷ []) ++ new ∷ [])
-    stored = all-append (λ w. has_lazy (st.payloads ++ flush_change st.stored new ∷ []) w ≡ false) (st.past ++ st.stored ∷ []) new
-        (all-map (λ w. has_lazy st.payloads w ≡ false) (λ w. has_lazy (st.payloads ++ flush_change st.stored new ∷ []) w ≡ false) (st.past ++ st.stored ∷ []) (named-more st.payloads (flush_change st.stored new)) all)
-        (named-new st.payloads st.stored new (all-last (λ w. has_lazy st.payloads w ≡ false) st.past st.stored all))
-
-    by_test : (b : Bool) → same_world new st.stored ≡ b → AllNamed (after_flush st s new)
+    by_test : (b : Bool) → same_world new st.stored ≡ b → IsNamed (after_flush st s new)
     by_test true e = rw e all
     by_test false e = rw e stored
 
 -- what is told that no test refuses
-told-named : (st : Stored) (s : ℕ) (verb : Verb) (reply : Reply) (now : Stored) → AllNamed st → Told st s verb reply now → AllNamed now
+told-named : (st : Stored) (s : ℕ) (verb : Verb) (reply : Reply) (now : Stored) → IsNamed st → Told st s verb reply now → IsNamed now
 told-named st s (Add name parents) reply now all t = by_test (has (view_of st s) name) _ _ t
   where
-    by_test : (b : Bool) (P Q : Type 0) → MatchBool b (P × (now ≡ st)) (Q × (now ≡ with_added st s name parents)) → AllNamed now
-    by_test true P Q t = subst AllNamed (sym t.1) all
-    by_test false P Q t = subst AllNamed (sym t.1) all
-told-named st s (Flush heads) reply now all t = subst AllNamed (sym t.1) (named-flush st s (flush_of st s heads) all)
-told-named st s (Strip names) reply now all t = subst AllNamed (sym t.1) (named-flush st s (stripped same_name st.stored names) all)
-told-named st s Reload reply now all t = subst AllNamed (sym t.1) all
-told-named st s Discard reply now all t = subst AllNamed (sym t.1) all
-told-named st s (Count e) reply now all t = subst AllNamed (sym t.3) all
-told-named st s (IdOf name) reply now all t = subst AllNamed (sym t.1) all
-told-named st s Status reply now all t = subst AllNamed (sym t.1) all
-told-named st s Levels reply now all t = subst AllNamed (sym t.1) all
+    by_test : (b : Bool) (P Q : Type 0) → MatchBool b (P × (now ≡ st)) (Q × (now ≡ with_added st s name parents)) → IsNamed now
+    by_test true P Q t = subst IsNamed (sym t.1) all
+    by_test false P Q t = subst IsNamed (sym t.1) all
+told-named st s (Flush heads) reply now all t = subst IsNamed (sym t.1) (named-flush st s (flush_of st s heads) all)
+told-named st s (Strip names) reply now all t = subst IsNamed (sym t.1) (named-flush st s (stripped same_name st.stored names) all)
+told-named st s Reload reply now all t = subst IsNamed (sym t.1) all
+told-named st s Discard reply now all t = subst IsNamed (sym t.1) all
+told-named st s (Count e) reply now all t = subst IsNamed (sym t.3) all
+told-named st s (IdOf name) reply now all t = subst IsNamed (sym t.1) all
+told-named st s Status reply now all t = subst IsNamed (sym t.1) all
+told-named st s Levels reply now all t = subst IsNamed (sym t.1) all
 told-named st s (Query e) reply now all t = absurd t
 told-named st s Clone reply now all t = absurd t
 told-named st s Pull reply now all t = absurd t
@@ -162,8 +138,8 @@ unless-same refusals st P reply now (inl h) = by_test (first_some refusals) h
     by_test (Some refusal) h = h.1
 unless-same refusals st P reply now (inr h) = h.1
 
-answers-named : (limits : Limits) (st : Stored) (s : ℕ) (verb : Verb) (reply : Reply) (now : Stored) → AllNamed st → PlainAnswers limits st s verb reply now → AllNamed now
-answers-named limits st s (Query e) reply now all t = subst AllNamed (sym (unless-same (refuse_if (nat_lt limits.answer (length t.0)) (why.Answer (length t.0)) ∷ []) st (λ told. told ≡ Listed t.0) reply now t.2)) all
+answers-named : (limits : Limits) (st : Stored) (s : ℕ) (verb : Verb) (reply : Reply) (now : Stored) → IsNamed st → PlainAnswers limits st s verb reply now → IsNamed now
+answers-named limits st s (Query e) reply now all t = subst IsNamed (sym (unless-same (refuse_if (nat_lt limits.answer (length t.0)) (why.Answer (length t.0)) ∷ []) st (λ told. told ≡ Listed t.0) reply now t.2)) all
 answers-named limits st s (Add name parents) reply now all t = told-named st s (Add name parents) reply now all t
 answers-named limits st s (Flush heads) reply now all t = told-named st s (Flush heads) reply now all t
 answers-named limits st s (Strip names) reply now all t = told-named st s (Strip names) reply now all t
@@ -179,10 +155,10 @@ answers-named limits st s CountMirrors reply now all t = absurd t
 answers-named limits st s (Drop k) reply now all t = absurd t
 
 -- a command of such a log leaves such a log
-pub plain-named : (limits : Limits) (st : Stored) (s : ℕ) (verb : Verb) (reply : Reply) (now : Stored) → AllNamed st → PlainStep limits st s verb reply now → AllNamed now
+pub plain-named : (limits : Limits) (st : Stored) (s : ℕ) (verb : Verb) (reply : Reply) (now : Stored) → IsNamed st → PlainStep limits st s verb reply now → IsNamed now
 plain-named limits st s verb reply now all (inl h) = by_test (refused_first (tests limits st s verb)) h
   where
-    by_test : (o : Option Refusal) → MatchOption o (PlainAnswers limits st s verb reply now) (λ refusal. IsRefused st refusal reply now) → AllNamed now
+    by_test : (o : Option Refusal) → MatchOption o (PlainAnswers limits st s verb reply now) (λ refusal. IsRefused st refusal reply now) → IsNamed now
     by_test None h = answers-named limits st s verb reply now all h
-    by_test (Some refusal) h = subst AllNamed (sym h.1) all
-plain-named limits st s verb reply now all (inr m) = subst AllNamed (sym m.1.1) all
+    by_test (Some refusal) h = subst IsNamed (sym h.1) all
+plain-named limits st s verb reply now all (inr m) = subst IsNamed (sym m.1.1) all

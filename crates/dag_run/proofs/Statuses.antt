@@ -1,5 +1,5 @@
 -- From the end of a run to its status, and which logs are refused.
-use Rattle.std.proofs.Common.{ℕ, ◌≡◌, ◌≤◌, ◌⊎◌, inl, inr, ⊎_elim, List, length, Option, Some, None, Ok, Err, IfSome, IfErr, refl, sym, subst, ◌∙◌, arith}
+use Rattle.std.proofs.Common.{ℕ, ◌≡◌, ◌≤◌, ◌⊎◌, inl, inr, ⊎_elim, List, [], ◌∷◌, length, Option, Some, None, Ok, Err, IfSome, IfErr, refl, sym, subst, ◌∙◌, arith}
 use Rattle.std.specs.declared.result.Result.{Result}
 use Rattle.id_groups.specs.Name.{Name}
 use Rattle.commit_graph.specs.World.{World}
@@ -10,18 +10,23 @@ use Rattle.batch_codec.specs.Payload.{Payload}
 use Rattle.change_rules.specs.declared.Limits.{Limits}
 use Rattle.change_rules.specs.Unlawful.{IsNoLog}
 use Rattle.remote_rules.specs.Mirror.{Mirror}
-use Rattle.step_rules.specs.Reply.{Reply}
-use Rattle.run_rules.specs.Ends.{Streams, Done, NotLoaded, NoLog, NoMemory, EndsAs, status_of as end_status}
-use Rattle.run_rules.specs.Means.{IsComplete, RefusesLog}
+use Rattle.id_groups.specs.Lists.{IsIn}
+use Rattle.remote_rules.specs.Serving.{NeverFail}
+use Rattle.step_rules.specs.declared.Refusal.TheVariants as why
+use Rattle.step_rules.specs.State.{State, Stored, at_start}
+use Rattle.step_rules.specs.Reply.{Reply, Refused}
+use Rattle.step_rules.specs.Rises.{EachWas, HasFailed}
+use Rattle.run_rules.specs.Ends.{End, Streams, Done, OverLimit, NoSource, NoSink, NotLoaded, NotStored, NoLog, NoMemory, EndsAs, status_of as end_status}
+use Rattle.run_rules.specs.Run.{Run}
+use Rattle.run_rules.specs.Means.{IsComplete, Leaves, Means, RefusesLog, WouldStore}
+use Rattle.run_rules.proofs.Matched.{run-answered, run-answered-more}
 use Rattle.outside.specs.Told.{WhereTold}
 use Rattle.outside.proofs.ToldLemmas.{WhereTold-map, WhereTold-both}
 use Rattle.disk_trait.specs.Calls.{Goes}
 use Rattle.disk_trait.proofs.Telling.{goes-told}
-use Rattle.dag_store.specs.Loading.{SameBytes}
+use Rattle.dag_store.specs.Loading.{IsUntouched}
 use Rattle.dag_run.specs.Seen.{Seen, seen, streams}
-use Rattle.dag_run.specs.Ends.{Begins, RunRefuses, StatusMeans, StatusRefuses, StatusUnasked, EndRefuses, LoadRefuses}
-use Rattle.dag_run.specs.UnaskedEnds.{HasNoneToAsk, MeansUnasked}
-use Rattle.dag_run.proofs.UnaskedMeans.{means-of, none-failed}
+use Rattle.dag_run.specs.Ends.{Begins, RunRefuses, StatusMeans, StatusRefuses, EndRefuses, LoadRefuses}
 use Rattle.dag_run.proofs.Seeing.{seen-disk, seen-taken, seen-before}
 use Rattle.dag_run.specs.Stops.{end_of, stop_of, IsAnswerStop, IsRunStatus, IsLineStop, IsLoadStop}
 use Rattle.dag_run.specs.declared.stops.Stop.{Stop}
@@ -100,39 +105,48 @@ ends-well (Err stops.Source) limit io DF SoF SiF lines more replies h d s o nd n
 ends-well (Err stops.Sink) limit io DF SoF SiF lines more replies h d s o nd ns never le = absurd (never (o refl))
 ends-well (Err stops.Limit) limit io DF SoF SiF lines more replies h d s o nd ns never le = absurd (let lt = h.0 in omega (arith, lt, le))
 
+-- no line is refused for failed mirrors, where they never fail, or one that is left has none
+answered : (limits : Limits) (first : State) (lines : List (List ℕ)) (replies : List Reply) (last : State) (end : End) (more : List (List ℕ)) (left : List Mirror) (final : Stored) (n : ℕ) → Run limits first lines replies last → Leaves end limits last more left final
+    → NeverFail first.outside.mirrors ⊎ (EachWas HasFailed first.outside.mirrors left → ⊥) → IsIn (Refused (why.Remote n)) replies → ⊥
+answered limits first lines replies last end more left final n run leaves h i = by_end end leaves
+  where
+    there : (left ≡ last.outside.mirrors) × (final ≡ last.store) → ⊥
+    there e = run-answered limits lines first last replies n run (subst (λ ms. NeverFail first.outside.mirrors ⊎ (EachWas HasFailed first.outside.mirrors ms → ⊥)) e.0 h) i
+
+    stored : (more : List (List ℕ)) → WouldStore limits last more left final → ⊥
+    stored [] w = w
+    stored (line ∷ more) w = run-answered-more limits lines first last w.1 line replies w.0 n run w.2 (subst (λ ms. NeverFail first.outside.mirrors ⊎ (EachWas HasFailed first.outside.mirrors ms → ⊥)) w.5 h) i
+
+    by_end : (e : End) → Leaves e limits last more left final → ⊥
+    by_end NotStored l = stored more l
+    by_end Done l = there l
+    by_end OverLimit l = there l
+    by_end NoSource l = there l
+    by_end NoSink l = there l
+    by_end NotLoaded l = there l
+    by_end NoLog l = there l
+    by_end NoMemory l = there l
+
 pub complete : (end : Result Unit Stop) (limits : Limits) (w : World Name) (payloads : List Payload) (room : ℕ) (mirrors left : List Mirror) (io : Streams) (DiskFailed SourceFailed SinkFailed : Type 0) (old new : Told) (changes : List ℕ)
-    (m : MeansUnasked limits w payloads room mirrors left io SinkFailed old new (end_of end) changes)
+    (m : Means limits w payloads room mirrors left io SinkFailed old new (end_of end) changes)
     → ((end ≡ Err stops.NotLoaded) ⊎ (end ≡ Err stops.NotStored) → DiskFailed) → (end ≡ Err stops.Source → SourceFailed) → (end ≡ Err stops.Sink → SinkFailed)
     → IsComplete limits mirrors left io DiskFailed SourceFailed SinkFailed (end_of end) m.replies
 complete end limits w payloads room mirrors left io DF SoF SiF old new changes m d s o = record {
   ends = ends-well end limits.input io DF SoF SiF m.lines m.more m.replies m.ends d s o;
-  answered = λ h n i. none-failed limits w payloads room mirrors left io SiF old new (end_of end) changes m n i;
+  answered = λ h n i. answered limits (at_start w payloads room mirrors) m.lines m.replies m.last (end_of end) m.more left m.final n m.run m.leaves h i;
 }
 
--- the status of a run that asks no mirror, and of the definition's where none has to be asked
-pub status-means : (limits : Limits) (w : World Name) (payloads : List Payload) (room : ℕ) (mirrors left : List Mirror) (DiskFailed SourceFailed SinkFailed : Type 0) (status : ℕ) (changes : List ℕ) (before after : Seen) → HasNoneToAsk payloads w mirrors
-    → StatusUnasked limits w payloads room mirrors left DiskFailed SourceFailed SinkFailed status changes before after → StatusMeans limits w payloads room mirrors left DiskFailed SourceFailed SinkFailed status changes before after
-status-means limits w payloads room mirrors left DF SoF SiF status changes before after none (end, is, m, whole) =
-    (end, is, means-of limits w payloads room mirrors left (streams before after) SiF before.disk after.disk end changes none m, whole)
-
-pub told-means : (limits : Limits) (w : World Name) (payloads : List Payload) (room : ℕ) (mirrors left : List Mirror) (DiskFailed SourceFailed SinkFailed : Type 0) (status : ℕ) (changes : List ℕ) (a b : Option Seen) → HasNoneToAsk payloads w mirrors
-    → WhereTold a b (λ before after. Begins limits w payloads before → StatusUnasked limits w payloads room mirrors left DiskFailed SourceFailed SinkFailed status changes before after)
-    → WhereTold a b (λ before after. Begins limits w payloads before → StatusMeans limits w payloads room mirrors left DiskFailed SourceFailed SinkFailed status changes before after)
-told-means limits w payloads room mirrors left DF SoF SiF status changes a b none told =
-    WhereTold-map a b (λ x y. Begins limits w payloads x → StatusUnasked limits w payloads room mirrors left DF SoF SiF status changes x y) (λ x y. Begins limits w payloads x → StatusMeans limits w payloads room mirrors left DF SoF SiF status changes x y)
-    (λ x y h begins. status-means limits w payloads room mirrors left DF SoF SiF status changes x y none (h begins)) told
-
 -- from the end of a run to its status
-pub run-unasked : (limits : Limits) (w : World Name) (payloads : List Payload) (room : ℕ) (mirrors left : List Mirror) (DiskFailed SourceFailed SinkFailed : Type 0) (end : Result Unit Stop) (status : ℕ) (changes moments : List ℕ) (a b : Option Seen)
+pub run-means : (limits : Limits) (w : World Name) (payloads : List Payload) (room : ℕ) (mirrors left : List Mirror) (DiskFailed SourceFailed SinkFailed : Type 0) (end : Result Unit Stop) (status : ℕ) (changes moments : List ℕ) (a b : Option Seen)
     → status ≡ end_status (end_of end) → moments ≡ changes
     → ((end ≡ Err stops.NotLoaded) ⊎ (end ≡ Err stops.NotStored) → DiskFailed) → (end ≡ Err stops.Source → SourceFailed) → (end ≡ Err stops.Sink → SinkFailed)
-    → WhereTold a b (λ before after. Begins limits w payloads before → MeansUnasked limits w payloads room mirrors left (streams before after) SinkFailed before.disk after.disk (end_of end) changes)
-    → WhereTold a b (λ before after. Begins limits w payloads before → StatusUnasked limits w payloads room mirrors left DiskFailed SourceFailed SinkFailed status moments before after)
-run-unasked limits w payloads room mirrors left DF SoF SiF end status changes moments a b is same disk source sink told =
-    WhereTold-map a b (λ x y. Begins limits w payloads x → MeansUnasked limits w payloads room mirrors left (streams x y) SiF x.disk y.disk (end_of end) changes) _
+    → WhereTold a b (λ before after. Begins limits w payloads mirrors before → Means limits w payloads room mirrors left (streams before after) SinkFailed before.disk after.disk (end_of end) changes)
+    → WhereTold a b (λ before after. Begins limits w payloads mirrors before → StatusMeans limits w payloads room mirrors left DiskFailed SourceFailed SinkFailed status moments before after)
+run-means limits w payloads room mirrors left DF SoF SiF end status changes moments a b is same disk source sink told =
+    WhereTold-map a b (λ x y. Begins limits w payloads mirrors x → Means limits w payloads room mirrors left (streams x y) SiF x.disk y.disk (end_of end) changes) _
     (λ x y h begins.
     let m = h begins in
-    subst (λ l. StatusUnasked limits w payloads room mirrors left DF SoF SiF status l x y) (sym same)
+    subst (λ l. StatusMeans limits w payloads room mirrors left DF SoF SiF status l x y) (sym same)
     (end_of end, is, m, complete end limits w payloads room mirrors left (streams x y) DF SoF SiF x.disk y.disk changes m disk source sink)) told
 
 -- ---- what is refused
@@ -207,16 +221,16 @@ end-refuses limit end io old new h still = record {
     log-end (Err stops.Limit) e = absurd (cc e)
 
 -- where nothing was written
-still-so : (d e : Option Told) (i j o p : Option (List ℕ)) (A : Seen → Seen → Type 0) (end : Result Unit Stop) → WhereTold (seen d i o) (seen e j p) A → (end ≡ Err stops.NoLog → Goes SameBytes d e × WhereTold o p (λ x y. y ≡ x))
+still-so : (d e : Option Told) (i j o p : Option (List ℕ)) (A : Seen → Seen → Type 0) (end : Result Unit Stop) → WhereTold (seen d i o) (seen e j p) A → (end ≡ Err stops.NoLog → Goes IsUntouched d e × WhereTold o p (λ x y. y ≡ x))
     → WhereTold (seen d i o) (seen e j p) (λ x y. end ≡ Err stops.NoLog → (y.disk.bytes ≡ x.disk.bytes) × (y.taken ≡ x.taken))
 still-so d e i j o p A end told still = by_end end still
   where
-    by_end : (r : Result Unit Stop) → (r ≡ Err stops.NoLog → Goes SameBytes d e × WhereTold o p (λ x y. y ≡ x))
+    by_end : (r : Result Unit Stop) → (r ≡ Err stops.NoLog → Goes IsUntouched d e × WhereTold o p (λ x y. y ≡ x))
         → WhereTold (seen d i o) (seen e j p) (λ x y. r ≡ Err stops.NoLog → (y.disk.bytes ≡ x.disk.bytes) × (y.taken ≡ x.taken))
     by_end (Err stops.NoLog) h =
         let s = h refl in
-        WhereTold-both (seen d i o) (seen e j p) (λ x y. y.disk.bytes ≡ x.disk.bytes) (λ x y. y.taken ≡ x.taken) _ (λ x y a b e. (a, b))
-        (seen-disk d e i j o p A SameBytes told (goes-told SameBytes d e s.0)) (seen-taken d e i j o p A (λ x y. y ≡ x) told s.1)
+        WhereTold-both (seen d i o) (seen e j p) (λ x y. IsUntouched x.disk y.disk) (λ x y. y.taken ≡ x.taken) _ (λ x y a b e. (a.0, b))
+        (seen-disk d e i j o p A IsUntouched told (goes-told IsUntouched d e s.0)) (seen-taken d e i j o p A (λ x y. y ≡ x) told s.1)
     by_end (Ok x) h = WhereTold-map (seen d i o) (seen e j p) A _ (λ x y a e. absurd (cc e)) told
     by_end (Err stops.Memory) h = WhereTold-map (seen d i o) (seen e j p) A _ (λ x y a e. absurd (cc e)) told
     by_end (Err stops.NotLoaded) h = WhereTold-map (seen d i o) (seen e j p) A _ (λ x y a e. absurd (cc e)) told
@@ -226,7 +240,7 @@ still-so d e i j o p A end told still = by_end end still
     by_end (Err stops.Limit) h = WhereTold-map (seen d i o) (seen e j p) A _ (λ x y a e. absurd (cc e)) told
 
 pub no-log : (limits : Limits) (status : ℕ) (d e : Option Told) (i j o p : Option (List ℕ)) (A : Seen → Seen → Type 0) (end : Result Unit Stop) → status ≡ end_status (end_of end) → WhereTold (seen d i o) (seen e j p) A
-    → (end ≡ Err stops.NoLog → Goes SameBytes d e × WhereTold o p (λ x y. y ≡ x)) → IfSome d (λ t. RunRefuses limits.log t.bytes end) → WhereTold (seen d i o) (seen e j p) (EndRefuses limits status)
+    → (end ≡ Err stops.NoLog → Goes IsUntouched d e × WhereTold o p (λ x y. y ≡ x)) → IfSome d (λ t. RunRefuses limits.log t.bytes end) → WhereTold (seen d i o) (seen e j p) (EndRefuses limits status)
 no-log limits status d e i j o p A end is told still refuses =
     WhereTold-both (seen d i o) (seen e j p) (λ x y. RunRefuses limits.log x.disk.bytes end) (λ x y. end ≡ Err stops.NoLog → (y.disk.bytes ≡ x.disk.bytes) × (y.taken ≡ x.taken)) (EndRefuses limits status)
     (λ x y r s. (end_of end, is, end-refuses limits.log end (streams x y) x.disk y.disk r s))

@@ -17,7 +17,7 @@ use Rattle.change_rules.specs.Change.{text_of}
 use Rattle.change_rules.specs.Holding.{HoldAs, HoldBytes, HoldsNow}
 use Rattle.step_rules.specs.State.{Stored, start}
 use Rattle.run_rules.specs.Stopped.{Stopped, ArePrefixes}
-use Rattle.run_rules.specs.Means.{last_of, loaded_at}
+use Rattle.run_rules.specs.Means.{AreCommits, last_of, loaded_at}
 use Rattle.run_rules.proofs.Nothing.{take-all}
 use Rattle.run_rules.proofs.Starts.{same-texts}
 use Rattle.run_rules.proofs.GoesOn.{goes-on, goes-on-sure, cut-short, cut-short-sure}
@@ -30,6 +30,10 @@ use Rattle.dag_run.specs.Between.{Stays}
 pub last-push : (at : ℕ) (xs : List ℕ) (x : ℕ) → last_of at (xs ++ x ∷ []) ≡ x
 last-push at [] x = refl
 last-push at (y ∷ xs) x = last-push y xs x
+
+pub commits-push : (at : ℕ) (xs : List ℕ) (x : ℕ) → AreCommits at xs → x ≡ last_of at xs + 8 → AreCommits at (xs ++ x ∷ [])
+commits-push at [] x h e = (e, tt)
+commits-push at (y ∷ xs) x h e = (h.0, commits-push y xs x h.1 e)
 
 -- the bytes at the end are one of the lists that a crash may leave
 pub bytes-now : (limit : ℕ) (payloads : List (List ℕ)) (t : Told) → IsSound t → HasPayloads limit t payloads → IsLogWithin limit payloads t.bytes
@@ -92,6 +96,7 @@ stays-start limits w payloads store old new fresh holds read is_sure loaded same
   stored = refl;
   stopped = stopped-loaded limits w payloads old new fresh holds read is_sure;
   sure = refl;
+  each = tt;
   calls = loaded-clock store old new loaded;
   begun = after;
   has = subst₂ (λ (l : Limits) ps. HasPayloads l.log new ps) same texts loaded.payloads;
@@ -129,6 +134,7 @@ module _ (limits : Limits) (w : World Name) (payloads : List Payload) (changes :
             (subst (λ t. KeepsOldOrNew kept.log t a b) changed.text s.since) more has;
         sure = goes-on-sure limits.log w payloads changes last next changed.change kept.log old a b h.stopped h.stored sure-by later-by before after changed.past changed.payloads bound texts
             (subst (λ t. KeepsOldOrNew kept.log t a b) changed.text s.since) more has ∙ h.sure;
+        each = commits-push (loaded_at old) changes (moment_of b) h.each (let from = h.calls in omega (arith, calls, now, from));
         calls = sym (last-push (loaded_at old) changes (moment_of b));
         begun = (let le = h.begun in omega (arith, le, more));
         has = has;
@@ -162,6 +168,7 @@ stays-same limits w payloads changes last next old new past spelled after h = re
     ended = h.stopped.ended;
   };
   sure = h.sure;
+  each = h.each;
   calls = h.calls;
   begun = h.begun;
   has = subst (λ ps. HasPayloads limits.log new (map text_of ps)) (sym spelled) h.has;

@@ -1,5 +1,5 @@
 -- What words say of a mode, also where they end the program at once.
-use Rattle.std.proofs.Common.{ℕ, ◌≡◌, ◌≤◌, ◌∙◌, inl, inr, ⊎_elim, List, [], Option, Some, None, Err, refl, sym, ap, subst, subst₂}
+use Rattle.std.proofs.Common.{ℕ, ◌≡◌, ◌≤◌, ◌<◌, ◌∙◌, arith, inl, inr, ⊎_elim, List, [], Option, Some, None, Err, refl, sym, ap, subst, subst₂}
 use Rattle.id_groups.specs.Name.{Name}
 use Rattle.commit_graph.specs.World.{World}
 use Rattle.outside.specs.Told.{WhereTold}
@@ -14,9 +14,9 @@ use Rattle.program_words.specs.declared.usage.Mode.{Mode}
 use Rattle.program_words.specs.declared.usage.Mode.TheVariants.{Run, Demo}
 use Rattle.program_words.specs.declared.usage.Usage.{Usage}
 use Rattle.program_words.proofs.Exactly.{one-usage, no-usage}
-use Rattle.dag_run.specs.Ends.{Begins, StatusUnasked, EndRefuses}
+use Rattle.dag_run.specs.Ends.{Begins, StatusMeans, EndRefuses}
 use Rattle.dag_run.specs.Demo.{DemoMeans}
-use Rattle.dag_run.specs.Modes.{IsUsageOf, IsDemoOf, EndsAtOnce}
+use Rattle.dag_run.specs.Modes.{IsUsageOf, IsDemoOf, IsRunOf, EndsAtOnce}
 use Rattle.dag_run.specs.Seen.{seen, streams}
 use Rattle.dag_run.specs.declared.stops.Stop.TheVariants as stops
 use Rattle.run_rules.specs.Ends.{NoMemory}
@@ -29,17 +29,17 @@ only-memory words status usage (inl none) is = absurd (no-usage words usage none
 only-memory words status usage (inr seven) is = seven
 
 -- which is an end that a run may have
-pub once-unasked : (limits : Limits) → AreLimits limits → (words : List (List ℕ)) (status : ℕ) (changes : List ℕ) → EndsAtOnce words status → IsUsageOf Run words → changes ≡ []
-    → (w : World Name) (payloads : List Payload) (room : ℕ) (mirrors : List Mirror) (DiskFailed SourceFailed SinkFailed : Type 0) (d : Option Told) (i o : Option (List ℕ))
-    → WhereTold (seen d i o) (seen d i o) (λ before after. Begins limits w payloads before → StatusUnasked limits w payloads room mirrors mirrors DiskFailed SourceFailed SinkFailed status changes before after)
-once-unasked limits fair words status changes once of none w payloads room mirrors DiskFailed SourceFailed SinkFailed d i o =
+pub once-means : (limits : Limits) → AreLimits limits → (words : List (List ℕ)) (status : ℕ) (changes : List ℕ) (cache : ℕ) → EndsAtOnce words status → IsRunOf cache words → changes ≡ []
+    → (w : World Name) (payloads : List Payload) (mirrors : List Mirror) (DiskFailed SourceFailed SinkFailed : Type 0) (d : Option Told) (i o : Option (List ℕ))
+    → WhereTold (seen d i o) (seen d i o) (λ before after. Begins limits w payloads mirrors before → StatusMeans limits w payloads cache mirrors mirrors DiskFailed SourceFailed SinkFailed status changes before after)
+once-means limits fair words status changes cache once of none w payloads mirrors DiskFailed SourceFailed SinkFailed d i o =
     WhereTold-same (seen d i o) _ (λ x begins.
-    let m = ends-unread limits fair w payloads room mirrors SinkFailed x begins x refl refl refl in
-    subst (λ l. StatusUnasked limits w payloads room mirrors mirrors DiskFailed SourceFailed SinkFailed status l x x) (sym none) (
+    let m = ends-unread limits fair w payloads cache mirrors SinkFailed x begins x refl refl refl in
+    subst (λ l. StatusMeans limits w payloads cache mirrors mirrors DiskFailed SourceFailed SinkFailed status l x x) (sym none) (
       NoMemory,
       only-memory words status of.0 once of.1,
       m,
-      complete (Err stops.Memory) limits w payloads room mirrors mirrors (streams x x) DiskFailed SourceFailed SinkFailed x.disk x.disk [] m
+      complete (Err stops.Memory) limits w payloads cache mirrors mirrors (streams x x) DiskFailed SourceFailed SinkFailed x.disk x.disk [] m
           (λ e. ⊎_elim (λ f. absurd (cc f)) (λ f. absurd (cc f)) e) (λ e. absurd (cc e)) (λ e. absurd (cc e)),
     ))
 
@@ -49,11 +49,19 @@ pub once-refuses : (limits : Limits) (words : List (List ℕ)) (status : ℕ) �
 once-refuses limits words status once of d i o =
     WhereTold-same (seen d i o) _ (λ x. (NoMemory, only-memory words status of.0 once of.1, record { cause = λ e. absurd (cc e); exactly = λ none. inr (inr refl) }))
 
--- ---- the demonstration
+-- ---- the run
+-- there is room for as many names as the words say
+pub one-cache : (words : List (List ℕ)) (usage : Usage) (cache : ℕ) → IsUsage words usage → IsRunOf cache words → usage.cache ≡ cache
+one-cache words usage cache is of = ap (λ (u : Usage). u.cache) (one-usage words usage of.0 is of.1) ∙ of.3
+
 least-number : (low high : ℕ) (text : Option (List ℕ)) (n : ℕ) → WritesNumber low high text n → low ≤ n
 least-number low high None n h = absurd h
 least-number low high (Some text) n h = h.2
 
+pub cache-least : (words : List (List ℕ)) (usage : Usage) → IsUsage words usage → 0 < usage.cache
+cache-least words usage is = let one = least-number 1 65536 _ usage.cache is.matches.cache in omega (arith, one)
+
+-- ---- the demonstration
 -- it has a commit
 pub size-least : (words : List (List ℕ)) (usage : Usage) → IsUsage words usage → 1 ≤ usage.size
 size-least words usage is = least-number 1 60000 _ usage.size is.matches.size

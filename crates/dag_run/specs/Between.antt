@@ -11,18 +11,17 @@ use Rattle.batch_codec.specs.Payload.{Payload}
 use Rattle.change_rules.specs.declared.Limits.{Limits}
 use Rattle.change_rules.specs.Change.{text_of}
 use Rattle.remote_rules.specs.Mirror.{Mirror}
-use Rattle.step_rules.specs.State.{Stored, at_start}
+use Rattle.step_rules.specs.State.{State, Stored, at_start}
 use Rattle.step_rules.specs.Reply.{Reply}
-use Rattle.run_rules.specs.Run.{output_of}
+use Rattle.run_rules.specs.Run.{Run, output_of}
 use Rattle.run_rules.specs.Ends.{Done}
 use Rattle.run_rules.specs.Stopped.{Stopped}
-use Rattle.run_rules.specs.Means.{last_of, loaded_at}
+use Rattle.run_rules.specs.Means.{AreCommits, Means, last_of, loaded_at}
 use Rattle.dag_store.specs.Kept.{PlainStore}
-use Rattle.dag_store.specs.Stands.{Stands}
+use Rattle.dag_store.specs.Stands.{StandsBeside}
 use Rattle.dag_run.specs.Seen.{Seen, streams}
 use Rattle.dag_run.specs.Stops.{end_of}
-use Rattle.dag_run.specs.Unasked.{beside, RunUnasked}
-use Rattle.dag_run.specs.UnaskedEnds.{MeansUnasked}
+use Rattle.dag_run.specs.Enough.{HasEnough}
 use Rattle.dag_run.specs.declared.stops.Stop.{Stop}
 
 -- The lines that were answered, of an input of these bytes: what is left of it gives the lines to come, and, until the
@@ -42,6 +41,7 @@ pub record Stays (limits : Limits) (w : World Name) (payloads : List Payload) (c
   pub stored : length changes ≡ length last.past
   pub stopped : Stopped limits.log w payloads changes last old new
   pub sure : stopped.sure ≡ moment_of old + 2
+  pub each : AreCommits (loaded_at old) changes
   pub calls : moment_of new ≡ last_of (loaded_at old) changes
   pub begun : moment_of old + 2 ≤ moment_of new
   pub has : HasPayloads limits.log new (map text_of last.payloads)
@@ -51,16 +51,17 @@ pub record Going (limits : Limits) (w : World Name) (payloads : List Payload) (r
   pub lines : List (List ℕ)
   pub reads : Reads limits.input lines before.left reading after.left
   pub replies : List Reply
-  pub last : Stored
-  pub run : RunUnasked limits (at_start w payloads room mirrors) lines replies (beside left last room)
+  pub last : State
+  pub run : Run limits (at_start w payloads room mirrors) lines replies last
   pub out : after.taken ≡ before.taken ++ output_of replies
-  pub stands : Stands (length payloads) store last
-  pub stays : Stays limits w payloads changes last before.disk after.disk
+  pub stands : StandsBeside (length payloads) store left last
+  pub enough : HasEnough last
+  pub stays : Stays limits w payloads changes last.store before.disk after.disk
 
 -- what a turn over one line means: behind it a run goes on, or has ended so
 abbrev pub TurnMeans : Limits → World Name → List Payload → ℕ → List Mirror → List Mirror → List ℕ → Reading → Type 0 → Result (Option PlainStore) Stop → Seen → Seen → Type 0
 TurnMeans limits w payloads room mirrors left changes reading SinkFailed (Ok (Some store)) before after = Going limits w payloads room mirrors left store changes reading before after
 TurnMeans limits w payloads room mirrors left changes reading SinkFailed (Ok None) before after =
-    MeansUnasked limits w payloads room mirrors left (streams before after) SinkFailed before.disk after.disk Done changes
+    Means limits w payloads room mirrors left (streams before after) SinkFailed before.disk after.disk Done changes
 TurnMeans limits w payloads room mirrors left changes reading SinkFailed (Err stop) before after =
-    MeansUnasked limits w payloads room mirrors left (streams before after) SinkFailed before.disk after.disk (end_of (Err stop)) changes
+    Means limits w payloads room mirrors left (streams before after) SinkFailed before.disk after.disk (end_of (Err stop)) changes

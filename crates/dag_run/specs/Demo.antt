@@ -6,24 +6,23 @@ use Rattle.disk_trait.specs.Images.{Told}
 use Rattle.gated_log.specs.Holding.{IsOnDisk}
 use Rattle.line_io.specs.Lines.{is_silent, longest_line}
 use Rattle.change_rules.specs.Standard.{standard}
-use Rattle.step_rules.specs.State.{Stored, at_start}
+use Rattle.step_rules.specs.State.{State, at_start}
 use Rattle.step_rules.specs.Reply.{Reply}
 use Rattle.run_rules.specs.Run.{Run, output_of}
 use Rattle.demo_input.specs.Lines.{demo_lines}
 use Rattle.dag_store.specs.Kept.{PlainStore}
-use Rattle.dag_store.specs.Stands.{Stands}
-use Rattle.dag_run.specs.Alone.{alone}
+use Rattle.dag_store.specs.Stands.{StandsBeside}
 
--- The lines may get these replies and lead to this, from the empty world, without mirrors and within the program's limits, whatever
--- room a cache has.
-abbrev pub RunsAfresh : List (List ℕ) → List Reply → Stored → Type 0
-RunsAfresh lines replies last = (room : ℕ) → Run standard (at_start empty_world [] room []) lines replies (alone last room)
+-- The lines may get these replies and lead to this, from the empty world, without mirrors and within the program's limits, with room
+-- for one name.
+abbrev pub RunsAfresh : List (List ℕ) → List Reply → State → Type 0
+RunsAfresh lines replies last = Run standard (at_start empty_world [] 1 []) lines replies last
 
 -- These are the replies to the last four lines of a run over the lines of so many commits, whose parents are drawn from that number on.
 pub record AreLastReplies (size start : ℕ) (replies : List Reply) : Type 0 where
   -- the replies to the lines before
   pub earlier : List Reply
-  pub last : Stored
+  pub last : State
   pub run : RunsAfresh (demo_lines size start) (earlier ++ replies) last
   pub four : length replies ≡ 4
 
@@ -42,9 +41,9 @@ IsReady store disk = (store.limits ≡ standard) × IfSome disk (IsOnDisk store.
 
 -- the store stands for the state to which these lines, with these replies, have led
 pub record IsBehind (lines : List (List ℕ)) (replies : List Reply) (store : PlainStore) : Type 0 where
-  pub last : Stored
+  pub last : State
   pub run : RunsAfresh lines replies last
-  pub stands : Stands 0 store last
+  pub stands : StandsBeside 0 store [] last
 
 -- a line that isn't too long, and gets a reply
 abbrev pub IsAnswered : List ℕ → Type 0
@@ -61,5 +60,5 @@ LeadsOn line store next before now =
 abbrev pub AllAnswered : List (List ℕ) → PlainStore → List ℕ → Type 0
 AllAnswered asked store bytes =
     (lines : List (List ℕ)) (replies : List Reply) → IsBehind lines replies store
-    → (more : List Reply) × (length more ≡ length asked) × ((last : Stored) × RunsAfresh (lines ++ asked) (replies ++ more) last)
+    → (more : List Reply) × (length more ≡ length asked) × ((last : State) × RunsAfresh (lines ++ asked) (replies ++ more) last)
     × (bytes ≡ output_of more)

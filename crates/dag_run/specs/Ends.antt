@@ -15,26 +15,19 @@ use Rattle.dag_store.specs.Kept.{PlainStore}
 use Rattle.dag_store.specs.Stands.{Stands}
 use Rattle.dag_run.specs.Seen.{Seen, streams}
 use Rattle.dag_run.specs.Lines.{PutsFault}
-use Rattle.dag_run.specs.UnaskedEnds.{MeansUnasked}
+use Rattle.dag_run.specs.Enough.{AreEnough}
 use Rattle.dag_run.specs.declared.stops.Stop.{Stop}
 use Rattle.dag_run.specs.declared.stops.Stop.TheVariants.{Memory, NoLog, NotLoaded}
 
--- the disk holds the world, by these payloads
-abbrev pub Begins : Limits → World Name → List Payload → Seen → Type 0
-Begins limits w payloads before = Start limits before.disk w payloads [] (lines_of limits.input before.left)
+-- the disk holds the world, by these payloads, and a run over it may have these mirrors
+abbrev pub Begins : Limits → World Name → List Payload → List Mirror → Seen → Type 0
+Begins limits w payloads mirrors before = Start limits before.disk w payloads [] (lines_of limits.input before.left) × AreEnough payloads w mirrors
 
 -- The status is that of an end of which this run, with these mirrors and those left, means what a run has to, and it is complete.
 abbrev pub StatusMeans : Limits → World Name → List Payload → ℕ → List Mirror → List Mirror → Type 0 → Type 0 → Type 0 → ℕ → List ℕ → Seen → Seen → Type 0
 StatusMeans limits w payloads room mirrors left DiskFailed SourceFailed SinkFailed status changes before after =
     (end : End) × (status ≡ status_of end)
     × (m : Means limits w payloads room mirrors left (streams before after) SinkFailed before.disk after.disk end changes)
-    × IsComplete limits mirrors left (streams before after) DiskFailed SourceFailed SinkFailed end m.replies
-
--- the same of a run that asks no mirror
-abbrev pub StatusUnasked : Limits → World Name → List Payload → ℕ → List Mirror → List Mirror → Type 0 → Type 0 → Type 0 → ℕ → List ℕ → Seen → Seen → Type 0
-StatusUnasked limits w payloads room mirrors left DiskFailed SourceFailed SinkFailed status changes before after =
-    (end : End) × (status ≡ status_of end)
-    × (m : MeansUnasked limits w payloads room mirrors left (streams before after) SinkFailed before.disk after.disk end changes)
     × IsComplete limits mirrors left (streams before after) DiskFailed SourceFailed SinkFailed end m.replies
 
 -- Status 4 comes only where a read gives what is no log, and over such bytes always, unless a call of loading failed or memory was

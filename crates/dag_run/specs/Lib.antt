@@ -1,8 +1,6 @@
 pub mod Words
 pub mod Seen
-pub mod Alone
-pub mod Unasked
-pub mod UnaskedEnds
+pub mod Enough
 pub mod Stops
 pub mod Replies
 pub mod Lines

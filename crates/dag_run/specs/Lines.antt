@@ -7,17 +7,17 @@ use Rattle.line_io.specs.Lines.{is_silent}
 use Rattle.batch_codec.specs.Payload.{Payload}
 use Rattle.change_rules.specs.Change.{text_of}
 use Rattle.remote_rules.specs.Mirror.{Mirror}
-use Rattle.step_rules.specs.State.{Stored, worlds}
-use Rattle.step_rules.specs.Verb.{Verb, Flush, Query}
+use Rattle.step_rules.specs.State.{State, Stored, worlds}
+use Rattle.step_rules.specs.Verb.{Verb, Clone, Flush, Pull, Query, Strip}
 use Rattle.step_rules.specs.Reply.{Reply, Dropped, Refused, reply_text}
 use Rattle.step_rules.specs.declared.Refusal.TheVariants.{NoRemote}
-use Rattle.step_rules.specs.Step.{without}
+use Rattle.step_rules.specs.Step.{CommandStep, without}
+use Rattle.run_rules.specs.Run.{Step}
 use Rattle.run_rules.specs.Ends.{disk_text}
 use Rattle.dag_store.specs.Kept.{PlainStore}
-use Rattle.dag_store.specs.Stands.{Stands}
+use Rattle.dag_store.specs.Stands.{StandsBeside}
 use Rattle.dag_store.specs.Flushes.{HasRoom, HasStored, CutShort}
-use Rattle.dag_run.specs.Alone.{CommandAlone}
-use Rattle.dag_run.specs.Unasked.{CommandBeside, StepBeside}
+use Rattle.dag_run.specs.Enough.{HasEnough}
 use Rattle.dag_run.specs.declared.stops.Stop.{Stop}
 use Rattle.dag_run.specs.declared.stops.Stop.TheVariants.{Sink, NotStored}
 
@@ -49,37 +49,36 @@ PutsReply kept reply (Err Sink) before now = TookFront (reply_text reply) before
 PutsReply kept reply (Err _) before now = ⊥
 
 -- How a line that gets a reply ends, of a store that stands for a state, where these replies come with these states: the reply is
--- put, and the store stands for the state; or the sink fails in it; or the disk fails, and nothing is told of the change.
-abbrev pub Replies : Type 0 → ℕ → Stored → (Reply → Stored → Type 0) → List ℕ → Option ℕ → Result PlainStore Stop → List ℕ → List ℕ → Type 0
-Replies SinkFailed began st Does payload clock (Ok store) before now =
-    (reply : Reply) × (next : Stored) × Does reply next × Changes clock st next payload × Stands began store next × (now ≡ before ++ reply_text reply)
-Replies SinkFailed began st Does payload clock (Err Sink) before now =
-    (reply : Reply) × (next : Stored) × Does reply next × Changes clock st next payload × TookFront (reply_text reply) before now
-Replies SinkFailed began st Does payload clock (Err NotStored) before now =
-    (reply : Reply) × (next : Stored) × Does reply next × HasChanged st next payload × (clock ≡ None) × PutsFault SinkFailed before now
-Replies SinkFailed began st Does payload clock (Err _) before now = ⊥
+-- put, and the store stands for the state, beside the mirrors that are left; or the sink fails in it; or the disk fails, and nothing is
+-- told of the change.
+abbrev pub Replies : Type 0 → ℕ → List Mirror → State → (Reply → State → Type 0) → List ℕ → Option ℕ → Result PlainStore Stop → List ℕ → List ℕ → Type 0
+Replies SinkFailed began left st Does payload clock (Ok store) before now =
+    (reply : Reply) × (next : State) × Does reply next × Changes clock st.store next.store payload × StandsBeside began store left next × (now ≡ before ++ reply_text reply)
+Replies SinkFailed began left st Does payload clock (Err Sink) before now =
+    (reply : Reply) × (next : State) × Does reply next × Changes clock st.store next.store payload × (left ≡ next.outside.mirrors) × TookFront (reply_text reply) before now
+Replies SinkFailed began left st Does payload clock (Err NotStored) before now =
+    (reply : Reply) × (next : State) × Does reply next × HasChanged st.store next.store payload × (left ≡ next.outside.mirrors) × (clock ≡ None) × PutsFault SinkFailed before now
+Replies SinkFailed began left st Does payload clock (Err _) before now = ⊥
 
--- of a session's command, whatever the mirrors
-abbrev pub CommandReplies : Type 0 → PlainStore → ℕ → Verb → List ℕ → Option ℕ → Result PlainStore Stop → List ℕ → List ℕ → Type 0
-CommandReplies SinkFailed kept s verb payload clock result before now =
-    (began : ℕ) (st : Stored) → Stands began kept st → Replies SinkFailed began st (CommandAlone kept.limits st s verb) payload clock result before now
-
--- of one beside these mirrors, of which those are left
-abbrev pub RepliesBeside : List Mirror → List Mirror → Type 0 → PlainStore → ℕ → Verb → List ℕ → Option ℕ → Result PlainStore Stop → List ℕ → List ℕ → Type 0
-RepliesBeside mirrors left SinkFailed kept s verb payload clock result before now =
-    (began : ℕ) (st : Stored) → Stands began kept st → Replies SinkFailed began st (CommandBeside kept.limits mirrors left st s verb) payload clock result before now
+-- of a session's command beside these mirrors, of which those are left
+abbrev pub CommandReplies : List Mirror → List Mirror → Type 0 → PlainStore → ℕ → Verb → List ℕ → Option ℕ → Result PlainStore Stop → List ℕ → List ℕ → Type 0
+CommandReplies first left SinkFailed kept s verb payload clock result before now =
+    (began : ℕ) (st : State) → StandsBeside began kept first st → HasEnough st → Replies SinkFailed began left st (CommandStep kept.limits st s verb) payload clock result before now
 
 -- a command that is answered by one line and leaves the disk
 abbrev pub IsBrief : Verb → Type 0
 IsBrief (Flush heads) = ⊥
+IsBrief Clone = ⊥
+IsBrief Pull = ⊥
+IsBrief (Strip names) = ⊥
 IsBrief (Query e) = ⊥
 IsBrief _ = ⊤
 
--- its reply comes with a state that the store stands for afterwards, beside these mirrors, of which those are left
+-- its reply comes with a state that the store stands for afterwards, beside the mirrors that are left
 abbrev pub DoesBeside : List Mirror → List Mirror → PlainStore → PlainStore → ℕ → Verb → Reply → Type 0
-DoesBeside mirrors left old new s verb reply =
-    (began : ℕ) (st : Stored) → Stands began old st
-    → (next : Stored) × CommandBeside old.limits mirrors left st s verb reply next × Changes None st next [] × Stands began new next
+DoesBeside first left old new s verb reply =
+    (began : ℕ) (st : State) → StandsBeside began old first st → HasEnough st
+    → (next : State) × CommandStep old.limits st s verb reply next × Changes None st.store next.store [] × StandsBeside began new left next
 
 -- the mirror at this place goes, or there is none: what is told, and which mirrors are left
 abbrev pub DropsAt : ℕ → List Mirror → List Mirror → Reply → Type 0
@@ -89,16 +88,16 @@ DropsAt k mirrors left reply =
     ((reply ≡ Refused NoRemote) × (left ≡ mirrors))
 
 -- a silent line gets no reply and changes nothing
-abbrev pub IsPassed : ℕ → Stored → List ℕ → Option ℕ → Result PlainStore Stop → List ℕ → List ℕ → Type 0
-IsPassed began st line clock (Ok store) before now = (is_silent line ≡ true) × (clock ≡ None) × Stands began store st × (now ≡ before)
-IsPassed began st line clock (Err _) before now = ⊥
+abbrev pub IsPassed : ℕ → List Mirror → State → List ℕ → Option ℕ → Result PlainStore Stop → List ℕ → List ℕ → Type 0
+IsPassed began left st line clock (Ok store) before now = (is_silent line ≡ true) × (clock ≡ None) × StandsBeside began store left st × (now ≡ before)
+IsPassed began left st line clock (Err _) before now = ⊥
 
 -- what a line is told beside these mirrors, of which those are left
 abbrev pub LineReplies : List Mirror → List Mirror → Type 0 → PlainStore → List ℕ → List ℕ → Option ℕ → Result PlainStore Stop → List ℕ → List ℕ → Type 0
-LineReplies mirrors left SinkFailed kept line payload clock result before now =
-    (began : ℕ) (st : Stored) → Stands began kept st
-    → ((left ≡ mirrors) × IsPassed began st line clock result before now)
-    ⊎ ((is_silent line ≡ false) × Replies SinkFailed began st (StepBeside kept.limits mirrors left st line) payload clock result before now)
+LineReplies first left SinkFailed kept line payload clock result before now =
+    (began : ℕ) (st : State) → StandsBeside began kept first st → HasEnough st
+    → IsPassed began left st line clock result before now
+    ⊎ ((is_silent line ≡ false) × Replies SinkFailed began left st (Step kept.limits st line) payload clock result before now)
 
 -- the log's own limit is that of the store
 abbrev pub IsLimited : PlainStore → Type 0

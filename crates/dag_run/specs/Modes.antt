@@ -2,7 +2,7 @@
 use Rattle.std.specs.Prelude.{ℕ, ◌≡◌, ◌⊎◌, List}
 use Rattle.program_words.specs.Usage.{IsUsage, IsNoUsage}
 use Rattle.program_words.specs.declared.usage.Mode.{Mode}
-use Rattle.program_words.specs.declared.usage.Mode.TheVariants.{Demo}
+use Rattle.program_words.specs.declared.usage.Mode.TheVariants.{Run, Demo}
 use Rattle.program_words.specs.declared.usage.Usage.{Usage}
 
 -- the words are a usage of this mode
@@ -16,6 +16,10 @@ RefusesWords words status = (status ≡ 2 → IsNoUsage words) × (IsNoUsage wor
 -- the status of a program that ends at once, by its words
 abbrev pub EndsAtOnce : List (List ℕ) → ℕ → Type 0
 EndsAtOnce words status = ((status ≡ 2) × IsNoUsage words) ⊎ (status ≡ 7)
+
+-- the words are a usage of the run, with room for so many names that mirrors gave
+abbrev pub IsRunOf : ℕ → List (List ℕ) → Type 0
+IsRunOf cache words = (usage : Usage) × IsUsage words usage × (usage.mode ≡ Run) × (usage.cache ≡ cache)
 
 -- the words are a usage of the demonstration of so many commits, whose parents are drawn from that number on
 abbrev pub IsDemoOf : ℕ → ℕ → List (List ℕ) → Type 0

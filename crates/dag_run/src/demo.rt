@@ -29,7 +29,7 @@ fn new_store<D: Disk>(alloc: Global, log: &mut D) -> Result<Store, Stop>
     ensures ready { IfOk result (λ store. IsReady store (D.told log.new)) }
     ensures begins { IfOk result (IsBehind [] []) }
 {
-    match Store::load(alloc, log, Limits::standard()) {
+    match Store::load(alloc, log, Limits::standard(), 1) {
         Ok(store) => Ok(store),
         Err(_) => Err(Stop::Memory),
     }

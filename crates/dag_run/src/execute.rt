@@ -7,14 +7,14 @@ ghost use Rattle.disk_trait.specs.Calls.{Goes};
 ghost use Rattle.gated_log.specs.Holding.{IsOnDisk};
 ghost use Rattle.line_io.specs.Next.{IsLine};
 ghost use Rattle.line_io.specs.Lines.{is_empty_or_comment};
-ghost use Rattle.step_rules.specs.Verb.{Flush as ToFlush};
+ghost use Rattle.step_rules.specs.Verb.{Clone as ToClone, Flush as ToFlush};
 ghost use Rattle.run_rules.specs.Grammar.{SpellsCommand};
 ghost use Rattle.dag_store.specs.Flushes.{HasRoom};
 ghost use Rattle.command_lines.specs.Meant.{meant, HasFewParents};
 ghost use Rattle.dag_run.specs.Stops.{IsLineStop};
 ghost use Rattle.command_lines.specs.Told.{told};
 ghost use Rattle.dag_run.specs.Replies.{IsUnreadFor};
-ghost use Rattle.dag_run.specs.Lines.{changes_with, CommandReplies, DoesBeside, DropsAt, IsBrief, LineReplies, LineLeaves, RepliesBeside};
+ghost use Rattle.dag_run.specs.Lines.{changes_with, CommandReplies, DoesBeside, DropsAt, IsBrief, LineReplies, LineLeaves};
 
 use crate::replies::{
     list, reply_of_add, reply_of_count, reply_of_id, reply_of_reload, tell, tell_fault, tell_unread,
@@ -56,6 +56,7 @@ fn note(changes: &mut Vec<u64>, clock: Option<u64>)
 fn flush<D: Disk, O: Sink>(
     store: Store,
     log: &mut D,
+    mirrors: &mut Mirrors,
     changes: &mut Vec<u64>,
     s: u8,
     heads: &[Name],
@@ -63,9 +64,10 @@ fn flush<D: Disk, O: Sink>(
 ) -> Result<Store, Stop>
     requires session { s < 16 }
     requires begins { IfSome (D.told log.old) (IsOnDisk store.log) }
-    ensures step { (payload : List ℕ) × (clock : Option ℕ) × (changes.new.items ≡ changes_with changes.old.items clock)
+    ensures step { let first = map (λ b. (⟦<dyn Remote as Remote>⟧ b.vtable).shown b.value) mirrors.old.list.items in let left = map (λ b. (⟦<dyn Remote as Remote>⟧ b.vtable).shown b.value) mirrors.new.list.items in
+        (payload : List ℕ) × (clock : Option ℕ) × (changes.new.items ≡ changes_with changes.old.items clock)
         × Goes (LineLeaves store payload clock result) (D.told log.old) (D.told log.new)
-        × WhereTold (O.taken output.old) (O.taken output.new) (CommandReplies (Rose (O.faults output.old) (O.faults output.new)) store s (ToFlush heads.now) payload clock result) }
+        × WhereTold (O.taken output.old) (O.taken output.new) (CommandReplies first left (Rose (O.faults output.old) (O.faults output.new)) store s (ToFlush heads.now) payload clock result) }
     ensures limits { IfOk result (λ next. next.limits ≡ store.limits) }
     ensures stop { IfErr result IsLineStop }
     ensures disk { result ≡ Err Stop.NotStored → Rose (D.faults log.old) (D.faults log.new) }
@@ -77,10 +79,49 @@ fn flush<D: Disk, O: Sink>(
         return tell(store, &Reply::Refused(Refusal::Memory), output);
     }
     let _limit = store.log_limit();
-    match store.flush(log, s, heads) {
+    match store.flush(log, s, mirrors, heads) {
         Flushed::Done(store, counts, clock) => {
             note(changes, clock);
             tell(store, &Reply::Flushed(counts), output)
+        }
+        Flushed::Refused(store, refusal) => tell(store, &Reply::Refused(refusal), output),
+        Flushed::Disk(_) => {
+            tell_fault(output);
+            Err(Stop::NotStored)
+        }
+    }
+}
+
+/// Stores the master of a mirror. The memory for the change's moment is taken before.
+fn take_clone<D: Disk, O: Sink>(
+    store: Store,
+    log: &mut D,
+    mirrors: &mut Mirrors,
+    changes: &mut Vec<u64>,
+    s: u8,
+    output: &mut O,
+) -> Result<Store, Stop>
+    requires session { s < 16 }
+    requires begins { IfSome (D.told log.old) (IsOnDisk store.log) }
+    ensures step { let first = map (λ b. (⟦<dyn Remote as Remote>⟧ b.vtable).shown b.value) mirrors.old.list.items in let left = map (λ b. (⟦<dyn Remote as Remote>⟧ b.vtable).shown b.value) mirrors.new.list.items in
+        (payload : List ℕ) × (clock : Option ℕ) × (changes.new.items ≡ changes_with changes.old.items clock)
+        × Goes (LineLeaves store payload clock result) (D.told log.old) (D.told log.new)
+        × WhereTold (O.taken output.old) (O.taken output.new) (CommandReplies first left (Rose (O.faults output.old) (O.faults output.new)) store s ToClone payload clock result) }
+    ensures limits { IfOk result (λ next. next.limits ≡ store.limits) }
+    ensures stop { IfErr result IsLineStop }
+    ensures disk { result ≡ Err Stop.NotStored → Rose (D.faults log.old) (D.faults log.new) }
+    ensures disk_later { D.faults log.old ≤ D.faults log.new }
+    ensures sink { result ≡ Err Stop.Sink → Rose (O.faults output.old) (O.faults output.new) }
+    ensures sink_later { O.faults output.old ≤ O.faults output.new }
+{
+    if changes.try_reserve(1).is_err() {
+        return tell(store, &Reply::Refused(Refusal::Memory), output);
+    }
+    let _limit = store.log_limit();
+    match store.take_clone(log, s, mirrors) {
+        Flushed::Done(store, counts, moment) => {
+            note(changes, moment);
+            tell(store, &Reply::Cloned(counts.master), output)
         }
         Flushed::Refused(store, refusal) => tell(store, &Reply::Refused(refusal), output),
         Flushed::Disk(_) => {
@@ -111,16 +152,16 @@ fn reply_of(store: &mut Store, mirrors: &mut Mirrors, s: u8, verb: &Verb) -> Rep
     ensures limits { store.new.limits ≡ store.old.limits }
 {
     match verb {
-        Verb::Add(name, parents) => reply_of_add(store.add(s, name, parents.names())),
-        Verb::Reload => reply_of_reload(store.reload(s)),
+        Verb::Add(name, parents) => reply_of_add(store.add(s, mirrors, name, parents.names())),
+        Verb::Reload => reply_of_reload(store.reload(s, mirrors)),
         Verb::Discard => Reply::Discarded(store.discard(s)),
-        Verb::Count(expr) => reply_of_count(store.count(s, expr)),
-        Verb::Id(name) => reply_of_id(store.id(s, name)),
+        Verb::Count(expr) => reply_of_count(store.count(s, mirrors, expr)),
+        Verb::Id(name) => reply_of_id(store.id(s, mirrors, name)),
         Verb::Status => Reply::Sizes(store.status(s)),
         Verb::Levels => Reply::LevelSizes(store.levels()),
         Verb::Mirrors => Reply::Counted(u64::from(mirrors.len())),
         Verb::DropAt(place) => drop_mirror(mirrors, *place),
-        Verb::Flush(_) | Verb::Query(_) => unreachable!(),
+        Verb::Flush(_) | Verb::Clone | Verb::Query(_) => unreachable!(),
     }
 }
 
@@ -139,7 +180,7 @@ fn execute_command<D: Disk, O: Sink>(
     ensures step { let first = map (λ b. (⟦<dyn Remote as Remote>⟧ b.vtable).shown b.value) mirrors.old.list.items in let left = map (λ b. (⟦<dyn Remote as Remote>⟧ b.vtable).shown b.value) mirrors.new.list.items in
         (payload : List ℕ) × (clock : Option ℕ) × (changes.new.items ≡ changes_with changes.old.items clock)
         × Goes (LineLeaves store payload clock result) (D.told log.old) (D.told log.new)
-        × WhereTold (O.taken output.old) (O.taken output.new) (RepliesBeside first left (Rose (O.faults output.old) (O.faults output.new)) store command.now.session (meant command.now.verb) payload clock result) }
+        × WhereTold (O.taken output.old) (O.taken output.new) (CommandReplies first left (Rose (O.faults output.old) (O.faults output.new)) store command.now.session (meant command.now.verb) payload clock result) }
     ensures limits { IfOk result (λ next. next.limits ≡ store.limits) }
     ensures stop { IfErr result IsLineStop }
     ensures disk { result ≡ Err Stop.NotStored → Rose (D.faults log.old) (D.faults log.new) }
@@ -150,8 +191,9 @@ fn execute_command<D: Disk, O: Sink>(
     let s = command.session;
     let mut store = store;
     match &command.verb {
-        Verb::Flush(heads) => flush(store, log, changes, s, heads.names(), output),
-        Verb::Query(expr) => list(store, s, expr, output),
+        Verb::Flush(heads) => flush(store, log, mirrors, changes, s, heads.names(), output),
+        Verb::Clone => take_clone(store, log, mirrors, changes, s, output),
+        Verb::Query(expr) => list(store, mirrors, s, expr, output),
         verb => {
             let reply = reply_of(&mut store, mirrors, s, verb);
             tell(store, &reply, output)

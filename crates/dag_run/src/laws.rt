@@ -14,7 +14,7 @@ pub fn words_spelled_out()
     ensures first { split_of (dashes_at (codes "--" ∷ codes "run" ∷ [])) ≡ None }
 {}
 
-/// A run may begin over a new disk, which holds the empty world.
+/// A run without mirrors may begin over a new disk, which holds the empty world.
 pub fn new_disks_begin()
-    ensures { (limits : Limits) (left taken : List ℕ) → Begins limits empty_world [] (record { disk = fresh_disk []; left = left; taken = taken }) }
+    ensures { (limits : Limits) (left taken : List ℕ) → Begins limits empty_world [] [] (record { disk = fresh_disk []; left = left; taken = taken }) }
 {}

@@ -15,16 +15,16 @@ ghost use Rattle.change_rules.specs.Standard.{AreLimits, standard};
 ghost use Rattle.change_rules.specs.declared.Limits.{Limits as OfRun};
 ghost use Rattle.remote_rules.specs.Mirror.{Mirror};
 ghost use Rattle.run_rules.specs.Ends.{status_of as end_status};
-ghost use Rattle.dag_store.specs.Loading.{KeepsHolding, IsLoadedStore, SameBytes};
+ghost use Rattle.run_rules.specs.Means.{Means};
+ghost use Rattle.dag_store.specs.Loading.{KeepsHolding, IsLoadedStore, IsUntouched};
 ghost use Rattle.program_words.specs.Usage.{IsUsage};
-ghost use Rattle.dag_run.specs.Modes.{EndsAtOnce, IsDemoOf, IsUsageOf, RefusesWords};
+ghost use Rattle.dag_run.specs.Modes.{EndsAtOnce, IsDemoOf, IsRunOf, IsUsageOf, RefusesWords};
 ghost use Rattle.dag_run.specs.Seen.{Seen, seen, streams};
 ghost use Rattle.dag_run.specs.Stops.{end_of, IsAnswerStop, IsDemoStatus, IsLoadStop, IsRunStatus, IsStatus, stop_of};
 ghost use Rattle.dag_run.specs.Lines.{PutsFault};
 ghost use Rattle.dag_run.specs.Demo.{DemoMeans};
-ghost use Rattle.dag_run.specs.Ends.{Begins, OpensRun, LoadPuts, LoadRefuses, RunRefuses, EndRefuses, StatusMeans, StatusRefuses, StatusUnasked};
+ghost use Rattle.dag_run.specs.Ends.{Begins, OpensRun, LoadPuts, LoadRefuses, RunRefuses, EndRefuses, StatusMeans, StatusRefuses};
 ghost use Rattle.dag_run.specs.Between.{Going, TurnMeans};
-ghost use Rattle.dag_run.specs.UnaskedEnds.{HasNoneToAsk, MeansUnasked};
 
 use crate::demo::demo;
 use crate::execute::execute;
@@ -43,10 +43,13 @@ use std::alloc::Global;
 fn load<D: Disk, O: Sink>(
     alloc: Global,
     limits: Limits,
+    cache: u32,
     log: &mut D,
     output: &mut O,
 ) -> Result<Store, Stop>
-    requires { AreLimits limits }
+    requires limits { AreLimits limits }
+    requires cache { 0 < cache }
+    ensures cache { IfOk result (λ store. store.cache ≡ record { entries = []; capacity = cache }) }
     ensures limits { IfOk result (λ store. store.limits ≡ limits) }
     ensures opens { (payloads : List Payload) (w : World Name) → IfSome (D.bytes log.old) (λ bytes. HoldAs limits.log bytes payloads w → OpensRun payloads w result) }
     ensures images { (w : World Name) → Goes (KeepsHolding limits.log w) (D.told log.old) (D.told log.new) }
@@ -56,13 +59,13 @@ fn load<D: Disk, O: Sink>(
     ensures puts { WhereTold (O.taken output.old) (O.taken output.new) (LoadPuts (Rose (O.faults output.old) (O.faults output.new)) result) }
     ensures quiet { (result ≡ Err Stop.NotLoaded → ⊥) → output.new ≡ output.old }
     ensures lawful { IfSome (D.bytes log.old) (λ bytes. LoadRefuses limits.log bytes result) }
-    ensures unwritten { result ≡ Err Stop.NoLog → Goes SameBytes (D.told log.old) (D.told log.new) }
+    ensures unwritten { result ≡ Err Stop.NoLog → Goes IsUntouched (D.told log.old) (D.told log.new) }
     ensures stop { IfErr result IsLoadStop }
     ensures cause { result ≡ Err Stop.NotLoaded → Rose (D.faults log.old) (D.faults log.new) }
     ensures later { D.faults log.old ≤ D.faults log.new }
     ensures sink_later { O.faults output.old ≤ O.faults output.new }
 {
-    match Store::load(alloc, log, limits) {
+    match Store::load(alloc, log, limits, cache) {
         Ok(store) => Ok(store),
         Err(LoadFault::Disk(_)) => {
             tell_fault(output);
@@ -104,7 +107,7 @@ fn answer_next<D: Disk, I: Source, O: Sink>(
     ensures means { let here = map (λ b. (⟦<dyn Remote as Remote>⟧ b.vtable).shown b.value) mirrors.old.list.items in let left = map (λ b. (⟦<dyn Remote as Remote>⟧ b.vtable).shown b.value) mirrors.new.list.items in
         (limits : OfRun) (w : World Name) (payloads : List Payload) (room : ℕ) (first : List Mirror) (faults : ℕ) → AreLimits limits → store.limits ≡ limits → faults ≤ O.faults output.old
         → WhereTold (seen (D.told log.old) (I.left input.old) (O.taken output.old)) (seen (D.told log.new) (I.left input.new) (O.taken output.new))
-        (λ now after. (before : Seen) → Begins limits w payloads before
+        (λ now after. (before : Seen) → Begins limits w payloads first before
         → Going limits w payloads room first here store changes.old.items lines.old before now
         → TurnMeans limits w payloads room first left changes.new.items lines.new (Rose faults (O.faults output.new)) result before after) }
     ensures limits { IfOk result (λ next. IfSome next (λ kept. kept.limits ≡ store.limits)) }
@@ -154,9 +157,9 @@ fn answer_lines<D: Disk, I: Source, O: Sink>(
     ensures means { let here = map (λ b. (⟦<dyn Remote as Remote>⟧ b.vtable).shown b.value) mirrors.old.list.items in let left = map (λ b. (⟦<dyn Remote as Remote>⟧ b.vtable).shown b.value) mirrors.new.list.items in
         (limits : OfRun) (w : World Name) (payloads : List Payload) (room : ℕ) (first : List Mirror) (faults : ℕ) → AreLimits limits → store.limits ≡ limits → faults ≤ O.faults output.old
         → WhereTold (seen (D.told log.old) (I.left input.old) (O.taken output.old)) (seen (D.told log.new) (I.left input.new) (O.taken output.new))
-        (λ now after. (before : Seen) → Begins limits w payloads before
+        (λ now after. (before : Seen) → Begins limits w payloads first before
         → Going limits w payloads room first here store changes.old.items lines.old before now
-        → MeansUnasked limits w payloads room first left (streams before after) (Rose faults (O.faults output.new)) before.disk after.disk (end_of result) changes.new.items) }
+        → Means limits w payloads room first left (streams before after) (Rose faults (O.faults output.new)) before.disk after.disk (end_of result) changes.new.items) }
     ensures stop { IfErr result IsAnswerStop }
     ensures disk { result ≡ Err Stop.NotStored → Rose (D.faults log.old) (D.faults log.new) }
     ensures source { result ≡ Err Stop.Source → Rose (I.faults input.old) (I.faults input.new) }
@@ -178,6 +181,7 @@ fn answer_lines<D: Disk, I: Source, O: Sink>(
 fn answer_all<D: Disk, I: Source, O: Sink>(
     alloc: Global,
     limits: Limits,
+    cache: u32,
     log: &mut D,
     mirrors: &mut Mirrors,
     lines: &mut Lines,
@@ -186,14 +190,15 @@ fn answer_all<D: Disk, I: Source, O: Sink>(
     changes: &mut Vec<u64>,
 ) -> Result<(), Stop>
     requires limits { AreLimits limits }
+    requires cache { 0 < cache }
     requires none { changes.old.items ≡ [] }
     requires new { lines.old ≡ new_reading limits.input }
     ensures means { let first = map (λ b. (⟦<dyn Remote as Remote>⟧ b.vtable).shown b.value) mirrors.old.list.items in let left = map (λ b. (⟦<dyn Remote as Remote>⟧ b.vtable).shown b.value) mirrors.new.list.items in
-        (w : World Name) (payloads : List Payload) (room : ℕ) → WhereTold (seen (D.told log.old) (I.left input.old) (O.taken output.old)) (seen (D.told log.new) (I.left input.new) (O.taken output.new))
-        (λ before after. Begins limits w payloads before
-        → MeansUnasked limits w payloads room first left (streams before after) (Rose (O.faults output.old) (O.faults output.new)) before.disk after.disk (end_of result) changes.new.items) }
+        (w : World Name) (payloads : List Payload) → WhereTold (seen (D.told log.old) (I.left input.old) (O.taken output.old)) (seen (D.told log.new) (I.left input.new) (O.taken output.new))
+        (λ before after. Begins limits w payloads first before
+        → Means limits w payloads cache first left (streams before after) (Rose (O.faults output.old) (O.faults output.new)) before.disk after.disk (end_of result) changes.new.items) }
     ensures refuses { IfSome (D.bytes log.old) (λ bytes. RunRefuses limits.log bytes result) }
-    ensures unwritten { result ≡ Err Stop.NoLog → Goes SameBytes (D.told log.old) (D.told log.new) × (output.new ≡ output.old) }
+    ensures unwritten { result ≡ Err Stop.NoLog → Goes IsUntouched (D.told log.old) (D.told log.new) × (input.new ≡ input.old) × (output.new ≡ output.old) × (mirrors.new ≡ mirrors.old) }
     ensures quiet { result ≡ Err Stop.Memory → (input.new ≡ input.old) × (output.new ≡ output.old) × (mirrors.new ≡ mirrors.old) }
     ensures disk { (result ≡ Err Stop.NotLoaded) ⊎ (result ≡ Err Stop.NotStored) → Rose (D.faults log.old) (D.faults log.new) }
     ensures source { result ≡ Err Stop.Source → Rose (I.faults input.old) (I.faults input.new) }
@@ -202,7 +207,7 @@ fn answer_all<D: Disk, I: Source, O: Sink>(
     ensures source_later { I.faults input.old ≤ I.faults input.new }
     ensures sink_later { O.faults output.old ≤ O.faults output.new }
 {
-    let store = load(alloc, limits, log, output)?;
+    let store = load(alloc, limits, cache, log, output)?;
     answer_lines(alloc, store, log, mirrors, lines, input, output, changes)
 }
 
@@ -210,6 +215,7 @@ fn answer_all<D: Disk, I: Source, O: Sink>(
 fn run<D: Disk, I: Source, O: Sink>(
     alloc: Global,
     limits: Limits,
+    cache: u32,
     log: &mut D,
     mirrors: &mut Mirrors,
     input: &mut I,
@@ -217,13 +223,14 @@ fn run<D: Disk, I: Source, O: Sink>(
     changes: &mut Vec<u64>,
 ) -> Result<(), Stop>
     requires limits { AreLimits limits }
+    requires cache { 0 < cache }
     requires none { changes.old.items ≡ [] }
     ensures means { let first = map (λ b. (⟦<dyn Remote as Remote>⟧ b.vtable).shown b.value) mirrors.old.list.items in let left = map (λ b. (⟦<dyn Remote as Remote>⟧ b.vtable).shown b.value) mirrors.new.list.items in
-        (w : World Name) (payloads : List Payload) (room : ℕ) → WhereTold (seen (D.told log.old) (I.left input.old) (O.taken output.old)) (seen (D.told log.new) (I.left input.new) (O.taken output.new))
-        (λ before after. Begins limits w payloads before
-        → MeansUnasked limits w payloads room first left (streams before after) (Rose (O.faults output.old) (O.faults output.new)) before.disk after.disk (end_of result) changes.new.items) }
+        (w : World Name) (payloads : List Payload) → WhereTold (seen (D.told log.old) (I.left input.old) (O.taken output.old)) (seen (D.told log.new) (I.left input.new) (O.taken output.new))
+        (λ before after. Begins limits w payloads first before
+        → Means limits w payloads cache first left (streams before after) (Rose (O.faults output.old) (O.faults output.new)) before.disk after.disk (end_of result) changes.new.items) }
     ensures refuses { IfSome (D.bytes log.old) (λ bytes. RunRefuses limits.log bytes result) }
-    ensures unwritten { result ≡ Err Stop.NoLog → Goes SameBytes (D.told log.old) (D.told log.new) × (output.new ≡ output.old) }
+    ensures unwritten { result ≡ Err Stop.NoLog → Goes IsUntouched (D.told log.old) (D.told log.new) × (input.new ≡ input.old) × (output.new ≡ output.old) × (mirrors.new ≡ mirrors.old) }
     ensures quiet { result ≡ Err Stop.Memory → (input.new ≡ input.old) × (output.new ≡ output.old) × (mirrors.new ≡ mirrors.old) }
     ensures disk { (result ≡ Err Stop.NotLoaded) ⊎ (result ≡ Err Stop.NotStored) → Rose (D.faults log.old) (D.faults log.new) }
     ensures source { result ≡ Err Stop.Source → Rose (I.faults input.old) (I.faults input.new) }
@@ -234,7 +241,7 @@ fn run<D: Disk, I: Source, O: Sink>(
 {
     let mut lines = Lines::new(alloc, limits.input)?;
     answer_all(
-        alloc, limits, log, mirrors, &mut lines, input, output, changes,
+        alloc, limits, cache, log, mirrors, &mut lines, input, output, changes,
     )
 }
 
@@ -254,36 +261,43 @@ fn status(end: Result<(), Stop>) -> u8
     }
 }
 
-/// Answers the lines of the input over the log, within these limits. A reply is put before the next line is read. The mirrors are
-/// counted and dropped as the lines say, and none is asked: what would have to be asked is refused as where there is no mirror.
+/// Answers the lines of the input over the log, within these limits and with room for so many names that mirrors gave. A reply is put
+/// before the next line is read. The mirrors are asked, counted and dropped as the lines say, and the caller keeps those that are left.
 pub fn run_lines<D: Disk, I: Source, O: Sink>(
     alloc: Global,
     limits: Limits,
+    cache: u32,
     log: &mut D,
     mirrors: &mut Mirrors,
     input: &mut I,
     output: &mut O,
 ) -> Report
-    requires { AreLimits limits }
+    requires limits { AreLimits limits }
+    requires cache { 0 < cache }
     ensures known { IsRunStatus result.status }
     ensures means { let first = map (λ b. (⟦<dyn Remote as Remote>⟧ b.vtable).shown b.value) mirrors.old.list.items in let left = map (λ b. (⟦<dyn Remote as Remote>⟧ b.vtable).shown b.value) mirrors.new.list.items in
-        (w : World Name) (payloads : List Payload) (room : ℕ) → HasNoneToAsk payloads w first → WhereTold (seen (D.told log.old) (I.left input.old) (O.taken output.old)) (seen (D.told log.new) (I.left input.new) (O.taken output.new))
-        (λ before after. Begins limits w payloads before → StatusMeans limits w payloads room first left
-        (Rose (D.faults log.old) (D.faults log.new)) (Rose (I.faults input.old) (I.faults input.new)) (Rose (O.faults output.old) (O.faults output.new)) result.status result.changes before after) }
-    ensures unasked { let first = map (λ b. (⟦<dyn Remote as Remote>⟧ b.vtable).shown b.value) mirrors.old.list.items in let left = map (λ b. (⟦<dyn Remote as Remote>⟧ b.vtable).shown b.value) mirrors.new.list.items in
-        (w : World Name) (payloads : List Payload) (room : ℕ) → WhereTold (seen (D.told log.old) (I.left input.old) (O.taken output.old)) (seen (D.told log.new) (I.left input.new) (O.taken output.new))
-        (λ before after. Begins limits w payloads before → StatusUnasked limits w payloads room first left
+        (w : World Name) (payloads : List Payload) → WhereTold (seen (D.told log.old) (I.left input.old) (O.taken output.old)) (seen (D.told log.new) (I.left input.new) (O.taken output.new))
+        (λ before after. Begins limits w payloads first before → StatusMeans limits w payloads cache first left
         (Rose (D.faults log.old) (D.faults log.new)) (Rose (I.faults input.old) (I.faults input.new)) (Rose (O.faults output.old) (O.faults output.new)) result.status result.changes before after) }
     ensures refuses { IfSome (D.bytes log.old) (λ bytes. StatusRefuses limits.log bytes result.status) }
     ensures no_log { WhereTold (seen (D.told log.old) (I.left input.old) (O.taken output.old)) (seen (D.told log.new) (I.left input.new) (O.taken output.new)) (EndRefuses limits result.status) }
-    ensures unwritten { result.status ≡ 4 → Goes SameBytes (D.told log.old) (D.told log.new) × (output.new ≡ output.old) }
+    ensures unwritten { result.status ≡ 4 → Goes IsUntouched (D.told log.old) (D.told log.new) × (input.new ≡ input.old) × (output.new ≡ output.old) × (mirrors.new ≡ mirrors.old) }
     ensures quiet { result.status ≡ 7 → (input.new ≡ input.old) × (output.new ≡ output.old) × (mirrors.new ≡ mirrors.old) }
     ensures disk { result.status ≡ 3 → Rose (D.faults log.old) (D.faults log.new) }
     ensures source { result.status ≡ 5 → Rose (I.faults input.old) (I.faults input.new) }
     ensures sink { result.status ≡ 6 → Rose (O.faults output.old) (O.faults output.new) }
 {
     let mut changes = Vec::new(alloc);
-    let end = run(alloc, limits, log, mirrors, input, output, &mut changes);
+    let end = run(
+        alloc,
+        limits,
+        cache,
+        log,
+        mirrors,
+        input,
+        output,
+        &mut changes,
+    );
     Report {
         status: status(end),
         changes: Moments::of(changes),
@@ -302,8 +316,9 @@ fn usage_of(alloc: Global, words: &[String]) -> Result<Usage, u8>
 }
 
 /// Runs the program over the words behind the `--`: answers the lines of the input over the log, within the program's limits, or
-/// those of a demonstration in memory, of which the last four replies are put. No mirror is asked. The spare disk isn't touched, and
-/// no disk, nor the mirrors or the input, by a demonstration.
+/// those of a demonstration in memory, of which the last four replies are put. The mirrors are asked as the lines say, and as many of
+/// the names that they give are kept as the words say. The spare disk isn't touched, and no disk, nor the mirrors or the input, by a
+/// demonstration.
 pub fn top<D: Disk, I: Source, O: Sink>(
     alloc: Global,
     words: &[String],
@@ -316,14 +331,9 @@ pub fn top<D: Disk, I: Source, O: Sink>(
     ensures known { IsStatus result.status }
     ensures usage { RefusesWords (map string_bytes words.now) result.status }
     ensures means { let first = map (λ b. (⟦<dyn Remote as Remote>⟧ b.vtable).shown b.value) mirrors.old.list.items in let left = map (λ b. (⟦<dyn Remote as Remote>⟧ b.vtable).shown b.value) mirrors.new.list.items in
-        (w : World Name) (payloads : List Payload) (room : ℕ) → IsUsageOf Mode.Run (map string_bytes words.now) → HasNoneToAsk payloads w first
+        (cache : ℕ) (w : World Name) (payloads : List Payload) → IsRunOf cache (map string_bytes words.now)
         → WhereTold (seen (D.told log.old) (I.left input.old) (O.taken output.old)) (seen (D.told log.new) (I.left input.new) (O.taken output.new))
-        (λ before after. Begins standard w payloads before → StatusMeans standard w payloads room first left
-        (Rose (D.faults log.old) (D.faults log.new)) (Rose (I.faults input.old) (I.faults input.new)) (Rose (O.faults output.old) (O.faults output.new)) result.status result.changes before after) }
-    ensures unasked { let first = map (λ b. (⟦<dyn Remote as Remote>⟧ b.vtable).shown b.value) mirrors.old.list.items in let left = map (λ b. (⟦<dyn Remote as Remote>⟧ b.vtable).shown b.value) mirrors.new.list.items in
-        (w : World Name) (payloads : List Payload) (room : ℕ) → IsUsageOf Mode.Run (map string_bytes words.now)
-        → WhereTold (seen (D.told log.old) (I.left input.old) (O.taken output.old)) (seen (D.told log.new) (I.left input.new) (O.taken output.new))
-        (λ before after. Begins standard w payloads before → StatusUnasked standard w payloads room first left
+        (λ before after. Begins standard w payloads first before → StatusMeans standard w payloads cache first left
         (Rose (D.faults log.old) (D.faults log.new)) (Rose (I.faults input.old) (I.faults input.new)) (Rose (O.faults output.old) (O.faults output.new)) result.status result.changes before after) }
     ensures refuses { IsUsageOf Mode.Run (map string_bytes words.now) → IfSome (D.bytes log.old) (λ bytes. StatusRefuses standard.log bytes result.status) }
     ensures no_log { IsUsageOf Mode.Run (map string_bytes words.now)
@@ -332,7 +342,7 @@ pub fn top<D: Disk, I: Source, O: Sink>(
         → WhereTold (O.taken output.old) (O.taken output.new) (DemoMeans size start result.status) }
     ensures aside { IsUsageOf Mode.Demo (map string_bytes words.now)
         → IsDemoStatus result.status × (log.new ≡ log.old) × (mirrors.new ≡ mirrors.old) × (input.new ≡ input.old) × (result.changes ≡ []) }
-    ensures unwritten { result.status ≡ 4 → Goes SameBytes (D.told log.old) (D.told log.new) × (output.new ≡ output.old) }
+    ensures unwritten { result.status ≡ 4 → Goes IsUntouched (D.told log.old) (D.told log.new) × (input.new ≡ input.old) × (output.new ≡ output.old) × (mirrors.new ≡ mirrors.old) }
     ensures quiet { (result.status ≡ 2) ⊎ (result.status ≡ 7) → (input.new ≡ input.old) × (output.new ≡ output.old) × (mirrors.new ≡ mirrors.old) }
     ensures untouched { result.status ≡ 2 → log.new ≡ log.old }
     ensures disk { result.status ≡ 3 → Rose (D.faults log.old) (D.faults log.new) }
@@ -345,7 +355,10 @@ pub fn top<D: Disk, I: Source, O: Sink>(
         Err(status) => return Report::idle(alloc, status),
     };
     match usage.mode {
-        Mode::Run => run_lines(alloc, Limits::standard(), log, mirrors, input, output),
+        Mode::Run => {
+            let limits = Limits::standard();
+            run_lines(alloc, limits, usage.cache, log, mirrors, input, output)
+        }
         Mode::Demo => Report::idle(alloc, demo(alloc, usage.size, usage.start, output)),
     }
 }

@@ -1,6 +1,6 @@
 //! The replies that the store's answers are, and how they are put.
 
-ghost use Rattle.std.specs.Prelude.{◌≡◌, ◌<◌, ◌≤◌, ℕ, List, [], None, IfErr, IfOk};
+ghost use Rattle.std.specs.Prelude.{◌≡◌, ◌<◌, ◌≤◌, ℕ, List, [], None, Ok, IfErr, IfOk, map};
 ghost use Rattle.outside.specs.Counts.{HasCause, Rose};
 ghost use Rattle.outside.specs.Told.{WhereTold};
 ghost use Rattle.id_groups.specs.Name.{Name};
@@ -10,20 +10,22 @@ ghost use Rattle.step_rules.specs.State.{Stored};
 ghost use Rattle.step_rules.specs.Verb.{Query};
 ghost use Rattle.step_rules.specs.Reply.{Listed};
 ghost use Rattle.dag_store.specs.Stands.{Stands};
-ghost use Rattle.dag_store.specs.Steps.{AreIdsOf};
+ghost use Rattle.dag_store.specs.Steps.{AreIdsOf, KeepsAll, add_reply, id_reply, known_name, reload_reply};
 ghost use Rattle.command_lines.specs.Told.{told};
 ghost use Rattle.dag_run.specs.Lines.{CommandReplies, PutsReply, PutsFault};
-ghost use Rattle.dag_run.specs.Replies.{reply_of_add, reply_of_added, reply_of_reload, reply_of_id, reply_of_count, reply_of_fault};
+ghost use Rattle.dag_run.specs.Replies.{reply_of_count, reply_of_fault};
 
 use crate::stops::Stop;
 use command_lines::{CommandFault, Reply, put_disk_fault, put_names, put_reply};
 use dag_store::{Added, Answer, Expr, Found, Refusal, Store};
 use id_groups::Id;
 use line_io::Sink;
+use mirror_set::Mirrors;
+use remote_trait::Remote;
 
 /// What an add that was done is told.
 fn reply_of_added(added: Added) -> Reply
-    ensures { told result ≡ reply_of_added added }
+    ensures { told result ≡ add_reply (Ok added) }
 {
     match added {
         Added::New(id) => Reply::Added(id),
@@ -33,7 +35,7 @@ fn reply_of_added(added: Added) -> Reply
 
 /// What an add is told.
 pub(crate) fn reply_of_add(answer: Result<Added, Refusal>) -> Reply
-    ensures { told result ≡ reply_of_add answer }
+    ensures { told result ≡ add_reply answer }
 {
     match answer {
         Ok(added) => reply_of_added(added),
@@ -43,7 +45,7 @@ pub(crate) fn reply_of_add(answer: Result<Added, Refusal>) -> Reply
 
 /// What a reload is told.
 pub(crate) fn reply_of_reload(answer: Result<u32, Refusal>) -> Reply
-    ensures { told result ≡ reply_of_reload answer }
+    ensures { told result ≡ reload_reply answer }
 {
     match answer {
         Ok(left) => Reply::Reloaded(left),
@@ -53,7 +55,7 @@ pub(crate) fn reply_of_reload(answer: Result<u32, Refusal>) -> Reply
 
 /// What a command for an id is told.
 pub(crate) fn reply_of_id(answer: Result<Id, Refusal>) -> Reply
-    ensures { told result ≡ reply_of_id answer }
+    ensures { told result ≡ id_reply answer }
 {
     match answer {
         Ok(id) => Reply::Identified(id),
@@ -110,7 +112,7 @@ pub(crate) fn tell_unread<O: Sink>(
 fn list_names<O: Sink>(store: Store, s: u8, found: &Found, output: &mut O) -> Result<Store, Stop>
     requires { s < 16 }
     ensures bytes { WhereTold (O.taken output.old) (O.taken output.new) (λ before now. (began : ℕ) (st : Stored) (names : List Name) → Stands began store st
-        → AreIdsOf st s (ids_of found.now.answer.set) names → PutsReply store (Listed names) result before now) }
+        → AreIdsOf st s (ids_of found.now.answer.set) (map known_name found.now.fetched) names → PutsReply store (Listed names) result before now) }
     ensures same { IfOk result (λ next. next ≡ store) }
     ensures stop { IfErr result (λ stop. stop ≡ Stop.Sink) }
     ensures cause { HasCause (O.faults output.old) (O.faults output.new) result }
@@ -122,14 +124,22 @@ fn list_names<O: Sink>(store: Store, s: u8, found: &Found, output: &mut O) -> Re
 }
 
 /// Puts the answer of an expression, and hands the store back.
-pub(crate) fn list<O: Sink>(store: Store, s: u8, expr: &Expr, output: &mut O) -> Result<Store, Stop>
+pub(crate) fn list<O: Sink>(
+    store: Store,
+    mirrors: &mut Mirrors,
+    s: u8,
+    expr: &Expr,
+    output: &mut O,
+) -> Result<Store, Stop>
     requires { s < 16 }
-    ensures told { WhereTold (O.taken output.old) (O.taken output.new) (CommandReplies (Rose (O.faults output.old) (O.faults output.new)) store s (Query (tree_of expr.now)) [] None result) }
-    ensures same { IfOk result (λ next. next ≡ store) }
+    ensures told { let first = map (λ b. (⟦<dyn Remote as Remote>⟧ b.vtable).shown b.value) mirrors.old.list.items in let left = map (λ b. (⟦<dyn Remote as Remote>⟧ b.vtable).shown b.value) mirrors.new.list.items in
+        WhereTold (O.taken output.old) (O.taken output.new) (CommandReplies first left (Rose (O.faults output.old) (O.faults output.new)) store s (Query (tree_of expr.now)) [] None result) }
+    ensures kept { IfOk result (KeepsAll store) }
     ensures stop { IfErr result (λ stop. stop ≡ Stop.Sink) }
     ensures cause { HasCause (O.faults output.old) (O.faults output.new) result }
 {
-    match store.query(s, expr) {
+    let mut store = store;
+    match store.query(s, mirrors, expr) {
         Ok(found) => list_names(store, s, &found, output),
         Err(refusal) => tell(store, &Reply::Refused(refusal), output),
     }

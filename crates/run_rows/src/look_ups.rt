@@ -55,6 +55,7 @@ fn run(alloc: Global, lines: &[u8], disk: &mut MemoryDisk) -> Result<bool, Alloc
     let report = run_lines(
         alloc,
         Limits::standard(),
+        1,
         disk,
         &mut none,
         &mut input,
@@ -74,11 +75,12 @@ fn ancestors_of(alloc: Global, number: u8) -> Result<Vec<u8>, AllocError> {
 
 /// How many members the expression has in the first session's view, and how many look-ups they took; nothing where it isn't
 /// answered.
-fn counted(alloc: Global, store: &Store, text: &[u8]) -> Option<(u64, u64)> {
+fn counted(alloc: Global, store: &mut Store, text: &[u8]) -> Option<(u64, u64)> {
     let Ok(expr) = Expr::parse(alloc, text) else {
         return None;
     };
-    let Ok(answer) = store.count(0, &expr) else {
+    let mut none = Mirrors::new(Vec::new(alloc));
+    let Ok(answer) = store.count(0, &mut none, &expr) else {
         return None;
     };
     Some((answer.count(), answer.steps()))
@@ -90,14 +92,14 @@ type Counted = (u8, u64, u64);
 
 const COUNTED: [Counted; 4] = [(2, 2, 8), (32, 32, 8), (35, 35, 24), (31, 31, 128)];
 
-fn is_counted(alloc: Global, store: &Store, row: &Counted) -> Result<bool, AllocError> {
+fn is_counted(alloc: Global, store: &mut Store, row: &Counted) -> Result<bool, AllocError> {
     let (number, members, look_ups) = row;
     let text = ancestors_of(alloc, *number)?;
     Ok(counted(alloc, store, &text) == Some((*members, *look_ups)))
 }
 
 /// Whether the store of two levels finds the ancestors by so many look-ups.
-fn are_counted(alloc: Global, store: &Store) -> Result<bool, AllocError> {
+fn are_counted(alloc: Global, store: &mut Store) -> Result<bool, AllocError> {
     for row in &COUNTED {
         if !is_counted(alloc, store, row)? {
             return Ok(false);
@@ -108,8 +110,11 @@ fn are_counted(alloc: Global, store: &Store) -> Result<bool, AllocError> {
 
 /// Whether a store that is loaded from the disk does.
 fn are_counted_behind_load(alloc: Global, disk: &mut MemoryDisk) -> Result<bool, AllocError> {
-    match Store::load(alloc, disk, Limits::standard()) {
-        Ok(store) => are_counted(alloc, &store),
+    match Store::load(alloc, disk, Limits::standard(), 1) {
+        Ok(store) => {
+            let mut store = store;
+            are_counted(alloc, &mut store)
+        }
         Err(_) => Ok(false),
     }
 }

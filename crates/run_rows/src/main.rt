@@ -3,26 +3,30 @@
 //! Runs of command lines as data: the standard input holds cases, each behind a line that begins with `==`. The replies to
 //! the lines of each case go to the standard output, behind the case's own line and before one of how it ended: the status, the
 //! bytes of its log, and the moment of each change. A case whose line begins with `== again` goes over the log of the one before,
-//! any other over a fresh one. Reading a case takes one carriage return off the end of each of its lines, and running it the next.
+//! any other over a fresh one. Where a case's line ends with ` beside: ` and words, its lines go beside these mirrors, and else beside none.
+//! Reading a case takes one carriage return off the end of each of its lines, and running it the next.
 
-ghost use Rattle.std.specs.Prelude.{◌<◌};
-ghost use Rattle.change_rules.specs.Standard.{AreLimits};
-
+use crate::beside::{Beside, mirrors_of};
 use dag_run::{Limits, Report, run_lines};
 use disk_memory::MemoryDisk;
 use disk_trait::Disk;
 use line_io::{Line, LineFault, Lines, MemorySource, Sink, SinkFault, Source, StdSink, StdSource};
 use mirror_set::Mirrors;
+use remote_trait::Remote;
 use std::alloc::{AllocError, AllocFailed, Global};
-use std::io;
 use std::process::ExitCode;
+use std::{io, str};
 
+mod beside;
 #[cfg(test)]
 mod look_ups;
 #[cfg(test)]
 mod mirror_tests;
 #[cfg(test)]
 mod tests;
+
+/// For how many names that mirrors gave there is room.
+const CACHE: u32 = 4096;
 
 /// Why the cases weren't all run.
 #[derive(Clone, Copy)]
@@ -56,26 +60,36 @@ impl From<SinkFault> for Stop {
     }
 }
 
-/// The lines of a case, and the log that they go over.
+/// The lines of a case, and the log that they go over. Its own line says beside which mirrors.
 #[derive(Drop)]
 struct Case {
+    title: String,
     lines: Vec<u8>,
     log: Vec<u8>,
     begun: bool,
 }
 
-/// Answers the lines of an input over a disk, without mirrors.
-fn run_alone<D: Disk, I: Source, O: Sink>(
+/// Answers the lines of an input over a disk, beside the mirrors that the case's line names.
+fn run_beside<D: Disk, I: Source, O: Sink>(
     alloc: Global,
-    limits: Limits,
+    title: &str,
     disk: &mut D,
     input: &mut I,
     output: &mut O,
-) -> Report
-    requires { AreLimits limits }
-{
-    let mut none = Mirrors::new(Vec::new(alloc));
-    run_lines(alloc, limits, disk, &mut none, input, output)
+) -> Result<Report, Stop> {
+    let mut list: Vec<Box<dyn Remote>> = Vec::new(alloc);
+    for one in mirrors_of(alloc, title)? {
+        match one {
+            Beside::Honest(remote) => list.push(Box::new(alloc, remote)?)?,
+            Beside::Liar(remote) => list.push(Box::new(alloc, remote)?)?,
+        }
+    }
+    if list.len() > 8 {
+        return Err(Stop::Memory);
+    }
+    let mut mirrors = Mirrors::new(list);
+    let limits = Limits::standard();
+    Ok(run_lines(alloc, limits, CACHE, disk, &mut mirrors, input, output))
 }
 
 /// Adds the moment of a change to the line that says how a run ended.
@@ -109,22 +123,33 @@ fn put_end<O: Sink>(
 /// Runs lines over a disk, and says how their run ended.
 fn run_over<O: Sink>(
     alloc: Global,
+    title: &str,
     lines: &[u8],
     disk: &mut MemoryDisk,
     output: &mut O,
 ) -> Result<(), Stop> {
     let mut input = MemorySource::new(alloc, lines, 65_536, &[])?;
-    let report = run_alone(alloc, Limits::standard(), disk, &mut input, output);
+    let report = run_beside(alloc, title, disk, &mut input, output)?;
     put_end(alloc, &report, disk.bytes().len(), output)
 }
 
 /// Runs the lines of a case over its log, which is as they leave it then, and empties them.
 fn run_case<O: Sink>(alloc: Global, case: &mut Case, output: &mut O) -> Result<(), Stop> {
     let mut disk = MemoryDisk::new(alloc, &case.log, &[], None)?;
-    run_over(alloc, &case.lines, &mut disk, output)?;
+    run_over(alloc, case.title.as_str(), &case.lines, &mut disk, output)?;
     case.lines.clear();
     case.log.clear();
     case.log.extend_from_slice(disk.bytes())?;
+    Ok(())
+}
+
+/// Takes a case's own line.
+fn take_title(case: &mut Case, title: &[u8]) -> Result<(), Stop> {
+    let Ok(text) = str::from_utf8(title) else {
+        return Err(Stop::Source);
+    };
+    case.title.clear();
+    case.title.push_str(text)?;
     Ok(())
 }
 
@@ -139,6 +164,7 @@ fn begin<O: Sink>(
         run_case(alloc, case, output)?;
     }
     case.begun = true;
+    take_title(case, title)?;
     if !title.starts_with(b"== again") {
         case.log.clear();
     }
@@ -197,6 +223,7 @@ fn take_lines<I: Source, O: Sink>(
 /// Runs the cases of the input, of which none is begun yet.
 fn run_cases<I: Source, O: Sink>(alloc: Global, input: &mut I, output: &mut O) -> Result<(), Stop> {
     let mut case = Case {
+        title: String::new(alloc),
         lines: Vec::new(alloc),
         log: Vec::new(alloc),
         begun: false,

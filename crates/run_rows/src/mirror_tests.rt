@@ -91,7 +91,7 @@ fn run(
     let mut disk = MemoryDisk::new(alloc, &[], &[], None)?;
     let mut input = MemorySource::new(alloc, LINES.as_bytes(), 100, &[])?;
     let limits = Limits::standard();
-    let report = run_lines(alloc, limits, &mut disk, mirrors, &mut input, output);
+    let report = run_lines(alloc, limits, 4096, &mut disk, mirrors, &mut input, output);
     Ok((report.status, report.changes.len()))
 }
 

@@ -3,13 +3,26 @@
 ghost use Rattle.std.specs.Prelude.{◌<◌};
 ghost use Rattle.change_rules.specs.Standard.{AreLimits};
 
-use crate::run_alone;
-use dag_run::{Limits, split_words, top};
+use dag_run::{Limits, Report, run_lines, split_words, top};
 use disk_memory::{Choice, Fill, MemoryDisk};
 use disk_trait::Disk;
-use line_io::{MemorySink, MemorySource};
+use line_io::{MemorySink, MemorySource, Sink, Source};
 use mirror_set::Mirrors;
 use std::alloc::{AllocError, Global};
+
+/// Answers the lines of an input over a disk, without mirrors.
+fn run_alone<D: Disk, I: Source, O: Sink>(
+    alloc: Global,
+    limits: Limits,
+    disk: &mut D,
+    input: &mut I,
+    output: &mut O,
+) -> Report
+    requires { AreLimits limits }
+{
+    let mut none = Mirrors::new(Vec::new(alloc));
+    run_lines(alloc, limits, crate::CACHE, disk, &mut none, input, output)
+}
 
 /// Lines that break two rules at once, where two rows may be pending and one name is printed.
 const IN_ORDER: &str = "0 add 00000000000000000000000000000000000000a1
@@ -78,7 +91,7 @@ fn limits_of(pending: u64, others: u64, master: u64, log: u64, answer: u64, inpu
     }
 }
 
-/// Two commits, and a flush of them, in 98 bytes of a log.
+/// Two commits, and a flush of them, in 110 bytes of a log.
 const FLUSHED: &str = "0 add 00000000000000000000000000000000000000a1
 0 add 00000000000000000000000000000000000000b1 00000000000000000000000000000000000000a1
 0 flush
@@ -130,10 +143,10 @@ const LIMITED: [Limited; 7] = [
         "ok added N0\nok added N1\nerr full master 1\n",
     ),
     (
-        (2, 9, 9, 98, 1, 1 << 30),
+        (2, 9, 9, 110, 1, 1 << 30),
         FULL_LOG,
         0,
-        "ok added N0\nok added N1\nok flushed 0 2\nok added N2\nerr full log 98\nok 0 2 1\n",
+        "ok added N0\nok added N1\nok flushed 0 2\nok added N2\nerr full log 110\nok 0 2 1\n",
     ),
 ];
 
@@ -155,8 +168,8 @@ fn limits_are_kept(rt: HostRuntime) -> Result<(), AllocError> {
     Ok(())
 }
 
-/// The log of two commits of the others.
-const LOG: [u8; 98] = [
+/// The log of two commits of the others, as the first version of payloads has it, which is read.
+const FIRST: [u8; 98] = [
     1, 0, 0, 0, 0, 0, 0, 0, 88, 1, 1, 0, 0, 0, 0, 0, 0, 0, 0, 0, 0, 0, 0, 0, 0, 0, 0, 0, 0, 0, 0,
     0, 0, 0, 0, 0, 0, 0, 0, 0, 2, 0, 0, 0, 1, 1, 0, 1, 0, 0, 0, 0, 0, 0, 1, 1, 0, 0, 0, 0, 0, 0, 0,
     0, 0, 0, 0, 0, 0, 0, 0, 0, 0, 0, 0, 0, 161, 0, 0, 0, 0, 0, 0, 0, 0, 0, 0, 0, 0, 0, 0, 0, 0, 0,
@@ -182,7 +195,7 @@ const PAST: [u8; 99] = [
 /// What a log is, its bytes, how many it may have, and the status of a run over it with its replies.
 type Loaded = (&'static str, &'static [u8], u64, u8, &'static str);
 
-const LOADED: [Loaded; 5] = [
+const LOADED: [Loaded; 6] = [
     (
         "bytes that run past the end",
         &[1, 0, 0, 0, 0, 0, 0, 0, 5, 170],
@@ -191,7 +204,8 @@ const LOADED: [Loaded; 5] = [
         "",
     ),
     ("a longer spelling of a number", &LONGER, 999, 4, ""),
-    ("a log as long as its limit", &LOG, 98, 0, "ok 0 2 0\n"),
+    ("a log as long as its limit", &FIRST, 98, 0, "ok 0 2 0\n"),
+    ("a log as it is written", &LOG, 110, 0, "ok 0 2 0\n"),
     ("a log above its limit", &PAST, 98, 4, ""),
     ("a byte behind the closed gate", &PAST, 99, 0, "ok 0 2 0\n"),
 ];
@@ -283,6 +297,14 @@ fn each_call_of_the_disk_fails_in_turn(rt: HostRuntime) -> Result<(), AllocError
     Ok(())
 }
 
+/// The log of the two commits as it is written.
+const LOG: [u8; 110] = [
+    1, 0, 0, 0, 0, 0, 0, 0, 100, 2, 1, 0, 0, 0, 0, 0, 0, 0, 0, 0, 0, 0, 0, 0, 0, 0, 0, 0, 0, 0, 0,
+    0, 0, 0, 0, 0, 0, 0, 0, 0, 0, 0, 0, 0, 0, 0, 0, 0, 0, 0, 0, 0, 2, 0, 0, 0, 1, 1, 0, 1, 0, 0, 0,
+    0, 0, 0, 1, 1, 0, 0, 0, 0, 0, 0, 0, 0, 0, 0, 0, 0, 0, 0, 0, 0, 0, 0, 0, 0, 161, 0, 0, 0, 0, 0,
+    0, 0, 0, 0, 0, 0, 0, 0, 0, 0, 0, 0, 0, 0, 177, 0,
+];
+
 /// Whether the flush over the disk is stored, and the log is that of the two commits then.
 fn is_stored(alloc: Global, disk: &mut MemoryDisk) -> Result<bool, AllocError> {
     let is_ended = is_flushed(alloc, disk, (0, 1), FLUSHED_REPLIES)?;
@@ -334,7 +356,7 @@ const FILLS: [Fill; 5] = [
 ];
 
 /// How many bytes a crash may leave.
-const SIZES: [u64; 4] = [0, 1, 50, 98];
+const SIZES: [u64; 4] = [0, 1, 50, 110];
 
 /// The first number of others that a crash of the flush at the moment leaves and may not.
 fn wrong_left(alloc: Global, disk: &MemoryDisk, moment: u64) -> Result<Option<u8>, AllocError> {
@@ -382,7 +404,7 @@ fn goes_on(alloc: Global, disk: &MemoryDisk) -> Result<bool, AllocError> {
     let choice = Choice {
         moment: 15,
         fill: Fill::Byte(127),
-        size: 98,
+        size: 110,
     };
     let mut later = disk.crash(&choice)?;
     is_stored(alloc, &mut later)

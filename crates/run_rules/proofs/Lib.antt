@@ -4,3 +4,4 @@ pub mod Starts
 pub mod Prefixes
 pub mod GoesOn
 pub mod Matched
+pub mod Reopening

@@ -101,3 +101,12 @@ pub run-answered : (limits : Limits) (lines : List (List ℕ)) (st st' : State) 
     → NeverFail st.outside.mirrors ⊎ (EachWas HasFailed st.outside.mirrors st'.outside.mirrors → ⊥) → IsIn (Refused (why.Remote n)) replies → ⊥
 run-answered limits lines st st' replies n r (inl h) i = run-steady limits lines st st' replies r h n i
 run-answered limits lines st st' replies n r (inr h) i = h ((run-matched limits lines st st' replies r st.outside.mirrors (was-self IsLater (λ m. le_refl m.faults) st.outside.mirrors)).1 n i)
+
+-- the same where one line more may have asked them
+pub run-answered-more : (limits : Limits) (lines : List (List ℕ)) (st mid st' : State) (line : List ℕ) (replies : List Reply) (reply : Reply) (n : ℕ) → Run limits st lines replies mid → Step limits mid line reply st'
+    → NeverFail st.outside.mirrors ⊎ (EachWas HasFailed st.outside.mirrors st'.outside.mirrors → ⊥) → IsIn (Refused (why.Remote n)) replies → ⊥
+run-answered-more limits lines st mid st' line replies reply n r step (inl h) i = run-steady limits lines st mid replies r h n i
+run-answered-more limits lines st mid st' line replies reply n r step (inr h) i =
+    h (was-then HasFailed IsLater HasFailed failed-later st.outside.mirrors mid.outside.mirrors st'.outside.mirrors
+    ((run-matched limits lines st mid replies r st.outside.mirrors (was-self IsLater (λ m. le_refl m.faults) st.outside.mirrors)).1 n i)
+    (line-matched limits mid st' line reply step mid.outside.mirrors (was-self IsLater (λ m. le_refl m.faults) mid.outside.mirrors)).0)

@@ -1,5 +1,5 @@
 -- A run that did nothing.
-use Rattle.std.proofs.Common.{inl, ◌≡◌, ◌≤◌, ◌+◌, ℕ, zero, suc, List, [], ◌∷◌, length, take, refl, sym, ap, subst, arith, le_antisymm}
+use Rattle.std.proofs.Common.{inl, Bool, true, false, nat_le, if◌then◌else◌, ◌≡◌, ◌≤◌, ◌+◌, ℕ, zero, suc, List, [], ◌∷◌, length, take, refl, sym, ap, subst, arith, le_antisymm}
 use Rattle.id_groups.specs.Name.{Name}
 use Rattle.commit_graph.specs.World.{World}
 use Rattle.disk_trait.specs.Images.{Told, LeftAt, moment_of}
@@ -10,13 +10,21 @@ use Rattle.remote_rules.specs.Mirror.{Mirror}
 use Rattle.step_rules.specs.State.{start, at_start, world_at}
 use Rattle.run_rules.specs.Ends.{Streams, NoMemory}
 use Rattle.run_rules.specs.Stopped.{Stopped}
-use Rattle.run_rules.specs.Means.{Means}
+use Rattle.run_rules.specs.Means.{Means, loaded_at}
 
 pub take-all : {X : Type 0} (xs : List X) (n : ℕ) → n ≡ length xs → take n xs ≡ xs
 take-all [] zero e = refl
 take-all [] (suc n) e = absurd (omega (arith, e))
 take-all (x ∷ xs) zero e = absurd (omega (arith, e))
 take-all (x ∷ xs) (suc n) e = ap (λ l. x ∷ l) (take-all xs n (omega (arith, e)))
+
+-- loading ends no earlier than it begins
+pub loaded-later : (t : Told) → moment_of t ≤ loaded_at t
+loaded-later t = by_length (nat_le (length t.bytes) 1)
+  where
+    by_length : (b : Bool) → moment_of t ≤ moment_of t + (if b then 8 else 6)
+    by_length true = omega arith
+    by_length false = omega arith
 
 module _ (limits : Limits) (w : World Name) (payloads : List Payload) (disk : Told) (holds : HoldsNow limits.log disk w) (read : HoldAs limits.log disk.bytes payloads w) where
   pub only-one : (count : ℕ) → count ≤ 0 → HoldPayloads (take (length payloads + count) payloads) (world_at (start w payloads) count)
@@ -45,7 +53,8 @@ module _ (limits : Limits) (w : World Name) (payloads : List Payload) (disk : To
     stored = refl;
     final = start w payloads;
     leaves = (refl, refl);
-    calls = tt;
+    each = tt;
+    calls = loaded-later disk;
     stopped = stopped-there;
     sure = inl (let near : moment_of disk + 1 ≤ moment_of disk + 2 = omega arith in near);
     kept = tt;

@@ -1,6 +1,8 @@
 -- Each prefix of the changes of a run has its payloads and its world.
 use Rattle.std.proofs.Common.{◌≡◌, ◌≤◌, ◌+◌, ℕ, zero, suc, inl, inr, List, [], ◌∷◌, ◌++◌, length, map, take, refl, sym, ap, subst, subst₂, ◌∙◌, arith, zero-le, ⊎_elim, eq-or-lt_of_le, le_antisymm, length-append}
 use Rattle.std.proofs.lemmas.List.{take-append-le}
+use Rattle.std.specs.List.{AllByRecursion}
+use Rattle.remote_rules.specs.Honest.{IsSound}
 use Rattle.id_groups.specs.Name.{Name}
 use Rattle.line_io.specs.Lines.{lines_of}
 use Rattle.commit_graph.specs.World.{World}
@@ -15,22 +17,21 @@ use Rattle.change_rules.specs.Tables.{cloned_count}
 use Rattle.change_rules.specs.Holding.{HoldAs, HoldPayloads}
 use Rattle.remote_rules.specs.Mirror.{Mirror}
 use Rattle.remote_rules.specs.Serving.{AllServe}
-use Rattle.step_rules.specs.State.{State, Stored, IsState, at_start, start, world_at, with_stored}
+use Rattle.step_rules.specs.State.{State, Stored, IsHeld, IsState, at_start, start, world_at, with_stored}
 use Rattle.step_rules.specs.Reply.{Reply}
 use Rattle.step_rules.specs.Verb.{Verb, IsVerb}
 use Rattle.step_rules.specs.Step.{CommandStep}
 use Rattle.step_rules.proofs.Sessions.{IsPlaced, Shape, world_at-stored, command-shape}
 use Rattle.step_rules.proofs.States.{at-newest}
-use Rattle.step_rules.proofs.Kept.{step-state}
+use Rattle.step_rules.proofs.Kept.{start-is, step-state}
 use Rattle.step_rules.proofs.Held.{step-held}
-use Rattle.step_rules.proofs.Served.{step-served}
 use Rattle.run_rules.specs.Run.{Run, output_of}
 use Rattle.run_rules.specs.Ends.{Streams, Done}
 use Rattle.run_rules.specs.Stopped.{Stopped, ArePrefixes}
 use Rattle.run_rules.specs.Means.{Means}
-use Rattle.run_rules.proofs.Runs.{IsWhole, run-keeps}
-use Rattle.run_rules.proofs.Starts.{start-whole, same-texts}
-use Rattle.run_rules.proofs.Nothing.{take-all}
+use Rattle.run_rules.proofs.Runs.{run-keeps}
+use Rattle.run_rules.proofs.Starts.{served-sound, start-held, same-texts}
+use Rattle.run_rules.proofs.Nothing.{take-all, loaded-later}
 
 prefix-shape : (before : List Payload) (st : Stored) (s : ℕ) (now : Stored) → ArePrefixes before st → Shape st s now → HoldPayloads now.payloads now.stored → ArePrefixes before now
 prefix-shape before st s now h (inl e) hold = subst (ArePrefixes before) (sym e) h
@@ -64,20 +65,18 @@ placed : (st : State) → IsState st → IsPlaced st.store
 placed st h = ((λ s. (h.store.sessions s).base), h.store.sixteen)
 
 record Prefixed (limits : Limits) (before : List Payload) (st : State) : Type 0 where
-  whole : IsWhole limits st
+  state : IsState st
+  held : IsHeld limits st.store
   prefixes : ArePrefixes before st.store
 
 module _ (limits : Limits) (fair : AreLimits limits) (before : List Payload) where
   step-prefixed : (a b : State) (s : ℕ) (verb : Verb) (reply : Reply) → Prefixed limits before a → IsVerb verb → CommandStep limits a s verb reply b → Prefixed limits before b
   step-prefixed a b s verb reply k v step =
-      let held = step-held limits fair a s k.whole.state k.whole.held verb reply b step in
+      let held = step-held limits fair a s k.state k.held verb reply b step in
       record {
-        whole = record {
-          state = step-state limits a s k.whole.state verb reply b v step;
-          held = held;
-          served = step-served limits a s k.whole.state k.whole.served verb reply b step;
-        };
-        prefixes = prefix-shape before a.store s b.store k.prefixes (command-shape limits a s (placed a k.whole.state) verb reply b step) held.hold;
+        state = step-state limits a s k.state verb reply b v step;
+        held = held;
+        prefixes = prefix-shape before a.store s b.store k.prefixes (command-shape limits a s (placed a k.state) verb reply b step) held.hold;
       }
 
 start-prefixes : (w : World Name) (payloads : List Payload) → HoldPayloads payloads w → ArePrefixes payloads (start w payloads)
@@ -87,11 +86,17 @@ start-prefixes w payloads hold = record { front = take-all payloads (length payl
     only zero le = subst (λ l. HoldPayloads l w) (sym (take-all payloads (length payloads + 0) (omega arith))) hold
     only (suc n) le = absurd (omega (arith, le))
 
+-- beside mirrors of which each that tells its master is honest
+pub prefixes-sound : (limits : Limits) (log : List ℕ) (w : World Name) (payloads : List Payload) (room : ℕ) (mirrors : List Mirror) (lines : List (List ℕ)) (replies : List Reply) (st : State)
+    → AreLimits limits → HoldAs limits.log log payloads w → AllByRecursion IsSound mirrors → Run limits (at_start w payloads room mirrors) lines replies st → ArePrefixes payloads st.store
+prefixes-sound limits log w payloads room mirrors lines replies st fair hold sound run =
+    (run-keeps limits (Prefixed limits payloads) (step-prefixed limits fair payloads) (at_start w payloads room mirrors) st lines replies
+    (record { state = start-is w payloads room mirrors hold.hold.world sound; held = start-held limits log w payloads fair hold; prefixes = start-prefixes w payloads hold.hold }) run).prefixes
+
 pub prefixes-hold : (limits : Limits) (log : List ℕ) (w : World Name) (payloads : List Payload) (room : ℕ) (mirrors : List Mirror) (lines : List (List ℕ)) (replies : List Reply) (st : State)
     → AreLimits limits → HoldAs limits.log log payloads w → AllServe (cloned_count payloads) w mirrors → Run limits (at_start w payloads room mirrors) lines replies st → ArePrefixes payloads st.store
 prefixes-hold limits log w payloads room mirrors lines replies st fair hold serve run =
-    (run-keeps limits (Prefixed limits payloads) (step-prefixed limits fair payloads) (at_start w payloads room mirrors) st lines replies
-    (record { whole = start-whole limits log w payloads room mirrors fair hold serve; prefixes = start-prefixes w payloads hold.hold }) run).prefixes
+    prefixes-sound limits log w payloads room mirrors lines replies st fair hold (served-sound (cloned_count payloads) w mirrors serve) run
 
 module _ (limits : Limits) (w : World Name) (payloads : List Payload) (room : ℕ) (mirrors : List Mirror) (disk : Told) (io : Streams) (replies : List Reply) (last : State)
     (fair : AreLimits limits) (hold : HoldAs limits.log disk.bytes payloads w) (sure : HasPayloads limits.log disk (map text_of payloads)) (serve : AllServe (cloned_count payloads) w mirrors)
@@ -127,7 +132,8 @@ module _ (limits : Limits) (w : World Name) (payloads : List Payload) (room : �
     stored = sym (ap length same);
     final = last.store;
     leaves = (refl, refl);
-    calls = tt;
+    each = tt;
+    calls = loaded-later disk;
     stopped = stopped;
     sure = inl (let near : moment_of disk ≤ moment_of disk + 2 = omega arith in near);
     kept = subst (λ l. IsLogWithin limits.log (map text_of l) disk.bytes) same-payloads (hold.within, subst (IsLog disk.bytes) (same-texts hold.texts payloads hold.spelled) hold.log);

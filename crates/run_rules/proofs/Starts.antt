@@ -1,12 +1,14 @@
 -- What holds at the start of a run.
-use Rattle.std.proofs.Common.{◌≡◌, ◌≤◌, ◌+◌, ℕ, List, [], ◌∷◌, ◌++◌, length, map, sym, subst, refl, ap, ap₂, ◌∙◌, ◌==◌, Bool, true, false, if◌then◌else◌, zero-le, arith, length-append, MatchOption, inl, inr, le_refl}
+use Rattle.std.proofs.Common.{◌≡◌, ◌≤◌, ◌+◌, ℕ, List, [], ◌∷◌, ◌++◌, length, map, sym, subst, refl, ap, ap₂, ◌∙◌, ◌==◌, Bool, true, false, if◌then◌else◌, zero-le, ⊎_elim, arith, length-append, MatchOption, inl, inr, le_refl}
 use Rattle.std.specs.Int.{w64, to_be_bytes}
 use Rattle.std.specs.List.{AllByRecursion, AllZip}
 use Rattle.id_groups.specs.Name.{Name}
 use Rattle.commit_graph.specs.World.{World}
 use Rattle.commit_graph.proofs.Naming.{each, all-each}
 use Rattle.batch_codec.specs.Payload.{Payload}
-use Rattle.batch_codec.specs.Grammar.{AreLawful, count_after}
+use Rattle.batch_codec.specs.Grammar.{count_after, IsPayload, IsFlush, IsClone}
+use Rattle.batch_codec.specs.Grammar as grammar
+use Rattle.change_rules.specs.Lawful.{AreLawful}
 use Rattle.gated_log.specs.Log.{IsLog, batch, batches, log_length}
 use Rattle.change_rules.specs.declared.Limits.{Limits}
 use Rattle.change_rules.specs.Standard.{AreLimits}
@@ -17,7 +19,7 @@ use Rattle.change_rules.proofs.Changes.{count-last}
 use Rattle.remote_rules.specs.Mirror.{Mirror}
 use Rattle.remote_rules.specs.Honest.{IsHonest, IsSound}
 use Rattle.remote_rules.specs.Serving.{Serves, AllServe}
-use Rattle.step_rules.specs.State.{State, IsState, IsHeld, at_start}
+use Rattle.step_rules.specs.State.{State, IsState, IsHeld, at_start, start}
 use Rattle.step_rules.specs.Served.{IsServed}
 use Rattle.step_rules.specs.Reply.{Reply}
 use Rattle.step_rules.proofs.Kept.{start-is}
@@ -48,30 +50,49 @@ log-within limit bytes texts one le (inr h) =
     let b = batches-length texts in
     omega (arith, le, l, b)
 
--- no more was cloned than there is
-clone-bound : (before payloads : List Payload) (n : ℕ) → AreLawful before payloads → n ≡ count_after 0 before → (n ≤ count_after n payloads) × (cloned_count payloads ≤ count_after n payloads)
-clone-bound before [] n h e = (le_refl n, zero-le)
-clone-bound before (p ∷ payloads) n h e =
-    let rec = clone-bound (before ++ p ∷ []) payloads p.after h.1 (sym (count-last 0 before p)) in
+-- the master count never falls
+count-grows : (before payloads : List Payload) (n : ℕ) → AreLawful before payloads → n ≡ count_after 0 before → n ≤ count_after n payloads
+count-grows before [] n h e = le_refl n
+count-grows before (p ∷ payloads) n h e =
+    let rec = count-grows (before ++ p ∷ []) payloads p.after h.1 (sym (count-last 0 before p)) in
     let grows = h.0.whole.counts.grows in
     let from = h.0.count in
-    ((let a = rec.0 in omega (arith, a, grows, from, e)), by_test (p.kind == 2) rec.0 rec.1)
-  where
-    by_test : (b : Bool) → p.after ≤ count_after p.after payloads → cloned_count payloads ≤ count_after p.after payloads → (if b then p.after else cloned_count payloads) ≤ count_after p.after payloads
-    by_test true x y = x
-    by_test false x y = y
+    omega (arith, rec, grows, from, e)
+
+cloned-most : (p : Payload) → IsPayload p → p.cloned ≤ p.after
+cloned-most p h = ⊎_elim (λ (f : IsFlush p). let e = f.cloned in omega (arith, e))
+    (λ o. ⊎_elim (λ (c : IsClone p). let e = c.cloned in omega (arith, e)) (λ (w : grammar.IsWhole p). w.cloned) o) h.by_kind
+
+-- no more was cloned than there is
+clone-bound : (payloads : List Payload) → AreLawful [] payloads → cloned_count payloads ≤ count_after 0 payloads
+clone-bound [] h = zero-le
+clone-bound (p ∷ payloads) h =
+    let most = cloned-most p h.0.whole in let more = count-grows (p ∷ []) payloads p.after h.1 refl in omega (arith, most, more)
+
+-- mirrors that serve a world are honest where they tell their master
+pub served-sound : (cloned : ℕ) (w : World Name) (mirrors : List Mirror) → AllServe cloned w mirrors → AllByRecursion IsSound mirrors
+served-sound cloned w mirrors serve = all-each IsSound mirrors (λ m i. let s = each (Serves cloned w) mirrors serve.each m i in subst (λ o. MatchOption o (Unit {0}) (IsHonest m.cloned)) (sym s.1) s.2)
+
+pub start-held : (limits : Limits) (log : List ℕ) (w : World Name) (payloads : List Payload) → AreLimits limits → HoldAs limits.log log payloads w → IsHeld limits (start w payloads)
+start-held limits log w payloads fair hold =
+    let one : 1 ≤ limits.log = (let a = fair.log.0 in omega (arith, a)) in
+    let texts = same-texts hold.texts payloads hold.spelled in
+    record { hold = hold.hold; within = subst (λ t. log_length t ≤ limits.log) texts (log-within limits.log log hold.texts one hold.within hold.log) }
+
+-- where nothing was cloned yet, and later, no more was cloned than there is
+pub start-served : (limit : ℕ) (log : List ℕ) (w : World Name) (payloads : List Payload) (room : ℕ) (mirrors : List Mirror) → HoldAs limit log payloads w → AllServe (cloned_count payloads) w mirrors → IsServed (at_start w payloads room mirrors)
+start-served limit log w payloads room mirrors hold serve = record {
+  cloned = subst (λ n. cloned_count payloads ≤ n) hold.hold.stand.count (clone-bound payloads hold.hold.lawful);
+  mirrors = serve;
+}
 
 pub start-whole : (limits : Limits) (log : List ℕ) (w : World Name) (payloads : List Payload) (room : ℕ) (mirrors : List Mirror) → AreLimits limits → HoldAs limits.log log payloads w → AllServe (cloned_count payloads) w mirrors
     → IsWhole limits (at_start w payloads room mirrors)
-start-whole limits log w payloads room mirrors fair hold serve =
-    let sound : AllByRecursion IsSound mirrors = all-each IsSound mirrors (λ m i. let s = each (Serves (cloned_count payloads) w) mirrors serve.each m i in subst (λ o. MatchOption o (Unit {0}) (IsHonest m.cloned)) (sym s.1) s.2) in
-    let one : 1 ≤ limits.log = (let a = fair.log.0 in omega (arith, a)) in
-    let texts = same-texts hold.texts payloads hold.spelled in
-    record {
-      state = start-is w payloads room mirrors hold.hold.world sound;
-      held = record { hold = hold.hold; within = subst (λ t. log_length t ≤ limits.log) texts (log-within limits.log log hold.texts one hold.within hold.log) };
-      served = record { cloned = subst (λ n. cloned_count payloads ≤ n) hold.hold.stand.count (clone-bound [] payloads 0 hold.hold.lawful refl).1; mirrors = serve };
-    }
+start-whole limits log w payloads room mirrors fair hold serve = record {
+  state = start-is w payloads room mirrors hold.hold.world (served-sound (cloned_count payloads) w mirrors serve);
+  held = start-held limits log w payloads fair hold;
+  served = start-served limits.log log w payloads room mirrors hold serve;
+}
 
 pub from-start : (limits : Limits) (log : List ℕ) (w : World Name) (payloads : List Payload) (room : ℕ) (mirrors : List Mirror) (lines : List (List ℕ)) (replies : List Reply) (st : State)
     → AreLimits limits → HoldAs limits.log log payloads w → AllServe (cloned_count payloads) w mirrors → Run limits (at_start w payloads room mirrors) lines replies st

@@ -41,11 +41,16 @@ abbrev pub last_of : ℕ → List ℕ → ℕ
 last_of at [] = at
 last_of at (next ∷ more) = last_of next more
 
--- When the disk failed: while loading, or in one of the four calls behind the last change. Nothing else calls the disk.
-abbrev pub FailsAt : End → Told → List ℕ → ℕ → Type 0
-FailsAt NotLoaded old changes moment = moment ≤ loaded_at old
-FailsAt NotStored old changes moment = moment ≤ last_of (loaded_at old) changes + 8
-FailsAt end old changes moment = ⊤
+-- When each change was acknowledged: four calls of the disk behind the change before it, the first one behind loading.
+abbrev pub AreCommits : ℕ → List ℕ → Type 0
+AreCommits at [] = ⊤
+AreCommits at (next ∷ more) = (next ≡ at + 8) × AreCommits next more
+
+-- The disk's clock at the end is no later than that of the last change, or of loading; or else one of the four calls of a commit
+-- failed. Nothing else calls the disk.
+abbrev pub CallsEnd : End → Told → List ℕ → ℕ → Type 0
+CallsEnd NotStored old changes moment = moment ≤ last_of (loaded_at old) changes + 8
+CallsEnd end old changes moment = moment ≤ last_of (loaded_at old) changes
 
 -- where all was read the disk has the last state's payloads
 abbrev pub Keeps : End → ℕ → List Payload → Told → Type 0
@@ -69,7 +74,8 @@ pub record Means (limits : Limits) (w : World Name) (payloads : List Payload) (r
   -- all that was stored, and the change that a fault of the disk cut short
   pub final : Stored
   pub leaves : Leaves end limits last more mirrors_now final
-  pub calls : FailsAt end old changes (moment_of new)
+  pub each : AreCommits (loaded_at old) changes
+  pub calls : CallsEnd end old changes (moment_of new)
   pub stopped : Stopped limits.log w payloads changes final old new
   -- from the first sync on all is sure, unless loading failed
   pub sure : (stopped.sure ≤ moment_of old + 2) ⊎ (end ≡ NotLoaded)

@@ -1,9 +1,9 @@
 //! Runs over lines: which lines are commands, what a run answers, how it may end, and what a crash leaves of it.
 #![tactic(auto)]
 
-ghost use Rattle.std.specs.Prelude.{◌≡◌, ◌<◌, ◌≤◌, ◌⊎◌, ◌++◌, ℕ, List, [], ◌∷◌, length, map};
+ghost use Rattle.std.specs.Prelude.{◌≡◌, ◌<◌, ◌≤◌, ◌⊎◌, ◌++◌, ◌+◌, ℕ, List, [], ◌∷◌, length, map, take};
 ghost use Rattle.change_rules.specs.declared.Limits.{Limits};
-ghost use Rattle.step_rules.specs.State.{State, Stored, IsState, IsHeld, at_start};
+ghost use Rattle.step_rules.specs.State.{State, Stored, IsState, IsHeld, at_start, world_at};
 ghost use Rattle.step_rules.specs.Served.{IsServed};
 ghost use Rattle.change_rules.specs.Standard.{AreLimits};
 ghost use Rattle.change_rules.specs.Tables.{cloned_count};
@@ -15,7 +15,8 @@ ghost use Rattle.id_groups.specs.Lists.{IsIn};
 ghost use Rattle.run_rules.specs.Run.{Run, output_of};
 ghost use Rattle.run_rules.specs.Ends.{Streams, End, Done, NoMemory, NoLog};
 ghost use Rattle.run_rules.specs.Means.{Means, RefusesLog};
-ghost use Rattle.run_rules.specs.Stopped.{Stopped, ArePrefixes};
+ghost use Rattle.run_rules.specs.Stopped.{Stopped, ArePrefixes, acknowledged};
+ghost use Rattle.run_rules.specs.Premises.{Start};
 ghost use Rattle.line_io.specs.Lines.{lines_of};
 ghost use Rattle.gated_log.specs.Holding.{HasPayloads, KeepsOldOrNew};
 ghost use Rattle.gated_log.specs.Held.{Held};
@@ -24,7 +25,7 @@ ghost use Rattle.id_groups.specs.Name.{Name};
 ghost use Rattle.commit_graph.specs.World.{World};
 ghost use Rattle.batch_codec.specs.Payload.{Payload};
 ghost use Rattle.remote_rules.specs.Mirror.{Mirror};
-ghost use Rattle.disk_trait.specs.Images.{Told, moment_of};
+ghost use Rattle.disk_trait.specs.Images.{Told, LeftAt, fresh_disk, moment_of};
 ghost use Rattle.change_rules.specs.Holding.{HoldAs, HoldsNow};
 
 /// A run goes on with what is left.
@@ -80,6 +81,18 @@ pub fn stopped_cut_short()
         → next.past ≡ final.past ++ final.stored ∷ [] → next.payloads ≡ final.payloads ++ p ∷ [] → log.limit ≡ limit → log.payloads ≡ map text_of final.payloads
         → KeepsOldOrNew log (text_of p) mid new → moment_of mid ≤ moment_of new
         → Stopped limit w payloads changes next old new }
+{}
+
+/// What a crash leaves of a run is what another run may begin on. Until loading made its bytes sure it holds the world of the start;
+/// from then on the world that was stored by the last of the changes acknowledged up to then, or by one more.
+pub fn stopped_runs_begin()
+    ensures loading { (limits : Limits) (w : World Name) (payloads : List Payload) (changes : List ℕ) (final : Stored) (old new : Told) (s : Stopped limits.log w payloads changes final old new)
+        (moment : ℕ) (image : List ℕ) (lines : List (List ℕ)) → moment_of old ≤ moment → moment < s.sure → moment ≤ moment_of new → LeftAt new moment image
+        → (others : List Payload) × Start limits (fresh_disk image) w others [] lines }
+    ensures loaded { (limits : Limits) (w : World Name) (payloads : List Payload) (changes : List ℕ) (final : Stored) (old new : Told) (s : Stopped limits.log w payloads changes final old new)
+        (moment : ℕ) (image : List ℕ) (lines : List (List ℕ)) → moment_of old ≤ moment → s.sure ≤ moment → moment ≤ moment_of new → LeftAt new moment image
+        → (count : ℕ) × (count ≤ length final.past) × ((count ≡ acknowledged changes moment) ⊎ (count ≡ acknowledged changes moment + 1))
+        × Start limits (fresh_disk image) (world_at final count) (take (length payloads + count) final.payloads) [] lines }
 {}
 
 /// A disk that holds a world is never refused.

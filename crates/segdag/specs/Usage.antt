@@ -1,7 +1,7 @@
 -- When the words of the program, its own name in front, are a usage.
 use Rattle.std.specs.Prelude.{ℕ, ◌≡◌, List, [], ◌∷◌, drop, Option, None, MatchOption}
 use Rattle.std.specs.Option.{option_map}
-use Rattle.dag_run.specs.Modes.{IsUsageOf, IsDemoOf, RefusesWords}
+use Rattle.dag_run.specs.Modes.{IsUsageOf, IsRunOf, IsDemoOf, RefusesWords}
 use Rattle.dag_run.specs.Words.{dashes_at, split_of}
 use Rattle.program_words.specs.declared.usage.Mode.{Mode}
 
@@ -13,6 +13,10 @@ mode_words (name ∷ words) = option_map (λ split. drop split.rest words) (spli
 -- those there are a usage of this mode
 abbrev pub IsUsage : Mode → List (List ℕ) → Type 0
 IsUsage mode words = MatchOption (mode_words words) ⊥ (IsUsageOf mode)
+
+-- those are a usage of the run, with room for so many names that mirrors gave
+abbrev pub IsRun : ℕ → List (List ℕ) → Type 0
+IsRun cache words = MatchOption (mode_words words) ⊥ (IsRunOf cache)
 
 -- those are a usage of the demonstration of so many commits, whose parents are drawn from that number on
 abbrev pub IsDemo : ℕ → ℕ → List (List ℕ) → Type 0

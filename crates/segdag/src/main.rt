@@ -2,7 +2,7 @@
 
 //! The program `segdag`: answers command lines of standard input on standard output, over the log in a file.
 
-ghost use Rattle.std.specs.Prelude.{◌≡◌, ◌⊎◌, ◌<◌, ◌^◌, ◌==◌, ◌&&◌, not, length, map, string_bytes, if◌then◌else◌, ℕ, List};
+ghost use Rattle.std.specs.Prelude.{◌≡◌, ◌⊎◌, ◌<◌, ◌^◌, ◌==◌, ◌&&◌, not, length, map, string_bytes, if◌then◌else◌, ℕ, List, IfSome};
 ghost use Rattle.std.specs.Process.{exit_status};
 ghost use Rattle.outside.specs.Counts.{Rose};
 ghost use Rattle.outside.specs.Told.{WhereTold};
@@ -10,15 +10,18 @@ ghost use Rattle.id_groups.specs.Name.{Name};
 ghost use Rattle.commit_graph.specs.World.{World};
 ghost use Rattle.batch_codec.specs.Payload.{Payload};
 ghost use Rattle.change_rules.specs.Standard.{standard};
+ghost use Rattle.disk_trait.specs.Calls.{Goes};
+ghost use Rattle.dag_store.specs.Loading.{IsUntouched};
 ghost use Rattle.dag_run.specs.Seen.{seen};
-ghost use Rattle.dag_run.specs.Ends.{Begins, StatusMeans, StatusUnasked};
-ghost use Rattle.dag_run.specs.UnaskedEnds.{HasNoneToAsk};
+ghost use Rattle.dag_run.specs.Ends.{Begins, StatusMeans, StatusRefuses};
 ghost use Rattle.dag_run.specs.Demo.{DemoMeans};
 ghost use Rattle.dag_run.specs.Stops.{IsDemoStatus, IsStatus};
-ghost use Rattle.segdag.specs.Usage.{IsDemo, IsUsage, Refuses};
+ghost use Rattle.segdag.specs.Usage.{IsDemo, IsRun, IsUsage, Refuses};
 
+mod remotes;
 mod words;
 
+use crate::remotes::{remote_at, remotes_of};
 use crate::words::{log_of, mode_of};
 use dag_run::top;
 use disk_trait::Disk;
@@ -45,7 +48,7 @@ const NO_MEMORY: u8 = 7;
 const NOT_OPENED: u8 = 9;
 
 /// Answers the lines of the input over the log, or those of a demonstration, where the words, the program's own name in front, are a
-/// usage, and gives the status. No mirror is asked.
+/// usage, and gives the status. The mirrors are asked as the lines say, and the caller keeps those that are left.
 fn answer<D: Disk, I: Source, O: Sink>(
     alloc: Global,
     words: &[String],
@@ -59,15 +62,12 @@ fn answer<D: Disk, I: Source, O: Sink>(
     ensures known { IsStatus result }
     ensures usage { Refuses (map string_bytes words.now) result }
     ensures means { let first = map (λ b. (⟦<dyn Remote as Remote>⟧ b.vtable).shown b.value) mirrors.old.list.items in let left = map (λ b. (⟦<dyn Remote as Remote>⟧ b.vtable).shown b.value) mirrors.new.list.items in
-        (w : World Name) (payloads : List Payload) (room : ℕ) → IsUsage Mode.Run (map string_bytes words.now) → HasNoneToAsk payloads w first
+        (cache : ℕ) (w : World Name) (payloads : List Payload) → IsRun cache (map string_bytes words.now)
         → WhereTold (seen (D.told log.old) (I.left input.old) (O.taken output.old)) (seen (D.told log.new) (I.left input.new) (O.taken output.new))
-        (λ before after. Begins standard w payloads before → (changes : List ℕ) × StatusMeans standard w payloads room first left
+        (λ before after. Begins standard w payloads first before → (changes : List ℕ) × StatusMeans standard w payloads cache first left
         (Rose (D.faults log.old) (D.faults log.new)) (Rose (I.faults input.old) (I.faults input.new)) (Rose (O.faults output.old) (O.faults output.new)) result changes before after) }
-    ensures unasked { let first = map (λ b. (⟦<dyn Remote as Remote>⟧ b.vtable).shown b.value) mirrors.old.list.items in let left = map (λ b. (⟦<dyn Remote as Remote>⟧ b.vtable).shown b.value) mirrors.new.list.items in
-        (w : World Name) (payloads : List Payload) (room : ℕ) → IsUsage Mode.Run (map string_bytes words.now)
-        → WhereTold (seen (D.told log.old) (I.left input.old) (O.taken output.old)) (seen (D.told log.new) (I.left input.new) (O.taken output.new))
-        (λ before after. Begins standard w payloads before → (changes : List ℕ) × StatusUnasked standard w payloads room first left
-        (Rose (D.faults log.old) (D.faults log.new)) (Rose (I.faults input.old) (I.faults input.new)) (Rose (O.faults output.old) (O.faults output.new)) result changes before after) }
+    ensures refuses { IsUsage Mode.Run (map string_bytes words.now) → IfSome (D.bytes log.old) (λ bytes. StatusRefuses standard.log bytes result) }
+    ensures unwritten { result ≡ 4 → Goes IsUntouched (D.told log.old) (D.told log.new) × (input.new ≡ input.old) × (output.new ≡ output.old) × (mirrors.new ≡ mirrors.old) }
     ensures demo { (size start : ℕ) → IsDemo size start (map string_bytes words.now) → WhereTold (O.taken output.old) (O.taken output.new) (DemoMeans size start result) }
     ensures aside { IsUsage Mode.Demo (map string_bytes words.now) → IsDemoStatus result × (log.new ≡ log.old) × (mirrors.new ≡ mirrors.old) × (input.new ≡ input.old) }
     ensures quiet { (result ≡ 2) ⊎ (result ≡ 7) → (input.new ≡ input.old) × (output.new ≡ output.old) × (mirrors.new ≡ mirrors.old) }
@@ -114,13 +114,20 @@ fn own_status(status: u8, is_opened: bool) -> u8
     status
 }
 
-/// Answers the lines of standard input on standard output over the log at this path, and gives the status.
+/// Answers the lines of standard input on standard output over the log at this path, beside the remotes that the words name, and
+/// gives the status.
 fn run_over(rt: &HostRuntime, words: &[String], path: &str) -> Result<u8, AllocError>
     requires { length words.now < 2 ^ 32 }
 {
     let mut log = disk_at(rt, path, "")?;
     let mut spare = disk_at(rt, path, ".new")?;
-    let mut mirrors = Mirrors::new(Vec::new(rt.alloc()));
+    let paths = remotes_of(words);
+    let mut list: Vec<Box<dyn Remote>> = Vec::new(rt.alloc());
+    'paths: for path in paths {
+        let remote = remote_at(rt, path.as_str())?;
+        list.push(Box::new(rt.alloc(), remote)?)?;
+    }
+    let mut mirrors = Mirrors::new(list);
     let mut input = StdSource::new(rt.reader());
     let mut output = StdSink::new(io::writer(rt));
     let status = answer(

@@ -1,7 +1,7 @@
 use Rattle.std.proofs.Common.{◌≡◌, sym, subst}
 use Rattle.std.specs.Prelude.{MatchOption}
 use Rattle.outside.proofs.ToldLemmas.{WhereTold-map}
-use Rattle.dag_run.specs.Modes.{IsUsageOf, IsDemoOf, RefusesWords}
+use Rattle.dag_run.specs.Modes.{IsUsageOf, IsRunOf, IsDemoOf, RefusesWords}
 use Rattle.dag_run.specs.Seen.{seen}
 use Rattle.program_words.specs.declared.usage.Mode.TheVariants.{Run, Demo}
 use Rattle.segdag.proofs.answer.Goals as goal
@@ -11,18 +11,14 @@ returns-clause-usage g c =
     subst (λ mode. MatchOption mode (c.top.result.status ≡ 2) (λ w. RefusesWords w c.top.result.status)) (sym c.in-Some.ensures) c.top.ensures.usage
 
 pub returns-clause-means : goal.returns-clause-means
-returns-clause-means g c = λ w payloads room used none.
-    let of = subst (λ mode. MatchOption mode ⊥ (IsUsageOf Run)) c.in-Some.ensures used in
+returns-clause-means g c = λ cache w payloads used.
+    let of = subst (λ mode. MatchOption mode ⊥ (IsRunOf cache)) c.in-Some.ensures used in
     WhereTold-map (seen (g.D.Disk.told c.args.log.now) (g.I.Source.left c.args.input.now) (g.O.Sink.taken c.args.output.now))
     (seen (g.D.Disk.told c.top.new.log) (g.I.Source.left c.top.new.input) (g.O.Sink.taken c.top.new.output)) _ _
-    (λ before after means begins. (c.top.result.changes, means begins)) (c.top.ensures.means w payloads room of none)
+    (λ before after means begins. (c.top.result.changes, means begins)) (c.top.ensures.means cache w payloads of)
 
-pub returns-clause-unasked : goal.returns-clause-unasked
-returns-clause-unasked g c = λ w payloads room used.
-    let of = subst (λ mode. MatchOption mode ⊥ (IsUsageOf Run)) c.in-Some.ensures used in
-    WhereTold-map (seen (g.D.Disk.told c.args.log.now) (g.I.Source.left c.args.input.now) (g.O.Sink.taken c.args.output.now))
-    (seen (g.D.Disk.told c.top.new.log) (g.I.Source.left c.top.new.input) (g.O.Sink.taken c.top.new.output)) _ _
-    (λ before after means begins. (c.top.result.changes, means begins)) (c.top.ensures.unasked w payloads room of)
+pub returns-clause-refuses : goal.returns-clause-refuses
+returns-clause-refuses g c = λ used. c.top.ensures.refuses (subst (λ mode. MatchOption mode ⊥ (IsUsageOf Run)) c.in-Some.ensures used)
 
 pub returns-clause-demo : goal.returns-clause-demo
 returns-clause-demo g c = λ size start used.

@@ -20,4 +20,4 @@ returns-in-Ok-clause-begins g c =
     let store = c.in-Ok.store in
     let d = g.D.Disk.told c.args.log.now in
     let opens = rw c.standard.ensures at c.in-Ok.ensures.opens [] empty_world in
-    opened store d c.requires (of_told (λ bytes. HoldAs standard.log bytes [] empty_world → Opens standard [] empty_world (Ok store)) (g.D.Disk.bytes c.args.log.now) d (g.met.D.Disk.tells c.args.log.now) opens)
+    opened store d c.in-Ok.ensures.cache c.requires (of_told (λ bytes. HoldAs standard.log bytes [] empty_world → Opens standard [] empty_world (Ok store)) (g.D.Disk.bytes c.args.log.now) d (g.met.D.Disk.tells c.args.log.now) opens)

@@ -22,7 +22,7 @@ returns-in-TooLong-clause-step g c =
       WhereTold-map (g.O.Sink.taken c.args.output.now) (g.O.Sink.taken c.tell.new.output) (PutsReply store LongLine r) _
           (λ before now put line is.
           let long = long-line line (subst (λ (k : Line). IsLine k text line) c.in-TooLong.is is) in
-          line-told _ failed store line r LongLine before now (long-not-silent line long) (λ st. long-step store.limits _ st line long) put)
+          line-told _ failed store line r LongLine before now (long-not-silent line long) (λ st. long-step store.limits st line long) put)
           c.tell.ensures.bytes,
     )
 

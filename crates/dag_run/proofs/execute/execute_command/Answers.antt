@@ -1,12 +1,10 @@
-use Rattle.std.proofs.Common.{[], None, refl, ap, subst}
+use Rattle.std.proofs.Common.{[], None, refl, sym, ap, ◌∙◌}
 use Rattle.outside.specs.Counts.{Rose}
-use Rattle.outside.specs.Told.{WhereTold}
 use Rattle.set_expr.specs.Whole.{tree_of}
-use Rattle.step_rules.specs.Verb.{Flush, Query}
+use Rattle.step_rules.specs.Verb.{Clone, Flush, Query}
 use Rattle.command_lines.specs.Meant.{meant}
 use Rattle.command_lines.specs.Told.{told}
-use Rattle.dag_run.specs.Lines.{CommandReplies}
-use Rattle.dag_run.proofs.Doing.{still-goes, told-beside, brief-told}
+use Rattle.dag_run.proofs.Doing.{kept-goes, still-goes, told-as, brief-told}
 use Rattle.dag_run.proofs.execute.execute_command.Goals as goal
 
 pub returns-in-Flush-clause-step : goal.returns-in-Flush-clause-step
@@ -16,8 +14,17 @@ returns-in-Flush-clause-step g c =
       step.1,
       step.2,
       step.3,
-      told-beside _ (Rose (g.O.Sink.faults c.args.output.now) (g.O.Sink.faults c.flush.new.output)) c.args.store c.args.command.now.session (Flush c.in-Flush.heads) (meant c.args.command.now.verb) step.0 step.1 c.flush.result (g.O.Sink.taken c.args.output.now) (g.O.Sink.taken c.flush.new.output) (ap meant c.in-Flush.is) tt
-          (subst (λ heads. WhereTold (g.O.Sink.taken c.args.output.now) (g.O.Sink.taken c.flush.new.output) (CommandReplies (Rose (g.O.Sink.faults c.args.output.now) (g.O.Sink.faults c.flush.new.output)) c.args.store c.args.command.now.session (Flush heads) step.0 step.1 c.flush.result)) c.names.ensures step.4),
+      told-as _ _ (Rose (g.O.Sink.faults c.args.output.now) (g.O.Sink.faults c.flush.new.output)) c.args.store c.args.command.now.session (Flush c.names.result.now) (meant c.args.command.now.verb) step.0 step.1 c.flush.result (g.O.Sink.taken c.args.output.now) (g.O.Sink.taken c.flush.new.output) (ap meant c.in-Flush.is ∙ ap Flush (sym c.names.ensures)) step.4,
+    )
+
+pub returns-in-Clone-clause-step : goal.returns-in-Clone-clause-step
+returns-in-Clone-clause-step g c =
+    let step = c.take_clone.ensures.step in (
+      step.0,
+      step.1,
+      step.2,
+      step.3,
+      told-as _ _ (Rose (g.O.Sink.faults c.args.output.now) (g.O.Sink.faults c.take_clone.new.output)) c.args.store c.args.command.now.session Clone (meant c.args.command.now.verb) step.0 step.1 c.take_clone.result (g.O.Sink.taken c.args.output.now) (g.O.Sink.taken c.take_clone.new.output) (ap meant c.in-Clone.is) step.4,
     )
 
 pub returns-in-Query-clause-step : goal.returns-in-Query-clause-step
@@ -27,8 +34,8 @@ returns-in-Query-clause-step g c =
       [],
       None,
       refl,
-      still-goes old old [] c.list.result (g.D.Disk.told c.args.log.now) c.list.ensures.same c.list.ensures.stop refl,
-      told-beside _ failed old c.args.command.now.session (Query (tree_of c.in-Query.expr)) (meant c.args.command.now.verb) [] None c.list.result (g.O.Sink.taken c.args.output.now) (g.O.Sink.taken c.list.new.output) (ap meant c.in-Query.is) tt c.list.ensures.told,
+      kept-goes old [] c.list.result (g.D.Disk.told c.args.log.now) c.list.ensures.kept c.list.ensures.stop,
+      told-as _ _ failed old c.args.command.now.session (Query (tree_of c.in-Query.expr)) (meant c.args.command.now.verb) [] None c.list.result (g.O.Sink.taken c.args.output.now) (g.O.Sink.taken c.list.new.output) (ap meant c.in-Query.is) c.list.ensures.told,
     )
 
 pub returns-in_default-clause-step : goal.returns-in_default-clause-step

@@ -42,6 +42,6 @@ returns-in-Err-clause-step g c =
           let e = text-short text text (refl, le) in
           let why : IsUnreadFor text fault = rw c.in-Err.is at is in
           line-told _ failed store text r (reply_of_fault fault) before now (short-silent text text false e heard)
-          (λ st. fault-step store.limits _ st text fault (reply_of_fault fault) e.short refl why.syntax why.memory) put)
+          (λ st. fault-step store.limits st text fault (reply_of_fault fault) e.short refl why.syntax why.memory) put)
           c.tell_unread.ensures.bytes,
     )

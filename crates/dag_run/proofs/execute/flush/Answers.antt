@@ -1,14 +1,12 @@
-use Rattle.std.proofs.Common.{[], None, Err, refl, ap, ◌∙◌}
+use Rattle.std.proofs.Common.{[], None, Err, refl, sym, ap, ◌∙◌}
 use Rattle.outside.specs.Counts.{Rose}
 use Rattle.outside.proofs.ToldLemmas.{WhereTold-map}
 use Rattle.step_rules.specs.declared.Refusal.TheVariants as why
 use Rattle.step_rules.specs.Verb.{Flush}
-use Rattle.step_rules.specs.Reply.{Refused, Flushed}
-use Rattle.dag_store.specs.Flushes.{flush_end}
+use Rattle.step_rules.specs.Reply.{Flushed, Refused}
 use Rattle.dag_run.specs.Lines.{changes_with, CommandReplies, PutsFault}
 use Rattle.dag_run.specs.declared.stops.Stop.TheVariants as stops
-use Rattle.dag_run.proofs.Solo.{lone-alone}
-use Rattle.dag_run.proofs.Doing.{still-goes, flush-goes, refused-goes, short-goes, limit-of, flush-changes, change-of, memory-alone, command-told}
+use Rattle.dag_run.proofs.Doing.{still-goes, flush-goes, refused-goes, short-goes, limit-of, memory-step, command-told, flush-next, flush-changes, change-of, refused-changes}
 use Rattle.dag_run.proofs.execute.flush.Goals as goal
 
 pub returns-then-is_err-clause-step : goal.returns-then-is_err-clause-step
@@ -20,8 +18,8 @@ returns-then-is_err-clause-step g c =
       None,
       c.try_reserve.ensures.items,
       still-goes store store [] c.tell.result (g.D.Disk.told c.args.log.now) c.tell.ensures.same c.tell.ensures.stop refl,
-      command-told (Rose (g.O.Sink.faults c.args.output.now) (g.O.Sink.faults c.tell.new.output)) store store c.args.s verb [] None c.tell.result (Refused why.Memory) o p
-          (λ began st h. (st, memory-alone store.limits st c.args.s verb tt tt, (refl, refl), h)) c.tell.ensures.bytes,
+      command-told _ _ (Rose (g.O.Sink.faults c.args.output.now) (g.O.Sink.faults c.tell.new.output)) store store c.args.s verb [] None c.tell.result (Refused why.Memory) o p
+          (λ began st h enough. (st, memory-step store.limits st c.args.s verb tt, (refl, refl), h)) c.tell.ensures.bytes,
     )
 
 pub returns-in-Done-clause-step : goal.returns-in-Done-clause-step
@@ -39,10 +37,8 @@ returns-in-Done-clause-step g c =
       c.note.ensures ∙ ap (λ l. changes_with l clock) c.try_reserve.ensures.items,
       flush-goes old new step.0 r c.args.s counts clock (g.D.Disk.told c.args.log.now) (g.D.Disk.told c.flush.new.disk) c.tell-in-Done.ensures.same c.tell-in-Done.ensures.stop
           (limit-of old c.log_limit-limit.result c.log_limit-limit.ensures.limits c.log_limit-limit.ensures.log) c.in-Done.ensures.leaves step.1,
-      command-told (Rose (g.O.Sink.faults c.args.output.now) (g.O.Sink.faults c.tell-in-Done.new.output)) old new c.args.s verb step.0 clock r (Flushed counts.master counts.others) o p
-          (λ began st h.
-          let f = step.2 began st h in
-          (flush_end st c.args.s c.args.heads.now, lone-alone old.limits st c.args.s verb (Flushed counts.master counts.others) (flush_end st c.args.s c.args.heads.now) tt f.0, flush-changes clock st c.args.s c.args.heads.now step.0 f.2, f.1))
+      command-told _ _ (Rose (g.O.Sink.faults c.args.output.now) (g.O.Sink.faults c.tell-in-Done.new.output)) old new c.args.s verb step.0 clock r (Flushed counts.master counts.others) o p
+          (λ began st h enough. let f = step.2 began st h enough.0 in (f.0.0, f.0.1, flush-changes clock st.store c.args.s c.args.heads.now step.0 f.0.0.store (flush-next old.limits st c.args.s c.args.heads.now counts.master counts.others f.0.0 f.0.1) f.2, f.0.2))
           c.tell-in-Done.ensures.bytes,
     )
 
@@ -59,8 +55,8 @@ returns-in-Refused-clause-step g c =
       None,
       c.try_reserve.ensures.items,
       refused-goes old new step.0 r refusal (g.D.Disk.told c.args.log.now) (g.D.Disk.told c.flush.new.disk) c.tell-in-Refused.ensures.same c.tell-in-Refused.ensures.stop c.in-Refused.ensures.leaves.1 step.1,
-      command-told (Rose (g.O.Sink.faults c.args.output.now) (g.O.Sink.faults c.tell-in-Refused.new.output)) old new c.args.s verb step.0 None r (Refused refusal) o p
-          (λ began st h. let f = step.2 began st h in (st, lone-alone old.limits st c.args.s verb (Refused refusal) st tt f.0, (refl, refl), f.1))
+      command-told _ _ (Rose (g.O.Sink.faults c.args.output.now) (g.O.Sink.faults c.tell-in-Refused.new.output)) old new c.args.s verb step.0 None r (Refused refusal) o p
+          (λ began st h enough. let f = step.2 began st h enough.0 in (f.0, f.1, refused-changes old.limits st c.args.s verb refusal f.0 f.1, f.2))
           c.tell-in-Refused.ensures.bytes,
     )
 
@@ -75,9 +71,7 @@ returns-in-Disk-clause-step g c =
       None,
       c.try_reserve.ensures.items,
       short-goes old step.0 None c.in-Disk.field-0 (g.D.Disk.told c.args.log.now) (g.D.Disk.told c.flush.new.disk) (limit-of old c.log_limit-limit.result c.log_limit-limit.ensures.limits c.log_limit-limit.ensures.log) step.1,
-      WhereTold-map o p (PutsFault failed) (CommandReplies failed old c.args.s verb step.0 None (Err stops.NotStored))
-          (λ before now put began st h.
-          let f = step.2 began st h in
-          (Flushed _ _, flush_end st c.args.s c.args.heads.now, lone-alone old.limits st c.args.s verb _ (flush_end st c.args.s c.args.heads.now) tt f.0, change-of st c.args.s c.args.heads.now step.0 f.1, refl, put))
+      WhereTold-map o p (PutsFault failed) (CommandReplies _ _ failed old c.args.s verb step.0 None (Err stops.NotStored))
+          (λ before now put began st h enough. let f = step.2 began st h enough.0 in (Flushed _ _, f.0, f.1, change-of st.store c.args.s c.args.heads.now step.0 f.0.store f.2 f.4, sym f.3, refl, put))
           c.tell_fault.ensures.bytes,
     )

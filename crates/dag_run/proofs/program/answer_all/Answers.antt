@@ -1,4 +1,4 @@
-use Rattle.std.proofs.Common.{◌≡◌, map, Ok, Err, ⊎_elim, sym, ap, ◌∙◌}
+use Rattle.std.proofs.Common.{◌≡◌, map, Ok, Err, ⊎_elim, refl, sym, ap, ◌∙◌}
 use Rattle.std.proofs.lemmas.Result.{err_from_is_err_and}
 use Rattle.outside.specs.Counts.{Rose}
 use Rattle.outside.proofs.ToldLemmas.{WhereTold-join}
@@ -19,13 +19,13 @@ use Rattle.dag_run.proofs.Statuses.{answer-never, load-refuses, line-refuses, lo
 use Rattle.dag_run.proofs.program.answer_all.Goals as goal
 
 pub returns-in_err-store-clause-means : goal.returns-in_err-store-clause-means
-returns-in_err-store-clause-means g c = λ w payloads room.
+returns-in_err-store-clause-means g c = λ w payloads.
     let p = err_from_is_err_and c.from_residual.result c.from_residual.ensures.1 in
     let limits = c.args.limits in
     let stop = c.in_err-store.field-0.0 in
     let failed : Type 0 = Rose (g.O.Sink.faults c.args.output.now) (g.O.Sink.faults c.load.new.output) in
     let d = g.D.Disk.told c.args.log.now in let e = g.D.Disk.told c.load.new.log in
-    rw (p.1, p.2, c.requires.none) (load-stops limits c.requires.limits w payloads room _ failed d e (g.I.Source.left c.args.input.now) (g.O.Sink.taken c.args.output.now) (g.O.Sink.taken c.load.new.output) stop
+    rw (p.1, p.2, c.requires.none) (load-stops limits c.requires.limits w payloads c.args.cache _ failed d e (g.I.Source.left c.args.input.now) (g.O.Sink.taken c.args.output.now) (g.O.Sink.taken c.load.new.output) stop
     (of_told (λ bytes. HoldAs limits.log bytes payloads w → OpensRun payloads w (Err stop)) (g.D.Disk.bytes c.args.log.now) d (g.met.D.Disk.tells c.args.log.now) (c.in_err-store.ensures.opens payloads w))
     (c.in_err-store.ensures.images w) (λ no. c.in_err-store.ensures.sure (λ e. no (cc e)) (map text_of payloads)) c.in_err-store.ensures.calls c.in_err-store.ensures.stop c.in_err-store.ensures.puts)
 
@@ -39,7 +39,7 @@ returns-in_err-store-clause-unwritten g c = λ e.
     let p = err_from_is_err_and c.from_residual.result c.from_residual.ensures.1 in
     let is : Err c.in_err-store.field-0.0 ≡ Err stops.NoLog = ap Err (sym p.2) ∙ sym p.1 ∙ e in
     let same : c.in_err-store.field-0.0 ≡ stops.NoLog = cc is in
-    (c.in_err-store.ensures.unwritten (ap Err same), c.in_err-store.ensures.quiet (λ no. log-not-loaded c.in_err-store.field-0.0 same (cc no)))
+    (c.in_err-store.ensures.unwritten (ap Err same), refl, c.in_err-store.ensures.quiet (λ no. log-not-loaded c.in_err-store.field-0.0 same (cc no)), refl)
 
 pub answer_lines-requires : goal.answer_lines-requires
 answer_lines-requires g c =
@@ -47,7 +47,7 @@ answer_lines-requires g c =
     record { ready = goes-new (IsLoadedStore store) (IsOnDisk store.log) (g.D.Disk.told c.args.log.now) (g.D.Disk.told c.load.new.log) (λ x y r. r.on_disk) c.in_ok-store.ensures.done }
 
 pub returns-clause-means : goal.returns-clause-means
-returns-clause-means g c = λ w payloads room.
+returns-clause-means g c = λ w payloads.
     let store = c.in_ok-store.store in
     let limits = c.args.limits in
     let d = g.D.Disk.told c.args.log.now in let e = g.D.Disk.told c.load.new.log in
@@ -66,10 +66,10 @@ returns-clause-means g c = λ w payloads room.
     (Each Q (λ x y. y ≡ x) (λ x y. y ≡ x)) _ _
     (λ x y z t means begins.
     means x begins
-    (going-begin limits c.requires.limits w payloads room _ x begins store y c.args.changes.now.items c.args.lines.now c.requires.none c.requires.new
-    c.in_ok-store.ensures.limits (t.disk.0 begins.read) (t.disk.1.0 begins.holds) t.disk.1.1.0 t.disk.1.1.1 t.left t.taken))
+    (going-begin limits c.requires.limits w payloads c.args.cache _ x begins store y c.args.changes.now.items c.args.lines.now c.requires.none c.requires.new
+    c.in_ok-store.ensures.limits c.in_ok-store.ensures.cache (t.disk.0 begins.0.read) (t.disk.1.0 begins.0.holds) t.disk.1.1.0 t.disk.1.1.1 t.left t.taken))
     (seen-each d e i i o q Q (λ x y. y ≡ x) (λ x y. y ≡ x) (goes-told Q d e disk) (same-told i) c.in_ok-store.ensures.puts)
-    (c.answer_lines.ensures.means limits w payloads room _ (g.O.Sink.faults c.args.output.now) c.requires.limits c.in_ok-store.ensures.limits c.in_ok-store.ensures.sink_later)
+    (c.answer_lines.ensures.means limits w payloads c.args.cache _ (g.O.Sink.faults c.args.output.now) c.requires.limits c.in_ok-store.ensures.limits c.in_ok-store.ensures.sink_later)
 
 pub returns-clause-refuses : goal.returns-clause-refuses
 returns-clause-refuses g c =

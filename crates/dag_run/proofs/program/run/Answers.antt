@@ -8,12 +8,12 @@ use Rattle.dag_run.proofs.Statuses.{refuses-nothing}
 use Rattle.dag_run.proofs.program.run.Goals as goal
 
 pub returns-in_err-lines-clause-means : goal.returns-in_err-lines-clause-means
-returns-in_err-lines-clause-means g c = λ w payloads room.
+returns-in_err-lines-clause-means g c = λ w payloads.
     let p = err_from_is_err_and c.from_residual.result c.from_residual.ensures.1 in
     let failed : Type 0 = Rose (g.O.Sink.faults c.args.output.now) (g.O.Sink.faults c.args.output.now) in
     rw (p.1, p.2, c.requires.none) (WhereTold-same (seen (g.D.Disk.told c.args.log.now) (g.I.Source.left c.args.input.now) (g.O.Sink.taken c.args.output.now))
     _
-    (λ x begins. ends-unread c.args.limits c.requires.limits w payloads room _ failed x begins x refl refl refl))
+    (λ x begins. ends-unread c.args.limits c.requires.limits w payloads c.args.cache _ failed x begins x refl refl refl))
 
 pub returns-in_err-lines-clause-refuses : goal.returns-in_err-lines-clause-refuses
 returns-in_err-lines-clause-refuses g c =

@@ -6,26 +6,14 @@ use Rattle.outside.specs.Told.{WhereTold}
 use Rattle.disk_trait.proofs.Telling.{of_told}
 use Rattle.dag_run.proofs.Seeing.{same-told}
 use Rattle.dag_run.specs.Ends.{RunRefuses}
-use Rattle.dag_run.proofs.Statuses.{status-known, of-disk, of-log, of-source, of-sink, of-memory, run-unasked, told-means, status-refuses, no-log}
+use Rattle.dag_run.proofs.Statuses.{status-known, of-disk, of-log, of-source, of-sink, of-memory, run-means, status-refuses, no-log}
 use Rattle.dag_run.proofs.program.run_lines.Goals as goal
 
 pub returns-clause-known : goal.returns-clause-known
 returns-clause-known g c = rw c.status.ensures (status-known c.run-end.result)
 
-pub returns-clause-unasked : goal.returns-clause-unasked
-returns-clause-unasked g c = λ w payloads room.
-    let limits = c.args.limits in
-    let end = c.run-end.result in
-    let cs = c.run-end.new.changes.items in
-    let a = seen (g.D.Disk.told c.args.log.now) (g.I.Source.left c.args.input.now) (g.O.Sink.taken c.args.output.now) in
-    let b = seen (g.D.Disk.told c.run-end.new.log) (g.I.Source.left c.run-end.new.input) (g.O.Sink.taken c.run-end.new.output) in
-    let disk : Type 0 = Rose (g.D.Disk.faults c.args.log.now) (g.D.Disk.faults c.run-end.new.log) in
-    let source : Type 0 = Rose (g.I.Source.faults c.args.input.now) (g.I.Source.faults c.run-end.new.input) in
-    let sink : Type 0 = Rose (g.O.Sink.faults c.args.output.now) (g.O.Sink.faults c.run-end.new.output) in
-    run-unasked limits w payloads room _ _ disk source sink end c.status.result cs c.of.result a b c.status.ensures c.of.ensures c.run-end.ensures.disk c.run-end.ensures.source c.run-end.ensures.sink (c.run-end.ensures.means w payloads room)
-
 pub returns-clause-means : goal.returns-clause-means
-returns-clause-means g c = λ w payloads room none.
+returns-clause-means g c = λ w payloads.
     let limits = c.args.limits in
     let end = c.run-end.result in
     let cs = c.run-end.new.changes.items in
@@ -34,8 +22,7 @@ returns-clause-means g c = λ w payloads room none.
     let disk : Type 0 = Rose (g.D.Disk.faults c.args.log.now) (g.D.Disk.faults c.run-end.new.log) in
     let source : Type 0 = Rose (g.I.Source.faults c.args.input.now) (g.I.Source.faults c.run-end.new.input) in
     let sink : Type 0 = Rose (g.O.Sink.faults c.args.output.now) (g.O.Sink.faults c.run-end.new.output) in
-    told-means limits w payloads room _ _ disk source sink c.status.result c.of.result a b none
-    (run-unasked limits w payloads room _ _ disk source sink end c.status.result cs c.of.result a b c.status.ensures c.of.ensures c.run-end.ensures.disk c.run-end.ensures.source c.run-end.ensures.sink (c.run-end.ensures.means w payloads room))
+    run-means limits w payloads c.args.cache _ _ disk source sink end c.status.result cs c.of.result a b c.status.ensures c.of.ensures c.run-end.ensures.disk c.run-end.ensures.source c.run-end.ensures.sink (c.run-end.ensures.means w payloads)
 
 pub returns-clause-refuses : goal.returns-clause-refuses
 returns-clause-refuses g c = status-refuses c.args.limits.log (g.D.Disk.bytes c.args.log.now) c.run-end.result c.status.result c.status.ensures c.run-end.ensures.refuses
@@ -64,6 +51,6 @@ returns-clause-no_log g c =
     let i = g.I.Source.left c.args.input.now in let j = g.I.Source.left c.run-end.new.input in
     let o = g.O.Sink.taken c.args.output.now in let p = g.O.Sink.taken c.run-end.new.output in
     let sink : Type 0 = Rose (g.O.Sink.faults c.args.output.now) (g.O.Sink.faults c.run-end.new.output) in
-    no-log limits c.status.result d e i j o p _ end c.status.ensures (c.run-end.ensures.means empty_world [] 0)
-    (λ is. let u = c.run-end.ensures.unwritten is in (u.0, subst (λ out. WhereTold o (g.O.Sink.taken out) (λ x y. y ≡ x)) (sym u.1) (same-told o)))
+    no-log limits c.status.result d e i j o p _ end c.status.ensures (c.run-end.ensures.means empty_world [])
+    (λ is. let u = c.run-end.ensures.unwritten is in (u.0, subst (λ out. WhereTold o (g.O.Sink.taken out) (λ x y. y ≡ x)) (sym u.2) (same-told o)))
     (of_told (λ bytes. RunRefuses limits.log bytes end) (g.D.Disk.bytes c.args.log.now) d (g.met.D.Disk.tells c.args.log.now) c.run-end.ensures.refuses)

@@ -5,35 +5,28 @@ use Rattle.program_words.specs.declared.usage.Mode.TheVariants.{Demo}
 use Rattle.dag_run.specs.Demo.{DemoMeans}
 use Rattle.dag_run.specs.Modes.{EndsAtOnce}
 use Rattle.dag_run.specs.Seen.{seen}
-use Rattle.dag_run.proofs.Statuses.{told-means}
-use Rattle.dag_run.proofs.Usages.{once-unasked, once-refuses, once-demo, one-mode, run-or-demo, of-demo, size-least, demo-means}
+use Rattle.dag_run.proofs.Usages.{once-means, cache-least, one-cache, once-refuses, once-demo, one-mode, run-or-demo, of-demo, size-least, demo-means}
 use Rattle.dag_run.proofs.program.top.Goals as goal
 
-pub returns-in-Err-clause-unasked : goal.returns-in-Err-clause-unasked
-returns-in-Err-clause-unasked g c = λ w payloads room of.
+pub returns-in-Err-clause-means : goal.returns-in-Err-clause-means
+returns-in-Err-clause-means g c = λ cache w payloads of.
     let fair : AreLimits standard = search rules in
     let words = map string_bytes c.args.words.now in
     let once = subst (EndsAtOnce words) (sym c.idle.ensures.status) c.in-Err.ensures in
-    once-unasked standard fair words c.idle.result.status c.idle.result.changes once of c.idle.ensures.changes w payloads room _ _ _ _
+    once-means standard fair words c.idle.result.status c.idle.result.changes cache once of c.idle.ensures.changes w payloads _ _ _ _
     (g.D.Disk.told c.args.log.now) (g.I.Source.left c.args.input.now) (g.O.Sink.taken c.args.output.now)
 
-pub returns-in-Err-clause-means : goal.returns-in-Err-clause-means
-returns-in-Err-clause-means g c = λ w payloads room of none.
-    let fair : AreLimits standard = search rules in
-    let words = map string_bytes c.args.words.now in
-    let once = subst (EndsAtOnce words) (sym c.idle.ensures.status) c.in-Err.ensures in
-    let d = g.D.Disk.told c.args.log.now in let i = g.I.Source.left c.args.input.now in let o = g.O.Sink.taken c.args.output.now in
-    told-means standard w payloads room _ _ _ _ _ c.idle.result.status c.idle.result.changes (seen d i o) (seen d i o) none
-    (once-unasked standard fair words c.idle.result.status c.idle.result.changes once of c.idle.ensures.changes w payloads room _ _ _ _ d i o)
+pub run_lines-requires-clause-cache : goal.run_lines-requires-clause-cache
+run_lines-requires-clause-cache g c = cache-least (map string_bytes c.args.words.now) c.in-Ok.usage c.in-Ok.ensures
 
 pub returns-in-Run-clause-means : goal.returns-in-Run-clause-means
-returns-in-Run-clause-means g c = λ w payloads room of none. rw c.standard.ensures at c.run_lines.ensures.means w payloads room none
-
-pub returns-in-Run-clause-unasked : goal.returns-in-Run-clause-unasked
-returns-in-Run-clause-unasked g c = λ w payloads room of. rw c.standard.ensures at c.run_lines.ensures.unasked w payloads room
+returns-in-Run-clause-means g c = λ cache w payloads of.
+    let words = map string_bytes c.args.words.now in
+    let means = rw c.standard-limits.ensures at c.run_lines.ensures.means w payloads in
+    rw (sym (one-cache words c.in-Ok.usage cache c.in-Ok.ensures of)) means
 
 pub returns-in-Run-clause-refuses : goal.returns-in-Run-clause-refuses
-returns-in-Run-clause-refuses g c = λ of. rw c.standard.ensures at c.run_lines.ensures.refuses
+returns-in-Run-clause-refuses g c = λ of. rw c.standard-limits.ensures at c.run_lines.ensures.refuses
 
 pub returns-in-Err-clause-no_log : goal.returns-in-Err-clause-no_log
 returns-in-Err-clause-no_log g c = λ of.
@@ -42,7 +35,7 @@ returns-in-Err-clause-no_log g c = λ of.
     once-refuses standard words c.idle.result.status once of (g.D.Disk.told c.args.log.now) (g.I.Source.left c.args.input.now) (g.O.Sink.taken c.args.output.now)
 
 pub returns-in-Run-clause-no_log : goal.returns-in-Run-clause-no_log
-returns-in-Run-clause-no_log g c = λ of. rw c.standard.ensures at c.run_lines.ensures.no_log
+returns-in-Run-clause-no_log g c = λ of. rw c.standard-limits.ensures at c.run_lines.ensures.no_log
 
 pub returns-in-Err-clause-demo : goal.returns-in-Err-clause-demo
 returns-in-Err-clause-demo g c = λ size start of.

@@ -1,0 +1,154 @@
+//! Mirrors in memory, by the words that a case names them with.
+
+use commit_graph::{Row, World};
+use id_groups::Name;
+use remote_memory::{MemoryRemote, clone_of};
+use remote_trait::{FixedRemote, Path};
+use std::alloc::{AllocError, Global};
+
+/// A row of a master: the last byte of its name, and those of its parents. All other bytes are 0.
+type Spelled = (u8, &'static [u8]);
+
+/// Ten commits in a chain.
+const TEN: [Spelled; 10] = [
+    (0x10, &[]),
+    (0x11, &[0x10]),
+    (0x12, &[0x11]),
+    (0x13, &[0x12]),
+    (0x14, &[0x13]),
+    (0x15, &[0x14]),
+    (0x16, &[0x15]),
+    (0x17, &[0x16]),
+    (0x18, &[0x17]),
+    (0x19, &[0x18]),
+];
+
+/// Six commits, of which two stand on the second, and the last is a merge. They stand in the order of their ids in master.
+const SIX: [Spelled; 6] = [
+    (0x01, &[]),
+    (0x02, &[0x01]),
+    (0x03, &[0x02]),
+    (0x04, &[0x02]),
+    (0x05, &[0x04]),
+    (0x06, &[0x03, 0x05]),
+];
+
+/// The name of 19 zero bytes and this one.
+fn name(last: u8) -> Name {
+    let mut bytes = [0; 20];
+    bytes[19] = last;
+    Name::from_bytes(bytes)
+}
+
+/// The row of a merge of two commits, and of a commit on the one, if they are the same.
+fn merge(own: Name, first: Name, second: Name) -> Row {
+    if first.is(&second) {
+        Row::new(own, &[first])
+    } else {
+        Row::new(own, &[first, second])
+    }
+}
+
+/// A row with no parent, one or two.
+fn row(spelled: &Spelled) -> Row {
+    let (last, parents) = spelled;
+    match parents {
+        [first] => Row::new(name(*last), &[name(*first)]),
+        [first, second] => merge(name(*last), name(*first), name(*second)),
+        _ => Row::new(name(*last), &[]),
+    }
+}
+
+/// The world whose master has these rows.
+fn world(alloc: Global, rows: &[Spelled]) -> Result<World, AllocError> {
+    let mut list = Vec::new(alloc);
+    for spelled in rows {
+        list.push(row(spelled))?;
+    }
+    if list.len() > 16 {
+        return Err(AllocError);
+    }
+    World::of_master(alloc, list)?.ok_or(AllocError)
+}
+
+/// A mirror with this master, which fails at its calls with these numbers.
+fn honest(alloc: Global, rows: &[Spelled], fails: &[u64]) -> Result<MemoryRemote, AllocError> {
+    let world = world(alloc, rows)?;
+    if world.master_count() > 16 {
+        return Err(AllocError);
+    }
+    MemoryRemote::new(alloc, world, fails)
+}
+
+/// A mirror with the clone data of the chain, and this answer to each path; it has no names.
+fn liar(alloc: Global, path: Option<Path>) -> Result<FixedRemote, AllocError> {
+    let world = world(alloc, &TEN)?;
+    if world.master_count() > 16 {
+        return Err(AllocError);
+    }
+    let told = clone_of(alloc, &world.master_alone())?;
+    Ok(FixedRemote::new(told, path, Vec::new(alloc)))
+}
+
+/// A way of twelve steps from the chain's last commit, which has nine behind it.
+fn too_far() -> Path {
+    Path {
+        x: name(0x19),
+        n: 12,
+    }
+}
+
+/// A mirror that a case names.
+#[derive(Drop)]
+pub enum Beside {
+    Honest(MemoryRemote),
+    Liar(FixedRemote),
+}
+
+/// The mirror of this word; nothing where there is none.
+fn named(alloc: Global, word: &str, fails: &[u64]) -> Result<Option<Beside>, AllocError> {
+    let one = match word {
+        "ten" => Beside::Honest(honest(alloc, &TEN, fails)?),
+        "six" => Beside::Honest(honest(alloc, &SIX, fails)?),
+        "far" => Beside::Liar(liar(alloc, Some(too_far()))?),
+        "silent" => Beside::Liar(liar(alloc, None)?),
+        _ => return Ok(None),
+    };
+    Ok(Some(one))
+}
+
+/// The numbers of these digits.
+fn numbers(alloc: Global, digits: &str) -> Result<Vec<u64>, AllocError> {
+    let mut list = Vec::new(alloc);
+    for digit in digits.as_bytes() {
+        list.push(u64::from(digit.saturating_sub(b'0')))?;
+    }
+    Ok(list)
+}
+
+/// The mirror of this word, which fails at its calls with the numbers that stand behind a stroke, a digit each.
+fn mirror_of(alloc: Global, word: &str) -> Result<Option<Beside>, AllocError> {
+    match word.split_once('/') {
+        Some((kind, fails)) => named(alloc, kind, &numbers(alloc, fails)?),
+        None => named(alloc, word, &[]),
+    }
+}
+
+/// The mirrors of these words, one blank between two.
+fn list_of(alloc: Global, words: &str) -> Result<Vec<Beside>, AllocError> {
+    let mut list = Vec::new(alloc);
+    for word in words.split_whitespace() {
+        if let Some(one) = mirror_of(alloc, word)? {
+            list.push(one)?;
+        }
+    }
+    Ok(list)
+}
+
+/// The mirrors that stand behind ` beside: ` in a case's line; none where it doesn't stand there.
+pub fn mirrors_of(alloc: Global, title: &str) -> Result<Vec<Beside>, AllocError> {
+    match title.split_once(" beside: ") {
+        Some((_, words)) => list_of(alloc, words),
+        None => Ok(Vec::new(alloc)),
+    }
+}
