@@ -3,16 +3,18 @@ RT ?= rt
 
 .PHONY: run try test
 
-# Proves the program, builds it and runs it on the sample, over a new log: some ten minutes the first time.
+# Proves the program and the crates below it, builds it and runs it on the sample, over a new log: about an hour of processor
+# time the first time. Later only what changed is proved.
 run:
 	cd crates/segdag && rm -f out/log && $(RT) run -- out/log -- run < stdin
 
-# Runs the program on the sample without its proofs, in half a minute: `proved=no` stands in the last line.
+# Runs the program on the sample without its proofs, in about a minute: `proved=no` stands in the last line.
 try:
 	cd crates/segdag && $(RT) try -- log -- run < stdin
 
-# The gate: each proof, each must-fail edit, each test and each program. Behind it what no contract can say of the compiler and of
-# the built program.
+# The gate: each proof, each must-fail edit, each test and each program; hours from nothing (docs/PROVING.md, "Times"). Behind it
+# what no contract can say of the compiler, of the built program and of the documents, in some five minutes: each script says so
+# and goes on where what it tries isn't there. The first failure ends it.
 test:
 	$(RT) ci
 	RT="$(RT)" sh tests/must_not_compile.sh
@@ -20,3 +22,5 @@ test:
 	sh tests/random_runs.sh
 	sh tests/whole_runs.sh
 	sh tests/real_files.sh
+	sh tests/format.sh
+	sh tests/guide.sh

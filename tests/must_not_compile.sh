@@ -13,7 +13,7 @@ fi
 copy=$(mktemp -d)
 trap 'rm -rf "$copy"' EXIT
 mkdir -p "$copy/crates/lent/src"
-grep -E '^[a-z_]+:' crates.txt | grep -vE '^(command_lines|dag_run|segdag|bench|bench_levels|[a-z_]*_rows|run_rules):' > "$copy/crates.txt"
+grep -E '^[a-z_]+:' crates.txt | grep -vE '^(command_lines|dag_run|segdag|bench|bench_[a-z]*|remote_store|[a-z_]*_rows|run_rules):' > "$copy/crates.txt"
 for crate in $(cut -d: -f1 "$copy/crates.txt"); do
     mkdir "$copy/crates/$crate"
     for part in src specs proofs; do
@@ -22,7 +22,7 @@ for crate in $(cut -d: -f1 "$copy/crates.txt"); do
         fi
     done
 done
-echo 'lent: dag_store disk_trait gated_log' >> "$copy/crates.txt"
+echo 'lent: dag_store mirror_set disk_trait gated_log' >> "$copy/crates.txt"
 
 # Writes a program that commits and flushes, with these lines in the functions, and prints what the compiler says of it.
 compile() {
@@ -32,6 +32,7 @@ compile() {
 use dag_store::{Flushed, Found, Store};
 use disk_trait::Disk;
 use gated_log::{Committed, Log};
+use mirror_set::Mirrors;
 use std::process::ExitCode;
 
 fn commit<D: Disk>(log: Log, disk: &mut D, payload: &[u8]) -> Committed {
@@ -39,7 +40,7 @@ fn commit<D: Disk>(log: Log, disk: &mut D, payload: &[u8]) -> Committed {
 $1
 }
 
-fn flush<D: Disk>(store: Store, disk: &mut D, found: &Found) -> Flushed {
+fn flush<D: Disk>(store: Store, disk: &mut D, mirrors: &mut Mirrors, found: &Found) -> Flushed {
     let mut lent = store.names(0, found);
 $2
 }
@@ -67,12 +68,12 @@ try() {
 commits='    let _size = lent.len();
     log.commit(disk, payload)'
 flushes='    let _first = lent.next();
-    store.flush(disk, 0, &[])'
+    store.flush(disk, 0, mirrors, &[])'
 try "a commit and a flush behind the loans are refused" "run=ended status=0" "$commits" "$flushes"
 try "a commit while bytes are lent isn't refused" "borrow-e0505" '    let committed = log.commit(disk, payload);
     let _size = lent.len();
     committed' "$flushes"
-try "a flush while names are lent isn't refused" "borrow-e0505" "$commits" '    let flushed = store.flush(disk, 0, &[]);
+try "a flush while names are lent isn't refused" "borrow-e0505" "$commits" '    let flushed = store.flush(disk, 0, mirrors, &[]);
     let _first = lent.next();
     flushed'
 echo "must_not_compile: a commit while bytes are lent is refused, and a flush while names are"

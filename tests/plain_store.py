@@ -192,8 +192,9 @@ def flat_segments(first, parents):
     return segments
 
 
-def level_sizes(segments):
-    sizes, level = [len(segments)], segments[:-1]
+def levels_of(segments):
+    """The segments of each level from 1 to 7: low, high, parents. The last flat segment may still grow, so it is in no group."""
+    levels, level = [], segments[:-1]
     for _ in range(7):
         groups, i = [], 0
         while i + 16 <= len(level):
@@ -202,11 +203,22 @@ def level_sizes(segments):
             low = group[0][0]
             groups.append([low, group[-1][1], sorted({p for s in group for p in s[2] if p < low})])
             i = j + 1
-        sizes.append(len(groups))
+        levels.append(groups)
         level = groups
+    return levels
+
+
+def level_sizes(segments):
+    sizes = [len(segments), *map(len, levels_of(segments))]
     while len(sizes) > 1 and sizes[-1] == 0:
         sizes.pop()
     return sizes
+
+
+def new_levels(old, new):
+    """The segments of levels that come from one list of flat segments to the next, by level and then by low, with their levels."""
+    pairs = zip(levels_of(old), levels_of(new))
+    return [(level, s) for level, (before, after) in enumerate(pairs, 1) for s in after if s not in before]
 
 
 def has_one_head(group):
@@ -223,26 +235,30 @@ def variable(number):
     return bytes(out)
 
 
-def record(segment):
+def record(segment, level=0):
     low, high, parents = segment
-    head = bytes([0 if parents else 1, 0]) + high.to_bytes(8, "big") + variable(high - low)
+    head = bytes([0 if parents else 1, level]) + high.to_bytes(8, "big") + variable(high - low)
     return head + variable(len(parents)) + b"".join(variable(p) for p in parents)
 
 
 def payload(old, new):
-    """The payload of the change from one world to the next."""
+    """The payload of the change from one world to the next, of version 2."""
     before = len(old.master)
     ids = lambda rows: [[new.ids[p] for p in parents] for _, parents in rows]
     masters = flat_segments(before, ids(new.master[before:]))
+    levels = new_levels(flat_segments(0, ids(new.master[:before])), flat_segments(0, ids(new.master)))
     others = flat_segments(OTHER, ids(new.others))
     known = list(enumerate((name for name, _ in new.master[before:]), before))
     return b"".join(
         [
-            b"\1\1",
+            b"\2\1",
             before.to_bytes(8, "big"),
             len(new.master).to_bytes(8, "big"),
+            bytes(8),
             len(masters).to_bytes(4, "big"),
             *map(record, masters),
+            len(levels).to_bytes(4, "big"),
+            *(record(segment, level) for level, segment in levels),
             len(known).to_bytes(4, "big"),
             *(i.to_bytes(8, "big") + bytes.fromhex(name) for i, name in known),
             b"\0\0",
@@ -264,41 +280,61 @@ def read_variable(data, at):
             return number, at
 
 
-def read_log(data):
-    """The payloads of a log of flushes, and its world."""
+def read_records(data, at):
+    """The parent ids of each id of the records behind a count, and the place behind them."""
+    count, at = int.from_bytes(data[at : at + 4], "big"), at + 4
+    rows = []
+    for _ in range(count):
+        high = int.from_bytes(data[at + 2 : at + 10], "big")
+        length, at = read_variable(data, at + 10)
+        parents, at = read_variable(data, at)
+        ids = []
+        for _ in range(parents):
+            number, at = read_variable(data, at)
+            ids.append(number)
+        rows.append(ids)
+        rows.extend([i] for i in range(high - length, high))
+    return rows, at
+
+
+def read_payloads(data):
+    """The payloads of a log."""
     payloads, at = [], 0
     while len(data) > 1 and data[at] == 1:
         size = int.from_bytes(data[at + 1 : at + 9], "big")
         payloads.append(data[at + 9 : at + 9 + size])
         at += 9 + size
+    return payloads
+
+
+def log_of(payloads):
+    return b"".join(b"\1" + len(p).to_bytes(8, "big") + p for p in payloads) + b"\0"
+
+
+def first_version(data):
+    """A flush of version 2 in version 1, which has no cloned count and no level segments."""
+    _, levels = read_records(data, 26)
+    _, known = read_records(data, levels)
+    return b"\1" + data[1:18] + data[26:levels] + data[known:]
+
+
+def read_log(data):
+    """The payloads of a log of flushes, of either version, and its world. Segments of levels are passed over."""
+    payloads = read_payloads(data)
     parents, names, others, other_names = [], [], [], []
     for data in payloads:
-        at = 18
-
-        def records():
-            nonlocal at
-            count, at = int.from_bytes(data[at : at + 4], "big"), at + 4
-            rows = []
-            for _ in range(count):
-                high = int.from_bytes(data[at + 2 : at + 10], "big")
-                length, at = read_variable(data, at + 10)
-                count_, at = read_variable(data, at)
-                ids = []
-                for _ in range(count_):
-                    number, at = read_variable(data, at)
-                    ids.append(number)
-                rows.append(ids)
-                rows.extend([i] for i in range(high - length, high))
-            return rows
-
-        parents += records()
+        is_second = data[0] == 2
+        rows, at = read_records(data, 26 if is_second else 18)
+        parents += rows
+        if is_second:
+            _, at = read_records(data, at)
         count, at = int.from_bytes(data[at : at + 4], "big"), at + 4
         for _ in range(count):
             names.append(data[at + 8 : at + 28].hex())
             at += 28
         at += 2
         count, at = int.from_bytes(data[at : at + 4], "big"), at + 4
-        others = records()
+        others, at = read_records(data, at)
         other_names = [data[at + 20 * j : at + 20 * j + 20].hex() for j in range(count)]
     name = lambda i: names[i] if i < OTHER else other_names[i - OTHER]
     rows = lambda list_, own: [(own[k], [name(p) for p in ids]) for k, ids in enumerate(list_)]
@@ -316,7 +352,7 @@ class Store:
         return 1 + sum(9 + len(p) for p in self.payloads)
 
     def log(self):
-        return b"".join(b"\1" + len(p).to_bytes(8, "big") + p for p in self.payloads) + b"\0"
+        return log_of(self.payloads)
 
     def view(self, s):
         base, pending = self.sessions[s]
@@ -399,6 +435,15 @@ class Store:
         self.sessions[s][1] = []
         return [f"ok discarded {count}"]
 
+    def clone(self, s):
+        """A clone where there is no mirror."""
+        world = self.worlds[-1]
+        if world.master or world.others:
+            raise Refused(f"err not-empty {len(world.master)} {len(world.others)}")
+        if self.sessions[s][1]:
+            raise Refused(f"err pending {len(self.sessions[s][1])}")
+        raise Refused("err no-remote")
+
     def answer(self, s, expr):
         tree, names = expr
         view = self.view(s)
@@ -448,6 +493,8 @@ class Store:
                 return [f"ok {print_id(self.find(self.view(s), names[0]))}"]
             if verb == "mirrors" and not args:
                 return ["ok 0"]
+            if verb == "clone" and not args:
+                return self.clone(s)
             if verb == "drop" and len(args) == 1 and NUMBER.fullmatch(args[0]) and int(args[0]) < 1 << 64:
                 return ["err no-remote"]
         except Refused as refusal:

@@ -14,11 +14,12 @@ def spelled(text):
     return re.sub(r"\[(\w\w)\]", lambda found: found.group(1).rjust(40, "0"), text)
 
 
-def check(what, lines, replies, status=0, size=None):
-    """The run over these lines, divided by line feeds or semicolons, has these replies; the log then has so many bytes."""
+def check(what, lines, replies, status=0, size=None, mirrors=()):
+    """The run over these lines, divided by line feeds or semicolons, beside these mirrors, has these replies; the log then has so many
+    bytes."""
     lines, replies = ([line.strip() for line in re.split("[;\n]", text) if line.strip()] for text in (lines, replies))
     text = "".join(spelled(line) + "\n" for line in lines)
-    done = subprocess.run([PROGRAM, LOG, "--", "run"], input=text.encode(), stdout=subprocess.PIPE, timeout=60)
+    done = subprocess.run([PROGRAM, LOG, *mirrors, "--", "run"], input=text.encode(), stdout=subprocess.PIPE, timeout=60)
     given = done.stdout.decode().splitlines()
     if done.returncode != status or given != [spelled(reply) for reply in replies]:
         sys.exit(f"whole_runs: {what}: status {done.returncode}, {given}")
@@ -60,14 +61,21 @@ fresh(
     PAIR + "0 add [b1] [a1]; 0 add [b1]; 0 add [c1] [a1] [a1]",
     added(2) + "ok old N1; err differs [b1]; err twice [a1]",
 )
-fresh("two flushes of nothing", PAIR + "0 flush; 0 flush", added(2) + "ok flushed 0 2; ok flushed 0 2", size=98)
+fresh("two flushes of nothing", PAIR + "0 flush; 0 flush", added(2) + "ok flushed 0 2; ok flushed 0 2", size=110)
 fresh(
     "a flush of a branch",
     FORK + "0 flush [c1]; 0 query all",
     added(3) + "ok flushed 2 1; [b1]; [c1]; [a1]; ok 3",
-    size=147,
+    size=159,
 )
-check("the run after it", "3 query all", "[b1]; [c1]; [a1]; ok 3", size=147)
+check("the run after it", "3 query all", "[b1]; [c1]; [a1]; ok 3", size=159)
+with open(LOG, "rb+") as log:
+    older = plain_store.log_of(map(plain_store.first_version, plain_store.read_payloads(log.read())))
+    log.seek(0)
+    log.write(older)
+    log.truncate()
+check("the same in version 1, and a flush behind it", "0 add [d1] [b1]; 0 flush", "ok added N1; ok flushed 2 2", size=257)
+check("the run after both versions", "3 query all", "[d1]; [b1]; [c1]; [a1]; ok 4", size=257)
 fresh("heads and tips", CHAIN + "0 query heads(union([a1],[c1])); 0 query tips(union([a1],[c1]))", added(3) + "[c1]; [a1]; ok 2; [c1]; ok 1")
 fresh(
     "two greatest common ancestors",
@@ -90,6 +98,7 @@ fresh(
     "a ladder",
     ladder() + "0 flush [23]; 0 levels; 0 count ancestors([20])",
     added(35) + "ok flushed 35 0; ok 18 1; ok 32",
+    size=1300,
 )
 fresh(
     "a day",
@@ -118,6 +127,28 @@ check("a damaged log", "0 status", "", status=4, size=10)
 
 
 # Demonstrations: commits whose parents are drawn, with a flush behind each thousand and the last, and four questions.
+
+
+def clones():
+    """As who comes new has it: a log, its clone, names that are asked, a mirror that is gone, and the clone unharmed."""
+    there = LOG + ".there"
+    ten = "".join(f"0 add [{i:02x}]" + (f" [{i - 1:02x}]" if i > 1 else "") + "; " for i in range(1, 11))
+    fresh("ten commits in a chain", ten + "0 flush [0a]", added(10) + "ok flushed 10 0")
+    os.rename(LOG, there)
+    check("a clone", "0 clone; 0 status", "ok cloned 10; ok 10 0 0", mirrors=[there])
+    size = os.path.getsize(LOG)
+    check("names that are asked", "0 query top(all,3); 0 id [05]; 0 count ancestors([07])",
+          "[0a]; [09]; [08]; ok 3; ok 4; ok 7", size=size, mirrors=[there])
+    check("a mirror that isn't there before one that is", "0 id [05]; 0 mirrors", "ok 4; ok 2", size=size, mirrors=[there + ".not", there])
+    check("no mirror", "0 id [05]; 0 id [0a]", "err no-remote; ok 9", size=size)
+    os.rename(there, there + ".gone")
+    check("the mirror is gone", "0 id [05]; 0 id [0a]; 0 add [0b] [0a]; 0 count all", "err remote 1; ok 9; err remote 1; ok 10", size=size, mirrors=[there])
+    os.rename(there + ".gone", there)
+    check("it is back", "0 id [05]; 0 query range([09],[0a])", "ok 4; [0a]; [09]; ok 2", size=size, mirrors=[there])
+    check("the clone goes on", "0 add [0b] [0a]; 0 flush [0b]; 0 clone", "ok added N0; ok flushed 11 0; err not-empty 11 0", mirrors=[there])
+    check("and is a log as any", "0 query top(all,2)", "[0b]; [0a]; ok 2")
+    os.remove(there)
+    os.remove(LOG)
 
 
 def drawn(size, start):
@@ -159,6 +190,7 @@ def demonstrate(size, start, wanted):
 
 
 os.remove(LOG)
+clones()
 for size, start in [(1, 0), (2, 0), (3, 0), (3, 5), (3, 10), (64, 3), (999, 10), (1000, 0), (1001, (1 << 64) - 1)]:
     demonstrate(size, start, plainly(drawn(size, start), by_lines=True))
 many = plainly(drawn(20_000, 5), by_lines=False)

@@ -1,0 +1,184 @@
+"""The measures of growth.sh: growth.py PROGRAM PICTURE COMMITS... A run of the program for each, so its time holds a load of the log."""
+import math
+import os
+import subprocess
+import sys
+import tempfile
+import time
+
+import history
+
+PROGRAM, PICTURE = os.path.abspath(sys.argv[1]), sys.argv[2]
+EACH = 1000  # commits between two flushes, and of those that are added at last
+QUESTIONS = 100
+TIMES = 3  # the least of so many runs counts
+
+
+def stop(text):
+    sys.exit(f"growth: {text}")
+
+
+def name(i):
+    return f"{i + 1:040x}"
+
+
+def linear(commits):
+    for i in range(commits):
+        yield name(i), [name(i - 1)] if i else []
+
+
+def by_demo(commits):
+    """The parents that a demonstration draws: one in sixteen is a merge, and one begins a branch that nobody merges."""
+    x = 0
+    for i in range(commits):
+        parents = [i - 1] if i else []
+        if i >= 2:
+            x = (x * 6364136223846793005 + 1442695040888963407) % 2**64
+            drawn = x >> 33
+            far = i - 2 - drawn // 16 % (min(i, 65) - 1)
+            parents = {0: [i - 1, far], 1: [far]}.get(drawn % 16, parents)
+        yield name(i), [name(p) for p in parents]
+
+
+def merges(commits):
+    for line in history.lines(commits, commits + 1):
+        words = line.split()
+        if words[1] == "add":
+            yield words[2], words[3:]
+
+
+KINDS = {"linear": linear, "by the demo's rule": by_demo, "merge-heavy": merges}
+MEASURES = {
+    "stored, s": "all commits stored, seconds",
+    "bytes a commit": "bytes of log a commit",
+    "loaded, ms": "a log loaded, milliseconds",
+    "MB at most": "memory of the import at most, MB",
+    "1,000 adds, ms": "1,000 commits added, milliseconds",
+    "and a flush, ms": "1,000 commits added and flushed, milliseconds",
+    "merge base, ms": "a merge base of far commits, milliseconds",
+    "only, ms": "far commits of one and not the other, milliseconds",
+    "all ancestors, ms": "all ancestors counted, milliseconds",
+}
+DRAWN = ("stored, s", "loaded, ms", "and a flush, ms", "merge base, ms")
+
+
+def run(log, lines):
+    """The seconds of a run over the log, the most memory that it took in MB, and its last reply."""
+    with tempfile.TemporaryFile() as given, tempfile.TemporaryFile() as out:
+        given.writelines(line.encode() + b"\n" for line in lines)
+        given.seek(0)
+        begun = time.perf_counter()
+        child = subprocess.Popen([PROGRAM, log, "--", "run"], stdin=given, stdout=out)
+        _, status, usage = os.wait4(child.pid, 0)
+        taken = time.perf_counter() - begun
+        out.seek(0)
+        replies = out.read().splitlines()
+    refused = [reply for reply in replies if reply.startswith(b"err")]
+    if status != 0 or refused:
+        stop(f"status {status}, {refused[:1]}")
+    return taken, usage.ru_maxrss / 1024, replies[-1].decode()
+
+
+def stored_lines(rows):
+    """The adds, and a flush of what has no child yet behind each thousand."""
+    heads = {}
+    for at, (child, parents) in enumerate(rows, 1):
+        yield " ".join(["0 add", child, *parents])
+        for parent in parents:
+            heads.pop(parent, None)
+        heads[child] = True
+        if at % EACH == 0 or at == len(rows):
+            for first in range(0, len(heads), 390):
+                yield "0 flush " + " ".join(list(heads)[first : first + 390])
+            heads = {}
+
+
+def least(log, lines):
+    return min(run(log, lines)[0] for _ in range(TIMES))
+
+
+def measured(kind, commits, folder):
+    """What the program takes over a history of this kind."""
+    rows, log = list(KINDS[kind](commits)), os.path.join(folder, "log")
+    if os.path.exists(log):
+        os.remove(log)
+    taken, memory, _ = run(log, stored_lines(rows))
+    found = {"stored, s": taken, "MB at most": memory, "bytes a commit": os.path.getsize(log) / commits}
+    if run(log, ["0 count all"])[2] != f"ok {commits}":
+        stop(f"not all of {commits} commits are stored")
+    load = least(log, ["0 status"])
+    found["loaded, ms"] = load * 1000
+    tip, middle, new = rows[-1][0], rows[commits // 2][0], [f"f{i:039x}" for i in range(EACH)]
+    adds = [f"0 add {new[i]} {new[i - 1] if i else tip}" for i in range(EACH)]
+    found["1,000 adds, ms"] = (least(log, adds) - load) * 1000
+    for what, expression in (
+        ("merge base, ms", f"gca(union({tip},{middle}))"),
+        ("only, ms", f"only({tip},{middle})"),
+        ("all ancestors, ms", f"ancestors({tip})"),
+    ):
+        found[what] = (least(log, [f"0 count {expression}"] * QUESTIONS) - load) * 1000 / QUESTIONS
+    # The last, since it stores them: so it is one run alone.
+    found["and a flush, ms"] = (run(log, [*adds, f"0 flush {new[-1]}"])[0] - load) * 1000
+    return {what: max(value, 0.001) for what, value in found.items()}
+
+
+COLOURS = {"linear": "#4477aa", "by the demo's rule": "#228833", "merge-heavy": "#cc6677"}
+WIDTH, HEIGHT, LEFT, FOOT = 390, 230, 50, 30
+
+
+def panel(at, measure, sizes, found):
+    """One measure of all histories, on scales of powers of ten."""
+    values = [found[kind, size][measure] for kind in KINDS for size in sizes]
+    low, high = math.floor(math.log10(min(values))), math.ceil(math.log10(max(values)) + 1e-9)
+    first, last = math.log10(sizes[0]), max(math.log10(sizes[-1]), math.log10(sizes[0]) + 1e-9)
+    across = lambda size: at % 2 * WIDTH + LEFT + (math.log10(size) - first) / (last - first) * (WIDTH - LEFT - 30)
+    down = lambda value: at // 2 * HEIGHT + 60 + (high - math.log10(value)) / max(high - low, 1) * (HEIGHT - 60 - FOOT)
+    parts = [f'<text x="{at % 2 * WIDTH + LEFT}" y="{at // 2 * HEIGHT + 45}" class="name">{MEASURES[measure]}</text>']
+    for power in range(low, high + 1):
+        y = down(10.0**power)
+        parts.append(f'<line x1="{across(sizes[0]):.0f}" x2="{across(sizes[-1]):.0f}" y1="{y:.1f}" y2="{y:.1f}" class="grid"/>')
+        parts.append(f'<text x="{across(sizes[0]) - 6:.0f}" y="{y + 4:.1f}" class="scale" text-anchor="end">{10.0**power:g}</text>')
+    for size in sizes:
+        y = at // 2 * HEIGHT + HEIGHT - 12
+        parts.append(f'<text x="{across(size):.0f}" y="{y}" class="scale" text-anchor="middle">{size:,}</text>')
+    for kind, colour in COLOURS.items():
+        points = " ".join(f"{across(size):.1f},{down(found[kind, size][measure]):.1f}" for size in sizes)
+        parts.append(f'<polyline points="{points}" fill="none" stroke="{colour}" stroke-width="2"/>')
+        parts += [f'<circle cx="{p.split(",")[0]}" cy="{p.split(",")[1]}" r="3" fill="{colour}"/>' for p in points.split()]
+    return parts
+
+
+def picture(sizes, found):
+    """Four measures by the number of commits, a line for each kind of history."""
+    wide, high = 2 * WIDTH + 20, 2 * HEIGHT + 20
+    parts = [
+        f'<svg xmlns="http://www.w3.org/2000/svg" viewBox="0 0 {wide} {high}" width="{wide}" height="{high}" font-family="sans-serif">',
+        "<style>.name{font-size:12px;font-weight:bold}.scale{font-size:10px;fill:#555}.grid{stroke:#ddd}.key{font-size:12px}</style>",
+        f'<rect width="{wide}" height="{high}" fill="white"/>',
+    ]
+    for at, (kind, colour) in enumerate(COLOURS.items()):
+        parts.append(f'<rect x="{LEFT + at * 160}" y="12" width="12" height="12" fill="{colour}"/>')
+        parts.append(f'<text x="{LEFT + 18 + at * 160}" y="22" class="key">{kind.replace(chr(39), "&#39;")}</text>')
+    for at, measure in enumerate(DRAWN):
+        parts += panel(at, measure, sizes, found)
+    return "\n".join([*parts, "</svg>"]) + "\n"
+
+
+def main():
+    sizes = sorted({int(word) for word in sys.argv[3:]})
+    if not os.access(PROGRAM, os.X_OK):
+        stop(f"{PROGRAM} isn't built; make run builds it")
+    found = {}
+    print(f"| History | Commits | {' | '.join(MEASURES)} |\n|---|---|{'---|' * len(MEASURES)}", flush=True)
+    with tempfile.TemporaryDirectory() as folder:
+        for kind in KINDS:
+            for size in sizes:
+                found[kind, size] = measured(kind, size, folder)
+                told = " | ".join(f"{found[kind, size][what]:.3g}" for what in MEASURES)
+                print(f"| {kind} | {size:,} | {told} |", flush=True)
+    with open(PICTURE, "w") as out:
+        out.write(picture(sizes, found))
+
+
+if __name__ == "__main__":
+    main()

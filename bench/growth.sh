@@ -1,0 +1,8 @@
+#!/bin/sh
+# How the built program grows: stored, loaded, added to, flushed and asked at 10,000, 100,000 and 1,000,000 commits of three kinds of
+# history. Prints a table, and writes the picture bench/growth.svg. Behind `make run`, on a machine with nothing else to do: ten minutes.
+#     bench/growth.sh [COMMITS]...
+set -eu
+cd "$(dirname "$0")/.."
+[ $# -gt 0 ] || set -- 10000 100000 1000000
+PYTHONDONTWRITEBYTECODE=1 exec python3 bench/growth.py "${SEGDAG:-crates/segdag/out/segdag}" "${PICTURE:-bench/growth.svg}" "$@"
