@@ -12,7 +12,7 @@ use std::test::Fail;
 
 /// A disk of which nothing is told. From its second measuring on it has other bytes.
 #[derive(Drop)]
-struct GrowingDisk {
+pub struct GrowingDisk {
     first: Vec<u8>,
     later: Vec<u8>,
     sizes: u64,
@@ -76,7 +76,7 @@ impl Disk for GrowingDisk {
 }
 
 /// The remote of a log of the first three of eight commits, and then of all.
-fn growing(alloc: Global) -> Result<StoreRemote<GrowingDisk>, AllocError> {
+pub fn growing(alloc: Global) -> Result<StoreRemote<GrowingDisk>, AllocError> {
     let first = log_of(alloc, Versions::lawful(1), 4, 3, 3)?;
     let later = log_of(alloc, Versions::lawful(1), 4, 3, 8)?;
     let disk = GrowingDisk {

@@ -8,5 +8,7 @@ mod drawn;
 mod faults;
 mod files;
 mod grown;
+#[cfg(test)]
+mod refreshed;
 mod stores;
 mod written;

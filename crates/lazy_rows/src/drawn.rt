@@ -1,0 +1,150 @@
+//! Hundreds of drawn lines of sixteen sessions over the clone of a drawn log, against the same lines over the log itself, which has
+//! each name: the replies are the same to the byte, whichever mirror answers, and with room for one to five names.
+
+use crate::draws::{Draws, drawn_lines, stored_lines};
+use dag_run::{Limits, run_lines};
+use disk_memory::MemoryDisk;
+use line_io::{MemorySink, MemorySource};
+use mirror_set::Mirrors;
+use remote_store::StoreRemote;
+use remote_trait::Remote;
+use std::alloc::{AllocError, Global};
+
+/// How many commits the log has, and how many lines go over it.
+const COMMITS: u64 = 90;
+const LINES: u64 = 300;
+
+/// What a mirror is made of.
+#[derive(Clone, Copy)]
+enum Made {
+    /// The log that was cloned.
+    Whole,
+    /// That log without its last byte.
+    Cut,
+    /// The clone's own log, which has not all names.
+    Clone,
+    /// A disk whose first calls fail.
+    Failing,
+}
+
+/// Beside which mirrors the lines go, by seed.
+const BESIDE: [&[Made]; 5] = [
+    &[Made::Whole],
+    &[Made::Cut, Made::Whole],
+    &[Made::Whole, Made::Clone],
+    &[Made::Clone, Made::Failing, Made::Whole, Made::Cut],
+    &[Made::Failing, Made::Whole],
+];
+
+/// A disk with what a mirror is made of.
+fn disk_of(
+    alloc: Global,
+    made: Made,
+    whole: &[u8],
+    clone: &[u8],
+) -> Result<MemoryDisk, AllocError> {
+    match made {
+        Made::Whole => MemoryDisk::new(alloc, whole, &[], None),
+        Made::Cut => MemoryDisk::new(alloc, &whole[..whole.len().saturating_sub(1)], &[], None),
+        Made::Clone => MemoryDisk::new(alloc, clone, &[], None),
+        Made::Failing => MemoryDisk::new(alloc, whole, &[1, 2, 3], None),
+    }
+}
+
+/// The mirrors that are made of these.
+fn mirrors_of(
+    alloc: Global,
+    made: &[Made],
+    whole: &[u8],
+    clone: &[u8],
+) -> Result<Mirrors, AllocError> {
+    let mut list: Vec<Box<dyn Remote>> = Vec::new(alloc);
+    for one in made {
+        let disk = disk_of(alloc, *one, whole, clone)?;
+        list.push(Box::new(alloc, StoreRemote::new(disk, Limits::standard()))?)?;
+    }
+    if list.len() > 8 {
+        return Err(AllocError);
+    }
+    Ok(Mirrors::new(list))
+}
+
+/// Runs lines over a disk beside mirrors, with room for so many names, and answers the replies.
+fn replies(
+    alloc: Global,
+    cache: u32,
+    disk: &mut MemoryDisk,
+    mirrors: &mut Mirrors,
+    lines: &str,
+) -> Result<Vec<u8>, AllocError> {
+    let mut input = MemorySource::new(alloc, lines.as_bytes(), 4096, &[])?;
+    let mut output = MemorySink::new(alloc, &[])?;
+    let limits = Limits::standard();
+    let room = cache.max(1);
+    let report = run_lines(alloc, limits, room, disk, mirrors, &mut input, &mut output);
+    if report.status != 0 {
+        return Err(AllocError);
+    }
+    let mut said = Vec::new(alloc);
+    said.extend_from_slice(output.bytes())?;
+    Ok(said)
+}
+
+/// The bytes of a disk.
+fn bytes_of(alloc: Global, disk: &MemoryDisk) -> Result<Vec<u8>, AllocError> {
+    let mut bytes = Vec::new(alloc);
+    bytes.extend_from_slice(disk.bytes())?;
+    Ok(bytes)
+}
+
+/// The bytes of a log behind these lines over a fresh one, beside mirrors.
+fn log_behind(alloc: Global, mirrors: &mut Mirrors, lines: &str) -> Result<Vec<u8>, AllocError> {
+    let mut disk = MemoryDisk::new(alloc, &[], &[], None)?;
+    let _said = replies(alloc, 1, &mut disk, mirrors, lines)?;
+    bytes_of(alloc, &disk)
+}
+
+/// The replies to lines over a log of these bytes.
+fn said_over(
+    alloc: Global,
+    cache: u32,
+    log: &[u8],
+    mirrors: &mut Mirrors,
+    lines: &str,
+) -> Result<Vec<u8>, AllocError> {
+    let mut disk = MemoryDisk::new(alloc, log, &[], None)?;
+    replies(alloc, cache, &mut disk, mirrors, lines)
+}
+
+/// Whether the lines of the seed are answered over the clone as over the log.
+fn is_answered_so(alloc: Global, seed: u64) -> Result<bool, AllocError> {
+    let mut draws = Draws::of(seed);
+    let mut nobody = mirrors_of(alloc, &[], &[], &[])?;
+    let stored = stored_lines(alloc, &mut draws, COMMITS)?;
+    let whole = log_behind(alloc, &mut nobody, stored.as_str())?;
+    let mut origin = mirrors_of(alloc, &[Made::Whole], &whole, &[])?;
+    let clone = log_behind(alloc, &mut origin, "9 clone\n")?;
+    let made = BESIDE[(seed % 5) as usize % BESIDE.len()];
+    let mut beside = mirrors_of(alloc, made, &whole, &clone)?;
+    let lines = drawn_lines(alloc, &mut draws, COMMITS, LINES)?;
+    let wanted = said_over(alloc, 1, &whole, &mut nobody, lines.as_str())?;
+    let room = (seed % 5) as u32 + 1;
+    let said = said_over(alloc, room, &clone, &mut beside, lines.as_str())?;
+    Ok(wanted.len() > 3000 && clone.len() < whole.len() && said == wanted)
+}
+
+/// The first of so many seeds whose lines are answered otherwise, if there is one.
+fn wrong_seed(alloc: Global, seeds: u64) -> Result<Option<u64>, AllocError> {
+    for seed in 0..seeds {
+        if !is_answered_so(alloc, seed)? {
+            return Ok(Some(seed));
+        }
+    }
+    Ok(None)
+}
+
+#[test]
+fn a_clone_answers_as_its_origin(rt: HostRuntime) -> Result<(), AllocError> {
+    assert_eq!(rt; wrong_seed(rt.alloc(), 10)?, None);
+    Ok(())
+}
