@@ -6,7 +6,7 @@ use Rattle.id_groups.specs.Name.{Name}
 use Rattle.commit_graph.specs.World.{World}
 use Rattle.disk_trait.specs.Images.{Told, IsSound, moment_of}
 use Rattle.disk_trait.specs.Since.{SureSince}
-use Rattle.gated_log.specs.Load.{IsSureOf}
+use Rattle.gated_log.specs.Load.{IsSureOf, IsSureBehind}
 use Rattle.line_io.specs.Lines.{lines_of, whole_lines, is_silent}
 use Rattle.line_io.specs.Reading.{Reading, lines_left}
 use Rattle.line_io.specs.Next.{NextLine, IsLine, IsReadOut}
@@ -22,9 +22,11 @@ use Rattle.step_rules.specs.State.{State, at_start, start}
 use Rattle.step_rules.specs.Reply.{Reply, reply_text}
 use Rattle.remote_rules.specs.Mirror.{Mirror}
 use Rattle.run_rules.specs.Run.{Run, Step, output_of}
-use Rattle.run_rules.specs.Ends.{End, Done, OverLimit, NoSource, NoMemory, EndsAs, WroteFault, disk_text}
+use Rattle.run_rules.specs.Ends.{End, Done, OverLimit, NoSource, NoMemory, NotLoaded, EndsAs, WroteFault, disk_text}
 use Rattle.run_rules.specs.Means.{Keeps, CallsEnd, Leaves, Means, last_of, loaded_at}
 use Rattle.gated_log.specs.Holding.{IsLogWithin}
+use Rattle.run_rules.specs.Stopped.{Stopped, ArePrefixes}
+use Rattle.segment_codec.proofs.Tables.{le_or_lt}
 use Rattle.run_rules.proofs.Nothing.{loaded-later}
 use Rattle.dag_store.specs.Flushes.{CutShort}
 use Rattle.dag_store.specs.Kept.{PlainStore}
@@ -116,25 +118,38 @@ module _ (limits : Limits) (fair : AreLimits limits) (w : World Name) (payloads 
     kept = tt;
   }
 
-  -- the disk failed while it was loaded
-  pub ends-unloaded : (after : Seen) → SureSince (λ moment image. HoldBytes limits.log image w) before.disk after.disk → moment_of after.disk ≤ loaded_at before.disk
-      → PutsFault SinkFailed before.taken after.taken → RunMeans limits w payloads room mirrors mirrors SinkFailed (Err stops.NotLoaded) [] before after
-  ends-unloaded after holds calls put = record {
-    lines = [];
-    replies = [];
-    last = at_start w payloads room mirrors;
-    run = (refl, refl);
-    more = [];
-    ends = (refl, wrote-fault SinkFailed before before after [] (sym (append-nil before.taken)) put);
-    stored = refl;
-    final = start w payloads;
-    leaves = (refl, refl);
-    each = tt;
-    calls = calls;
-    stopped = stopped-loading limits w payloads before.disk after.disk (fresh-prefixes limits fair w payloads room mirrors before begins) holds;
-    sure = inr refl;
-    kept = tt;
-  }
+  -- the disk failed while it was loaded: at the first call, which is a sync, or behind it, and then all was sure
+  pub ends-unloaded : (after : Seen) → SureSince (λ moment image. HoldBytes limits.log image w) before.disk after.disk → IsSureBehind limits.log (map text_of payloads) before.disk after.disk
+      → moment_of after.disk ≤ loaded_at before.disk → PutsFault SinkFailed before.taken after.taken → RunMeans limits w payloads room mirrors mirrors SinkFailed (Err stops.NotLoaded) [] before after
+  ends-unloaded after holds behind calls put =
+      ⊎_elim
+      (λ le. unloaded (stopped-loading limits w payloads before.disk after.disk fresh holds) (inr (refl, le)))
+      (λ lt. unloaded (stopped-loaded limits w payloads before.disk after.disk fresh holds (log-of limits.log before.disk.bytes w payloads begins.0.read) (behind lt))
+          (inl (let near : moment_of before.disk + 2 ≤ moment_of before.disk + 2 = omega arith in near)))
+      (le_or_lt (moment_of after.disk) (moment_of before.disk + 2))
+    where
+      fresh : ArePrefixes payloads (start w payloads)
+      fresh = fresh-prefixes limits fair w payloads room mirrors before begins
+
+      unloaded : (stopped : Stopped limits.log w payloads [] (start w payloads) before.disk after.disk)
+          → (stopped.sure ≤ moment_of before.disk + 2) ⊎ ((NotLoaded ≡ NotLoaded) × (moment_of after.disk ≤ moment_of before.disk + 2))
+          → RunMeans limits w payloads room mirrors mirrors SinkFailed (Err stops.NotLoaded) [] before after
+      unloaded stopped sure = record {
+        lines = [];
+        replies = [];
+        last = at_start w payloads room mirrors;
+        run = (refl, refl);
+        more = [];
+        ends = (refl, wrote-fault SinkFailed before before after [] (sym (append-nil before.taken)) put);
+        stored = refl;
+        final = start w payloads;
+        leaves = (refl, refl);
+        each = tt;
+        calls = calls;
+        stopped = stopped;
+        sure = sure;
+        kept = tt;
+      }
 
   -- ---- behind a line
   module _ (left : List Mirror) (store : PlainStore) (changes : List ℕ) (old new : Reading) (mid after : Seen) (h : Going limits w payloads room mirrors left store changes old before mid) where
@@ -263,9 +278,9 @@ module _ (limits : Limits) (fair : AreLimits limits) (w : World Name) (payloads 
   abbrev Opening : Stop → Told → Type 0
   Opening stop t = HoldAs limits.log t.bytes payloads w → OpensRun payloads w (Err stop)
 
-  pub load-stops : (stop : Stop) → IfSome d (Opening stop) → Goes (KeepsHolding limits.log w) d e → ((stop ≡ stops.NotLoaded → ⊥) → Goes (IsSureOf limits.log (map text_of payloads)) d e) → Goes LoadCalls d e → IsLoadStop stop
+  pub load-stops : (stop : Stop) → IfSome d (Opening stop) → Goes (KeepsHolding limits.log w) d e → ((stop ≡ stops.NotLoaded → ⊥) → Goes (IsSureOf limits.log (map text_of payloads)) d e) → Goes (IsSureBehind limits.log (map text_of payloads)) d e → Goes LoadCalls d e → IsLoadStop stop
       → WhereTold o q (LoadPuts SinkFailed (Err stop)) → WhereTold (seen d i o) (seen e i q) (MeansSo (Err stop))
-  load-stops stops.Memory opens keeps sure calls is put =
+  load-stops stops.Memory opens keeps sure behind calls is put =
       let P : Told → Told → Type 0 = λ x y. KeepsHolding limits.log w x y × IsSureOf limits.log (map text_of payloads) x y in
       let Q : Told → Told → Type 0 = λ x y. (KeepsHolding limits.log w x y × IsSureOf limits.log (map text_of payloads) x y) × LoadCalls x y in
       let both = goes-both (KeepsHolding limits.log w) (IsSureOf limits.log (map text_of payloads)) P d e (λ x y r s. (r, s)) keeps (sure (λ no. cc no)) in
@@ -273,19 +288,21 @@ module _ (limits : Limits) (fair : AreLimits limits) (w : World Name) (payloads 
       WhereTold-map (seen d i o) (seen e i q) (Each Q (λ x y. y ≡ x) (λ x y. y ≡ x)) (MeansSo (Err stops.Memory))
       (λ x y t begins. ends-memory limits fair w payloads room mirrors SinkFailed x begins y (t.disk.0.0 begins.0.holds) t.disk.0.1 t.disk.1 t.left t.taken)
       (seen-each d e i i o q Q (λ x y. y ≡ x) (λ x y. y ≡ x) (goes-told Q d e disk) (same-told i) put)
-  load-stops stops.NotLoaded opens keeps sure calls is put =
-      let Q : Told → Told → Type 0 = λ x y. KeepsHolding limits.log w x y × LoadCalls x y in
-      let disk = goes-both (KeepsHolding limits.log w) LoadCalls Q d e (λ x y r s. (r, s)) keeps calls in
+  load-stops stops.NotLoaded opens keeps sure behind calls is put =
+      let P : Told → Told → Type 0 = λ x y. KeepsHolding limits.log w x y × IsSureBehind limits.log (map text_of payloads) x y in
+      let Q : Told → Told → Type 0 = λ x y. (KeepsHolding limits.log w x y × IsSureBehind limits.log (map text_of payloads) x y) × LoadCalls x y in
+      let both = goes-both (KeepsHolding limits.log w) (IsSureBehind limits.log (map text_of payloads)) P d e (λ x y r s. (r, s)) keeps behind in
+      let disk = goes-both P LoadCalls Q d e (λ x y r s. (r, s)) both calls in
       WhereTold-map (seen d i o) (seen e i q) (Each Q (λ x y. y ≡ x) (PutsFault SinkFailed)) (MeansSo (Err stops.NotLoaded))
-      (λ x y t begins. ends-unloaded limits fair w payloads room mirrors SinkFailed x begins y (t.disk.0 begins.0.holds) t.disk.1 t.taken)
+      (λ x y t begins. ends-unloaded limits fair w payloads room mirrors SinkFailed x begins y (t.disk.0.0 begins.0.holds) t.disk.0.1 t.disk.1 t.taken)
       (seen-each d e i i o q Q (λ x y. y ≡ x) (PutsFault SinkFailed) (goes-told Q d e disk) (same-told i) put)
-  load-stops stops.NoLog opens keeps sure calls is put =
+  load-stops stops.NoLog opens keeps sure behind calls is put =
       let Q : Told → Told → Type 0 = λ x y. HoldAs limits.log x.bytes payloads w → ⊥ in
       let disk = goes-from (KeepsHolding limits.log w) Q (Opening stops.NoLog) d e (λ x y f r. f) opens keeps in
       WhereTold-map (seen d i o) (seen e i q) (Each Q (λ x y. y ≡ x) (λ x y. y ≡ x)) (MeansSo (Err stops.NoLog))
       (λ x y t begins. absurd (t.disk begins.0.read))
       (seen-each d e i i o q Q (λ x y. y ≡ x) (λ x y. y ≡ x) (goes-told Q d e disk) (same-told i) put)
-  load-stops stops.NotStored opens keeps sure calls is put = absurd is
-  load-stops stops.Source opens keeps sure calls is put = absurd is
-  load-stops stops.Sink opens keeps sure calls is put = absurd is
-  load-stops stops.Limit opens keeps sure calls is put = absurd is
+  load-stops stops.NotStored opens keeps sure behind calls is put = absurd is
+  load-stops stops.Source opens keeps sure behind calls is put = absurd is
+  load-stops stops.Sink opens keeps sure behind calls is put = absurd is
+  load-stops stops.Limit opens keeps sure behind calls is put = absurd is

@@ -7,7 +7,7 @@ ghost use Rattle.line_io.specs.Reading.{budget, new_reading};
 ghost use Rattle.id_groups.specs.Name.{Name};
 ghost use Rattle.commit_graph.specs.World.{World};
 ghost use Rattle.disk_trait.specs.Calls.{Goes};
-ghost use Rattle.gated_log.specs.Load.{IsSureOf, LoadCalls};
+ghost use Rattle.gated_log.specs.Load.{IsSureOf, IsSureBehind, LoadCalls};
 ghost use Rattle.gated_log.specs.Holding.{IsOnDisk};
 ghost use Rattle.batch_codec.specs.Payload.{Payload};
 ghost use Rattle.change_rules.specs.Holding.{HoldAs};
@@ -54,6 +54,7 @@ fn load<D: Disk, O: Sink>(
     ensures opens { (payloads : List Payload) (w : World Name) → IfSome (D.bytes log.old) (λ bytes. HoldAs limits.log bytes payloads w → OpensRun payloads w result) }
     ensures images { (w : World Name) → Goes (KeepsHolding limits.log w) (D.told log.old) (D.told log.new) }
     ensures sure { (result ≡ Err Stop.NotLoaded → ⊥) → (payloads : List (List ℕ)) → Goes (IsSureOf limits.log payloads) (D.told log.old) (D.told log.new) }
+    ensures behind { (payloads : List (List ℕ)) → Goes (IsSureBehind limits.log payloads) (D.told log.old) (D.told log.new) }
     ensures done { IfOk result (λ store. Goes (IsLoadedStore store) (D.told log.old) (D.told log.new)) }
     ensures calls { Goes LoadCalls (D.told log.old) (D.told log.new) }
     ensures puts { WhereTold (O.taken output.old) (O.taken output.new) (LoadPuts (Rose (O.faults output.old) (O.faults output.new)) result) }

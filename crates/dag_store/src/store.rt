@@ -5,7 +5,7 @@ ghost use Rattle.id_groups.specs.Name.{Name as NameBytes};
 ghost use Rattle.outside.specs.Counts.{Rose};
 ghost use Rattle.commit_graph.specs.World.{World};
 ghost use Rattle.disk_trait.specs.Calls.{Goes};
-ghost use Rattle.gated_log.specs.Load.{IsSureOf};
+ghost use Rattle.gated_log.specs.Load.{IsSureOf, IsSureBehind};
 ghost use Rattle.batch_codec.specs.Payload.{Payload};
 ghost use Rattle.change_rules.specs.Standard.{AreLimits};
 ghost use Rattle.change_rules.specs.Change.{text_of};
@@ -71,6 +71,7 @@ impl Store {
         ensures images { (w : World NameBytes) → Goes (KeepsHolding limits.log w) (D.told disk.old) (D.told disk.new) }
         ensures sure { ((fault : _) → result ≡ Err (LoadFault.Disk fault) → ⊥)
             → (payloads : List (List ℕ)) → Goes (IsSureOf limits.log payloads) (D.told disk.old) (D.told disk.new) }
+        ensures behind { (payloads : List (List ℕ)) → Goes (IsSureBehind limits.log payloads) (D.told disk.old) (D.told disk.new) }
         ensures done { IfOk result (λ store. Goes (IsLoadedStore store) (D.told disk.old) (D.told disk.new)) }
         ensures calls { Goes (WithinCalls 4) (D.told disk.old) (D.told disk.new) }
         ensures within { Goes LoadCalls (D.told disk.old) (D.told disk.new) }

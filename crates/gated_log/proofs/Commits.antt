@@ -7,7 +7,7 @@ use Rattle.std.specs.List.{AllByRecursion}
 use Rattle.disk_trait.proofs.Telling.{goes-then, goes-map}
 use Rattle.gated_log.specs.Commit.{WritesSurely, WritesInPart, CommitsInPart}
 use Rattle.disk_trait.specs.Images.{IsSound, Told, moment_of}
-use Rattle.disk_trait.specs.Calls.{Passes, Writes, FailsToWrite, Syncs, Succeeds, OrRefuses, Goes}
+use Rattle.disk_trait.specs.Calls.{Goes}
 use Rattle.gated_log.specs.Log.{batches, HasLength, gates_of}
 use Rattle.gated_log.specs.Held.{Held, held, log_bytes, IsWhole, staged, payloads_at, gate_of}
 use Rattle.gated_log.proofs.Places.{gates_of-push}

@@ -1,12 +1,13 @@
 -- What a load has made sure of from its first call on.
-use Rattle.std.proofs.Common.{◌≡◌, inl, ℕ, List, Option, sym, ◌∙◌, ap, subst, arith}
+use Rattle.std.proofs.Common.{◌≡◌, ◌+◌, ◌≤◌, inl, ℕ, List, Option, sym, ◌∙◌, ap, subst, arith}
 use Rattle.disk_trait.specs.Images.{IsImage, Told, moment_of, surely}
-use Rattle.disk_trait.specs.Calls.{Passes, Syncs, Succeeds, Goes}
+use Rattle.disk_trait.specs.Calls.{Passes, Syncs, Succeeds, OrRefuses, Goes}
 use Rattle.disk_trait.proofs.Loss.{image-stable}
 use Rattle.disk_trait.proofs.Moments.{left-now, moment-call}
 use Rattle.disk_trait.proofs.Telling.{goes-then, goes-map}
 use Rattle.gated_log.specs.Holding.{IsLogWithin, HasPayloads}
-use Rattle.gated_log.specs.Load.{KeepsPayloads, IsSureOf}
+use Rattle.gated_log.specs.Load.{KeepsPayloads, IsSureOf, IsSureBehind}
+use Rattle.gated_log.proofs.Counted.{steps-pass}
 use Rattle.gated_log.proofs.LoadCalls.{ReadsOnce, kept-pass, kept-payloads, keeps-join, once-kept, start_same}
 
 module _ (limit : ℕ) (ps : List (List ℕ)) where
@@ -31,3 +32,18 @@ module _ (limit : ℕ) (ps : List (List ℕ)) where
   -- one read at most behind them
   pub sure_read : (a b c d : Option Told) → Goes (Succeeds Syncs) a b → Goes (Succeeds Passes) b c → Goes ReadsOnce c d → Goes (IsSureOf limit ps) a d
   sure_read a b c d s w r = sure_behind a b c d s w (goes-map ReadsOnce (KeepsPayloads limit ps) c d (λ x y h. kept-payloads limit ps x y (once-kept x y h)) r)
+
+  -- where more than the sync was called
+  pub behind_of : (a d : Option Told) → Goes (IsSureOf limit ps) a d → Goes (IsSureBehind limit ps) a d
+  behind_of a d s = goes-map (IsSureOf limit ps) (IsSureBehind limit ps) a d (λ x y h more. h) s
+
+  -- a sync that failed is the last call
+  pub behind_none : (a b : Option Told) → Goes (OrRefuses Passes) a b → Goes (IsSureBehind limit ps) a b
+  behind_none a b w = goes-map (λ x y. moment_of y ≤ moment_of x + 2) (IsSureBehind limit ps) a b (λ x y le more. absurd (omega (arith, le, more))) (steps-pass a b w)
+
+  -- a call behind it that failed
+  pub behind_size : (a b c : Option Told) → Goes (Succeeds Syncs) a b → Goes (OrRefuses Passes) b c → Goes (IsSureBehind limit ps) a c
+  behind_size a b c s w =
+      behind_of a c
+      (goes-then (Succeeds Syncs) (KeepsPayloads limit ps) (IsSureOf limit ps) a b c sure-from s
+      (goes-map (OrRefuses Passes) (KeepsPayloads limit ps) b c (λ x y r. kept-payloads limit ps x y (kept-pass x y r)) w))

@@ -47,6 +47,10 @@ IsSureOf limit payloads old new =
     IsLogWithin limit payloads old.bytes
     → (moment : ℕ) (image : List ℕ) → moment_of old + 2 ≤ moment → moment ≤ moment_of new → LeftAt new moment image → IsLogWithin limit payloads image
 
+-- the same where more than the first call was made, which is a sync that has succeeded then
+abbrev pub IsSureBehind : ℕ → List (List ℕ) → Told → Told → Type 0
+IsSureBehind limit payloads old new = moment_of old + 2 < moment_of new → IsSureOf limit payloads old new
+
 -- after loading: four calls for a fresh file, which has one closed gate then, and three for any other
 pub record IsLoaded (log : Held) (old new : Told) : Type 0 where
   pub fresh : length old.bytes ≤ 1 → (moment_of new ≡ moment_of old + 8) × (new.now ≡ surely (0 ∷ []))

@@ -14,7 +14,7 @@ ghost use Rattle.gated_log.specs.Log.{IsLog, IsDamaged, batches, gates_of, log_l
 ghost use Rattle.gated_log.specs.Held.{Held, log_bytes, staged, room_of};
 ghost use Rattle.gated_log.specs.Holding.{IsOnDisk, IsLogWithin, KeepsOldOrNew, HasNew};
 ghost use Rattle.gated_log.specs.Commit.{Answers, Reserves, WritesSurely, WritesInPart, CommitsInPart};
-ghost use Rattle.gated_log.specs.Load.{LoadCalls, KeepsBytes, Loads, LeavesOldOrFresh, LeavesFresh, KeepsImages, KeepsPayloads, IsSureOf, IsLoaded, IsLogOf, OnlyReads, after_reads, IsFresh, IsStarted, WithinCalls, IsUnwritten};
+ghost use Rattle.gated_log.specs.Load.{LoadCalls, KeepsBytes, Loads, LeavesOldOrFresh, LeavesFresh, KeepsImages, KeepsPayloads, IsSureOf, IsSureBehind, IsLoaded, IsLogOf, OnlyReads, after_reads, IsFresh, IsStarted, WithinCalls, IsUnwritten};
 
 mod errors;
 mod scan;
@@ -144,6 +144,7 @@ impl Log {
         ensures fresh { Goes LeavesOldOrFresh (D.told disk.old) (D.told disk.new) }
         ensures moments { (payloads : List (List ℕ)) → Goes (KeepsPayloads limit payloads) (D.told disk.old) (D.told disk.new) }
         ensures sure { ((fault : _) → result ≡ Err (LoadLog.Disk fault) → ⊥) → (payloads : List (List ℕ)) → Goes (IsSureOf limit payloads) (D.told disk.old) (D.told disk.new) }
+        ensures behind { (payloads : List (List ℕ)) → Goes (IsSureBehind limit payloads) (D.told disk.old) (D.told disk.new) }
         ensures done { IfOk result (λ log. Goes (IsLoaded log) (D.told disk.old) (D.told disk.new)) }
         ensures calls { Goes (WithinCalls 4) (D.told disk.old) (D.told disk.new) }
         ensures within { Goes LoadCalls (D.told disk.old) (D.told disk.new) }

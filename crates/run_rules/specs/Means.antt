@@ -77,8 +77,8 @@ pub record Means (limits : Limits) (w : World Name) (payloads : List Payload) (r
   pub each : AreCommits (loaded_at old) changes
   pub calls : CallsEnd end old changes (moment_of new)
   pub stopped : Stopped limits.log w payloads changes final old new
-  -- from the first sync on all is sure, unless loading failed
-  pub sure : (stopped.sure ≤ moment_of old + 2) ⊎ (end ≡ NotLoaded)
+  -- from the first sync on all is sure, unless this call failed, the first of loading
+  pub sure : (stopped.sure ≤ moment_of old + 2) ⊎ ((end ≡ NotLoaded) × (moment_of new ≤ moment_of old + 2))
   pub kept : Keeps end limits.log last.store.payloads new
 
 -- What refuses a log, over any disk that tells its bytes: only bytes that are no log, with nothing written to the disk or put; and

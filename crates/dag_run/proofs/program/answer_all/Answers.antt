@@ -27,7 +27,7 @@ returns-in_err-store-clause-means g c = λ w payloads.
     let d = g.D.Disk.told c.args.log.now in let e = g.D.Disk.told c.load.new.log in
     rw (p.1, p.2, c.requires.none) (load-stops limits c.requires.limits w payloads c.args.cache _ failed d e (g.I.Source.left c.args.input.now) (g.O.Sink.taken c.args.output.now) (g.O.Sink.taken c.load.new.output) stop
     (of_told (λ bytes. HoldAs limits.log bytes payloads w → OpensRun payloads w (Err stop)) (g.D.Disk.bytes c.args.log.now) d (g.met.D.Disk.tells c.args.log.now) (c.in_err-store.ensures.opens payloads w))
-    (c.in_err-store.ensures.images w) (λ no. c.in_err-store.ensures.sure (λ e. no (cc e)) (map text_of payloads)) c.in_err-store.ensures.calls c.in_err-store.ensures.stop c.in_err-store.ensures.puts)
+    (c.in_err-store.ensures.images w) (λ no. c.in_err-store.ensures.sure (λ e. no (cc e)) (map text_of payloads)) (c.in_err-store.ensures.behind (map text_of payloads)) c.in_err-store.ensures.calls c.in_err-store.ensures.stop c.in_err-store.ensures.puts)
 
 pub returns-in_err-store-clause-refuses : goal.returns-in_err-store-clause-refuses
 returns-in_err-store-clause-refuses g c =

@@ -3,7 +3,7 @@ use Rattle.disk_trait.proofs.Telling.{of_told}
 use Rattle.gated_log.specs.Load.{Loads}
 use Rattle.gated_log.proofs.LoadCalls.{sync_fails, size_fails, sized, sized_keeps, images_kept, payloads_kept, start_images, start_keeps, read_keeps, size_is, read_done, start_done}
 use Rattle.gated_log.proofs.Fresh.{old_kept, fresh_started}
-use Rattle.gated_log.proofs.Sureness.{sure_behind, sure_sized, sure_read}
+use Rattle.gated_log.proofs.Sureness.{sure_behind, sure_sized, sure_read, behind_of, behind_none, behind_size}
 use Rattle.gated_log.proofs.Counted.{steps-pass, steps-sync, one-within, two-within, sized-within, read-within, start-within, read-kept, start-kept, on-ok, then-ok}
 use Rattle.gated_log.proofs.Log.load.Goals as goal
 
@@ -81,3 +81,18 @@ returns-then-size-le1-clause-unwritten g c = on-ok c.start.result (start-kept c.
 
 pub returns-clause-unwritten : goal.returns-clause-unwritten
 returns-clause-unwritten g c = then-ok c.read_all.result (read-kept (g.D.Disk.told c.args.disk.now) (g.D.Disk.told c.size.new.self) (g.D.Disk.told c.read_all.new.disk) (sized (g.D.Disk.told c.args.disk.now) (g.D.Disk.told c.sync.new.self) (g.D.Disk.told c.size.new.self) (g.met.D.Disk.sound c.args.disk.now) c.in_ok-sync.ensures.ok c.in_ok-size.ensures.ok)) c.read_all.ensures.ok
+
+pub returns-in_err-sync-clause-behind : goal.returns-in_err-sync-clause-behind
+returns-in_err-sync-clause-behind g c = λ ps. behind_none c.args.limit ps (g.D.Disk.told c.args.disk.now) (g.D.Disk.told c.sync.new.self) c.in_err-sync.ensures.err
+
+pub returns-in_err-size-clause-behind : goal.returns-in_err-size-clause-behind
+returns-in_err-size-clause-behind g c = λ ps. behind_size c.args.limit ps (g.D.Disk.told c.args.disk.now) (g.D.Disk.told c.sync.new.self) (g.D.Disk.told c.size.new.self) c.in_ok-sync.ensures.ok c.in_err-size.ensures.err
+
+pub returns-then-size-limit-clause-behind : goal.returns-then-size-limit-clause-behind
+returns-then-size-limit-clause-behind g c = λ ps. behind_of c.args.limit ps (g.D.Disk.told c.args.disk.now) (g.D.Disk.told c.size.new.self) (sure_sized c.args.limit ps (g.D.Disk.told c.args.disk.now) (g.D.Disk.told c.sync.new.self) (g.D.Disk.told c.size.new.self) c.in_ok-sync.ensures.ok c.in_ok-size.ensures.ok)
+
+pub returns-then-size-le1-clause-behind : goal.returns-then-size-le1-clause-behind
+returns-then-size-le1-clause-behind g c = λ ps. behind_of c.args.limit ps (g.D.Disk.told c.args.disk.now) (g.D.Disk.told c.start.new.disk) (sure_behind c.args.limit ps (g.D.Disk.told c.args.disk.now) (g.D.Disk.told c.sync.new.self) (g.D.Disk.told c.size.new.self) (g.D.Disk.told c.start.new.disk) c.in_ok-sync.ensures.ok c.in_ok-size.ensures.ok (c.start.ensures.moments ps))
+
+pub returns-clause-behind : goal.returns-clause-behind
+returns-clause-behind g c = λ ps. behind_of c.args.limit ps (g.D.Disk.told c.args.disk.now) (g.D.Disk.told c.read_all.new.disk) (sure_read c.args.limit ps (g.D.Disk.told c.args.disk.now) (g.D.Disk.told c.sync.new.self) (g.D.Disk.told c.size.new.self) (g.D.Disk.told c.read_all.new.disk) c.in_ok-sync.ensures.ok c.in_ok-size.ensures.ok c.read_all.ensures.reads)
