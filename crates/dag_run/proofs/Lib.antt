@@ -11,3 +11,4 @@ pub mod Doing
 pub mod Statuses
 pub mod Usages
 pub mod Leading
+pub mod Over

@@ -1,5 +1,5 @@
 -- Why a run stops, and how it ends then.
-use Rattle.std.specs.Prelude.{ℕ, ◌==◌, [], ◌∷◌, IsTrue, Ok, Err, ⊤}
+use Rattle.std.specs.Prelude.{ℕ, ◌≡◌, ◌<◌, ◌≤◌, ◌==◌, Bool, true, false, [], ◌∷◌, Option, Some, None, IsTrue, Ok, Err, ⊤}
 use Rattle.std.specs.List.{list_any}
 use Rattle.std.specs.declared.result.Result.{Result}
 use Rattle.line_io.specs.declared.lines.LineFault.{LineFault}
@@ -54,6 +54,23 @@ IsAnswerStop stops.NotStored = ⊤
 IsAnswerStop stops.Source = ⊤
 IsAnswerStop stops.Limit = ⊤
 IsAnswerStop _ = ⊥
+
+-- Whether the input is longer than its limit, where a run went through all of it or ended for that.
+abbrev pub IsOverAt : Result Unit Stop → Bool → Type 0
+IsOverAt (Ok x) over = over ≡ false
+IsOverAt (Err stops.Limit) over = over ≡ true
+IsOverAt (Err _) over = ⊤
+
+-- The same of one line's turn: where one was answered, it is afterwards as before.
+abbrev pub GoesOver : {S : Type 0} → Result (Option S) Stop → Bool → Bool → Type 0
+GoesOver (Ok (Some store)) old new = new ≡ old
+GoesOver (Ok None) old new = old ≡ false
+GoesOver (Err stops.Limit) old new = old ≡ true
+GoesOver (Err _) old new = ⊤
+
+-- the same by the status, of an input of so many bytes
+abbrev pub IsOverBy : ℕ → ℕ → ℕ → Type 0
+IsOverBy limit status size = (status ≡ 8 → limit < size) × (status ≡ 0 → size ≤ limit)
 
 -- the statuses of a run over lines
 abbrev pub IsRunStatus : ℕ → Type 0

@@ -3,7 +3,7 @@
 ghost use Rattle.std.specs.Prelude.{◌≡◌, ◌⊎◌, ◌<◌, ◌≤◌, ℕ, List, [], ◌∷◌, None, Ok, Err, IfErr, IfOk, IfSome, MatchResult, OnOk, length, map, string_bytes};
 ghost use Rattle.outside.specs.Counts.{Rose};
 ghost use Rattle.outside.specs.Told.{WhereTold};
-ghost use Rattle.line_io.specs.Reading.{budget, new_reading};
+ghost use Rattle.line_io.specs.Reading.{budget, is_over, new_reading};
 ghost use Rattle.id_groups.specs.Name.{Name};
 ghost use Rattle.commit_graph.specs.World.{World};
 ghost use Rattle.disk_trait.specs.Calls.{Goes};
@@ -20,7 +20,7 @@ ghost use Rattle.dag_store.specs.Loading.{KeepsHolding, IsLoadedStore, IsUntouch
 ghost use Rattle.program_words.specs.Usage.{IsUsage};
 ghost use Rattle.dag_run.specs.Modes.{EndsAtOnce, IsDemoOf, IsRunOf, IsUsageOf, RefusesWords};
 ghost use Rattle.dag_run.specs.Seen.{Seen, seen, streams};
-ghost use Rattle.dag_run.specs.Stops.{end_of, IsAnswerStop, IsDemoStatus, IsLoadStop, IsRunStatus, IsStatus, stop_of};
+ghost use Rattle.dag_run.specs.Stops.{end_of, GoesOver, IsAnswerStop, IsDemoStatus, IsLoadStop, IsOverAt, IsOverBy, IsRunStatus, IsStatus, stop_of};
 ghost use Rattle.dag_run.specs.Lines.{PutsFault};
 ghost use Rattle.dag_run.specs.Demo.{DemoMeans};
 ghost use Rattle.dag_run.specs.Ends.{Begins, OpensRun, LoadPuts, LoadRefuses, RunRefuses, EndRefuses, StatusMeans, StatusRefuses};
@@ -111,6 +111,7 @@ fn answer_next<D: Disk, I: Source, O: Sink>(
         (λ now after. (before : Seen) → Begins limits w payloads first before
         → Going limits w payloads room first here store changes.old.items lines.old before now
         → TurnMeans limits w payloads room first left changes.new.items lines.new (Rose faults (O.faults output.new)) result before after) }
+    ensures over { WhereTold (I.left input.old) (I.left input.new) (λ before after. GoesOver result (is_over lines.old before) (is_over lines.new after)) }
     ensures limits { IfOk result (λ next. IfSome next (λ kept. kept.limits ≡ store.limits)) }
     ensures ready { IfOk result (λ next. IfSome next (λ kept. IfSome (D.told log.new) (IsOnDisk kept.log))) }
     ensures less { IfOk result (λ next. IfSome next (λ kept. budget lines.new < budget lines.old)) }
@@ -161,6 +162,7 @@ fn answer_lines<D: Disk, I: Source, O: Sink>(
         (λ now after. (before : Seen) → Begins limits w payloads first before
         → Going limits w payloads room first here store changes.old.items lines.old before now
         → Means limits w payloads room first left (streams before after) (Rose faults (O.faults output.new)) before.disk after.disk (end_of result) changes.new.items) }
+    ensures over { WhereTold (I.left input.old) (I.left input.new) (λ before after. IsOverAt result (is_over lines.old before)) }
     ensures stop { IfErr result IsAnswerStop }
     ensures disk { result ≡ Err Stop.NotStored → Rose (D.faults log.old) (D.faults log.new) }
     ensures source { result ≡ Err Stop.Source → Rose (I.faults input.old) (I.faults input.new) }
@@ -198,6 +200,7 @@ fn answer_all<D: Disk, I: Source, O: Sink>(
         (w : World Name) (payloads : List Payload) → WhereTold (seen (D.told log.old) (I.left input.old) (O.taken output.old)) (seen (D.told log.new) (I.left input.new) (O.taken output.new))
         (λ before after. Begins limits w payloads first before
         → Means limits w payloads cache first left (streams before after) (Rose (O.faults output.old) (O.faults output.new)) before.disk after.disk (end_of result) changes.new.items) }
+    ensures over { WhereTold (I.left input.old) (I.left input.new) (λ before after. IsOverAt result (is_over lines.old before)) }
     ensures refuses { IfSome (D.bytes log.old) (λ bytes. RunRefuses limits.log bytes result) }
     ensures unwritten { result ≡ Err Stop.NoLog → Goes IsUntouched (D.told log.old) (D.told log.new) × (input.new ≡ input.old) × (output.new ≡ output.old) × (mirrors.new ≡ mirrors.old) }
     ensures quiet { result ≡ Err Stop.Memory → (input.new ≡ input.old) × (output.new ≡ output.old) × (mirrors.new ≡ mirrors.old) }
@@ -230,6 +233,7 @@ fn run<D: Disk, I: Source, O: Sink>(
         (w : World Name) (payloads : List Payload) → WhereTold (seen (D.told log.old) (I.left input.old) (O.taken output.old)) (seen (D.told log.new) (I.left input.new) (O.taken output.new))
         (λ before after. Begins limits w payloads first before
         → Means limits w payloads cache first left (streams before after) (Rose (O.faults output.old) (O.faults output.new)) before.disk after.disk (end_of result) changes.new.items) }
+    ensures over { WhereTold (I.left input.old) (I.left input.new) (λ before after. IsOverAt result (is_over (new_reading limits.input) before)) }
     ensures refuses { IfSome (D.bytes log.old) (λ bytes. RunRefuses limits.log bytes result) }
     ensures unwritten { result ≡ Err Stop.NoLog → Goes IsUntouched (D.told log.old) (D.told log.new) × (input.new ≡ input.old) × (output.new ≡ output.old) × (mirrors.new ≡ mirrors.old) }
     ensures quiet { result ≡ Err Stop.Memory → (input.new ≡ input.old) × (output.new ≡ output.old) × (mirrors.new ≡ mirrors.old) }
@@ -280,6 +284,7 @@ pub fn run_lines<D: Disk, I: Source, O: Sink>(
         (w : World Name) (payloads : List Payload) → WhereTold (seen (D.told log.old) (I.left input.old) (O.taken output.old)) (seen (D.told log.new) (I.left input.new) (O.taken output.new))
         (λ before after. Begins limits w payloads first before → StatusMeans limits w payloads cache first left
         (Rose (D.faults log.old) (D.faults log.new)) (Rose (I.faults input.old) (I.faults input.new)) (Rose (O.faults output.old) (O.faults output.new)) result.status result.changes before after) }
+    ensures over { WhereTold (I.left input.old) (I.left input.new) (λ before after. IsOverBy limits.input result.status (length before)) }
     ensures refuses { IfSome (D.bytes log.old) (λ bytes. StatusRefuses limits.log bytes result.status) }
     ensures no_log { WhereTold (seen (D.told log.old) (I.left input.old) (O.taken output.old)) (seen (D.told log.new) (I.left input.new) (O.taken output.new)) (EndRefuses limits result.status) }
     ensures unwritten { result.status ≡ 4 → Goes IsUntouched (D.told log.old) (D.told log.new) × (input.new ≡ input.old) × (output.new ≡ output.old) × (mirrors.new ≡ mirrors.old) }
@@ -336,6 +341,7 @@ pub fn top<D: Disk, I: Source, O: Sink>(
         → WhereTold (seen (D.told log.old) (I.left input.old) (O.taken output.old)) (seen (D.told log.new) (I.left input.new) (O.taken output.new))
         (λ before after. Begins standard w payloads first before → StatusMeans standard w payloads cache first left
         (Rose (D.faults log.old) (D.faults log.new)) (Rose (I.faults input.old) (I.faults input.new)) (Rose (O.faults output.old) (O.faults output.new)) result.status result.changes before after) }
+    ensures over { IsUsageOf Mode.Run (map string_bytes words.now) → WhereTold (I.left input.old) (I.left input.new) (λ before after. IsOverBy standard.input result.status (length before)) }
     ensures refuses { IsUsageOf Mode.Run (map string_bytes words.now) → IfSome (D.bytes log.old) (λ bytes. StatusRefuses standard.log bytes result.status) }
     ensures no_log { IsUsageOf Mode.Run (map string_bytes words.now)
         → WhereTold (seen (D.told log.old) (I.left input.old) (O.taken output.old)) (seen (D.told log.new) (I.left input.new) (O.taken output.new)) (EndRefuses standard result.status) }

@@ -15,7 +15,7 @@ ghost use Rattle.dag_store.specs.Loading.{IsUntouched};
 ghost use Rattle.dag_run.specs.Seen.{seen};
 ghost use Rattle.dag_run.specs.Ends.{Begins, StatusMeans, StatusRefuses};
 ghost use Rattle.dag_run.specs.Demo.{DemoMeans};
-ghost use Rattle.dag_run.specs.Stops.{IsDemoStatus, IsStatus};
+ghost use Rattle.dag_run.specs.Stops.{IsDemoStatus, IsOverBy, IsStatus};
 ghost use Rattle.segdag.specs.Usage.{IsDemo, IsRun, IsUsage, Refuses};
 
 mod remotes;
@@ -66,6 +66,7 @@ fn answer<D: Disk, I: Source, O: Sink>(
         → WhereTold (seen (D.told log.old) (I.left input.old) (O.taken output.old)) (seen (D.told log.new) (I.left input.new) (O.taken output.new))
         (λ before after. Begins standard w payloads first before → (changes : List ℕ) × StatusMeans standard w payloads cache first left
         (Rose (D.faults log.old) (D.faults log.new)) (Rose (I.faults input.old) (I.faults input.new)) (Rose (O.faults output.old) (O.faults output.new)) result changes before after) }
+    ensures over { IsUsage Mode.Run (map string_bytes words.now) → WhereTold (I.left input.old) (I.left input.new) (λ before after. IsOverBy standard.input result (length before)) }
     ensures refuses { IsUsage Mode.Run (map string_bytes words.now) → IfSome (D.bytes log.old) (λ bytes. StatusRefuses standard.log bytes result) }
     ensures unwritten { result ≡ 4 → Goes IsUntouched (D.told log.old) (D.told log.new) × (input.new ≡ input.old) × (output.new ≡ output.old) × (mirrors.new ≡ mirrors.old) }
     ensures demo { (size start : ℕ) → IsDemo size start (map string_bytes words.now) → WhereTold (O.taken output.old) (O.taken output.new) (DemoMeans size start result) }

@@ -28,3 +28,6 @@ pub returns-clause-aside : goal.returns-clause-aside
 returns-clause-aside g c = λ used.
     let aside = c.top.ensures.aside (subst (λ mode. MatchOption mode ⊥ (IsUsageOf Demo)) c.in-Some.ensures used) in
     (aside.0, aside.1, aside.2, aside.3)
+
+pub returns-clause-over : goal.returns-clause-over
+returns-clause-over g c = λ used. c.top.ensures.over (subst (λ mode. MatchOption mode ⊥ (IsUsageOf Run)) c.in-Some.ensures used)

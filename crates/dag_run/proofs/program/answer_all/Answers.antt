@@ -16,6 +16,8 @@ use Rattle.dag_run.proofs.Seeing.{Each, seen-each, same-told, rose-since}
 use Rattle.dag_run.proofs.Going.{going-begin}
 use Rattle.dag_run.proofs.Ending.{load-stops}
 use Rattle.dag_run.proofs.Statuses.{answer-never, load-refuses, line-refuses, log-not-loaded}
+use Rattle.outside.proofs.ToldLemmas.{WhereTold-same}
+use Rattle.dag_run.proofs.Over.{load-over}
 use Rattle.dag_run.proofs.program.answer_all.Goals as goal
 
 pub returns-in_err-store-clause-means : goal.returns-in_err-store-clause-means
@@ -89,3 +91,8 @@ returns-clause-disk g c = λ e.
 pub returns-clause-sink : goal.returns-clause-sink
 returns-clause-sink g c = λ e.
     rose-since (g.O.Sink.faults c.args.output.now) (g.O.Sink.faults c.load.new.output) (g.O.Sink.faults c.answer_lines.new.output) c.in_ok-store.ensures.sink_later (c.answer_lines.ensures.sink e)
+
+pub returns-in_err-store-clause-over : goal.returns-in_err-store-clause-over
+returns-in_err-store-clause-over g c =
+    let p = err_from_is_err_and c.from_residual.result c.from_residual.ensures.1 in
+    rw (p.1, p.2) (WhereTold-same (g.I.Source.left c.args.input.now) _ (λ x. load-over c.in_err-store.field-0.0 c.in_err-store.ensures.stop _))

@@ -2,7 +2,7 @@ use Rattle.std.proofs.Common.{◌≡◌, ◌≤◌, ℕ, List, map, IfSome}
 use Rattle.id_groups.specs.Name.{Name}
 use Rattle.commit_graph.specs.World.{World}
 use Rattle.outside.specs.Told.{WhereTold}
-use Rattle.line_io.specs.Reading.{budget}
+use Rattle.line_io.specs.Reading.{budget, is_over}
 use Rattle.gated_log.specs.Holding.{IsOnDisk}
 use Rattle.batch_codec.specs.Payload.{Payload}
 use Rattle.change_rules.specs.declared.Limits.{Limits}
@@ -21,6 +21,7 @@ invariant-lines g l = record {
       (λ mid now. (before : Seen) → Begins limits w payloads first before
       → Going limits w payloads room first (map (λ b. (goal.Remote-dyn g (b.vtable, b.value)).shown b.value) l.fn.mirrors.list.items) l.fn.store l.fn.changes.items l.fn.lines before mid
       → Going limits w payloads room first (map (λ b. (goal.Remote-dyn g (b.vtable, b.value)).shown b.value) l.mirrors.list.items) l.store l.changes.items l.lines before now);
+  over : WhereTold (g.I.Source.left l.fn.input) (g.I.Source.left l.input) (λ before now. is_over l.lines now ≡ is_over l.fn.lines before);
   disk_later : g.D.Disk.faults l.fn.log ≤ g.D.Disk.faults l.log;
   source_later : g.I.Source.faults l.fn.input ≤ g.I.Source.faults l.input;
   sink_later : g.O.Sink.faults l.fn.output ≤ g.O.Sink.faults l.output;

@@ -5,6 +5,7 @@ use Rattle.disk_trait.specs.Images.{Told, IsSound}
 use Rattle.disk_trait.proofs.Telling.{goes-told, if_forth}
 use Rattle.gated_log.specs.Holding.{IsOnDisk}
 use Rattle.line_io.specs.Next.{NextLine, IsLine, IsReadOut}
+use Rattle.line_io.specs.Reading.{is_over}
 use Rattle.dag_run.specs.Seen.{seen}
 use Rattle.dag_run.specs.Lines.{LineLeaves, LineReplies}
 use Rattle.dag_run.proofs.Doing.{ready-line}
@@ -12,6 +13,7 @@ use Rattle.dag_run.proofs.Seeing.{Each, seen-each, sound-told, same-told, rose-s
 use Rattle.dag_run.proofs.Going.{going-as, going-line}
 use Rattle.dag_run.proofs.Ending.{means-as, going-end, going-fault, going-stop}
 use Rattle.dag_run.proofs.Statuses.{fault-answers, line-answers}
+use Rattle.dag_run.proofs.Over.{fault-over, line-over}
 use Rattle.dag_run.proofs.program.answer_next.Goals as goal
 
 pub returns-in-Err-clause-means : goal.returns-in-Err-clause-means
@@ -100,3 +102,18 @@ returns-in-Ok-None-clause-means g c = λ limits w payloads room first faults fai
     rw c.end_run.ensures (WhereTold-map (seen e j q) (seen e k q) (Each Q L (λ x y. y ≡ x)) _
     (λ y z t before begins h. going-end limits fair w payloads room first failed before begins _ c.args.store c.args.changes.now.items old new y z h t.disk.0 t.disk.1 t.taken t.left.0 (t.left.1 h.reads.out ended))
     (seen-each e e j k q q Q L (λ x y. y ≡ x) (sound-told e (g.met.D.Disk.sound c.args.log.now)) left (same-told q)))
+
+pub returns-in-Err-clause-over : goal.returns-in-Err-clause-over
+returns-in-Err-clause-over g c =
+    let old = c.args.lines.now in let new = c.next.new.self in
+    rw c.fail_run.ensures (WhereTold-map (g.I.Source.left c.args.input.now) (g.I.Source.left c.next.new.source) (λ x y. NextLine (Err c.in-Err.fault) old x new y) _
+    (λ x y h. fault-over c.in-Err.fault old new x y h) c.in-Err.ensures.line)
+
+pub returns-in-Ok-Some-execute-clause-over : goal.returns-in-Ok-Some-execute-clause-over
+returns-in-Ok-Some-execute-clause-over g c = ?
+
+pub returns-in-Err-execute-clause-over : goal.returns-in-Err-execute-clause-over
+returns-in-Err-execute-clause-over g c =
+    let old = c.args.lines.now in let new = c.next.new.self in
+    WhereTold-map (g.I.Source.left c.args.input.now) (g.I.Source.left c.next.new.source) (λ x y. NextLine (Ok (Some c.in-Ok-Some.kind)) old x new y) _
+    (λ x y h. line-over c.in-Err-execute.stop c.in-Err-execute.ensures.stop (is_over old x) (is_over new y)) (rw c.in-Ok-Some.field-0-is at c.in-Ok-Some.ensures.line)

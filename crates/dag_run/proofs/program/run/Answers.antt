@@ -19,3 +19,8 @@ pub returns-in_err-lines-clause-refuses : goal.returns-in_err-lines-clause-refus
 returns-in_err-lines-clause-refuses g c =
     let p = err_from_is_err_and c.from_residual.result c.from_residual.ensures.1 in
     rw (p.1, p.2) (refuses-nothing c.args.limits.log (g.D.Disk.bytes c.args.log.now))
+
+pub returns-in_err-lines-clause-over : goal.returns-in_err-lines-clause-over
+returns-in_err-lines-clause-over g c =
+    let p = err_from_is_err_and c.from_residual.result c.from_residual.ensures.1 in
+    rw (p.1, p.2) (WhereTold-same (g.I.Source.left c.args.input.now) _ (λ x. tt))

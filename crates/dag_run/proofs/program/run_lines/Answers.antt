@@ -7,6 +7,8 @@ use Rattle.disk_trait.proofs.Telling.{of_told}
 use Rattle.dag_run.proofs.Seeing.{same-told}
 use Rattle.dag_run.specs.Ends.{RunRefuses}
 use Rattle.dag_run.proofs.Statuses.{status-known, of-disk, of-log, of-source, of-sink, of-memory, run-means, status-refuses, no-log}
+use Rattle.outside.proofs.ToldLemmas.{WhereTold-map}
+use Rattle.dag_run.proofs.Over.{status-over}
 use Rattle.dag_run.proofs.program.run_lines.Goals as goal
 
 pub returns-clause-known : goal.returns-clause-known
@@ -54,3 +56,8 @@ returns-clause-no_log g c =
     no-log limits c.status.result d e i j o p _ end c.status.ensures (c.run-end.ensures.means empty_world [])
     (λ is. let u = c.run-end.ensures.unwritten is in (u.0, subst (λ out. WhereTold o (g.O.Sink.taken out) (λ x y. y ≡ x)) (sym u.2) (same-told o)))
     (of_told (λ bytes. RunRefuses limits.log bytes end) (g.D.Disk.bytes c.args.log.now) d (g.met.D.Disk.tells c.args.log.now) c.run-end.ensures.refuses)
+
+pub returns-clause-over : goal.returns-clause-over
+returns-clause-over g c =
+    WhereTold-map (g.I.Source.left c.args.input.now) (g.I.Source.left c.run-end.new.input) _ _
+    (λ x y h. status-over c.run-end.result c.status.result c.args.limits.input x c.status.ensures h) c.run-end.ensures.over

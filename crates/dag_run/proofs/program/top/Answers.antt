@@ -1,11 +1,12 @@
 use Rattle.std.proofs.Common.{rules, map, string_bytes, sym, subst}
 use Rattle.change_rules.specs.Standard.{AreLimits, standard}
 use Rattle.outside.specs.Told.{WhereTold}
-use Rattle.program_words.specs.declared.usage.Mode.TheVariants.{Demo}
+use Rattle.program_words.specs.declared.usage.Mode.TheVariants.{Demo, Run}
 use Rattle.dag_run.specs.Demo.{DemoMeans}
 use Rattle.dag_run.specs.Modes.{EndsAtOnce}
 use Rattle.dag_run.specs.Seen.{seen}
 use Rattle.dag_run.proofs.Usages.{once-means, cache-least, one-cache, once-refuses, once-demo, one-mode, run-or-demo, of-demo, size-least, demo-means}
+use Rattle.dag_run.proofs.Over.{once-over}
 use Rattle.dag_run.proofs.program.top.Goals as goal
 
 pub returns-in-Err-clause-means : goal.returns-in-Err-clause-means
@@ -61,3 +62,17 @@ returns-in-Demo-clause-demo g c = λ size start of.
     let words = map string_bytes c.args.words.now in
     demo-means words c.in-Ok.usage c.idle-in-Demo.result.status size start (g.O.Sink.taken c.args.output.now) (g.O.Sink.taken c.demo.new.output) c.in-Ok.ensures of
     (subst (λ status. WhereTold (g.O.Sink.taken c.args.output.now) (g.O.Sink.taken c.demo.new.output) (DemoMeans c.in-Ok.usage.size c.in-Ok.usage.start status)) (sym c.idle-in-Demo.ensures.status) c.demo.ensures.means)
+
+pub returns-in-Err-clause-over : goal.returns-in-Err-clause-over
+returns-in-Err-clause-over g c = λ of.
+    let words = map string_bytes c.args.words.now in
+    let once = subst (EndsAtOnce words) (sym c.idle.ensures.status) c.in-Err.ensures in
+    once-over words c.idle.result.status standard.input once of (g.I.Source.left c.args.input.now)
+
+pub returns-in-Run-clause-over : goal.returns-in-Run-clause-over
+returns-in-Run-clause-over g c = λ of. rw c.standard-limits.ensures at c.run_lines.ensures.over
+
+pub returns-in-Demo-clause-over : goal.returns-in-Demo-clause-over
+returns-in-Demo-clause-over g c = λ of.
+    let words = map string_bytes c.args.words.now in
+    absurd (run-or-demo c.in-Ok.usage.mode (one-mode words c.in-Ok.usage Run c.in-Ok.ensures of) c.in-Demo.is)
