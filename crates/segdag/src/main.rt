@@ -2,7 +2,7 @@
 
 //! The program `segdag`: answers command lines of standard input on standard output, over the log in a file.
 
-ghost use Rattle.std.specs.Prelude.{◌≡◌, ◌⊎◌, ◌<◌, ◌^◌, ◌==◌, ◌&&◌, not, length, map, string_bytes, if◌then◌else◌, ℕ, List, IfSome};
+ghost use Rattle.std.specs.Prelude.{◌≡◌, ◌⊎◌, ◌<◌, ◌^◌, ◌==◌, ◌&&◌, not, length, map, string_bytes, if◌then◌else◌, ℕ, List, IfSome, MatchResult};
 ghost use Rattle.std.specs.Process.{exit_status};
 ghost use Rattle.outside.specs.Counts.{Rose};
 ghost use Rattle.outside.specs.Told.{WhereTold};
@@ -155,10 +155,14 @@ fn run(rt: &HostRuntime) -> Result<u8, u8> {
     run_over(rt, &words, path).map_err(|_refused| NO_MEMORY)
 }
 
-/// Ends with this status. Where the words were no usage it says on standard error how the program is called.
-fn end(rt: &HostRuntime, status: u8) -> ExitCode
-    ensures { exit_status result ≡ status }
+/// Ends with the status that a run gave, or with that for which none began. Where the words were no usage it says on standard error how
+/// the program is called.
+fn end(rt: &HostRuntime, ended: Result<u8, u8>) -> ExitCode
+    ensures { MatchResult ended (λ status. exit_status result ≡ status) (λ status. exit_status result ≡ status) }
 {
+    let status = match ended {
+        Ok(status) | Err(status) => status,
+    };
     if status == NO_USAGE {
         eprintln!(rt;
             "usage: segdag LOG [REMOTE]... -- MODE [--cache N] [--size N] [--start N]"
@@ -168,7 +172,5 @@ fn end(rt: &HostRuntime, status: u8) -> ExitCode
 }
 
 fn main(rt: HostRuntime) -> ExitCode {
-    match run(&rt) {
-        Ok(status) | Err(status) => end(&rt, status),
-    }
+    end(&rt, run(&rt))
 }
