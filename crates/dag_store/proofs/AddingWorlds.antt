@@ -208,6 +208,6 @@ module _ (added : List Placed) (x : PlainSession) (lawful : AreLawful [] (payloa
 
   -- the session stays one of the store
   pub kept-more : (most : ℕ) (result : Result Added Refusal) (new : PlainPending) → Appends most x.pending (map (id_row (with_pending w rows)) rows) name ids result new → OnErr result (new ≡ x.pending) → IsSessionOf added (record x { pending = new })
-  kept-more most (Ok (New id)) new a same = record { payloads = of.payloads; below = of.below; others = of.others; pending = store-more new a.2 a.3; keeps = of.keeps }
+  kept-more most (Ok (New id)) new a same = record { payloads = of.payloads; below = of.below; others = of.others; pending = store-more new a.2 a.3 }
   kept-more most (Ok (Old id)) new a same = absurd a
   kept-more most (Err refusal) new a same = subst (λ (p : PlainPending). IsSessionOf added (record x { pending = p })) (sym same) of

@@ -15,11 +15,11 @@ use Rattle.step_rules.specs.declared.Refusal.{Refusal}
 use Rattle.step_rules.specs.declared.Refusal.TheVariants as why
 use Rattle.step_rules.specs.State.{Stored, pending_of}
 use Rattle.step_rules.specs.Tests.{Test, tests}
-use Rattle.step_rules.specs.Verb.{Flush, Reload}
+use Rattle.step_rules.specs.Verb.{Verb, Reload}
 use Rattle.dag_store.specs.declared.changing.Next.{Next}
 use Rattle.dag_store.specs.Kept.{PlainSession}
 use Rattle.dag_store.specs.Looking.{Tried}
-use Rattle.dag_store.specs.Changes.{IsFlushPlan, PlansFlush, Prepares, Rebases, Reloads}
+use Rattle.dag_store.specs.Changes.{IsPlanTo, PlansChange, PreparesChange, Rebases, Reloads}
 use Rattle.dag_store.proofs.Trials.{tried-memory, tried-then}
 
 -- no memory behind all tests
@@ -41,16 +41,22 @@ module _ (limits : Limits) (st : Stored) (s : ℕ) (old new : List Mirror) (a b 
       pub reloads-memory : Reloads limits st s old new a b (Err why.Memory)
       reloads-memory = record { tried = no-memory st.payloads st.stored (tests limits st s Reload) old new a b h.tried; right = λ r. tt }
 
-  -- ---- a flush
+  -- ---- a change
 
-  module _ (heads : List Name) where
-    pub prepares-refused : (r : Result Next Refusal) (f : Refusal) → IsErrAnd r (λ g. g ≡ f) → PlansFlush limits st s heads old new a b (Err f) → Prepares limits st s heads old new a b r
+  module _ (verb : Verb) (next : World Name) where
+    pub prepares-refused : (r : Result Next Refusal) (f : Refusal) → IsErrAnd r (λ g. g ≡ f) → PlansChange limits st s verb next old new a b (Err f) → PreparesChange limits st s verb next old new a b r
     prepares-refused (Ok v) f h q = absurd h
-    prepares-refused (Err g) f h q = subst (λ z. Prepares limits st s heads old new a b (Err z)) (sym h) (record { tried = q.tried; right = λ r. tt })
+    prepares-refused (Err g) f h q = subst (λ z. PreparesChange limits st s verb next old new a b (Err z)) (sym h) (record { tried = q.tried; right = λ r. tt })
 
-    module _ (change : Change) (h : PlansFlush limits st s heads old new a b (Ok change)) where
-      pub prepares-done : (next : Next) → next.change ≡ change → Prepares limits st s heads old new a b (Ok next)
-      prepares-done next e = record { tried = h.tried; right = λ r. subst (IsFlushPlan st s heads) (sym e) (h.right r) }
+    module _ (change : Change) (h : PlansChange limits st s verb next old new a b (Ok change)) where
+      pub prepares-done : (ready : Next) → ready.change ≡ change → PreparesChange limits st s verb next old new a b (Ok ready)
+      prepares-done ready e = record { tried = h.tried; right = λ r. subst (IsPlanTo st next) (sym e) (h.right r) }
 
-      pub prepares-memory : Prepares limits st s heads old new a b (Err why.Memory)
-      prepares-memory = record { tried = no-memory st.payloads st.stored (tests limits st s (Flush heads)) old new a b h.tried; right = λ r. tt }
+      pub prepares-memory : PreparesChange limits st s verb next old new a b (Err why.Memory)
+      prepares-memory = record { tried = no-memory st.payloads st.stored (tests limits st s verb) old new a b h.tried; right = λ r. tt }
+
+-- a fault that is handed on
+pub err-plans : (limits : Limits) (st : Stored) (s : ℕ) (verb : Verb) (next : World Name) (old new : List Mirror) (a b : PlainCache) (r : Result Change Refusal) (f : Refusal) → IsErrAnd r (λ g. g ≡ f)
+    → PlansChange limits st s verb next old new a b (Err f) → PlansChange limits st s verb next old new a b r
+err-plans limits st s verb next old new a b (Ok v) f h q = absurd h
+err-plans limits st s verb next old new a b (Err g) f h q = subst (λ z. PlansChange limits st s verb next old new a b (Err z)) (sym h) q

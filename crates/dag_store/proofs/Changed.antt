@@ -2,7 +2,7 @@
 use Rattle.std.proofs.Common.{◌≡◌, ◌<◌, ℕ, true, false, List, [], ◌∷◌, ◌++◌, length, map, set, refl, sym, ap, ap₂, subst, ◌∙◌, arith, length-append, le_refl}
 use Rattle.std.proofs.lemmas.List.{map-append, length-map}
 use Rattle.id_groups.specs.Name.{Name}
-use Rattle.commit_graph.specs.World.{World, IsNamedWorld, GrowsMaster, KeepsRows, with_pending}
+use Rattle.commit_graph.specs.World.{World, IsNamedWorld, GrowsMaster, with_pending}
 use Rattle.gated_log.specs.Held.{Held}
 use Rattle.batch_codec.specs.Payload.{Payload}
 use Rattle.name_map.specs.Added.{Placed, payloads_of}
@@ -35,7 +35,7 @@ module _ (began : ℕ) (kept : PlainStore) (tables : PlainTables) (k : IsKept ke
       (none-pending k.added x st.stored q (subst (λ l. HoldPayloads l st.stored) (sym on.payloads) on.hold)) (alone st.stored on.hold.world))
 
   -- the payload of the change is stored, and the new world
-  module _ (new : World Name) (last : Payload) (changes : change.same ≡ false) (text : change.payload ≡ text_of last) (named : IsNamedWorld new) (grows : GrowsMaster st.stored new) (keeps : KeepsRows st.stored new)
+  module _ (new : World Name) (last : Payload) (changes : change.same ≡ false) (text : change.payload ≡ text_of last) (named : IsNamedWorld new) (grows : GrowsMaster st.stored new)
       (holds : HoldPayloads (st.payloads ++ last ∷ []) new) where
     ready : IsReady kept.limits kept.log reserved after k.added change x
     ready = p.ready changes
@@ -55,7 +55,7 @@ module _ (began : ℕ) (kept : PlainStore) (tables : PlainTables) (k : IsKept ke
         let o = on in
         let next = with_stored st new last in
         let place = length (st.past ++ st.stored ∷ []) in
-        let stored = stands-stored began kept st h new last named grows keeps holds log (is ∙ ap₂ (λ a b. a ++ b ∷ []) (ap (λ (l : Held). l.payloads) room) text) in
+        let stored = stands-stored began kept st h new last named grows holds log (is ∙ ap₂ (λ a b. a ++ b ∷ []) (ap (λ (l : Held). l.payloads) room) text) in
         let n = ready.session_of.1 in
         let l = length-append k.added (record { at = next_place kept.log; payload = ready.last } ∷ []) in
         let e = ap length o.payloads in let m = length-map k.added (λ (a : Placed). a.payload) in let c = o.count in let g = length-append st.past (st.stored ∷ []) in

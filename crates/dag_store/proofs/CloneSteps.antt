@@ -1,14 +1,12 @@
 -- From what was planned of a clone, and how it ended, to the step of a state and to what the mirrors told.
 use Rattle.std.proofs.Common.{◌≡◌, ◌<◌, ◌≤◌, inl, inr, ℕ, zero, suc, true, false, List, [], ◌∷◌, ◌++◌, length, map, set, Option, Some, None, Ok, Err, MatchOption, refl, sym, ap, ap₂, subst, ◌∙◌, arith, true≢false, if◌then◌else◌}
-use Rattle.std.specs.Prelude.{Result, ⊤}
+use Rattle.std.specs.Prelude.{Result, MatchResult, ⊤}
 use Rattle.std.specs.Option.{option_map}
 use Rattle.std.proofs.lemmas.Bool.{lt-ltb}
-use Rattle.id_groups.specs.Lists.{IsIn}
 use Rattle.id_groups.specs.Name.{Name}
 use Rattle.commit_graph.specs.World.{Row, World, empty_world, rows_of, names_of}
 use Rattle.disk_trait.specs.Images.{Told}
 use Rattle.disk_trait.specs.Calls.{Goes}
-use Rattle.disk_trait.proofs.Telling.{goes-same}
 use Rattle.gated_log.specs.Held.{Held, log_bytes}
 use Rattle.gated_log.specs.Log.{log_length}
 use Rattle.gated_log.proofs.Places.{length-log}
@@ -45,12 +43,13 @@ use Rattle.step_rules.specs.Asking.{TriesAll}
 use Rattle.step_rules.specs.Step.{CommandStep, Answered, Clones, TakesFrom, GoesOutside, IsRefused, clone_tests}
 use Rattle.step_rules.proofs.Kept.{step-state}
 use Rattle.step_rules.proofs.Plain.{all-tries}
+use Rattle.dag_store.specs.declared.changing.Next.{Next}
 use Rattle.dag_store.specs.declared.replies.Flushed.{Flushed as Ended}
 use Rattle.dag_store.specs.declared.replies.Flushed.TheVariants as ends
 use Rattle.dag_store.specs.Kept.{PlainSession, PlainStore, IsKept, sixteen}
 use Rattle.dag_store.specs.Stands.{IsOutsideOf, Stands, StandsBeside}
 use Rattle.dag_store.specs.Flushes.{HasRoom, FlushLeaves}
-use Rattle.dag_store.specs.Finishes.{Finishes}
+use Rattle.dag_store.specs.Finishes.{EndsAs, Finishes, payload_in}
 use Rattle.dag_store.specs.Changes.{IsPrepared, refusal_of}
 use Rattle.dag_store.specs.Clones.{clone_end, StoresCloneBy, beside, CloneStep, RefusesAsked, RefusesClone, TakesTold, CloneAnswers, PlansClone}
 use Rattle.dag_store.proofs.Sizes.{others-many}
@@ -253,7 +252,7 @@ module _ (began : ℕ) (kept : PlainStore) (tables : PlainTables) (k : IsKept ke
         stands-new new is =
             subst (Stands began (record { log = new; sessions = set kept.sessions s x; limits = kept.limits; cache = kept.cache })) (sym end-new)
             (stands-changed began kept tables k st.store h.stored s small reserved later change x p room r (clone_change r) changes text-is by.world
-            (rows, ap (λ (w : World Name). w.master ++ rows) (sym nothing_there.0)) (λ row i. absurd (subst (λ w. IsIn row (rows_of w)) nothing_there.0 i)) holds new is)
+            (rows, ap (λ (w : World Name). w.master ++ rows) (sym nothing_there.0)) holds new is)
 
     pub clone-finished : (end : Ended) → Finishes reserved (set kept.sessions s x) kept.limits kept.cache change end → CloneStep began kept left st s change.payload end
     clone-finished (ends.Done store counts None) f =
@@ -309,25 +308,38 @@ Answers q s first left end a b =
 
 module _ (kept q : PlainStore) (is : kept ≡ q) (tables : PlainTables) (k : IsKept kept.log tables kept.sessions kept.limits) (s : ℕ) (small : s < sixteen) (first left : List Mirror)
     (reserved : Held) (room : HasRoom kept.log reserved) (a b : Option Told) where
-  pub clone-done : (after : PlainTables) (change : Change) (x : PlainSession) → IsPrepared kept.limits kept.log reserved tables after k.added change x
-      → ((began : ℕ) (st : Stored) → Stands began kept st → PlansClone kept.limits st s (length (log_bytes kept.log)) first left change)
-      → (end : Ended) → Finishes reserved (set kept.sessions s x) kept.limits kept.cache change end → Goes (FlushLeaves kept change.payload end) a b → Answers q s first left end a b
-  clone-done after change x p asks end f goes_so = subst (λ v. Answers v s first left end a b) is (
-    change.payload,
+  clone-done : (after : PlainTables) (ready : Next) → IsPrepared kept.limits kept.log reserved tables after k.added ready.change ready.session
+      → ((began : ℕ) (st : Stored) → Stands began kept st → PlansClone kept.limits st s (length (log_bytes kept.log)) first left ready.change)
+      → (end : Ended) → Finishes reserved (set kept.sessions s ready.session) kept.limits kept.cache ready.change end → Goes (FlushLeaves kept ready.change.payload end) a b → Answers q s first left end a b
+  clone-done after ready p asks end f goes_so = subst (λ v. Answers v s first left end a b) is (
+    ready.change.payload,
     goes_so,
     λ began st h served.
-        clone-finished began kept tables k first st h s small (length (log_bytes kept.log)) served (nothing-kept began kept tables k st.store h.stored s small) left reserved after change x p room
-        (subst (λ l. PlansClone kept.limits st.store s (length (log_bytes kept.log)) l left change) (sym h.outside_of.mirrors_are) (asks began st.store h.stored)) end f,
-    λ began st h. finished-answers kept s (length (log_bytes kept.log)) first left st reserved (set kept.sessions s x) change (asks began st h) end f,
+        clone-finished began kept tables k first st h s small (length (log_bytes kept.log)) served (nothing-kept began kept tables k st.store h.stored s small) left reserved after ready.change ready.session p room
+        (subst (λ l. PlansClone kept.limits st.store s (length (log_bytes kept.log)) l left ready.change) (sym h.outside_of.mirrors_are) (asks began st.store h.stored)) end f,
+    λ began st h. finished-answers kept s (length (log_bytes kept.log)) first left st reserved (set kept.sessions s ready.session) ready.change (asks began st h) end f,
   )
 
-  pub clone-not-done : (same : PlainStore) → same ≡ record { log = reserved; sessions = kept.sessions; limits = kept.limits; cache = kept.cache } → (refusal : Refusal)
-      → ((began : ℕ) (st : Stored) → Stands began kept st → RefusesClone kept.limits st s (length (log_bytes kept.log)) first left refusal) → a ≡ b → Answers q s first left (ends.Refused same refusal) a b
-  clone-not-done same same_is refusal asks still = subst (λ v. Answers v s first left (ends.Refused same refusal) a b) is (
+  clone-not-done : (same : PlainStore) → same ≡ record { log = reserved; sessions = kept.sessions; limits = kept.limits; cache = kept.cache } → (refusal : Refusal)
+      → ((began : ℕ) (st : Stored) → Stands began kept st → RefusesClone kept.limits st s (length (log_bytes kept.log)) first left refusal) → Goes (FlushLeaves kept [] (ends.Refused same refusal)) a b
+      → Answers q s first left (ends.Refused same refusal) a b
+  clone-not-done same same_is refusal asks goes_so = subst (λ v. Answers v s first left (ends.Refused same refusal) a b) is (
     [],
-    subst (λ z. Goes (FlushLeaves kept [] (ends.Refused same refusal)) a z) still (goes-same (FlushLeaves kept [] (ends.Refused same refusal)) a (λ t. refl)),
+    goes_so,
     λ began st h served.
         clone-refused began kept tables k first st h s small (length (log_bytes kept.log)) served (nothing-kept began kept tables k st.store h.stored s small) left reserved room same same_is [] refusal
         (subst (λ l. RefusesClone kept.limits st.store s (length (log_bytes kept.log)) l left refusal) (sym h.outside_of.mirrors_are) (asks began st.store h.stored)),
     λ began st h. asks began st h,
   )
+
+  pub clone-ends : (after : PlainTables) (next : Result Next Refusal) → MatchResult next (λ ready. IsPrepared kept.limits kept.log reserved tables after k.added ready.change ready.session) (λ refusal. after ≡ tables)
+      → ((began : ℕ) (st : Stored) → Stands began kept st → MatchResult next
+      (λ ready. PlansClone kept.limits st s (length (log_bytes kept.log)) first left ready.change) (RefusesClone kept.limits st s (length (log_bytes kept.log)) first left))
+      → (at : ℕ) → at ≡ s → (end : Ended) → EndsAs reserved kept.sessions kept.limits kept.cache at next end → Goes (FlushLeaves kept (payload_in next) end) a b
+      → (payload : List ℕ) × Goes (FlushLeaves q payload end) a b
+      × ((began : ℕ) (st : State) → StandsBeside began q first st → (length (rows_of st.store.stored) ≡ 0 → IsServed st) → CloneStep began q left st s payload end)
+      × ((began : ℕ) (st : Stored) → Stands began q st → CloneAnswers q.limits st s (length (log_bytes q.log)) first left payload end)
+  clone-ends after (Ok ready) p asks at same end e goes_so = clone-done after ready p asks end (subst (λ n. Finishes reserved (set kept.sessions n ready.session) kept.limits kept.cache ready.change end) same e) goes_so
+  clone-ends after (Err refusal) p asks at same end e goes_so =
+      let handed : PlainStore = record { log = reserved; sessions = kept.sessions; limits = kept.limits; cache = kept.cache } in
+      subst (λ z. Answers q s first left z a b) (sym e) (clone-not-done handed refl refusal asks (subst (λ z. Goes (FlushLeaves kept [] z) a b) e goes_so))

@@ -1,5 +1,5 @@
 -- Names that are looked up in the newest base, from left to right.
-use Rattle.std.proofs.Common.{◌≡◌, ◌<◌, ◌≤◌, ◌+◌, ℕ, zero, suc, List, [], ◌∷◌, ◌++◌, length, map, take, drop, get_or, Option, Some, None, Result, Ok, Err, refl, sym, ap, subst, ◌∙◌, arith}
+use Rattle.std.proofs.Common.{◌≡◌, ◌<◌, ◌≤◌, ◌+◌, ℕ, zero, suc, List, [], ◌∷◌, ◌++◌, length, map, take, drop, get_or, Some, None, Result, Ok, Err, refl, sym, ap, subst, ◌∙◌, arith}
 use Rattle.std.specs.Prelude.{IfOk, IsErrAnd, slice_get}
 use Rattle.std.specs.List.{AllZip}
 use Rattle.std.proofs.Common.{Vec, Global}
@@ -8,7 +8,6 @@ use Rattle.id_groups.specs.Name.{Name}
 use Rattle.commit_graph.specs.World.{World}
 use Rattle.name_map.specs.Added.{Placed, payloads_of}
 use Rattle.payload_tables.specs.Pending.{IdRow, PlainPending, HoldsRows, row_names}
-use Rattle.flush_rebuild.specs.Asked.{IsFoundIn}
 use Rattle.remote_rules.specs.Mirror.{Mirror}
 use Rattle.lazy_names.specs.Cache.{PlainCache}
 use Rattle.step_rules.specs.declared.Refusal.{Refusal}
@@ -26,26 +25,26 @@ zip-join R [] (b ∷ ys) x y h r = absurd h
 zip-join R (a ∷ xs) [] x y h r = absurd h
 zip-join R (a ∷ xs) (b ∷ ys) x y h r = (h.0, zip-join R xs ys x y h.1 r)
 
-module _ (added : List Placed) (w : World Name) (test : Name → Test) (Is : Name → Option ℕ → Type 0) where
-  pub each-none : (old : List Mirror) (a : PlainCache) (ids : List (Option ℕ)) → ids ≡ [] → FindsEach added w test Is [] old old a a (Ok ids)
-  each-none old a ids e = subst (λ (l : List (Option ℕ)). FindsEach added w test Is [] old old a a (Ok l)) (sym e) (record {
+module _ {X : Type 0} (added : List Placed) (w : World Name) (test : Name → Test) (May Is : Name → X → Type 0) where
+  pub each-none : (old : List Mirror) (a : PlainCache) (ids : List X) → ids ≡ [] → FindsEach added w test May Is [] old old a a (Ok ids)
+  each-none old a ids e = subst (λ (l : List X). FindsEach added w test May Is [] old old a a (Ok l)) (sym e) (record {
     tried = tried-none (payloads_of added) w old a;
     found = tt;
     right = λ s. tt;
   })
 
-  module _ (names : List Name) (i : ℕ) (name : Name) (lt : i < length names) (at : name ≡ get_or names i name) (old mid new : List Mirror) (a b c : PlainCache) (ids : List (Option ℕ))
-      (h : FindsEach added w test Is (take i names) old mid a b (Ok ids)) where
-    pub each-more : (id : Option ℕ) (more : List (Option ℕ)) → FindsIt added w test Is name mid new b c (Ok id) → more ≡ ids ++ id ∷ [] → FindsEach added w test Is (take (i + 1) names) old new a c (Ok more)
-    each-more id more f e = subst (λ (l : List (Option ℕ)). FindsEach added w test Is (take (i + 1) names) old new a c (Ok l)) (sym e)
-        (subst (λ (l : List Name). FindsEach added w test Is l old new a c (Ok (ids ++ id ∷ []))) (sym (one-more names i name lt at)) (record {
+  module _ (names : List Name) (i : ℕ) (name : Name) (lt : i < length names) (at : name ≡ get_or names i name) (old mid new : List Mirror) (a b c : PlainCache) (ids : List X)
+      (h : FindsEach added w test May Is (take i names) old mid a b (Ok ids)) where
+    pub each-more : (id : X) (more : List X) → FindsIt added w test May Is name mid new b c (Ok id) → more ≡ ids ++ id ∷ [] → FindsEach added w test May Is (take (i + 1) names) old new a c (Ok more)
+    each-more id more f e = subst (λ (l : List X). FindsEach added w test May Is (take (i + 1) names) old new a c (Ok l)) (sym e)
+        (subst (λ (l : List Name). FindsEach added w test May Is l old new a c (Ok (ids ++ id ∷ []))) (sym (one-more names i name lt at)) (record {
           tried = subst (λ t. Tried (payloads_of added) w t old new a c None) (sym (map-append test (take i names) (name ∷ [])))
               (tried-then (payloads_of added) w (map test (take i names)) (test name ∷ []) old mid new a b c None h.tried f.tried);
-          found = zip-join (IsFoundIn added) (take i names) ids name id h.found f.found;
+          found = zip-join May (take i names) ids name id h.found f.found;
           right = λ s. zip-join Is (take i names) ids name id (h.right s) (f.right (tried-serves (payloads_of added) w (map test (take i names)) old mid a b None h.tried s));
         }))
 
-    pub each-refused : (refusal : Refusal) → FindsIt added w test Is name mid new b c (Err refusal) → FindsEach added w test Is names old new a c (Err refusal)
+    pub each-refused : (refusal : Refusal) → FindsIt added w test May Is name mid new b c (Err refusal) → FindsEach added w test May Is names old new a c (Err refusal)
     each-refused refusal f = record {
       tried = subst (λ t. Tried (payloads_of added) w t old new a c (Some refusal)) whole
           (tried-stop (payloads_of added) w (map test (take i names) ++ test name ∷ []) (map test (drop (i + 1) names)) old new a c refusal
@@ -60,8 +59,8 @@ module _ (added : List Placed) (w : World Name) (test : Name → Test) (Is : Nam
             ∙ ap (map test) (ap (λ l. l ++ drop (i + 1) names) (sym (one-more names i name lt at)) ∙ take-append-drop (i + 1) names)
 
   -- no memory behind the first names
-  pub each-memory : (names : List Name) (n : ℕ) (old mid : List Mirror) (a b : PlainCache) (ids : List (Option ℕ)) → FindsEach added w test Is (take n names) old mid a b (Ok ids)
-      → FindsEach added w test Is names old mid a b (Err why.Memory)
+  pub each-memory : (names : List Name) (n : ℕ) (old mid : List Mirror) (a b : PlainCache) (ids : List X) → FindsEach added w test May Is (take n names) old mid a b (Ok ids)
+      → FindsEach added w test May Is names old mid a b (Err why.Memory)
   each-memory names n old mid a b ids h = record {
     tried = subst (λ t. Tried (payloads_of added) w t old mid a b (Some why.Memory)) (sym (map-append test (take n names) (drop n names)) ∙ ap (map test) (take-append-drop n names))
         (tried-then (payloads_of added) w (map test (take n names)) (map test (drop n names)) old mid mid a b b (Some why.Memory) h.tried
@@ -71,18 +70,18 @@ module _ (added : List Placed) (w : World Name) (test : Name → Test) (Is : Nam
   }
 
   -- the same where one more was found, and there is no memory to keep it
-  pub each-unkept : (names : List Name) (i : ℕ) (name : Name) → i < length names → name ≡ get_or names i name → (old mid new : List Mirror) (a b c : PlainCache) (ids : List (Option ℕ)) (id : Option ℕ)
-      → FindsEach added w test Is (take i names) old mid a b (Ok ids) → FindsIt added w test Is name mid new b c (Ok id) → FindsEach added w test Is names old new a c (Err why.Memory)
+  pub each-unkept : (names : List Name) (i : ℕ) (name : Name) → i < length names → name ≡ get_or names i name → (old mid new : List Mirror) (a b c : PlainCache) (ids : List X) (id : X)
+      → FindsEach added w test May Is (take i names) old mid a b (Ok ids) → FindsIt added w test May Is name mid new b c (Ok id) → FindsEach added w test May Is names old new a c (Err why.Memory)
   each-unkept names i name lt at old mid new a b c ids id h f = each-memory names (i + 1) old new a c (ids ++ id ∷ []) (each-more names i name lt at old mid new a b c ids h id (ids ++ id ∷ []) f refl)
 
-  pub each-whole : (names : List Name) (i : ℕ) → length names ≤ i → (old mid : List Mirror) (a b : PlainCache) (ids : List (Option ℕ)) → FindsEach added w test Is (take i names) old mid a b (Ok ids)
-      → FindsEach added w test Is names old mid a b (Ok ids)
-  each-whole names i le old mid a b ids h = subst (λ (l : List Name). FindsEach added w test Is l old mid a b (Ok ids)) (take_all i names le) h
+  pub each-whole : (names : List Name) (i : ℕ) → length names ≤ i → (old mid : List Mirror) (a b : PlainCache) (ids : List X) → FindsEach added w test May Is (take i names) old mid a b (Ok ids)
+      → FindsEach added w test May Is names old mid a b (Ok ids)
+  each-whole names i le old mid a b ids h = subst (λ (l : List Name). FindsEach added w test May Is l old mid a b (Ok ids)) (take_all i names le) h
 
-  pub err-each : (names : List Name) (old new : List Mirror) (a b : PlainCache) (r : Result (Vec (Option ℕ) Global) Refusal) (f : Refusal) → IsErrAnd r (λ g. g ≡ f) → FindsEach added w test Is names old new a b (Err f)
-      → FindsEach added w test Is names old new a b (items_of r)
+  pub err-each : (names : List Name) (old new : List Mirror) (a b : PlainCache) (r : Result (Vec X Global) Refusal) (f : Refusal) → IsErrAnd r (λ g. g ≡ f) → FindsEach added w test May Is names old new a b (Err f)
+      → FindsEach added w test May Is names old new a b (items_of r)
   err-each names old new a b (Ok v) f h q = absurd h
-  err-each names old new a b (Err g) f h q = subst (λ z. FindsEach added w test Is names old new a b (Err z)) (sym h) q
+  err-each names old new a b (Err g) f h q = subst (λ z. FindsEach added w test May Is names old new a b (Err z)) (sym h) q
 
 -- ---- the names of pending rows
 
@@ -107,10 +106,10 @@ module _ (pending : PlainPending) (names : List Name) (h : HaveNames pending nam
 
 -- ---- what was found
 
-pub each-found : (added : List Placed) (w : World Name) (test : Name → Test) (Is : Name → Option ℕ → Type 0) (names : List Name) (old new : List Mirror) (a b : PlainCache) (r : Result (Vec (Option ℕ) Global) Refusal)
-    → FindsEach added w test Is names old new a b (items_of r) → IfOk r (λ found. AllZip (IsFoundIn added) names found.items)
-each-found added w test Is names old new a b (Ok v) h = h.found
-each-found added w test Is names old new a b (Err f) h = tt
+pub each-found : {X : Type 0} (added : List Placed) (w : World Name) (test : Name → Test) (May Is : Name → X → Type 0) (names : List Name) (old new : List Mirror) (a b : PlainCache) (r : Result (Vec X Global) Refusal)
+    → FindsEach added w test May Is names old new a b (items_of r) → IfOk r (λ found. AllZip May names found.items)
+each-found added w test May Is names old new a b (Ok v) h = h.found
+each-found added w test May Is names old new a b (Err f) h = tt
 
 pub zip-length : {A B : Type 0} (R : A → B → Type 0) (xs : List A) (ys : List B) → AllZip R xs ys → length ys ≡ length xs
 zip-length R [] [] z = refl

@@ -1,5 +1,6 @@
 -- What a flush leaves of the disk and of the store.
-use Rattle.std.proofs.Common.{◌≡◌, ℕ, true, List, [], ◌∷◌, ◌++◌, set, Option, Some, None, sym, ap, ap₂, subst, ◌∙◌}
+use Rattle.std.proofs.Common.{◌≡◌, ℕ, true, List, [], ◌∷◌, ◌++◌, set, Option, Some, None, Result, Ok, Err, IfOk, refl, sym, ap, ap₂, subst, ◌∙◌}
+use Rattle.std.specs.Prelude.{OnErr, MatchResult}
 use Rattle.disk_trait.specs.Images.{Told}
 use Rattle.disk_trait.specs.Calls.{Goes}
 use Rattle.disk_trait.proofs.Telling.{goes-both, goes-map}
@@ -8,11 +9,13 @@ use Rattle.gated_log.specs.Holding.{HasPayloads, KeepsOldOrNew, HasNew}
 use Rattle.lazy_names.specs.Cache.{PlainCache}
 use Rattle.change_rules.specs.declared.Limits.{Limits}
 use Rattle.flush_rebuild.specs.declared.plan.Change.{Change}
+use Rattle.step_rules.specs.declared.Refusal.{Refusal}
+use Rattle.dag_store.specs.declared.changing.Next.{Next}
 use Rattle.dag_store.specs.declared.replies.Flushed.{Flushed}
 use Rattle.dag_store.specs.declared.replies.Flushed.TheVariants.{Done, Refused, Disk}
 use Rattle.dag_store.specs.Kept.{PlainSession, PlainStore}
 use Rattle.dag_store.specs.Flushes.{HasRoom, HasStored, FlushLeaves, IsQuiet, LeavesStore}
-use Rattle.dag_store.specs.Finishes.{Finishes}
+use Rattle.dag_store.specs.Finishes.{EndsAs, Finishes}
 
 -- the payload is stored
 pub leaves-stored : (kept after : PlainStore) (payload : List ℕ) (clock : ℕ) (a b : Option Told) → kept.log.limit ≡ kept.limits.log → after.log.payloads ≡ kept.log.payloads ++ payload ∷ [] → after.log.limit ≡ kept.log.limit
@@ -67,6 +70,18 @@ module _ (kept : PlainStore) (reserved : Held) (room : HasRoom kept.log reserved
       )
   leaves-store s x change (Refused same refusal) e f = absurd f
   leaves-store s x change (Disk fault) e f = tt
+
+-- the same of what was prepared or refused
+pub leaves-ends : (kept : PlainStore) (reserved : Held) (room : HasRoom kept.log reserved) (cache : PlainCache) (s at : ℕ) → at ≡ s → (next : Result Next Refusal) (end : Flushed) → EndsAs reserved kept.sessions kept.limits cache at next end → LeavesStore kept s end
+leaves-ends kept reserved room cache s at is (Ok ready) end e =
+    leaves-store kept reserved room (set kept.sessions at ready.session) cache s ready.session ready.change end (ap (λ n. set kept.sessions n ready.session) is) e
+leaves-ends kept reserved room cache s at is (Err refusal) end e =
+    subst (LeavesStore kept s) (sym e) (refl, room)
+
+-- what the tables tell of what was prepared or refused
+pub made-of : (next : Result Next Refusal) (Ready : Next → Type 0) (Stays : Type 0) → IfOk next Ready → OnErr next Stays → MatchResult next Ready (λ refusal. Stays)
+made-of (Ok ready) Ready Stays r o = r
+made-of (Err refusal) Ready Stays r o = o
 
 pub quiet-same : (log : Held) (sessions : List PlainSession) (limits : Limits) (cache : PlainCache) (change : Change) (end : Flushed) → Finishes log sessions limits cache change end → IsQuiet end → change.same ≡ true
 quiet-same log sessions limits cache change (Done new counts None) f q = f.0

@@ -1,11 +1,10 @@
--- A reload and a flush of a store as it is seen, for each state that it stands for.
-use Rattle.std.proofs.Common.{◌≡◌, ◌<◌, ℕ, List, [], length, set, Option, Some, None, Result, Ok, Err, refl, sym, subst}
-use Rattle.std.specs.Prelude.{IsErrAnd}
-use Rattle.std.specs.List.{AllByRecursion}
-use Rattle.id_groups.specs.Name.{Name, IsName}
+-- A reload of a store as it is seen, and a change to a new world, for each state that it stands for.
+use Rattle.std.proofs.Common.{◌≡◌, ◌<◌, ℕ, List, length, set, Option, Some, None, Result, Ok, Err, sym, subst}
+use Rattle.std.specs.Prelude.{IsErrAnd, MatchResult}
+use Rattle.id_groups.specs.Name.{Name}
+use Rattle.commit_graph.specs.World.{World}
 use Rattle.disk_trait.specs.Images.{Told}
 use Rattle.disk_trait.specs.Calls.{Goes}
-use Rattle.disk_trait.proofs.Telling.{goes-same}
 use Rattle.gated_log.specs.Held.{Held}
 use Rattle.change_rules.specs.declared.Limits.{Limits}
 use Rattle.remote_rules.specs.Mirror.{Mirror}
@@ -15,20 +14,21 @@ use Rattle.payload_tables.specs.Pending.{IdRow, HoldsRows}
 use Rattle.step_rules.specs.declared.Refusal.{Refusal}
 use Rattle.step_rules.specs.State.{State, Stored}
 use Rattle.step_rules.specs.Tests.{tests}
-use Rattle.step_rules.specs.Verb.{Flush, Reload}
+use Rattle.step_rules.specs.Reply.{Reply}
+use Rattle.step_rules.specs.Verb.{Verb, Reload}
 use Rattle.dag_store.specs.declared.changing.Next.{Next}
 use Rattle.dag_store.specs.declared.replies.Flushed.{Flushed}
-use Rattle.dag_store.specs.declared.replies.Flushed.TheVariants as ends
 use Rattle.dag_store.specs.Kept.{PlainSession, PlainStore, IsKept, IsSessionOf, session_at, sixteen}
 use Rattle.dag_store.specs.Stands.{IsRight, Stands, StandsBeside}
 use Rattle.dag_store.specs.Looking.{AreRight, AsksAlike, IsSoundCache, refusal_in}
 use Rattle.dag_store.specs.Steps.{Leads, reload_reply}
-use Rattle.dag_store.specs.Flushes.{FlushLeaves, FlushStep, HasRoom}
-use Rattle.dag_store.specs.Finishes.{Finishes}
-use Rattle.dag_store.specs.Changes.{AreOver, IsOn, IsPrepared, Prepares, Reloads}
+use Rattle.dag_store.specs.Flushes.{ChangeStep, FlushLeaves, HasRoom}
+use Rattle.dag_store.specs.Finishes.{EndsAs, payload_in}
+use Rattle.dag_store.specs.Changes.{AreOver, IsOn, IsPrepared, PreparesChange, Reloads}
 use Rattle.dag_store.proofs.Leading.{right-now, sound-of}
 use Rattle.dag_store.proofs.FlushStored.{on-of, over-of}
-use Rattle.dag_store.proofs.FlushSteps.{flush-finished, flush-refused, reload-done, reload-refused}
+use Rattle.dag_store.proofs.ChangeSteps.{MakesWorld, change-ends}
+use Rattle.dag_store.proofs.FlushSteps.{reload-done, reload-refused}
 
 module _ (log : Held) (tables : PlainTables) (sessions : List PlainSession) (limits : Limits) (k : IsKept log tables sessions limits) (s : ℕ) (small : s < sixteen) (a b : PlainCache) (old new : List Mirror) where
   abbrev pub kept_with : PlainCache → PlainStore
@@ -82,33 +82,29 @@ module _ (log : Held) (tables : PlainTables) (sessions : List PlainSession) (lim
     reload-asks-refused-at (Err g) refusal e f began st h =
         subst (λ z. AsksAlike st.payloads st.stored (tests q.limits st s Reload) old new (Some z)) (sym e) (let t = (f began st (on-x began st h)).tried in (t.gained, t.told))
 
-    -- ---- a flush
+    -- ---- a change to a new world
 
-    module _ (heads : List Name) (named : AllByRecursion IsName heads) (reserved : Held) (room : HasRoom log reserved) (told then : Option Told) where
+    module _ (verb : Verb) (sizes : ℕ → ℕ → Reply) (new_of : Stored → World Name) (can : (began : ℕ) (st : State) → IsOn began k.added x st.store s → MakesWorld limits st s verb sizes (new_of st.store))
+        (reserved : Held) (room : HasRoom log reserved) (told then : Option Told) where
       abbrev Answers : PlainStore → Flushed → Type 0
       Answers v end = (payload : List ℕ) × Goes (FlushLeaves v payload end) told then
-          × ((began : ℕ) (st : State) → StandsBeside began v old st → IsRight st → FlushStep began v st s heads new payload end)
+          × ((began : ℕ) (st : State) → StandsBeside began v old st → IsRight st → ChangeStep began v st s verb sizes (new_of st.store) new payload end)
 
-      pub flush-done-at : (sound : IsSoundCache a → IsSoundCache b) (after : PlainTables) (next : Next) → IsPrepared limits log reserved tables after k.added next.change next.session
-          → ((began : ℕ) (st : Stored) → IsOn began k.added x st s → Prepares limits st s heads old new a b (Ok next)) → (end : Flushed) → Finishes reserved (set sessions s next.session) limits b next.change end
-          → Goes (FlushLeaves (kept_with a) next.change.payload end) told then → Answers q end
-      flush-done-at sound after next p f end finishes leaves = subst (λ v. Answers v end) view (
-        next.change.payload,
+      pub change-ends-at : (sound : IsSoundCache a → IsSoundCache b) (after : PlainTables) (next : Result Next Refusal)
+          → MatchResult next (λ ready. IsPrepared limits log reserved tables after k.added ready.change ready.session) (λ refusal. after ≡ tables)
+          → ((began : ℕ) (st : Stored) → IsOn began k.added x st s → PreparesChange limits st s verb (new_of st) old new a b next)
+          → (at : ℕ) → at ≡ s → (end : Flushed) → EndsAs reserved sessions limits b at next end → Goes (FlushLeaves (kept_with a) (payload_in next) end) told then
+          → (payload : List ℕ) × Goes (FlushLeaves q payload end) told then × ((began : ℕ) (st : State) → StandsBeside began q old st → IsRight st → ChangeStep began q st s verb sizes (new_of st.store) new payload end)
+      change-ends-at sound after next p f at is end ends leaves = subst (λ v. Answers v end) view (
+        payload_in next,
         leaves,
-        λ began st h r. flush-finished began (kept_with a) tables k st old new b h s small (subst (AreRight st.store.payloads st.store.stored) h.outside_of.mirrors_are (right-now st r)) (sound (sound-of began (kept_with a) old st h)) heads named
-            reserved after next p room (f began st.store (subst (λ (y : PlainSession). IsOn began k.added y st.store s) (sym there) (on-of log tables sessions limits k began st.store h.stored s small))) end finishes,
+        λ began st h r.
+            let o = subst (λ (y : PlainSession). IsOn began k.added y st.store s) (sym there) (on-of log tables sessions limits k began st.store h.stored s small) in
+            change-ends began (kept_with a) tables k st old new b h s small (subst (AreRight st.store.payloads st.store.stored) h.outside_of.mirrors_are (right-now st r)) (sound (sound-of began (kept_with a) old st h))
+            verb sizes (new_of st.store) (can began st o) reserved room after next p (f began st.store o) end (subst (λ n. EndsAs reserved sessions limits b n next end) is ends),
       )
 
-      pub flush-refused-at : (sound : IsSoundCache a → IsSoundCache b) (same : PlainStore) → same ≡ record { log = reserved; sessions = sessions; limits = limits; cache = b } → (refusal : Refusal)
-          → ((began : ℕ) (st : Stored) → IsOn began k.added x st s → Prepares limits st s heads old new a b (Err refusal)) → told ≡ then → Answers q (ends.Refused same refusal)
-      flush-refused-at sound same is refusal f still = subst (λ v. Answers v (ends.Refused same refusal)) view (
-        [],
-        subst (λ z. Goes (FlushLeaves (kept_with a) [] (ends.Refused same refusal)) told z) still (goes-same (FlushLeaves (kept_with a) [] (ends.Refused same refusal)) told (λ t. refl)),
-        λ began st h r. flush-refused began (kept_with a) tables k st old new b h s small (subst (AreRight st.store.payloads st.store.stored) h.outside_of.mirrors_are (right-now st r)) (sound (sound-of began (kept_with a) old st h)) heads named
-            reserved room same is [] refusal (f began st.store (subst (λ (y : PlainSession). IsOn began k.added y st.store s) (sym there) (on-of log tables sessions limits k began st.store h.stored s small))),
-      )
-
-    pub flush-asks-at : (heads : List Name) (result : Result Next Refusal) → ((began : ℕ) (st : Stored) → IsOn began k.added x st s → Prepares limits st s heads old new a b result) → (verdict : Option Refusal) → verdict ≡ refusal_in result
-        → (began : ℕ) (st : Stored) → Stands began q st → AsksAlike st.payloads st.stored (tests q.limits st s (Flush heads)) old new verdict
-    flush-asks-at heads result f verdict e began st h = subst (AsksAlike st.payloads st.stored (tests q.limits st s (Flush heads)) old new) (sym e)
-        (subst (λ (v : PlainStore). AsksAlike st.payloads st.stored (tests v.limits st s (Flush heads)) old new (refusal_in result)) view (let t = (f began st (on-x began st h)).tried in (t.gained, t.told)))
+    pub change-asks-at : (verb : Verb) (next_of : Stored → World Name) (result : Result Next Refusal) → ((began : ℕ) (st : Stored) → IsOn began k.added x st s → PreparesChange limits st s verb (next_of st) old new a b result)
+        → (verdict : Option Refusal) → verdict ≡ refusal_in result → (began : ℕ) (st : Stored) → Stands began q st → AsksAlike st.payloads st.stored (tests q.limits st s verb) old new verdict
+    change-asks-at verb next_of result f verdict e began st h = subst (AsksAlike st.payloads st.stored (tests q.limits st s verb) old new) (sym e)
+        (subst (λ (v : PlainStore). AsksAlike st.payloads st.stored (tests v.limits st s verb) old new (refusal_in result)) view (let t = (f began st (on-x began st h)).tried in (t.gained, t.told)))

@@ -1,11 +1,10 @@
 -- What is asked of a rebase and of a plan.
-use Rattle.std.proofs.Common.{◌≡◌, ◌≤◌, ◌<◌, ◌+◌, ◌*◌, ◌^◌, ℕ, Bool, true, false, true≢false, Result, Ok, Err, IfOk, OnOk, List, [], ◌∷◌, ◌++◌, map, length, drop, Option, refl, sym, ap, ap₂, subst, ◌∙◌, arith, le_refl}
+use Rattle.std.proofs.Common.{◌≡◌, ◌≤◌, ◌<◌, ◌+◌, ◌*◌, ◌^◌, ℕ, Bool, true, false, true≢false, Result, Ok, Err, IfOk, OnOk, List, [], ◌∷◌, ◌++◌, map, length, drop, Option, refl, sym, ap, ap₂, subst, ◌∙◌, arith}
 use Rattle.std.specs.declared.alloc.AllocError.{AllocError}
-use Rattle.std.proofs.lemmas.List.{take-append-drop, length-map}
+use Rattle.std.proofs.lemmas.List.{take-append-drop, length-map, map-append}
 use Rattle.std.proofs.lemmas.Bool.{eq-eqb, ne_eqb}
-use Rattle.id_groups.specs.Lists.{IsIn}
 use Rattle.id_groups.specs.Name.{Name, same_name}
-use Rattle.commit_graph.specs.World.{World, GrowsMaster, names_of}
+use Rattle.commit_graph.specs.World.{World, names_of}
 use Rattle.batch_codec.specs.Grammar.{count_after}
 use Rattle.gated_log.specs.Held.{Held, log_bytes, longer}
 use Rattle.gated_log.proofs.Places.{length-log}
@@ -23,16 +22,16 @@ use Rattle.payload_tables.specs.Bases.{IsBaseOf, ArePending}
 use Rattle.change_rules.specs.Tables.{StandFor}
 use Rattle.payload_tables.proofs.Basing.{count-front}
 use Rattle.flush_rebuild.specs.Asked.{HaveParents, MayRebaseOn}
-use Rattle.flush_rebuild.specs.Plans.{MayBeStored, MayRebase, MayFlush, stored_id}
+use Rattle.flush_rebuild.specs.Plans.{MayComeNext, MayRebase, MayFlush, stored_id}
 use Rattle.change_rules.specs.Rebase.{left_of}
 use Rattle.gated_log.specs.Log.{log_length}
 use Rattle.step_rules.specs.State.{Stored, session, base_of, pending_of}
 use Rattle.step_rules.specs.Tests.{is_on_newest}
-use Rattle.step_rules.proofs.Sessions.{newest-now}
 use Rattle.dag_store.specs.Kept.{PlainSession, IsSessionOf, base_added}
 use Rattle.dag_store.specs.Changes.{IsOn, IsPrepared, AreOver, RowsFound, added_behind, next_place}
 use Rattle.dag_store.specs.Flushes.{HasRoom}
 use Rattle.dag_store.specs.Loading.{IsOnNewest}
+use Rattle.dag_store.proofs.StillStored.{still-stored}
 
 module _ (log : Held) (tables : PlainTables) (added : List Placed) (over : AreOver log tables added) (x : PlainSession) (h : IsSessionOf added x) (bytes : List ℕ) (all : bytes ≡ log_bytes log) where
   abbrev before : List Placed
@@ -46,6 +45,9 @@ module _ (log : Held) (tables : PlainTables) (added : List Placed) (over : AreOv
       let whole : before ++ drop x.payloads added ≡ added = take-append-drop x.payloads added in
       subst (λ l. count_after 0 (payloads_of before) ≤ count_after 0 (payloads_of l)) whole
       (count-front 0 before (drop x.payloads added) (subst (λ l. Following 0 l) (sym whole) over.tables_of.names.follow))
+
+  parts : payloads_of added ≡ payloads_of before ++ payloads_of (drop x.payloads added)
+  parts = ap payloads_of (sym (take-append-drop x.payloads added)) ∙ map-append (λ (a : Placed). a.payload) before (drop x.payloads added)
 
   pub may-rebase-on : (base : BaseRef) → IsBaseOf base before → (pending : PlainPending) → pending ≡ x.pending → (found : List (Option ℕ)) → RowsFound added x.pending found
       → MayRebaseOn tables bytes base pending found added before
@@ -86,9 +88,8 @@ module _ (log : Held) (tables : PlainTables) (added : List Placed) (over : AreOv
       base_of = b;
       base_stands = o.base.stand;
       pending_rows = subst (λ p. ArePending (base_of st s) p (pending_of st s)) (sym is) o.session.pending;
-      grows = subst (λ v. GrowsMaster (base_of st s) v) (newest-now st) (o.state.grows (session st s).base (length st.past) (o.state.sessions s).base (le_refl _));
-      keeps = o.keeps;
-      others_stored = λ name i. h.keeps name (subst (IsIn name) (sym o.base.stand.names) i);
+      grows = o.grows;
+      missing = still-stored added (payloads_of before) (payloads_of (drop x.payloads added)) parts (base_of st s) st.stored over.tables_of.lawful o.base.stand (subst (λ l. StandFor l st.stored) (sym o.payloads) o.hold.stand) o.base.world.world o.grows;
       found_are = f;
     }
 
@@ -134,7 +135,7 @@ few-payloads log payload le =
     omega (arith, m, l, le)
 
 -- memory was taken for the payload of a change
-pub change-ready : (limits : Limits) (old new : Held) (before after : PlainTables) (kind : ℕ) (added : List Placed) (change : Change) → MayBeStored kind limits (length (log_bytes old)) added change → change.same ≡ false
+pub change-ready : (limits : Limits) (old new : Held) (before after : PlainTables) (kind : ℕ) (added : List Placed) (change : Change) → MayComeNext kind limits (length (log_bytes old)) added change → change.same ≡ false
     → old.limit ≡ limits.log → HasRoom old new → (payload : List ℕ) → payload ≡ change.payload → (result : Result PlainSession AllocError) → OnOk result (longer old payload ≤ new.room)
     → ((last : Payload) → MayFollow (payloads_of added) last → payload ≡ payload_bytes last → IfOk result (λ x. AreTablesOf after (added_behind old added last) × IsOnNewest (added_behind old added last) x))
     → IfOk result (IsPrepared limits old new before after added change)

@@ -1,28 +1,19 @@
 -- Sessions on the newest payloads.
-use Rattle.std.proofs.Common.{◌≡◌, ◌≤◌, ◌+◌, ◌⊎◌, inl, inr, ⊎_elim, ℕ, List, [], ◌∷◌, ◌++◌, length, take, flat_map, Option, Some, None, sym, ap, subst, ◌∙◌, arith, length-append}
+use Rattle.std.proofs.Common.{◌≡◌, ◌≤◌, ◌+◌, ℕ, List, [], ◌∷◌, ◌++◌, length, take, flat_map, Option, Some, None, sym, ap, subst, ◌∙◌, arith, length-append}
 use Rattle.std.specs.List.{last_or}
 use Rattle.std.proofs.lemmas.List.{take_all, take-append-le, map-append}
-use Rattle.id_groups.specs.Lists.{IsIn, AreDistinct}
-use Rattle.id_groups.specs.Name.{Name}
-use Rattle.commit_graph.proofs.Histories.{in-append}
-use Rattle.commit_graph.proofs.Down.{in-left, in-right}
+use Rattle.id_groups.specs.Lists.{AreDistinct}
 use Rattle.batch_codec.specs.Payload.{Payload, known_names}
 use Rattle.batch_codec.specs.Grammar.{count_after}
 use Rattle.change_rules.specs.Lawful.{MayFollow}
 use Rattle.name_map.specs.Added.{Placed, payloads_of}
-use Rattle.change_rules.specs.Tables.{newest, other_names_in}
+use Rattle.change_rules.specs.Tables.{other_names_in}
 use Rattle.payload_tables.specs.Kept.{PlainOthers, AreOthersIn, AreOthersOf, last_added}
 use Rattle.payload_tables.specs.Pending.{PlainPending, HoldsRows}
-use Rattle.payload_tables.proofs.Lists.{count-last, last-of, flat-snoc, distinct-parts}
-use Rattle.flush_rebuild.specs.Asked.{IsStored, MayStore, others_count}
-use Rattle.flush_rebuild.proofs.Asking.{stored-names}
+use Rattle.payload_tables.proofs.Lists.{count-last, last-of, distinct-parts}
+use Rattle.flush_rebuild.specs.Asked.{MayStore, others_count}
 use Rattle.dag_store.specs.Kept.{PlainSession, IsSessionOf, base_added}
 use Rattle.dag_store.specs.Loading.{IsOnNewest}
-
--- the other names of the newest payload are stored
-newest-stored : (added : List Placed) (name : Name) → IsIn name (other_names_in (newest (payloads_of added))) → IsStored added name
-newest-stored added name i =
-    subst (IsIn name) (sym (stored-names added)) (in-right name (flat_map known_names (payloads_of added)) (other_names_in (newest (payloads_of added))) i)
 
 -- pending rows of none
 none-to-store : (pending : PlainPending) (added : List Placed) → HoldsRows pending [] → pending.first ≡ others_count added → MayStore pending added
@@ -37,7 +28,6 @@ all-session added x n b o p =
       below = b ∙ sym (ap (λ l. count_after 0 (payloads_of l)) all);
       others = subst (λ l. AreOthersIn x.others (last_added l)) (sym all) o;
       pending = subst (MayStore x.pending) (sym all) p;
-      keeps = λ name i. newest-stored added name (subst (λ l. IsIn name (other_names_in (newest (payloads_of l)))) all i);
     }
 
 -- how many others are kept of the newest payload
@@ -86,11 +76,9 @@ other-names-distinct before p m = (distinct-parts (flat_map known_names (before 
 pub others-few : (before : List Payload) (p : Payload) (at : ℕ) (others : PlainOthers) → MayFollow before p → AreOthersOf others (record { at = at; payload = p }) → others.count ≤ 65536
 others-few before p at others m h = let a = h.count in let b = m.whole.counts.others in omega (arith, a, b)
 
--- a session on older payloads stays one where each name of the others is known or is one of the others still
-pub older-session : (added : List Placed) (at : ℕ) (last : Payload) (x : PlainSession) → IsSessionOf added x
-    → ((name : Name) → IsIn name (other_names_in (newest (payloads_of added))) → IsIn name (known_names last) ⊎ IsIn name last.other_names)
-    → IsSessionOf (added ++ record { at = at; payload = last } ∷ []) x
-older-session added at last x h keeps =
+-- a session on older payloads stays one
+pub older-session : (added : List Placed) (at : ℕ) (last : Payload) (x : PlainSession) → IsSessionOf added x → IsSessionOf (added ++ record { at = at; payload = last } ∷ []) x
+older-session added at last x h =
     let a : Placed = record { at = at; payload = last } in
     let few = h.payloads in
     let same : take x.payloads (added ++ a ∷ []) ≡ take x.payloads added = take-append-le x.payloads added (a ∷ []) few in
@@ -99,28 +87,4 @@ older-session added at last x h keeps =
       below = h.below ∙ ap (λ l. count_after 0 (payloads_of l)) (sym same);
       others = subst (λ l. AreOthersIn x.others (last_added l)) (sym same) h.others;
       pending = subst (MayStore x.pending) (sym same) h.pending;
-      keeps = λ name i. still name (h.keeps name (subst (λ l. IsIn name (other_names_in (newest (payloads_of l)))) same i));
     }
-  where
-    known-snoc : (ps : List Payload) (p : Payload) → flat_map known_names (ps ++ p ∷ []) ≡ flat_map known_names ps ++ known_names p
-    known-snoc ps p = flat-snoc known_names ps p
-
-    are : payloads_of (added ++ record { at = at; payload = last } ∷ []) ≡ payloads_of added ++ last ∷ []
-    are = map-append (λ (p : Placed). p.payload) added (record { at = at; payload = last } ∷ [])
-
-    known : flat_map known_names (payloads_of (added ++ record { at = at; payload = last } ∷ [])) ≡ flat_map known_names (payloads_of added) ++ known_names last
-    known = ap (flat_map known_names) are ∙ known-snoc (payloads_of added) last
-
-    others : other_names_in (newest (payloads_of (added ++ record { at = at; payload = last } ∷ []))) ≡ last.other_names
-    others = ap (λ l. other_names_in (newest l)) are ∙ ap other_names_in (last-of None (payloads_of added) last)
-
-    in-known : (name : Name) → IsIn name (flat_map known_names (payloads_of added)) ⊎ IsIn name (known_names last) → IsStored (added ++ record { at = at; payload = last } ∷ []) name
-    in-known name i = subst (IsIn name) (sym (stored-names (added ++ record { at = at; payload = last } ∷ []))) (in-left name (flat_map known_names (payloads_of (added ++ record { at = at; payload = last } ∷ []))) (other_names_in (newest (payloads_of (added ++ record { at = at; payload = last } ∷ []))))
-        (subst (IsIn name) (sym known) (⊎_elim (λ j. in-left name (flat_map known_names (payloads_of added)) (known_names last) j) (λ j. in-right name (flat_map known_names (payloads_of added)) (known_names last) j) i)))
-
-    in-others : (name : Name) → IsIn name last.other_names → IsStored (added ++ record { at = at; payload = last } ∷ []) name
-    in-others name i = newest-stored (added ++ record { at = at; payload = last } ∷ []) name (subst (IsIn name) (sym others) i)
-
-    still : (name : Name) → IsStored added name → IsStored (added ++ record { at = at; payload = last } ∷ []) name
-    still name i = ⊎_elim (λ j. in-known name (inl j)) (λ j. ⊎_elim (λ k. in-known name (inr k)) (in-others name) (keeps name j))
-        (in-append name (flat_map known_names (payloads_of added)) (other_names_in (newest (payloads_of added))) (subst (IsIn name) (stored-names added) i))

@@ -1,4 +1,4 @@
--- What the look-ups of a flush and a reload settle, and why nothing is lost.
+-- What the look-ups of a flush and a reload settle, and what a rebase on the newest world leaves.
 use Rattle.std.proofs.Common.{◌≡◌, ◌⊎◌, inl, inr, ⊎_elim, ℕ, Bool, true, false, not, cond, ◌&&◌, List, [], ◌∷◌, ◌++◌, length, Some, None, refl, sym, ap, subst, ◌∙◌, append_assoc, if◌then◌else◌}
 use Rattle.std.proofs.lemmas.List.{map-append}
 use Rattle.std.proofs.lemmas.Bool.{eqb-true}
@@ -6,12 +6,11 @@ use Rattle.id_groups.specs.Lists.{IsIn, is_in}
 use Rattle.id_groups.specs.Name.{Name, same_name}
 use Rattle.id_groups.proofs.Names.{same_name-exact, same_name-self}
 use Rattle.id_groups.proofs.Listing.{found, there}
-use Rattle.commit_graph.specs.World.{Row, World, IsWorld, IsHistory, KeepsRows, names_of, row_named, rows_of, with_pending}
+use Rattle.commit_graph.specs.World.{Row, World, IsWorld, IsHistory, names_of, row_named, rows_of, with_pending}
 use Rattle.commit_graph.proofs.Histories.{in-append, in-all, history-rest}
 use Rattle.commit_graph.proofs.Down.{in-left, in-right}
 use Rattle.change_rules.specs.Rebase.{left_of, first_conflict, first_lost, first_missing, first_outside, has_parents, or_else}
 use Rattle.change_rules.specs.Tables.{StandFor}
-use Rattle.change_rules.proofs.Flushes.{name-in}
 use Rattle.name_map.specs.Added.{Placed, payloads_of}
 use Rattle.step_rules.specs.State.{Stored, session, world_at, pending_of, base_of}
 use Rattle.step_rules.specs.Worlds.{has}
@@ -21,7 +20,7 @@ use Rattle.dag_store.specs.Kept.{PlainSession}
 use Rattle.dag_store.specs.Changes.{IsOn}
 
 -- rows that come behind others have new names
-fresh-rows : (before : List Name) (rows : List (Row Name)) → IsHistory before rows → (x : Name) → IsIn x (names_of rows) → IsIn x before → ⊥
+pub fresh-rows : (before : List Name) (rows : List (Row Name)) → IsHistory before rows → (x : Name) → IsIn x (names_of rows) → IsIn x before → ⊥
 fresh-rows before [] h x i j = i
 fresh-rows before (r ∷ rows) h x (inl e) j = h.0.fresh (subst (λ z. IsIn z before) e j)
 fresh-rows before (r ∷ rows) h x (inr i) j = fresh-rows (before ++ r.name ∷ []) rows h.1 x i (in-left x before (r.name ∷ []) j)
@@ -33,19 +32,10 @@ absent x xs n = by_test (is_in same_name x xs) refl
     by_test true e = absurd (n (found same_name same_name-exact same_name-self x xs e))
     by_test false e = e
 
-named-row : (x : Name) (rows : List (Row Name)) → IsIn x (names_of rows) → (r : Row Name) × IsIn r rows × (x ≡ r.name)
-named-row x [] i = absurd i
-named-row x (r ∷ rows) (inl e) = (r, inl refl, e)
-named-row x (r ∷ rows) (inr i) = let n = named-row x rows i in (n.0, inr n.1, n.2)
-
--- a world that keeps the rows has the names
-pub names-kept : (old new : World Name) → KeepsRows old new → (x : Name) → IsIn x (names_of (rows_of old)) → IsIn x (names_of (rows_of new))
-names-kept old new k x i = let n = named-row x (rows_of old) i in subst (λ z. IsIn z (names_of (rows_of new))) (sym n.2) (name-in n.0 (rows_of new) (k n.0 n.1))
-
 pending-history : (w : World Name) (rows : List (Row Name)) → IsWorld (with_pending w rows) → IsHistory (names_of (rows_of w)) rows
 pending-history w rows h = history-rest [] (rows_of w) rows (subst (IsHistory []) (sym (append_assoc w.master w.others rows)) h)
 
--- ---- nothing is lost
+-- ---- nothing is lost where all of the old names are there
 
 none-outside : (known xs : List Name) → ((x : Name) → IsIn x xs → IsIn x known) → first_outside same_name known xs ≡ None
 none-outside known [] f = refl
@@ -132,10 +122,6 @@ module _ (began s : ℕ) (added : List Placed) (x : PlainSession) (st : Stored) 
   pub history : IsHistory (names_of (rows_of (base_of st s))) rows
   history = pending-history (base_of st s) rows (o.state.sessions s).view.world
 
-  -- no row loses a parent
-  pub never-lost : first_lost same_name w rows ≡ None
-  never-lost = none-missing w (names_of (rows_of (base_of st s))) (names_of (rows_of w)) rows history (names-kept (base_of st s) w o.keeps) (λ y i. i)
-
   pub on-newest : is_on_newest st s ≡ true → base_of st s ≡ w
   on-newest e = ap (world_at st) (eqb-true (session st s).base (length st.past) e) ∙ newest-now st
 
@@ -146,6 +132,9 @@ module _ (began s : ℕ) (added : List Placed) (x : PlainSession) (st : Stored) 
   -- and a rebase leaves them as they are
   known-there : is_on_newest st s ≡ true → (y : Name) → IsIn y (names_of (rows_of w)) → IsIn y (names_of (rows_of (base_of st s)))
   known-there e y i = subst (λ v. IsIn y (names_of (rows_of v))) (sym (on-newest e)) i
+
+  pub none-lost : is_on_newest st s ≡ true → first_lost same_name w rows ≡ None
+  none-lost e = none-missing w (names_of (rows_of (base_of st s))) (names_of (rows_of w)) rows history (λ y i. subst (λ v. IsIn y (names_of (rows_of v))) (on-newest e) i) (λ y i. i)
 
   pub none-conflict : is_on_newest st s ≡ true → first_conflict same_name w rows ≡ None
   none-conflict e = no-conflict w (names_of (rows_of (base_of st s))) rows history (known-there e)

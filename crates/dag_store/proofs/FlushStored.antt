@@ -3,9 +3,8 @@ use Rattle.std.proofs.Common.{◌≡◌, ◌≤◌, ◌<◌, ◌+◌, ⊎_elim, 
 use Rattle.std.specs.List.{AllByRecursion}
 use Rattle.std.proofs.lemmas.List.{get_or-set_same, get_or-set_other, take-append-le, take_all, map-append, length-map, drop-append-le}
 use Rattle.std.proofs.lemmas.Bool.{cases_eq}
-use Rattle.id_groups.specs.Lists.{IsIn}
 use Rattle.id_groups.specs.Name.{Name}
-use Rattle.commit_graph.specs.World.{Row, World, IsNamedWorld, GrowsMaster, KeepsRows, rows_of, with_pending}
+use Rattle.commit_graph.specs.World.{Row, World, IsNamedWorld, GrowsMaster, with_pending}
 use Rattle.gated_log.specs.Log.{batches, batch, log_length}
 use Rattle.gated_log.specs.Held.{Held, log_bytes}
 use Rattle.gated_log.proofs.Places.{length-log}
@@ -46,7 +45,7 @@ on-of log tables sessions limits k began st h s small = record {
   count = h.count;
   hold = subst (λ l. HoldPayloads l st.stored) (added-are log tables sessions limits k began st h) (all-hold log tables sessions limits k began st h);
   base = base-holds log tables sessions limits k began st h s small;
-  keeps = subst (λ w. KeepsRows (base_of st s) w) (newest-now st) (h.keeps (session st s).base (length st.past) (h.state.sessions s).base (le_refl _));
+  grows = subst (λ w. GrowsMaster (base_of st s) w) (newest-now st) (h.state.grows (session st s).base (length st.past) (h.state.sessions s).base (le_refl _));
   session = h.sessions s small;
 }
 
@@ -66,7 +65,7 @@ kept-room log new tables sessions limits room k = subst (λ l. IsKept l tables s
 
 pub stands-room : (began : ℕ) (log new : Held) (sessions : List PlainSession) (limits : Limits) (st : Stored) → new.payloads ≡ log.payloads
     → Stands began (record { log = log; sessions = sessions; limits = limits; cache = no_cache }) st → Stands began (record { log = new; sessions = sessions; limits = limits; cache = no_cache }) st
-stands-room began log new sessions limits st same h = record { state = h.state; texts = same ∙ h.texts; count = h.count; worlds = h.worlds; keeps = h.keeps; sessions = h.sessions }
+stands-room began log new sessions limits st same h = record { state = h.state; texts = same ∙ h.texts; count = h.count; worlds = h.worlds; sessions = h.sessions }
 
 -- ---- the session on the newest payloads
 
@@ -170,7 +169,7 @@ module _ (log : Held) (tables : PlainTables) (sessions : List PlainSession) (lim
       (λ (e : i ≡ s). subst (λ j. IsSessionOf (added_behind log k.added last) (session_at (set sessions s x) j)) (sym e)
       (subst (IsSessionOf (added_behind log k.added last)) (sym (get_or-set_same sessions s x no_session (let c = k.count in omega (arith, small, c)))) r.session_of.0))
       (λ (n : i ≡ s → ⊥). subst (IsSessionOf (added_behind log k.added last)) (sym (get_or-set_other sessions s i x no_session n))
-      (older-session k.added (next_place log) last (session_at sessions i) (k.each i lt) r.storable.keeps))
+      (older-session k.added (next_place log) last (session_at sessions i) (k.each i lt)))
       (cases_eq i s)
 
   pub stored-kept : IsKept new after (set sessions s x) limits
@@ -190,7 +189,7 @@ module _ (log : Held) (tables : PlainTables) (sessions : List PlainSession) (lim
 
 -- ---- another world is stored
 
-module _ (began : ℕ) (kept : PlainStore) (st : Stored) (h : Stands began kept st) (new : World Name) (payload : Payload) (named : IsNamedWorld new) (grows : GrowsMaster st.stored new) (rows : KeepsRows st.stored new)
+module _ (began : ℕ) (kept : PlainStore) (st : Stored) (h : Stands began kept st) (new : World Name) (payload : Payload) (named : IsNamedWorld new) (grows : GrowsMaster st.stored new)
     (hold : HoldPayloads (st.payloads ++ payload ∷ []) new) where
   abbrev next : Stored
   next = with_stored st new payload
@@ -213,28 +212,12 @@ module _ (began : ℕ) (kept : PlainStore) (st : Stored) (h : Stands began kept 
       subst (HoldPayloads (take (began + i) (st.payloads ++ payload ∷ []))) (sym (world_at-stored st new payload i le))
       (subst (λ l. HoldPayloads l (world_at st i)) (sym (take-append-le (began + i) st.payloads (payload ∷ []) (omega (arith, n, le)))) (h.worlds i le))
 
-  keep-old : (i j : ℕ) → i ≤ j → j ≤ length st.past → KeepsRows (world_at next i) (world_at next j)
-  keep-old i j le bound =
-      subst (λ v. KeepsRows v (world_at next j)) (sym (world_at-stored st new payload i (omega (arith, le, bound))))
-      (subst (λ v. KeepsRows (world_at st i) v) (sym (world_at-stored st new payload j bound)) (h.keeps i j le bound))
-
-  keep-new : (i j : ℕ) → i ≤ j → j ≡ length (st.past ++ st.stored ∷ []) → KeepsRows (world_at next i) (world_at next j)
-  keep-new i j le e = ⊎_elim
-      (λ (same : i ≡ j). subst (λ m. KeepsRows (world_at next i) (world_at next m)) same (λ row there. there))
-      (λ (lt : i < j). let l = longer in
-      let few : i ≤ length st.past = omega (arith, lt, e, l) in
-      subst (λ v. KeepsRows v (world_at next j)) (sym (world_at-stored st new payload i few))
-      (subst (λ v. KeepsRows (world_at st i) v) (sym (at-newest st new payload j e))
-      (λ row there. rows row (subst (λ v. IsIn row (rows_of v)) (newest-now st) (h.keeps i (length st.past) few (le_refl _) row there)))))
-      (eq-or-lt_of_le le)
-
   pub stands-stored : (log : Held) → log.payloads ≡ kept.log.payloads ++ text_of payload ∷ [] → Stands began (record { log = log; sessions = kept.sessions; limits = kept.limits; cache = no_cache }) next
   stands-stored log is = record {
     state = with_stored-state st new payload h.state named grows;
     texts = is ∙ ap (λ l. l ++ text_of payload ∷ []) h.texts ∙ sym (map-append text_of st.payloads (payload ∷ []));
     count = size;
     worlds = λ i le. ⊎_elim (newest-world i) (λ lt. older-world i (let l = longer in omega (arith, l, lt))) (eq-or-lt_of_le le);
-    keeps = λ i j le bound. ⊎_elim (λ e. keep-new i j le e) (λ lt. keep-old i j le (let l = longer in omega (arith, l, lt))) (eq-or-lt_of_le bound);
     sessions = λ s lt. (let o = h.sessions s lt in record {
       payloads = o.payloads;
       pending = subst (λ w. ArePending w (session_at kept.sessions s).pending (session st s).pending) (sym (world_at-stored st new payload (session st s).base (h.state.sessions s).base)) o.pending;

@@ -122,7 +122,7 @@ module _ (newest : BaseRef) (none : PlainPending) (added : List Placed) (w : Wor
     found-of None v f = λ i. (f refl).0 (subst (IsIn name) (sym (stored-are added w sees.stand)) i)
 
     -- a row's name that was looked up
-    pub row-finds : (old new : List Mirror) (a b : PlainCache) (r : Result (Option ℕ) Refusal) → Looks (payloads_of added) w [] name old new a b r → FindsIt added w (row_test (payloads_of added) w) (IsRowFound w) name old new a b r
+    pub row-finds : (old new : List Mirror) (a b : PlainCache) (r : Result (Option ℕ) Refusal) → Looks (payloads_of added) w [] name old new a b r → FindsIt added w (row_test (payloads_of added) w) (IsFoundIn added) (IsRowFound w) name old new a b r
     row-finds old new a b (Ok o) h = record {
       tried = subst (Tried (payloads_of added) w (row_test (payloads_of added) w name ∷ []) old new a b) (ap (λ e. refused_by e None) h.ends)
           (look-test (payloads_of added) w [] name (λ _. None) old new a b (Ok o) h None tt (λ s. refl));

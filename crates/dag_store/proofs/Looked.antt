@@ -41,7 +41,7 @@ pub some-is-none : {X : Type 0} {x : X} → ◌≡◌ {A = Option X} (Some x) No
 some-is-none e = true≢false (ap is_some e)
 
 -- the place of a name that is there
-place-below : (x : Name) (xs : List Name) → IsIn x xs → place_of same_name x xs < length xs
+pub place-below : (x : Name) (xs : List Name) → IsIn x xs → place_of same_name x xs < length xs
 place-below x [] i = absurd i
 place-below x (y ∷ xs) i = by_test (same_name y x) refl i (place-below x xs)
   where

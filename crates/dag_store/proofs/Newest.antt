@@ -1,37 +1,22 @@
 -- A session on all payloads.
-use Rattle.std.proofs.Common.{◌≡◌, ◌≤◌, ◌<◌, ◌+◌, ◌^◌, ℕ, zero, suc, List, [], ◌∷◌, ◌++◌, length, map, drop, Option, Some, None, refl, sym, ap, subst, ◌∙◌, arith, get_or, length-append, zero-le}
+use Rattle.std.proofs.Common.{◌≡◌, ◌≤◌, ◌<◌, ◌+◌, ℕ, zero, suc, List, [], ◌∷◌, ◌++◌, length, map, drop, Option, Some, None, sym, ap, subst, ◌∙◌, arith, get_or, length-append, zero-le}
 use Rattle.std.specs.List.{AllByRecursion, last_or}
-use Rattle.std.proofs.lemmas.List.{take_all, map-append, take-append-drop, length-map}
-use Rattle.id_groups.specs.Lists.{IsIn}
-use Rattle.id_groups.specs.Name.{Name}
-use Rattle.commit_graph.proofs.Down.{in-right}
-use Rattle.batch_codec.specs.Payload.{Payload, Known}
+use Rattle.std.proofs.lemmas.List.{take_all, take-append-drop, length-map}
+use Rattle.batch_codec.specs.Payload.{Payload}
 use Rattle.batch_codec.specs.Grammar.{count_after}
 use Rattle.gated_log.specs.Held.{Held}
-use Rattle.name_map.specs.Added.{Placed, payloads_of, known_of, AllStand, Follow}
-use Rattle.change_rules.specs.Change.{known_from, text_of}
-use Rattle.change_rules.specs.Tables.{newest, other_names_in}
+use Rattle.name_map.specs.Added.{Placed, payloads_of, AllStand, Follow}
+use Rattle.change_rules.specs.Change.{text_of}
+use Rattle.change_rules.specs.Tables.{other_names_in}
 use Rattle.payload_tables.specs.Kept.{PlainTables, PlainOthers, AreTablesOf, AreOthersIn, last_added}
 use Rattle.payload_tables.specs.Pending.{HoldsRows}
 use Rattle.payload_tables.specs.Bases.{MayBase}
 use Rattle.payload_tables.proofs.Basing.{table-end}
 use Rattle.payload_tables.proofs.Lists.{all-append}
-use Rattle.flush_rebuild.specs.Asked.{MayStore, IsStored}
+use Rattle.flush_rebuild.specs.Asked.{MayStore}
 use Rattle.dag_store.specs.Kept.{PlainSession, IsSessionOf, base_added}
 use Rattle.dag_store.specs.Loading.{IsOnNewest}
 use Rattle.dag_store.proofs.Sizes.{others-many}
-
-known-named : (n : ℕ) (names : List Name) → map (λ (k : Known). k.name) (known_from n names) ≡ names
-known-named n [] = refl
-known-named n (x ∷ names) = ap (λ l. x ∷ l) (known-named (n + 1) names)
-
--- the other names of the last payload are stored
-pub others-stored : (added : List Placed) (name : Name) → IsIn name (other_names_in (newest (payloads_of added))) → IsStored added name
-others-stored added name i =
-    let others = known_from (2 ^ 56) (other_names_in (newest (payloads_of added))) in
-    subst (IsIn name) (sym (map-append (λ (k : Known). k.name) (known_of added) others))
-    (in-right name (map (λ (k : Known). k.name) (known_of added)) (map (λ (k : Known). k.name) others)
-    (subst (IsIn name) (sym (known-named (2 ^ 56) (other_names_in (newest (payloads_of added))))) i))
 
 last-few : (o : Option Payload) (count : ℕ) (added : List Placed) → length (other_names_in o) ≤ 65536 → Follow count added → length (other_names_in (last_or o (payloads_of added))) ≤ 65536
 last-few o count [] le h = le
@@ -54,7 +39,6 @@ on-newest tables added x t payloads below others held first =
         others = subst (λ l. AreOthersIn x.others (last_added l)) (sym all) (subst (λ (o : PlainOthers). AreOthersIn o (last_added added)) (sym others) t.others);
         pending = subst (MayStore x.pending) (sym all)
             (record { rows = []; held = held; first = first ∙ others-many tables.others added t.others; parents = tt; distinct = tt; fresh = λ name i. absurd i });
-        keeps = λ name i. others-stored added name (subst (λ l. IsIn name (other_names_in (newest (payloads_of l)))) all i);
       },
       payloads,
       held,

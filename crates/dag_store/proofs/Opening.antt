@@ -3,7 +3,7 @@ use Rattle.std.proofs.Common.{◌≡◌, ◌≤◌, ◌<◌, ◌+◌, ◌⊎◌,
 use Rattle.std.specs.List.{AllByRecursion}
 use Rattle.std.proofs.lemmas.List.{take_all}
 use Rattle.id_groups.specs.Name.{Name}
-use Rattle.commit_graph.specs.World.{World, KeepsRows}
+use Rattle.commit_graph.specs.World.{World}
 use Rattle.payload_tables.proofs.Lists.{names-length}
 use Rattle.disk_trait.specs.Images.{Told, IsImage, IsSound}
 use Rattle.disk_trait.specs.Calls.{Goes}
@@ -87,18 +87,12 @@ module _ (store : PlainStore) (added : List Placed) (payloads : List Payload) (w
   worlds-are zero le = subst (λ l. HoldPayloads l w) (sym (take_all (length payloads + 0) payloads (omega arith))) hold
   worlds-are (suc i) le = absurd (omega (arith, le))
 
-  abbrev rows-kept : (i j : ℕ) → i ≤ j → j ≤ 0 → KeepsRows (world_at (start w payloads) i) (world_at (start w payloads) j)
-  rows-kept zero zero le bound = λ row there. there
-  rows-kept (suc i) zero le bound = absurd (omega (arith, le))
-  rows-kept i (suc j) le bound = absurd (omega (arith, bound))
-
   pub loaded-stands : Stands (length payloads) store (start w payloads)
   loaded-stands = record {
     state = start-state w payloads hold.world;
     texts = texts;
     count = omega arith;
     worlds = worlds-are;
-    keeps = rows-kept;
     sessions = λ s small. subst (IsSessionFor (length payloads) (start w payloads) (session_at store.sessions s)) (sym (copies 16 s new_session)) (session-stands (session_at store.sessions s) (each s small));
   }
 

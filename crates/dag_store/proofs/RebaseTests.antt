@@ -17,7 +17,7 @@ use Rattle.payload_tables.specs.Pending.{PlainPending}
 use Rattle.payload_tables.specs.Bases.{ArePending}
 use Rattle.flush_rebuild.specs.declared.fault.PlanFault.{PlanFault}
 use Rattle.flush_rebuild.specs.declared.fault.PlanFault.TheVariants as faults
-use Rattle.flush_rebuild.specs.Plans.{conflict_fault, stored_id}
+use Rattle.flush_rebuild.specs.Plans.{conflict_fault, lost_fault, first_of, rebase_refusal, stored_id}
 use Rattle.step_rules.specs.declared.Refusal.{Refusal}
 use Rattle.step_rules.specs.declared.Refusal.TheVariants as why
 use Rattle.step_rules.specs.State.{Stored, pending_of}
@@ -29,7 +29,7 @@ use Rattle.dag_store.specs.Changes.{FindsRows, IsHeadFound, IsOfPlan, IsOn, IsRe
 use Rattle.dag_store.proofs.Trials.{tried-memory, tried-none, tried-stop, tried-then}
 use Rattle.dag_store.proofs.PlainTests.{passing, tried-passed, tried-refused}
 use Rattle.dag_store.proofs.TakenHeads.{taken-right, zip-map}
-use Rattle.dag_store.proofs.FlushStates.{all-stay, never-lost, new-there, none-conflict, on-newest}
+use Rattle.dag_store.proofs.FlushStates.{all-stay, new-there, none-conflict, none-lost, on-newest}
 
 -- ---- refusals of a plan
 
@@ -37,6 +37,8 @@ use Rattle.dag_store.proofs.FlushStates.{all-stay, never-lost, new-there, none-c
 pub told-plan : (payloads : List Payload) (w : World Name) (fault : PlanFault) → IsTold payloads w (Some (refusal_of fault))
 told-plan payloads w (faults.Unknown name) = tt
 told-plan payloads w (faults.Conflict name) = tt
+told-plan payloads w (faults.Lost name) = tt
+told-plan payloads w (faults.Emptied n) = tt
 told-plan payloads w (faults.Full what limit) = tt
 told-plan payloads w (faults.BadClone at) = tt
 told-plan payloads w faults.Memory = tt
@@ -49,9 +51,22 @@ is_memory _ = false
 pub plan-memory : (fault : PlanFault) → (fault ≡ faults.Memory) ⊎ (refusal_of fault ≡ why.Memory → ⊥)
 plan-memory (faults.Unknown name) = inr (λ e. true≢false (sym (ap is_memory e)))
 plan-memory (faults.Conflict name) = inr (λ e. true≢false (sym (ap is_memory e)))
+plan-memory (faults.Lost name) = inr (λ e. true≢false (sym (ap is_memory e)))
+plan-memory (faults.Emptied n) = inr (λ e. true≢false (sym (ap is_memory e)))
 plan-memory (faults.Full what limit) = inr (λ e. true≢false (sym (ap is_memory e)))
 plan-memory (faults.BadClone at) = inr (λ e. true≢false (sym (ap is_memory e)))
 plan-memory faults.Memory = inl refl
+
+-- what a rebase is refused for is one of both, or neither is there
+both-none : (c l : Option Name) → first_of (conflict_fault c) (lost_fault l) ≡ None → (c ≡ None) × (l ≡ None)
+both-none None None e = (refl, refl)
+both-none None (Some name) e = absurd (true≢false (ap is_some e))
+both-none (Some name) l e = absurd (true≢false (ap is_some e))
+
+one-refuses : (c l : Option Name) (fault : PlanFault) → first_of (conflict_fault c) (lost_fault l) ≡ Some fault → first_some (option_map why.Conflict c ∷ option_map why.Lost l ∷ []) ≡ Some (refusal_of fault)
+one-refuses None None fault e = absurd (true≢false (sym (ap is_some e)))
+one-refuses None (Some name) fault e = ap (option_map refusal_of) e
+one-refuses (Some name) l fault e = ap (option_map refusal_of) e
 
 -- ---- a state
 
@@ -68,27 +83,18 @@ module _ (began s : ℕ) (added : List Placed) (x : PlainSession) (st : Stored) 
   abbrev pub lost : Option Refusal
   lost = option_map why.Lost (first_lost same_name st.stored (pending_of st s))
 
-  lost-none : lost ≡ None
-  lost-none = ap (option_map why.Lost) (never-lost began s added x st o)
-
-  to-conflict : first_some (conflict ∷ lost ∷ []) ≡ conflict
-  to-conflict = ap (λ r. first_some (conflict ∷ r ∷ [])) lost-none ∙ only conflict
-    where
-      only : (r : Option Refusal) → first_some (r ∷ None ∷ []) ≡ r
-      only None = refl
-      only (Some r) = refl
+  both-pass : first_conflict same_name st.stored (pending_of st s) ≡ None → first_lost same_name st.stored (pending_of st s) ≡ None → first_some (conflict ∷ lost ∷ []) ≡ None
+  both-pass c l = ap₂ (λ a b. first_some (option_map why.Conflict a ∷ option_map why.Lost b ∷ [])) c l
 
   -- what a rebase finds of rows whose names were found rightly
-  pub rebases-ok : (left : PlainPending) → (first_conflict same_name st.stored (pending_of st s) ≡ None) × ArePending st.stored left (left_of same_name st.stored (pending_of st s)) → RebasesAnew st s (Ok left)
-  rebases-ok left r = (r.0, never-lost began s added x st o, r.1)
+  pub rebases-ok : (left : PlainPending) → (rebase_refusal st.stored (pending_of st s) ≡ None) × ArePending st.stored left (left_of same_name st.stored (pending_of st s)) → RebasesAnew st s (Ok left)
+  rebases-ok left r =
+      let b = both-none (first_conflict same_name st.stored (pending_of st s)) (first_lost same_name st.stored (pending_of st s)) r.0 in
+      (b.0, b.1, r.1)
 
-  pub rebases-fault : (fault : PlanFault) → (fault ≡ faults.Memory) ⊎ (conflict_fault (first_conflict same_name st.stored (pending_of st s)) ≡ Some fault) → RebasesAnew st s (Err (refusal_of fault))
+  pub rebases-fault : (fault : PlanFault) → (fault ≡ faults.Memory) ⊎ (rebase_refusal st.stored (pending_of st s) ≡ Some fault) → RebasesAnew st s (Err (refusal_of fault))
   rebases-fault fault (inl m) = inl (ap refusal_of m)
-  rebases-fault fault (inr c) = inr (to-conflict ∙ by_conflict (first_conflict same_name st.stored (pending_of st s)) c)
-    where
-      by_conflict : (r : Option Name) → conflict_fault r ≡ Some fault → option_map why.Conflict r ≡ Some (refusal_of fault)
-      by_conflict None c = absurd (true≢false (sym (ap is_some c)))
-      by_conflict (Some name) c = ap (option_map refusal_of) c
+  rebases-fault fault (inr e) = inr (one-refuses (first_conflict same_name st.stored (pending_of st s)) (first_lost same_name st.stored (pending_of st s)) fault e)
 
   -- ---- on the newest world
 
@@ -108,7 +114,7 @@ module _ (began s : ℕ) (added : List Placed) (x : PlainSession) (st : Stored) 
     skip-rows (r ∷ some) = skip-rows some
 
     none-refuses : first_some (none_rows ++ conflict ∷ lost ∷ []) ≡ None
-    none-refuses = skip-rows rows ∙ to-conflict ∙ ap (option_map why.Conflict) (none-conflict began s added x st o newest)
+    none-refuses = skip-rows rows ∙ both-pass (none-conflict began s added x st o newest) (none-lost began s added x st o newest)
 
     same-heads : (heads : List Name) (found : List (Option ℕ)) → AllZip (IsHeadFound st.stored (pending_of st s)) heads found → found ≡ map (stored_id st.stored) heads
     same-heads [] [] z = refl
@@ -179,7 +185,7 @@ module _ (began s : ℕ) (added : List Placed) (x : PlainSession) (st : Stored) 
       pub rows-moved : (r : Result PlainPending Refusal) → IfErr r IsOfPlan → (ids ≡ map (stored_id st.stored) (names_of (pending_of st s)) → RebasesAnew st s r) → Rebases limits st s heads old new a b found later r
       rows-moved (Ok left) p g = record {
         tried = tried-passed st.payloads st.stored (map (pending_test st s) (pending_of st s)) old new a b (rows-tried None h.tried) (conflict ∷ lost ∷ [])
-            (λ r. to-conflict ∙ ap (option_map why.Conflict) (g (rows-are r)).0);
+            (λ r. let f = g (rows-are r) in both-pass f.0 f.1);
         right = λ r. (g (rows-are r)).2;
         heads_are = λ r z. taken-right st.stored (pending_of st s) ids (found-rows r) heads found later same z taken;
       }

@@ -115,7 +115,6 @@ module _ (log : Held) (tables : PlainTables) (sessions : List PlainSession) (lim
         below = of.below;
         others = of.others;
         pending = record { rows = []; held = held; first = first ∙ of.pending.first; parents = tt; distinct = tt; fresh = λ name i. absurd i };
-        keeps = of.keeps;
       }
 
 -- the levels of the stored master

@@ -55,7 +55,6 @@ stands-with began kept st s x y small count h good for = record {
   texts = h.texts;
   count = h.count;
   worlds = h.worlds;
-  keeps = h.keeps;
   sessions = λ k lt. again (get_or (set kept.sessions s x) k no_session) (get_or (set st.sessions s y) k new_session)
       (set-both (IsSessionFor began st) kept.sessions st.sessions s x no_session y new_session for (omega (arith, small, count)) (let e = h.state.sixteen in omega (arith, small, e)) h.sessions k lt);
 }

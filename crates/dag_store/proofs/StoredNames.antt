@@ -40,7 +40,7 @@ pub known-all : (added : List Placed) → known_of added ≡ known_in (payloads_
 known-all [] = refl
 known-all (a ∷ added) = ap (λ l. a.payload.known ++ l) (known-all added)
 
-names-known : (payloads : List Payload) → map (λ (k : Known). k.name) (known_in payloads) ≡ flat_map known_names payloads
+pub names-known : (payloads : List Payload) → map (λ (k : Known). k.name) (known_in payloads) ≡ flat_map known_names payloads
 names-known [] = refl
 names-known (p ∷ more) = map-append (λ (k : Known). k.name) p.known (known_in more) ∙ ap (λ l. known_names p ++ l) (names-known more)
 
@@ -53,7 +53,7 @@ row-of (r ∷ rows) zero x e = (r, refl, ap some_or e)
     some_or (Some a) = a
 row-of (r ∷ rows) (suc i) x e = row-of rows i x e
 
-name-of : (rows : List (Row Name)) (i : ℕ) (r : Row Name) → slice_get rows i ≡ Some r → slice_get (names_of rows) i ≡ Some r.name
+pub name-of : (rows : List (Row Name)) (i : ℕ) (r : Row Name) → slice_get rows i ≡ Some r → slice_get (names_of rows) i ≡ Some r.name
 name-of [] i r e = absurd (true≢false (sym (ap is_some e)))
 name-of (q ∷ rows) zero r e = ap name_or e
   where
@@ -62,7 +62,7 @@ name-of (q ∷ rows) zero r e = ap name_or e
     name_or (Some x) = Some x.name
 name-of (q ∷ rows) (suc i) r e = name-of rows i r e
 
-one-some : (x y : Name) → Some x ≡ Some y → x ≡ y
+pub one-some : (x y : Name) → Some x ≡ Some y → x ≡ y
 one-some x y e = cc e
 
 -- the names of rows by ids are those of the rows

@@ -4,7 +4,7 @@ use Rattle.std.specs.Option.{option_map}
 use Rattle.std.specs.List.{AllZip}
 use Rattle.id_groups.specs.Lists.{IsIn}
 use Rattle.id_groups.specs.Name.{Name, same_name}
-use Rattle.commit_graph.specs.World.{Row, World, KeepsRows, names_of, with_pending}
+use Rattle.commit_graph.specs.World.{Row, World, GrowsMaster, names_of, with_pending}
 use Rattle.batch_codec.specs.Payload.{Payload}
 use Rattle.gated_log.specs.Held.{Held, log_bytes, longer}
 use Rattle.name_map.specs.Added.{Placed, payloads_of, AllStand}
@@ -25,7 +25,7 @@ use Rattle.lazy_names.specs.Cache.{PlainCache}
 use Rattle.step_rules.specs.declared.Refusal.{Refusal}
 use Rattle.step_rules.specs.declared.Refusal.TheVariants as why
 use Rattle.step_rules.specs.State.{Stored, IsStore, session, pending_of, base_of}
-use Rattle.step_rules.specs.Verb.{Flush, Reload}
+use Rattle.step_rules.specs.Verb.{Verb, Flush, Reload}
 use Rattle.step_rules.specs.Tests.{Test, first_some, unknown, tests}
 use Rattle.step_rules.specs.Worlds.{flush_of}
 use Rattle.dag_store.specs.declared.changing.Next.{Next}
@@ -47,7 +47,7 @@ pub record IsOn (began : ℕ) (added : List Placed) (x : PlainSession) (st : Sto
   pub count : length st.payloads ≡ began + length st.past
   pub hold : HoldPayloads st.payloads st.stored
   pub base : HoldPayloads (payloads_of (base_added added x)) (base_of st s)
-  pub keeps : KeepsRows (base_of st s) st.stored
+  pub grows : GrowsMaster (base_of st s) st.stored
   pub session : IsSessionFor began st x (session st s)
 
 -- the pending rows have these names, in order
@@ -74,28 +74,28 @@ IsHeadFound w rows name found = (found ≡ stored_id w name) ⊎ ((found ≡ Non
 abbrev pub IsRowFound : World Name → Name → Option ℕ → Type 0
 IsRowFound w name found = found ≡ stored_id w name
 
--- A name is looked up in the newest base, of the payloads that were added: whatever the mirrors tell, its test is tried, and an id of
--- the base is found, or the name isn't stored; where the mirrors serve the base's world, it is found rightly.
-pub record FindsIt (added : List Placed) (w : World Name) (test : Name → Test) (Is : Name → Option ℕ → Type 0) (name : Name) (old new : List Mirror) (before now : PlainCache) (result : Result (Option ℕ) Refusal) : Type 0 where
+-- A name is looked up in the newest base, of the payloads that were added: whatever the mirrors tell, its test is tried, and what is
+-- found may be its; where the mirrors serve the base's world, it is found rightly.
+pub record FindsIt {X : Type 0} (added : List Placed) (w : World Name) (test : Name → Test) (May Is : Name → X → Type 0) (name : Name) (old new : List Mirror) (before now : PlainCache) (result : Result X Refusal) : Type 0 where
   pub tried : Tried (payloads_of added) w (test name ∷ []) old new before now (refusal_in result)
-  pub found : IfOk result (IsFoundIn added name)
+  pub found : IfOk result (May name)
   pub right : AreRight (payloads_of added) w old → IfOk result (Is name)
 
 -- names are, from left to right
-pub record FindsEach (added : List Placed) (w : World Name) (test : Name → Test) (Is : Name → Option ℕ → Type 0) (names : List Name) (old new : List Mirror) (before now : PlainCache) (result : Result (List (Option ℕ)) Refusal) : Type 0 where
+pub record FindsEach {X : Type 0} (added : List Placed) (w : World Name) (test : Name → Test) (May Is : Name → X → Type 0) (names : List Name) (old new : List Mirror) (before now : PlainCache) (result : Result (List X) Refusal) : Type 0 where
   pub tried : Tried (payloads_of added) w (map test names) old new before now (refusal_in result)
-  pub found : IfOk result (AllZip (IsFoundIn added) names)
+  pub found : IfOk result (AllZip May names)
   pub right : AreRight (payloads_of added) w old → IfOk result (AllZip Is names)
 
--- a head, heads, and the names of a session's rows
+-- a head, heads, and the names of a session's rows: an id of the base is found, or the name isn't stored
 abbrev pub FindsHead : List Placed → World Name → List (Row Name) → Name → List Mirror → List Mirror → PlainCache → PlainCache → Result (Option ℕ) Refusal → Type 0
-FindsHead added w rows = FindsIt added w (head_test (payloads_of added) w rows) (IsHeadFound w rows)
+FindsHead added w rows = FindsIt added w (head_test (payloads_of added) w rows) (IsFoundIn added) (IsHeadFound w rows)
 
 abbrev pub FindsHeads : List Placed → World Name → List (Row Name) → List Name → List Mirror → List Mirror → PlainCache → PlainCache → Result (List (Option ℕ)) Refusal → Type 0
-FindsHeads added w rows = FindsEach added w (head_test (payloads_of added) w rows) (IsHeadFound w rows)
+FindsHeads added w rows = FindsEach added w (head_test (payloads_of added) w rows) (IsFoundIn added) (IsHeadFound w rows)
 
 abbrev pub FindsRows : List Placed → World Name → List Name → List Mirror → List Mirror → PlainCache → PlainCache → Result (List (Option ℕ)) Refusal → Type 0
-FindsRows added w = FindsEach added w (row_test (payloads_of added) w) (IsRowFound w)
+FindsRows added w = FindsEach added w (row_test (payloads_of added) w) (IsFoundIn added) (IsRowFound w)
 
 -- what was found of the row with the name, of rows with these names; none where none has it
 abbrev pub IsRowOf : List Name → List (Option ℕ) → Name → Option ℕ → Type 0
@@ -114,6 +114,8 @@ IsRefusedBy refusals refusal = (refusal ≡ why.Memory) ⊎ (first_some refusals
 abbrev pub refusal_of : PlanFault → Refusal
 refusal_of (faults.Unknown name) = why.Unknown name
 refusal_of (faults.Conflict name) = why.Conflict name
+refusal_of (faults.Lost name) = why.Lost name
+refusal_of (faults.Emptied n) = why.Emptied n
 refusal_of (faults.Full what limit) = why.Full what limit
 refusal_of (faults.BadClone at) = why.MismatchClone at
 refusal_of faults.Memory = why.Memory
@@ -142,21 +144,28 @@ pub record Reloads (limits : Limits) (st : Stored) (s : ℕ) (old new : List Mir
   pub tried : Tried st.payloads st.stored (tests limits st s Reload) old new before now (refusal_in result)
   pub right : AreRight st.payloads st.stored old → IfOk result (λ x. ArePending st.stored x.pending (left_of same_name st.stored (pending_of st s)))
 
--- the change is that of the session's flush
-pub record IsFlushPlan (st : Stored) (s : ℕ) (heads : List Name) (change : Change) : Type 0 where
+-- the change makes the stored world this one
+pub record IsPlanTo (st : Stored) (next : World Name) (change : Change) : Type 0 where
   pub payload : List ℕ
-  pub plan : IsPlanOf change st.stored (flush_of st s heads) payload
-  pub change_of : IsChangeOf st.stored (flush_of st s heads) payload
+  pub plan : IsPlanOf change st.stored next payload
+  pub change_of : IsChangeOf st.stored next payload
 
--- what the plan of a flush answers
-pub record PlansFlush (limits : Limits) (st : Stored) (s : ℕ) (heads : List Name) (old new : List Mirror) (before now : PlainCache) (result : Result Change Refusal) : Type 0 where
-  pub tried : Tried st.payloads st.stored (tests limits st s (Flush heads)) old new before now (refusal_in result)
-  pub right : AreRight st.payloads st.stored old → IfOk result (IsFlushPlan st s heads)
+-- what the plan of a command answers that makes it so
+pub record PlansChange (limits : Limits) (st : Stored) (s : ℕ) (verb : Verb) (next : World Name) (old new : List Mirror) (before now : PlainCache) (result : Result Change Refusal) : Type 0 where
+  pub tried : Tried st.payloads st.stored (tests limits st s verb) old new before now (refusal_in result)
+  pub right : AreRight st.payloads st.stored old → IfOk result (IsPlanTo st next)
 
 -- the same of what was prepared
-pub record Prepares (limits : Limits) (st : Stored) (s : ℕ) (heads : List Name) (old new : List Mirror) (before now : PlainCache) (result : Result Next Refusal) : Type 0 where
-  pub tried : Tried st.payloads st.stored (tests limits st s (Flush heads)) old new before now (refusal_in result)
-  pub right : AreRight st.payloads st.stored old → IfOk result (λ next. IsFlushPlan st s heads next.change)
+pub record PreparesChange (limits : Limits) (st : Stored) (s : ℕ) (verb : Verb) (next : World Name) (old new : List Mirror) (before now : PlainCache) (result : Result Next Refusal) : Type 0 where
+  pub tried : Tried st.payloads st.stored (tests limits st s verb) old new before now (refusal_in result)
+  pub right : AreRight st.payloads st.stored old → IfOk result (λ ready. IsPlanTo st next ready.change)
+
+-- of a flush
+abbrev pub PlansFlush : Limits → Stored → ℕ → List Name → List Mirror → List Mirror → PlainCache → PlainCache → Result Change Refusal → Type 0
+PlansFlush limits st s heads = PlansChange limits st s (Flush heads) (flush_of st s heads)
+
+abbrev pub PreparesFlush : Limits → Stored → ℕ → List Name → List Mirror → List Mirror → PlainCache → PlainCache → Result Next Refusal → Type 0
+PreparesFlush limits st s heads = PreparesChange limits st s (Flush heads) (flush_of st s heads)
 
 -- where the next payload stands in a log
 abbrev pub next_place : Held → ℕ

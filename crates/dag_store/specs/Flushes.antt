@@ -1,16 +1,18 @@
--- How a flush ends, for the state and for the disk.
+-- How a flush and a strip end, for the state and for the disk.
 use Rattle.std.specs.Prelude.{◌≡◌, ◌≤◌, ◌+◌, ℕ, List, [], ◌∷◌, ◌++◌, Option, Some, None, ⊤, length}
-use Rattle.id_groups.specs.Name.{Name}
+use Rattle.id_groups.specs.Name.{Name, same_name}
+use Rattle.commit_graph.specs.World.{World}
 use Rattle.disk_trait.specs.Images.{Told, moment_of}
 use Rattle.batch_codec.specs.Payload.{Payload}
 use Rattle.gated_log.specs.Held.{Held}
 use Rattle.gated_log.specs.Holding.{HasPayloads, IsOnDisk, KeepsOldOrNew}
+use Rattle.change_rules.specs.Strip.{stripped}
 use Rattle.change_rules.specs.Change.{text_of, flush_change}
 use Rattle.remote_rules.specs.Mirror.{Mirror}
 use Rattle.step_rules.specs.declared.Refusal.{Refusal}
 use Rattle.step_rules.specs.State.{State, Stored, worlds}
-use Rattle.step_rules.specs.Verb.{Flush}
-use Rattle.step_rules.specs.Reply.{Flushed as IsFlushed, Refused as IsRefusal}
+use Rattle.step_rules.specs.Verb.{Verb, Flush, Strip}
+use Rattle.step_rules.specs.Reply.{Reply, Flushed as IsFlushed, Stripped as IsStripped, Refused as IsRefusal}
 use Rattle.step_rules.specs.Worlds.{flush_of, after_flush}
 use Rattle.step_rules.specs.Step.{CommandStep}
 use Rattle.dag_store.specs.declared.replies.Flushed.{Flushed}
@@ -23,33 +25,44 @@ use Rattle.dag_store.specs.Steps.{ChangesOnly, Leads}
 abbrev pub flush_end : Stored → ℕ → List Name → Stored
 flush_end st s heads = after_flush st s (flush_of st s heads)
 
--- the change that the flush makes
-abbrev pub change_of : Stored → ℕ → List Name → Payload
-change_of st s heads = flush_change st.stored (flush_of st s heads)
+-- what a strip leaves of the stored world
+abbrev pub strip_of : Stored → List Name → World Name
+strip_of st names = stripped same_name st.stored names
 
--- Another world is stored, by the payload of the change, of these bytes.
-pub record StoresBy (st : Stored) (s : ℕ) (heads : List Name) (payload : List ℕ) : Type 0 where
-  pub past : (flush_end st s heads).past ≡ worlds st
-  pub payloads : (flush_end st s heads).payloads ≡ st.payloads ++ change_of st s heads ∷ []
-  pub text : payload ≡ text_of (change_of st s heads)
+-- the change to the new world
+abbrev pub change_of : Stored → World Name → Payload
+change_of st new = flush_change st.stored new
+
+-- The new world is stored, which is another one, by the payload of the change, of these bytes.
+pub record StoresBy (st : Stored) (s : ℕ) (new : World Name) (payload : List ℕ) : Type 0 where
+  pub past : (after_flush st s new).past ≡ worlds st
+  pub payloads : (after_flush st s new).payloads ≡ st.payloads ++ change_of st new ∷ []
+  pub text : payload ≡ text_of (change_of st new)
 
 -- nothing is stored: where a clock is given, a payload is
-abbrev pub Stores : Option ℕ → Stored → ℕ → List Name → List ℕ → Type 0
-Stores None st s heads payload = ((flush_end st s heads).past ≡ st.past) × ((flush_end st s heads).payloads ≡ st.payloads)
-Stores (Some clock) st s heads payload = StoresBy st s heads payload
+abbrev pub Stores : Option ℕ → Stored → ℕ → World Name → List ℕ → Type 0
+Stores None st s new payload = ((after_flush st s new).past ≡ st.past) × ((after_flush st s new).payloads ≡ st.payloads)
+Stores (Some clock) st s new payload = StoresBy st s new payload
 
--- What a flush of a store answers for a state that it stands for: the step's reply, and a store that stands for the state after
--- it; or the refusal, and the store as it was; or, at a fault of the disk, the store is gone, and the payload is the one of the
--- step that was to be taken.
+-- What a command that makes the stored world a new one answers for a state that the store stands for: the step's reply, which tells
+-- the sizes, and a store that stands for the state after it; or the refusal, and the store as it was; or, at a fault of the disk, the
+-- store is gone, and the payload is the one of the step that was to be taken.
+abbrev pub ChangeStep : ℕ → PlainStore → State → ℕ → Verb → (ℕ → ℕ → Reply) → World Name → List Mirror → List ℕ → Flushed → Type 0
+ChangeStep began old st s verb sizes new left payload (Done store counts clock) =
+    Leads began old.limits st s verb (sizes counts.master counts.others) store left × Stands began store (after_flush st.store s new) × Stores clock st.store s new payload
+ChangeStep began old st s verb sizes new left payload (Refused same refusal) = Leads began old.limits st s verb (IsRefusal refusal) same left
+ChangeStep began old st s verb sizes new left payload (Disk fault) =
+    (next : State) × CommandStep old.limits st s verb (sizes (length new.master) (length new.others)) next
+    × (next.store ≡ after_flush st.store s new) × (next.outside.mirrors ≡ left) × StoresBy st.store s new payload
+
+-- what a flush answers, and a strip
 abbrev pub FlushStep : ℕ → PlainStore → State → ℕ → List Name → List Mirror → List ℕ → Flushed → Type 0
-FlushStep began old st s heads left payload (Done new counts clock) =
-    Leads began old.limits st s (Flush heads) (IsFlushed counts.master counts.others) new left × Stands began new (flush_end st.store s heads) × Stores clock st.store s heads payload
-FlushStep began old st s heads left payload (Refused same refusal) = Leads began old.limits st s (Flush heads) (IsRefusal refusal) same left
-FlushStep began old st s heads left payload (Disk fault) =
-    (next : State) × CommandStep old.limits st s (Flush heads) (IsFlushed (length (flush_of st.store s heads).master) (length (flush_of st.store s heads).others)) next
-    × (next.store ≡ flush_end st.store s heads) × (next.outside.mirrors ≡ left) × StoresBy st.store s heads payload
+FlushStep began old st s heads = ChangeStep began old st s (Flush heads) IsFlushed (flush_of st.store s heads)
 
--- why a flush is refused, if it is
+abbrev pub StripStep : ℕ → PlainStore → State → ℕ → List Name → List Mirror → List ℕ → Flushed → Type 0
+StripStep began old st s names = ChangeStep began old st s (Strip names) IsStripped (strip_of st.store names)
+
+-- why it is refused, if it is
 abbrev pub refused_flush : Flushed → Option Refusal
 refused_flush (Refused same refusal) = Some refusal
 refused_flush _ = None
@@ -71,21 +84,21 @@ pub record CutShort (kept : PlainStore) (payload : List ℕ) (a b : Told) : Type
   pub calls : moment_of b ≤ moment_of a + 8
   pub since : KeepsOldOrNew kept.log payload a b
 
--- how the flush leaves a disk: as it was where nothing was written
+-- how it leaves a disk: as it was where nothing was written
 abbrev pub FlushLeaves : PlainStore → List ℕ → Flushed → Told → Told → Type 0
 FlushLeaves kept payload (Done new counts (Some clock)) a b = HasStored kept payload new clock a b
 FlushLeaves kept payload (Done new counts None) a b = b ≡ a
 FlushLeaves kept payload (Refused same refusal) a b = b ≡ a
 FlushLeaves kept payload (Disk fault) a b = CutShort kept payload a b
 
--- only a flush that stores, or that a fault of the disk ends, calls the disk
+-- only one that stores, or that a fault of the disk ends, calls the disk
 abbrev pub IsQuiet : Flushed → Type 0
 IsQuiet (Done new counts (Some clock)) = ⊥
 IsQuiet (Done new counts None) = ⊤
 IsQuiet (Refused same refusal) = ⊤
 IsQuiet (Disk fault) = ⊥
 
--- What a flush leaves of the store: the session alone changes, and the log where something is stored; no rows of it are told to be
+-- What it leaves of the store: the session alone changes, and the log where something is stored; no rows of it are told to be
 -- pending. A refusal hands it back as it was, but for the log's room and the names that are kept.
 abbrev pub LeavesStore : PlainStore → ℕ → Flushed → Type 0
 LeavesStore kept s (Done new counts (Some clock)) = ChangesOnly s (record kept { log = new.log }) new × (counts.pending ≡ 0)

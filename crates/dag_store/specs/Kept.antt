@@ -1,18 +1,15 @@
 -- What contracts see of a store, and of which payloads its parts are.
 use Rattle.std.specs.Prelude.{◌≡◌, ◌<◌, ◌≤◌, ◌+◌, ℕ, List, [], length, map, take, slice_index_or}
 use Rattle.std.specs.List.{AllByRecursion}
-use Rattle.id_groups.specs.Lists.{IsIn}
-use Rattle.id_groups.specs.Name.{Name}
 use Rattle.batch_codec.specs.Grammar.{count_after}
 use Rattle.gated_log.specs.Held.{Held, log_bytes}
 use Rattle.name_map.specs.Added.{Placed, payloads_of, AllStand}
 use Rattle.change_rules.specs.declared.Limits.{Limits}
 use Rattle.change_rules.specs.Standard.{AreLimits}
 use Rattle.change_rules.specs.Change.{text_of}
-use Rattle.change_rules.specs.Tables.{newest, other_names_in}
 use Rattle.payload_tables.specs.Kept.{PlainTables, PlainOthers, AreTablesOf, AreOthersIn, last_added}
 use Rattle.payload_tables.specs.Pending.{PlainPending}
-use Rattle.flush_rebuild.specs.Asked.{MayStore, IsStored}
+use Rattle.flush_rebuild.specs.Asked.{MayStore}
 use Rattle.lazy_names.specs.Cache.{PlainCache}
 
 -- what is kept of a session
@@ -52,14 +49,12 @@ session_at sessions s = slice_index_or sessions s no_session
 abbrev pub base_added : List Placed → PlainSession → List Placed
 base_added added x = take x.payloads added
 
--- The session is on the first of the payloads that were added. Its rows may be stored behind them, and each name of the other
--- ids of its base is still stored.
+-- The session is on the first of the payloads that were added. Its rows may be stored behind these.
 pub record IsSessionOf (added : List Placed) (x : PlainSession) : Type 0 where
   pub payloads : x.payloads ≤ length added
   pub below : x.below ≡ count_after 0 (payloads_of (base_added added x))
   pub others : AreOthersIn x.others (last_added (base_added added x))
   pub pending : MayStore x.pending (base_added added x)
-  pub keeps : (name : Name) → IsIn name (other_names_in (newest (payloads_of (base_added added x)))) → IsStored added name
 
 -- how many sessions there are
 abbrev pub sixteen : ℕ

@@ -9,6 +9,7 @@ pub mod Steps
 pub mod Loading
 pub mod Flushes
 pub mod Changes
+pub mod Strips
 pub mod Clones
 pub mod Finishes
 pub mod Shown

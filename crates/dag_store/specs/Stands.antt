@@ -2,7 +2,6 @@
 use Rattle.std.specs.Prelude.{◌≡◌, ◌<◌, ◌≤◌, ◌+◌, ◌↔◌, ◌⊎◌, false, ℕ, List, Some, length, map, take}
 use Rattle.id_groups.specs.Lists.{IsIn, AreDistinct}
 use Rattle.id_groups.specs.Name.{Name}
-use Rattle.commit_graph.specs.World.{KeepsRows}
 use Rattle.gated_log.specs.Held.{Held}
 use Rattle.change_rules.specs.Change.{text_of}
 use Rattle.change_rules.specs.Holding.{HoldPayloads}
@@ -21,14 +20,13 @@ pub record IsSessionFor (began : ℕ) (st : Stored) (x : PlainSession) (y : Sess
   pub pending : ArePending (world_at st y.base) x.pending y.pending
 
 -- The log and the sessions stand for what is stored in a state of a run that began with so many payloads: the log has the
--- state's payloads, those up to each stored world hold it, and each session is that of the state. No row goes. With lazy names
--- they stand for many states.
+-- state's payloads, those up to each stored world hold it, and each session is that of the state. With lazy names they stand for
+-- many states.
 pub record HoldsFor (began : ℕ) (log : Held) (kept : List PlainSession) (st : Stored) : Type 0 where
   pub state : IsStore st
   pub texts : log.payloads ≡ map text_of st.payloads
   pub count : length st.payloads ≡ began + length st.past
   pub worlds : (i : ℕ) → i ≤ length st.past → HoldPayloads (take (began + i) st.payloads) (world_at st i)
-  pub keeps : (i j : ℕ) → i ≤ j → j ≤ length st.past → KeepsRows (world_at st i) (world_at st j)
   pub sessions : (s : ℕ) → s < sixteen → IsSessionFor began st (session_at kept s) (session st s)
 
 -- the store does

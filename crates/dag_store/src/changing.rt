@@ -11,15 +11,15 @@ ghost use Rattle.gated_log.specs.Holding.{IsOnDisk};
 ghost use Rattle.name_map.specs.Added.{Placed, payloads_of};
 ghost use Rattle.change_rules.specs.Standard.{AreLimits};
 ghost use Rattle.flush_rebuild.specs.Asked.{MayStore};
-ghost use Rattle.flush_rebuild.specs.Plans.{MayBeStored};
-ghost use Rattle.payload_tables.specs.Kept.{AreTablesOf};
+ghost use Rattle.flush_rebuild.specs.Plans.{MayComeNext};
+ghost use Rattle.payload_tables.specs.Kept.{PlainTables, AreTablesOf};
 ghost use Rattle.step_rules.specs.State.{Stored};
 ghost use Rattle.dag_store.specs.Kept.{IsSessionOf, IsKept};
 ghost use Rattle.dag_store.specs.Loading.{IsOnNewest};
 ghost use Rattle.dag_store.specs.Looking.{IsSoundCache};
-ghost use Rattle.dag_store.specs.Changes.{AreOver, IsOn, IsPrepared, Prepares, Reloads, added_behind};
-ghost use Rattle.dag_store.specs.Flushes.{HasRoom, FlushLeaves};
-ghost use Rattle.dag_store.specs.Finishes.{Finishes, IsBehind};
+ghost use Rattle.dag_store.specs.Changes.{AreOver, IsOn, IsPrepared, PreparesFlush, Reloads, added_behind};
+ghost use Rattle.dag_store.specs.Flushes.{HasRoom, FlushLeaves, IsQuiet};
+ghost use Rattle.dag_store.specs.Finishes.{EndsAs, Finishes, IsBehind, IsToFinish, payload_in};
 
 use crate::planning::{plan, rebased};
 use crate::replies::{Counts, Flushed};
@@ -160,10 +160,10 @@ pub(crate) fn take_change(
 ) -> Result<Session, AllocError>
     requires limits { AreLimits limits }
     requires limit { log.old.limit ≡ limits.log }
-    requires stored { (kind : ℕ) × (added : List Placed) × AreOver log.old tables.old added × MayBeStored kind limits (length (log_bytes log.old)) added change.now }
+    requires stored { (kind : ℕ) × (added : List Placed) × AreOver log.old tables.old added × MayComeNext kind limits (length (log_bytes log.old)) added change.now }
     ensures room { HasRoom log.old log.new }
     ensures refused { OnErr result (tables.new ≡ tables.old) }
-    ensures ready { (kind : ℕ) (added : List Placed) → AreOver log.old tables.old added → MayBeStored kind limits (length (log_bytes log.old)) added change.now
+    ensures ready { (kind : ℕ) (added : List Placed) → AreOver log.old tables.old added → MayComeNext kind limits (length (log_bytes log.old)) added change.now
         → IfOk result (IsPrepared limits log.old log.new tables.old tables.new added change.now) }
 {
     if change.same {
@@ -200,7 +200,7 @@ pub(crate) fn prepare<R: Remote>(
         → IfOk result (λ next. IsPrepared limits log.old log.new tables.old tables.new added next.change next.session) }
     ensures step { (began s : ℕ) (added : List Placed) (st : Stored) → AreOver log.old tables.old added → IsSessionOf added session.now
         → IsOn began added session.now st s
-        → Prepares limits st s heads.now (map R.shown mirrors.old.items) (map R.shown mirrors.new.items) cache.old cache.new result }
+        → PreparesFlush limits st s heads.now (map R.shown mirrors.old.items) (map R.shown mirrors.new.items) cache.old cache.new result }
     ensures sound { IsSoundCache cache.old → IsSoundCache cache.new }
     ensures len { length mirrors.new.items ≡ length mirrors.old.items }
 {
@@ -212,7 +212,7 @@ pub(crate) fn prepare<R: Remote>(
 }
 
 /// Stores what was prepared, where something changes, for sessions as they are then.
-pub(crate) fn commit<D: Disk>(
+fn commit<D: Disk>(
     disk: &mut D,
     alloc: Global,
     log: Log,
@@ -264,5 +264,46 @@ pub(crate) fn commit<D: Disk>(
         Committed::Disk(fault) => Flushed::Disk(fault),
         Committed::Full(_log, _limit) => unreachable!(),
         Committed::Memory(_log) => unreachable!(),
+    }
+}
+
+/// Stores what was prepared for the session in this place, where something changes; or hands the store back with the refusal.
+pub(crate) fn finish<D: Disk>(
+    disk: &mut D,
+    alloc: Global,
+    log: Log,
+    tables: Box<Tables>,
+    sessions: Vec<Session>,
+    limits: Limits,
+    names: LazyNames,
+    at: usize,
+    next: Result<Next, Refusal>,
+) -> Flushed
+    requires begins { IfSome (D.told disk.old) (IsOnDisk log) }
+    requires made { (old : Held) × (before : PlainTables) × IsToFinish old log before tables.value sessions.items limits at next }
+    ensures ends { EndsAs log sessions.items limits names at next result }
+    ensures leaves { Goes (FlushLeaves (record { log = log; sessions = sessions.items; limits = limits; cache = names }) (payload_in next) result) (D.told disk.old) (D.told disk.new) }
+    ensures quiet { IsQuiet result → disk.new ≡ disk.old }
+    ensures later { D.faults disk.old ≤ D.faults disk.new }
+    ensures cause { (fault : _) → result ≡ Flushed.Disk fault → Rose (D.faults disk.old) (D.faults disk.new) }
+{
+    let mut sessions = sessions;
+    match next {
+        Ok(ready) => {
+            let Next { change, session } = ready;
+            sessions[at] = session;
+            commit(disk, alloc, log, tables, sessions, limits, names, change)
+        }
+        Err(refusal) => {
+            let store = Store {
+                alloc,
+                log,
+                tables,
+                sessions,
+                limits,
+                names,
+            };
+            Flushed::Refused(store, refusal)
+        }
     }
 }

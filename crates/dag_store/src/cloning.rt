@@ -30,7 +30,7 @@ ghost use Rattle.dag_store.specs.Changes.{AreOver, IsOn, IsPrepared, refusal_of}
 ghost use Rattle.dag_store.specs.Flushes.{HasRoom, FlushLeaves, IsQuiet, LeavesStore};
 ghost use Rattle.dag_store.specs.Clones.{CloneStep, CloneAnswers, PlansClone, RefusesClone};
 
-use crate::changing::{Next, commit, take_change};
+use crate::changing::{Next, finish, take_change};
 use crate::planning::refusal_of;
 use crate::replies::Flushed;
 use crate::session::Session;
@@ -69,8 +69,8 @@ fn check_empty(tables: &Tables) -> Result<(), Refusal>
     Ok(())
 }
 
-/// Refuses a clone where the session has rows.
-fn check_pending(session: &Session) -> Result<(), Refusal>
+/// Refuses where the session has rows.
+pub(crate) fn check_pending(session: &Session) -> Result<(), Refusal>
     requires { (rows : List IdRow) × HoldsRows session.now.pending rows }
     ensures { (w : World NameBytes) (rows : List (Row NameBytes)) → ArePending w session.now.pending rows → MatchResult result
         (λ done. length rows ≡ 0) (λ refusal. (refusal ≡ why.Pending (length rows)) × (0 < length rows)) }
@@ -208,35 +208,19 @@ impl Store {
             alloc,
             mut log,
             mut tables,
-            mut sessions,
+            sessions,
             limits,
             names,
         } = self;
         let at = usize::from(s);
-        match prepare_clone(
+        let next = prepare_clone(
             alloc,
             &mut log,
             &mut tables,
             &sessions[at],
             &mut mirrors.list,
             limits,
-        ) {
-            Ok(next) => {
-                let Next { change, session } = next;
-                sessions[at] = session;
-                commit(disk, alloc, log, tables, sessions, limits, names, change)
-            }
-            Err(refusal) => {
-                let store = Store {
-                    alloc,
-                    log,
-                    tables,
-                    sessions,
-                    limits,
-                    names,
-                };
-                Flushed::Refused(store, refusal)
-            }
-        }
+        );
+        finish(disk, alloc, log, tables, sessions, limits, names, at, next)
     }
 }

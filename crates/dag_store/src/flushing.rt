@@ -12,7 +12,7 @@ ghost use Rattle.dag_store.specs.Looking.{AsksAlike, refusal_in};
 ghost use Rattle.dag_store.specs.Steps.{ChangesOnly, KeepsAll, Leads, reload_reply};
 ghost use Rattle.dag_store.specs.Flushes.{FlushStep, FlushLeaves, IsQuiet, LeavesStore, refused_flush};
 
-use crate::changing::{Next, commit, prepare, reloaded};
+use crate::changing::{finish, prepare, reloaded};
 use crate::lookup::are_names;
 use crate::replies::Flushed;
 use crate::store::Store;
@@ -25,8 +25,9 @@ use step_rules::Refusal;
 impl Store {
     /// Puts a session on the newest world, with its rows that this doesn't have, and answers how many these are.
     ///
-    /// `Conflict` for the first row that is stored with other parents. Where the name of a row has to be asked, `NoRemote` where there
-    /// is no mirror, `Remote` where all failed, and `MismatchPath` where the answer disagrees with the log.
+    /// `Conflict` for the first row that is stored with other parents; else `Lost` for the first parent of a row that is left which
+    /// the newest world doesn't have. Where the name of a row has to be asked, `NoRemote` where there is no mirror, `Remote` where all
+    /// failed, and `MismatchPath` where the answer disagrees with the log.
     pub fn reload(&mut self, s: u8, mirrors: &mut Mirrors) -> Result<u32, Refusal>
         requires { s < 16 }
         ensures step { let first = map (λ b. (⟦<dyn Remote as Remote>⟧ b.vtable).shown b.value) mirrors.old.list.items in let left = map (λ b. (⟦<dyn Remote as Remote>⟧ b.vtable).shown b.value) mirrors.new.list.items in
@@ -79,14 +80,14 @@ impl Store {
             alloc,
             mut log,
             mut tables,
-            mut sessions,
+            sessions,
             limits,
             mut names,
         } = self;
         are_names(heads);
         let at = usize::from(s);
         let list = &mut mirrors.list;
-        match prepare(
+        let next = prepare(
             alloc,
             &mut log,
             &mut tables,
@@ -95,23 +96,7 @@ impl Store {
             list,
             heads,
             limits,
-        ) {
-            Ok(next) => {
-                let Next { change, session } = next;
-                sessions[at] = session;
-                commit(disk, alloc, log, tables, sessions, limits, names, change)
-            }
-            Err(refusal) => {
-                let store = Store {
-                    alloc,
-                    log,
-                    tables,
-                    sessions,
-                    limits,
-                    names,
-                };
-                Flushed::Refused(store, refusal)
-            }
-        }
+        );
+        finish(disk, alloc, log, tables, sessions, limits, names, at, next)
     }
 }

@@ -16,6 +16,7 @@ mod query;
 mod replies;
 mod session;
 mod store;
+mod stripping;
 
 pub use change_rules::{Limit, Limits};
 pub use high_segments::LevelCounts;

@@ -36,6 +36,8 @@ pub(crate) fn refusal_of(fault: PlanFault) -> Refusal
     match fault {
         PlanFault::Unknown(name) => Refusal::Unknown(name),
         PlanFault::Conflict(name) => Refusal::Conflict(name),
+        PlanFault::Lost(name) => Refusal::Lost(name),
+        PlanFault::Emptied(count) => Refusal::Emptied(count),
         PlanFault::Full(what, limit) => Refusal::Full(what, limit),
         PlanFault::BadClone(at) => Refusal::MismatchClone(at),
         PlanFault::Memory => Refusal::Memory,
@@ -43,7 +45,7 @@ pub(crate) fn refusal_of(fault: PlanFault) -> Refusal
 }
 
 /// Whether some master id has no stored name.
-fn lacks_names(tables: &Tables) -> bool
+pub(crate) fn lacks_names(tables: &Tables) -> bool
     ensures { (added : List Placed) (w : World NameBytes) → AreTablesOf tables.now added → StandFor (payloads_of added) w → result ≡ has_lazy (payloads_of added) w }
 {
     let count = tables.master_count();

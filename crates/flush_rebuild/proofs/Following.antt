@@ -110,7 +110,7 @@ module _ (tables : PlainTables) (bytes : List ℕ) (pending : PlainPending) (hea
           }
       by_same false e =
           let differs : new ≡ w → ⊥ = λ s. true≢false (sym (plan.same.1 s) ∙ e) in
-          let last = stored.changes e in
+          let last = stored.next.changes e in
           let may = storable-follows limits (length bytes) some change last.0 last.1 known plan.master plan.others in
           record {
             after = with_payload (length bytes) f.added (flush_change w new);

@@ -9,7 +9,6 @@ use Rattle.id_groups.specs.Id.{other_id}
 use Rattle.commit_graph.proofs.Histories.{in-append}
 use Rattle.commit_graph.proofs.Down.{in-left, in-right}
 use Rattle.batch_codec.specs.Grammar.{count_after}
-use Rattle.segment_codec.specs.Record.{Segment}
 use Rattle.segment_codec.specs.Flat.{IsFlat}
 use Rattle.flat_segments.specs.Placed.{Placed as PlacedSegment, placed}
 use Rattle.name_map.specs.Added.{Placed, payloads_of}
@@ -20,24 +19,8 @@ use Rattle.payload_tables.specs.Bases.{IsBaseOf}
 use Rattle.payload_tables.proofs.Lists.{all-append, distinct-join}
 use Rattle.payload_tables.proofs.Rows.{get-below, count-rows}
 use Rattle.flush_rebuild.specs.Asked.{others_count, IsStored, IsFoundIn, HaveParents}
-use Rattle.flush_rebuild.specs.Rebasing.{IsMoved, IsRebased}
+use Rattle.flush_rebuild.specs.Rebasing.{IsMoved, IsKept, IsNewId, LeftSoFar}
 use Rattle.flush_rebuild.proofs.Moved.{stored-bound}
-
--- an id of the newest base with so many others behind it
-abbrev pub IsNewId : ℕ → ℕ → ℕ → Type 0
-IsNewId masters others id = (id < masters) ⊎ ((2 ^ 56 ≤ id) × (id < other_id others))
-
-pub record LeftSoFar (added : List Placed) (front : List IdRow) (ids : List ℕ) (kept : PlainPending) : Type 0 where
-  pub some : List IdRow
-  pub held : HoldsRows kept some
-  pub first : kept.first ≡ others_count added
-  pub parents : HaveParents (count_after 0 (payloads_of added)) some
-  pub distinct : AreDistinct (row_names some)
-  pub within : (x : Name) → IsIn x (row_names some) → IsIn x (row_names front)
-  pub fresh : (x : Name) → IsIn x (row_names some) → IsStored added x → ⊥
-  pub few : length some ≤ length front
-  pub ids_long : length ids ≡ length front
-  pub ids_new : AllByRecursion (IsNewId (count_after 0 (payloads_of added)) (others_count added + length some)) ids
 
 all-at : (P : ℕ → Type 0) (ids : List ℕ) (k : ℕ) → AllByRecursion P ids → k < length ids → (id : ℕ) × (slice_get ids k ≡ Some id) × P id
 all-at P [] k h lt = absurd (let z : ⊥ = omega (arith, lt) in z)
@@ -115,17 +98,15 @@ not-front [] rest row d i = i
 not-front (r ∷ front) rest row d (inl e) = d.0 (subst (IsIn r.name) (sym (map-append (λ (q : IdRow). q.name) front (row ∷ rest))) (in-right r.name (row_names front) (row_names (row ∷ rest)) (inl (sym e))))
 not-front (r ∷ front) rest row d (inr i) = not-front front rest row d.1 i
 
--- one more row
-pub next-so-far : (added : List Placed) (front rest : List IdRow) (row : IdRow) (ids : List ℕ) (kept next : PlainPending) (flats : List Segment) → AreDistinct (row_names (front ++ row ∷ rest)) → LeftSoFar added front ids kept
-    → (o : Option ℕ) (id : ℕ) (moved : List ℕ) → IsFoundIn added row.name o → IsRebased o flats kept next row.name moved id
-    → ((others : ℕ) → AllByRecursion (IsNewId (count_after 0 (payloads_of added)) (others_count added + others)) ids → AllByRecursion (IsNewId (count_after 0 (payloads_of added)) (others_count added + others)) moved)
-    → LeftSoFar added (front ++ row ∷ []) (ids ++ id ∷ []) next
-next-so-far added front rest row ids kept next flats d l (Some stored) id moved f h new =
+-- one more row, which was found
+pub found-so-far : (added : List Placed) (front : List IdRow) (row : IdRow) (ids : List ℕ) (kept : PlainPending) → LeftSoFar added front ids kept
+    → (id : ℕ) → IsFoundIn added row.name (Some id) → LeftSoFar added (front ++ row ∷ []) (ids ++ id ∷ []) kept
+found-so-far added front row ids kept l id f =
     let len = length-append front (row ∷ []) in let leni = length-append ids (id ∷ []) in let few = l.few in let il = l.ids_long in
     record {
       some = l.some;
-      held = subst (λ p. HoldsRows p l.some) (sym h.1) l.held;
-      first = ap (λ (p : PlainPending). p.first) h.1 ∙ l.first;
+      held = l.held;
+      first = l.first;
       parents = l.parents;
       distinct = l.distinct;
       within = λ x i. subst (IsIn x) (sym (map-append (λ (q : IdRow). q.name) front (row ∷ []))) (in-left x (row_names front) (row.name ∷ []) (l.within x i));
@@ -133,20 +114,26 @@ next-so-far added front rest row ids kept next flats d l (Some stored) id moved 
       few = omega (arith, len, few);
       ids_long = omega (arith, len, leni, il);
       ids_new = all-append (IsNewId (count_after 0 (payloads_of added)) (others_count added + length l.some)) ids (id ∷ []) l.ids_new
-          (subst (IsNewId (count_after 0 (payloads_of added)) (others_count added + length l.some)) (sym h.0) (⊎_elim (λ a. inl a) (λ b. inr (b.0, (let hi = b.1 in omega (arith, hi)))) f), tt);
+          (⊎_elim (λ a. inl a) (λ b. inr (b.0, (let hi = b.1 in omega (arith, hi)))) f, tt);
     }
-next-so-far added front rest row ids kept next flats d l None id moved f h new =
+
+-- one more row, which is left
+pub kept-so-far : (added : List Placed) (front rest : List IdRow) (row : IdRow) (ids : List ℕ) (kept next : PlainPending) → AreDistinct (row_names (front ++ row ∷ rest)) → LeftSoFar added front ids kept
+    → (id : ℕ) (moved : List ℕ) → IsFoundIn added row.name None → IsKept kept next row.name moved id
+    → ((others : ℕ) → AllByRecursion (IsNewId (count_after 0 (payloads_of added)) (others_count added + others)) ids → AllByRecursion (IsNewId (count_after 0 (payloads_of added)) (others_count added + others)) moved)
+    → LeftSoFar added (front ++ row ∷ []) (ids ++ id ∷ []) next
+kept-so-far added front rest row ids kept next d l id moved f h new =
     let len = length-append front (row ∷ []) in let leni = length-append ids (id ∷ []) in let few = l.few in let il = l.ids_long in
     let r : IdRow = record { name = row.name; parents = moved } in
     let more = length-append l.some (r ∷ []) in
     let many = count-rows kept l.some l.held in
-    let a = h.0 in let fst = l.first in
+    let a = h.id_is in let fst = l.first in
     let wider = all-weaker (IsNewId (count_after 0 (payloads_of added)) (others_count added + length l.some)) (IsNewId (count_after 0 (payloads_of added)) (others_count added + length (l.some ++ r ∷ [])))
     (λ x i. ⊎_elim (λ a. inl a) (λ b. inr (b.0, (let hi = b.1 in omega (arith, hi, more)))) i) in
     record {
       some = l.some ++ r ∷ [];
-      held = h.2 l.some l.held;
-      first = h.1 ∙ l.first;
+      held = h.rows l.some l.held;
+      first = h.first ∙ l.first;
       parents = all-append (λ (q : IdRow). AllByRecursion (λ p. (p < count_after 0 (payloads_of added)) ⊎ (2 ^ 56 ≤ p)) q.parents) l.some (r ∷ []) l.parents
           (new-parents (count_after 0 (payloads_of added)) (others_count added + length l.some) moved (new (length l.some) l.ids_new), tt);
       distinct = subst AreDistinct (sym (map-append (λ (q : IdRow). q.name) l.some (r ∷ [])))

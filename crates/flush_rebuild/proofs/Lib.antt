@@ -26,3 +26,7 @@ pub mod Changing
 pub mod Telling
 pub mod LevelRecords
 pub mod ToldPlans
+pub mod Stripped
+pub mod Spreading
+pub mod StripFacts
+pub mod StripMeans

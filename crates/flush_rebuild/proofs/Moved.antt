@@ -1,6 +1,7 @@
 -- Parents by their ids in a newer base, whatever world it is.
 use Rattle.std.proofs.Common.{◌≡◌, ◌<◌, ◌≤◌, ◌+◌, ◌-◌, ◌^◌, ℕ, zero, suc, ◌⊎◌, inl, inr, List, [], ◌∷◌, ◌++◌, length, map, take, Option, Some, None, slice_get, get_or, is_some, refl, sym, ap, ap₂, subst, ◌∙◌, ⊎_elim, arith, true≢false, lit≤}
-use Rattle.std.specs.Prelude.{MatchOption}
+use Rattle.std.specs.Prelude.{MatchOption, IfOk, Ok, Err}
+use Rattle.std.specs.declared.result.Result.{Result}
 use Rattle.std.proofs.lemmas.List.{take_more}
 use Rattle.std.specs.List.{AllZip}
 use Rattle.id_groups.specs.Lists.{IsIn}
@@ -21,7 +22,7 @@ use Rattle.payload_tables.specs.Bases.{IsBaseOf, stored_in}
 use Rattle.payload_tables.proofs.Basing.{following-front, base-others}
 use Rattle.payload_tables.proofs.Rows.{get-below}
 use Rattle.flush_rebuild.specs.Asked.{others_count}
-use Rattle.flush_rebuild.specs.Rebasing.{IsOtherName, IsMoved, IsLost}
+use Rattle.flush_rebuild.specs.Rebasing.{IsOtherName, IsMoved, IsLost, IsAt, IsNowhere}
 use Rattle.flush_rebuild.proofs.Rebased.{known-from-at}
 
 from-in : (id : ℕ) (names : List Name) (j : ℕ) (x : Name) → slice_get names j ≡ Some x → IsIn {X = Known} (record { id = id + j; name = x }) (known_from id names)
@@ -74,41 +75,66 @@ stored-bound base added b k i = ⊎_elim
     (λ j. let r = known-from-at (2 ^ 56) (other_names_in (newest (payloads_of added))) k j in let e = r.1 in let lt = under (other_names_in (newest (payloads_of added))) r.0 k.name r.2 in inr (omega (arith, e), omega (arith, e, lt)))
     (in-append k (known_of added) (known_from (2 ^ 56) (other_names_in (newest (payloads_of added)))) i)
 
-pub moved-stored : (newer base : BaseRef) (added before : List Placed) → IsBaseOf newer added → IsBaseOf base before → (first parent : ℕ) (ids : List ℕ) (name : Name) → first ≡ others_count before
-    → 2 ^ 56 ≤ parent → parent < other_id first → IsIn {X = Known} (record { id = parent; name = name }) (stored_in before) → (r : Option ℕ) → IsIdOf (stored_in added) name (2 ^ 57) r
-    → MatchOption r (IsLost before added parent) (IsMoved before added first ids parent)
-moved-stored newer base added before n b first parent ids name fe lo hi i None h = record {
-  place = parent - 2 ^ 56;
-  name = name;
-  parent_is = (let z : parent ≡ other_id (parent - 2 ^ 56) = omega (arith, lo) in z);
-  named = other-named base before b (record { id = parent; name = name }) lo i;
-  lost = λ s. let k = stored-of (stored_in added) name s in h k.0.id (small k.0 k.1) (subst (λ z. IsIn {X = Known} (record { id = k.0.id; name = z }) (stored_in added)) k.2 k.1);
-}
-  where
-    stored-of : (ks : List Known) (x : Name) → IsIn x (map (λ (k : Known). k.name) ks) → (k : Known) × IsIn k ks × (k.name ≡ x)
-    stored-of [] x i = absurd i
-    stored-of (k ∷ ks) x (inl e) = (k, inl refl, sym e)
-    stored-of (k ∷ ks) x (inr i) = let r = stored-of ks x i in (r.0, inr r.1, r.2)
+stored-of : (ks : List Known) (x : Name) → IsIn x (map (λ (k : Known). k.name) ks) → (k : Known) × IsIn k ks × (k.name ≡ x)
+stored-of [] x i = absurd i
+stored-of (k ∷ ks) x (inl e) = (k, inl refl, sym e)
+stored-of (k ∷ ks) x (inr i) = let r = stored-of ks x i in (r.0, inr r.1, r.2)
 
-    small : (k : Known) → IsIn k (stored_in added) → k.id < 2 ^ 57
-    small k i =
-        let facts = base-others newer.bytes.now newer.tables.now newer.others.now newer.below added n in
-        ⊎_elim (λ a. let s = facts.small in let l : 16777216 ≤ 2 ^ 57 = lit≤ tt in omega (arith, a, s, l)) (λ d. let f = facts.few in let up = d.1 in let l : 2 ^ 56 + 65536 ≤ 2 ^ 57 = lit≤ tt in omega (arith, f, up, l)) (stored-bound newer added n k i)
-moved-stored newer base added before n b first parent ids name fe lo hi i (Some id) h =
-    let named = other-named base before b (record { id = parent; name = name }) lo i in
-    record {
-      master = λ lt. absurd (let z : ⊥ = omega (arith, lt, lo) in z);
-      stored = λ k other e o. subst (λ z. IsIn {X = Known} (record { id = id; name = z }) (stored_in added))
-          (same-some name other (sym named ∙ (ap (slice_get (other_names_in (newest (payloads_of before)))) (let z : parent - 2 ^ 56 ≡ k = omega (arith, e, lo) in z)) ∙ o)) h.1;
-      pending = λ k other e o. absurd (let z : ⊥ = omega (arith, e, hi) in z);
-    }
+some-is : (x y : Name) → ◌≡◌ {A = Option Name} (Some x) (Some y) → x ≡ y
+some-is x y e = ap some_or e
   where
-    some_or : Name → Option Name → Name
-    some_or d None = d
-    some_or d (Some a) = a
+    some_or : Option Name → Name
+    some_or None = x
+    some_or (Some a) = a
 
-    same-some : (x y : Name) → ◌≡◌ {A = Option Name} (Some x) (Some y) → x ≡ y
-    same-some x y e = ap (some_or x) e
+-- an other id of the base, by its name in the newer base
+module _ (newer base : BaseRef) (added before : List Placed) (n : IsBaseOf newer added) (b : IsBaseOf base before) (parent : ℕ) (name : Name)
+    (lo : 2 ^ 56 ≤ parent) (i : IsIn {X = Known} (record { id = parent; name = name }) (stored_in before)) where
+  pub named-other : IsOtherName before (parent - 2 ^ 56) name
+  named-other = other-named base before b (record { id = parent; name = name }) lo i
+
+  small-id : (k : Known) → IsIn k (stored_in added) → k.id < 2 ^ 57
+  small-id k j =
+      let facts = base-others newer.bytes.now newer.tables.now newer.others.now newer.below added n in
+      ⊎_elim (λ a. let s = facts.small in let l : 16777216 ≤ 2 ^ 57 = lit≤ tt in omega (arith, a, s, l)) (λ d. let f = facts.few in let up = d.1 in let l : 2 ^ 56 + 65536 ≤ 2 ^ 57 = lit≤ tt in omega (arith, f, up, l)) (stored-bound newer added n k j)
+
+  pub other-lost : (o : Option ℕ) → o ≡ None → IsIdOf (stored_in added) name (2 ^ 57) o → IsLost before added parent name
+  other-lost None e h = record {
+    place = parent - 2 ^ 56;
+    parent_is = (let z : parent ≡ other_id (parent - 2 ^ 56) = omega (arith, lo) in z);
+    named = named-other;
+    lost = λ s. let k = stored-of (stored_in added) name s in h k.0.id (small-id k.0 k.1) (subst (λ z. IsIn {X = Known} (record { id = k.0.id; name = z }) (stored_in added)) k.2 k.1);
+  }
+  other-lost (Some id) e h = absurd (true≢false (ap is_some e))
+
+  other-stored : (o : Option ℕ) (id : ℕ) → o ≡ Some id → IsIdOf (stored_in added) name (2 ^ 57) o → (k : ℕ) (other : Name) → parent ≡ other_id k → IsOtherName before k other → IsIn {X = Known} (record { id = id; name = other }) (stored_in added)
+  other-stored None id f h k other e g = absurd (true≢false (sym (ap is_some f)))
+  other-stored (Some x) id f h k other e g =
+      subst (λ z. IsIn {X = Known} (record { id = id; name = z }) (stored_in added))
+      (some-is name other (sym named-other ∙ (ap (slice_get (other_names_in (newest (payloads_of before)))) (let z : parent - 2 ^ 56 ≡ k = omega (arith, e, lo) in z)) ∙ g))
+      (subst (λ m. IsIn {X = Known} (record { id = m; name = name }) (stored_in added)) (id-is x id f) h.1)
+    where
+      id-is : (x y : ℕ) → ◌≡◌ {A = Option ℕ} (Some x) (Some y) → x ≡ y
+      id-is x y e = ap some_or e
+        where
+          some_or : Option ℕ → ℕ
+          some_or None = x
+          some_or (Some a) = a
+
+  pub other-moved : (first : ℕ) (ids : List ℕ) → parent < other_id first → (o : Option ℕ) (id : ℕ) → o ≡ Some id → IsIdOf (stored_in added) name (2 ^ 57) o → IsMoved before added first ids parent id
+  other-moved first ids hi o id f h = record {
+    master = λ lt. absurd (let z : ⊥ = omega (arith, lt, lo) in z);
+    stored = other-stored o id f h;
+    pending = λ k other e g. absurd (let z : ⊥ = omega (arith, e, hi) in z);
+  }
+
+  pub other-at : (first : ℕ) (found : List (Option ℕ)) → parent < other_id first → (o : Option ℕ) → IsIdOf (stored_in added) name (2 ^ 57) o → MatchOption o (IsNowhere before added first found parent) (IsAt before added first found parent)
+  other-at first found hi None h = inl (name, other-lost None refl h)
+  other-at first found hi (Some id) h = record {
+    master = λ lt. absurd (let z : ⊥ = omega (arith, lt, lo) in z);
+    stored = other-stored (Some id) id refl h;
+    pending = λ k other e g. absurd (let z : ⊥ = omega (arith, e, hi) in z);
+  }
 
 zip-join : (R : ℕ → ℕ → Type 0) (xs ys : List ℕ) (x y : ℕ) → AllZip R xs ys → R x y → AllZip R (xs ++ x ∷ []) (ys ++ y ∷ [])
 zip-join R [] [] x y h r = (r, tt)
@@ -120,3 +146,8 @@ zip-join R (a ∷ xs) (b ∷ ys) x y h r = (h.0, zip-join R xs ys x y h.1 r)
 pub zip-more : (R : ℕ → ℕ → Type 0) (xs : List ℕ) (i x : ℕ) (ys : List ℕ) (y : ℕ) (more : List ℕ) → i < length xs → x ≡ get_or xs i x → AllZip R (take i xs) ys → R x y → more ≡ ys ++ y ∷ [] → AllZip R (take (i + 1) xs) more
 zip-more R xs i x ys y more lt e h r m =
     subst (λ l. AllZip R (take (i + 1) xs) l) (sym m) (subst (λ l. AllZip R l (ys ++ y ∷ [])) (sym (take_more xs i x lt ∙ ap (λ z. take i xs ++ z ∷ []) (sym e))) (zip-join R (take i xs) ys x y h r))
+
+-- what an answer means, by more
+pub ok-more : {T E : Type 0} (r : Result T E) (P Q : T → Type 0) → ((x : T) → P x → Q x) → IfOk r P → IfOk r Q
+ok-more (Ok x) P Q f h = f x h
+ok-more (Err e) P Q f h = h

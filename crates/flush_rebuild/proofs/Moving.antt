@@ -79,7 +79,7 @@ map-in f g [] e = refl
 map-in f g (x ∷ xs) e = ap₂ (λ a b. a ∷ b) (e x (inl refl)) (map-in f g xs (λ y i. e y (inr i)))
 
 -- In a history each parent stands before its child.
-earlier : (before : List Name) (rows : List (Row Name)) (k : ℕ) (r : Row Name) → IsHistory before rows → slice_get rows k ≡ Some r → (p : Name) → IsIn p r.parents
+pub earlier : (before : List Name) (rows : List (Row Name)) (k : ℕ) (r : Row Name) → IsHistory before rows → slice_get rows k ≡ Some r → (p : Name) → IsIn p r.parents
     → IsIn p before ⊎ ((i : ℕ) × (q : Row Name) × (slice_get rows i ≡ Some q) × (q.name ≡ p) × (i < k))
 earlier before [] k r h e p i = absurd (true≢false (sym (ap is_some e)))
 earlier before (q ∷ rows) zero r h e p i = inl (in-all p r.parents before i (subst (λ (z : Row Name). AreAllIn z.parents before) (some-same q r e) h.0.known))
@@ -122,26 +122,26 @@ module _ (v : World Name) (whole : IsWorld v) (small : length v.master ≤ 16777
   abbrev pub row : ℕ → Row Name
   row k = get_or v.others k nobody
 
-  row-at : (k : ℕ) → k < n → slice_get v.others k ≡ Some (row k)
+  pub row-at : (k : ℕ) → k < n → slice_get v.others k ≡ Some (row k)
   row-at k lt = slice_get-get_or v.others k nobody lt
 
-  row-name : (k : ℕ) → k < n → (row k).name ≡ name k
+  pub row-name : (k : ℕ) → k < n → (row k).name ≡ name k
   row-name k lt = sym (names_are k (row k) (row-at k lt))
 
   others-history : IsHistory (names_of v.master) v.others
   others-history = history-rest [] v.master v.others whole
 
-  name-apart : (k : ℕ) → k < n → IsIn (name k) (names_of v.master) → ⊥
+  pub name-apart : (k : ℕ) → k < n → IsIn (name k) (names_of v.master) → ⊥
   name-apart k lt i = apart (names_of v.master) v.others k (row k) others-history (row-at k lt) (subst (λ z. IsIn z (names_of v.master)) (sym (row-name k lt)) i)
 
-  name-one : (j k : ℕ) → j < n → k < n → name j ≡ name k → j ≡ k
+  pub name-one : (j k : ℕ) → j < n → k < n → name j ≡ name k → j ≡ k
   name-one j k lj lk e =
       sym (place-at same_name same_name-exact same_name-self (names_of v.master) v.others j (row j) others-history (row-at j lj))
       ∙ ap (λ z. place_of same_name z (names_of v.others)) (row-name j lj ∙ e ∙ sym (row-name k lk))
       ∙ place-at same_name same_name-exact same_name-self (names_of v.master) v.others k (row k) others-history (row-at k lk)
 
   -- the id of a commit, and its node
-  id-master : (i : ℕ) (r : Row Name) → slice_get v.master i ≡ Some r → (id_in same_name v r.name ≡ i) × (is_master_id i ≡ true)
+  pub id-master : (i : ℕ) (r : Row Name) → slice_get v.master i ≡ Some r → (id_in same_name v r.name ≡ i) × (is_master_id i ≡ true)
   id-master i r e = (
     id-in-master same_name same_name-exact same_name-self v whole i r e,
     below-master i (let lt = get-below v.master i r e in let le = small in in-56 i (omega (arith, lt, le))),
@@ -156,14 +156,14 @@ module _ (v : World Name) (whole : IsWorld v) (small : length v.master ≤ 16777
       let e = id-master t.0 t.1 t.2 in
       ap (λ z. node_of (id_in same_name v z)) (sym t.3) ∙ ap node_of e.0 ∙ ap (λ b. if b then Placed else Other (t.0 - 2 ^ 56)) e.1
 
-  id-other : (j : ℕ) (r : Row Name) → slice_get v.others j ≡ Some r → id_in same_name v r.name ≡ other_id j
+  pub id-other : (j : ℕ) (r : Row Name) → slice_get v.others j ≡ Some r → id_in same_name v r.name ≡ other_id j
   id-other j r e = id-in-others same_name same_name-exact same_name-self v whole j r e
 
   node-other : (j : ℕ) (r : Row Name) → slice_get v.others j ≡ Some r → node_of (id_in same_name v r.name) ≡ Other j
   node-other j r e = ap node_of (id-other j r e) ∙ ap (λ b. if b then Placed else Other (other_id j - 2 ^ 56)) (over-master j) ∙ ap (λ k. Other k) (other-place j)
 
   -- where a commit stands
-  abbrev Stands : ℕ → Name → Type 0
+  abbrev pub Stands : ℕ → Name → Type 0
   Stands end p = IsIn p (names_of v.master) ⊎ ((i : ℕ) × (q : Row Name) × (slice_get v.others i ≡ Some q) × (q.name ≡ p) × (i < end))
 
   agree : (end : ℕ) → end ≤ n → (ps : List Name) → ((p : Name) → IsIn p ps → Stands end p)
@@ -182,7 +182,7 @@ module _ (v : World Name) (whole : IsWorld v) (small : length v.master ≤ 16777
           subst (λ (z : Node). Agree (names_of v.master) n name (p ∷ ps) (z ∷ map node_of (map (id_in same_name v) ps)) × AreBelow end (others_of (z ∷ map node_of (map (id_in same_name v) ps)))) (sym node)
           ((omega (arith, lt, le), named, r.0), (lt, r.1))
 
-  row-stands : (k : ℕ) → k < n → (p : Name) → IsIn p (row k).parents → Stands k p
+  pub row-stands : (k : ℕ) → k < n → (p : Name) → IsIn p (row k).parents → Stands k p
   row-stands k lt p i = earlier (names_of v.master) v.others k (row k) others-history (row-at k lt) p i
 
   row-nodes : (k : ℕ) → k < n → nodes k ≡ map node_of (map (id_in same_name v) (row k).parents)
@@ -264,7 +264,7 @@ module _ (v : World Name) (whole : IsWorld v) (small : length v.master ≤ 16777
       (λ k lt. ap (λ z. not (is_in same_name z (names_of v.master ++ map name order))) (row-name k lt)
       ∙ ap not (placed-in (reverse (rows_of v)) (names_of v.master) n name nodes (newest-down same_name same_name-exact same_name-self v whole heads known) older row-in-rows name-one name-apart k order lt moves.0))
 
-  names-by : (ks : List ℕ) → AreBelow n ks → names_of (map row ks) ≡ map name ks
+  pub names-by : (ks : List ℕ) → AreBelow n ks → names_of (map row ks) ≡ map name ks
   names-by ks h = map-map (λ (r : Row Name). r.name) row ks ∙ map-below (λ k. (row k).name) name n ks h row-name
 
   master-names : names_of new.master ≡ names_of v.master ++ map name order
@@ -283,7 +283,7 @@ module _ (v : World Name) (whole : IsWorld v) (small : length v.master ≤ 16777
       by_test false e = false_from_ne_true (same_name (name x) (name j))
           (λ t. true≢false (sym (ap (λ z. nat_eq z j) (name-one x j lx lj (same_name-exact (name x) (name j) t)) ∙ same-self j) ∙ e))
 
-  place-by : (xs : List ℕ) → AreBelow n xs → (j : ℕ) → j < n → place_of same_name (name j) (map name xs) ≡ place_of nat_eq j xs
+  pub place-by : (xs : List ℕ) → AreBelow n xs → (j : ℕ) → j < n → place_of same_name (name j) (map name xs) ≡ place_of nat_eq j xs
   place-by [] h j lt = refl
   place-by (x ∷ xs) h j lt =
       ap (λ b. if b then 0 else suc (place_of same_name (name j) (map name xs))) (test-same x j h.0 lt)

@@ -90,17 +90,17 @@ module _ (w : World Name) (rows : List (Row Name)) (whole : IsWorld (with_pendin
   abbrev pub parents : ℕ → List ℕ
   parents k = parents_at flats (other_id k)
 
-  parents-are : (k : ℕ) (r : Row Name) → slice_get (w.others ++ rows) k ≡ Some r → parents k ≡ map (id_in same_name view) r.parents
+  pub parents-are : (k : ℕ) (r : Row Name) → slice_get (w.others ++ rows) k ≡ Some r → parents k ≡ map (id_in same_name view) r.parents
   parents-are k r e = segs.parents (other_id k) r
       (ap (λ b. if b then slice_get w.master (other_id k) else slice_get (w.others ++ rows) (other_id k - 2 ^ 56)) (over-master k) ∙ ap (slice_get (w.others ++ rows)) (other-place k) ∙ e)
 
-  no-parents : (k : ℕ) → length (w.others ++ rows) ≤ k → parents k ≡ []
+  pub no-parents : (k : ℕ) → length (w.others ++ rows) ≤ k → parents k ≡ []
   no-parents k le =
       ap (λ l. parents_at l (other_id k)) (segs.parts ∙ ap (λ l. segs.masters ++ l) (sym (append-nil segs.others)))
       ∙ back-parents 0 (length w.master) segs.masters (segs.others ++ []) (other_id k) segs.master_ids (let s = small in let l : 16777216 ≤ 2 ^ 56 = lit≤ tt in omega (arith, s, l))
       ∙ back-parents (2 ^ 56) (other_id (length (w.others ++ rows))) segs.others [] (other_id k) segs.other_ids (omega (arith, le))
 
-  names-are : (k : ℕ) (r : Row Name) → slice_get (w.others ++ rows) k ≡ Some r → name_at bytes k ≡ r.name
+  pub names-are : (k : ℕ) (r : Row Name) → slice_get (w.others ++ rows) k ≡ Some r → name_at bytes k ≡ r.name
   names-are k r e = name-in-bytes (names_of (w.others ++ rows)) k r.name names_whole (get-names (w.others ++ rows) k r e)
 
   abbrev pub nodes : ℕ → List Node

@@ -5,7 +5,6 @@ use Rattle.std.proofs.lemmas.List.{length-map}
 use Rattle.id_groups.specs.Lists.{AreDistinct}
 use Rattle.id_groups.specs.Name.{Name}
 use Rattle.id_groups.specs.Id.{other_id}
-use Rattle.segment_codec.specs.Record.{Segment}
 use Rattle.batch_codec.specs.Grammar.{count_after}
 use Rattle.name_map.specs.Added.{Placed, payloads_of, AllStand}
 use Rattle.payload_tables.specs.declared.base.BaseRef.{BaseRef}
@@ -14,8 +13,8 @@ use Rattle.payload_tables.specs.Pending.{IdRow, PlainPending, HoldsRows, row_nam
 use Rattle.payload_tables.specs.Bases.{IsBaseOf, MayBase, MayView}
 use Rattle.payload_tables.proofs.Basing.{base-others, table-end}
 use Rattle.flush_rebuild.specs.Asked.{others_count, IsFoundIn, MayRebaseOn, MayStore}
-use Rattle.flush_rebuild.specs.Rebasing.{IsMoved, IsRebased}
-use Rattle.flush_rebuild.proofs.LeftSoFar.{LeftSoFar, IsNewId, next-so-far, moved-new, row-parents-below, parents-at}
+use Rattle.flush_rebuild.specs.Rebasing.{IsMoved, IsRebased, IsNewId, LeftSoFar}
+use Rattle.flush_rebuild.proofs.LeftSoFar.{found-so-far, kept-so-far, moved-new, row-parents-below, parents-at}
 
 pub split-at : {X : Type 0} (xs : List X) (i : ℕ) (x : X) → slice_get xs i ≡ Some x → xs ≡ take i xs ++ x ∷ drop (suc i) xs
 split-at [] i x e = absurd (true≢false (sym (ap is_some e)))
@@ -43,7 +42,7 @@ take-long (y ∷ xs) (suc i) x e = ap suc (take-long xs i x e)
 pub take-next : {X : Type 0} (xs : List X) (i : ℕ) (x : X) → slice_get xs i ≡ Some x → take (i + 1) xs ≡ take i xs ++ x ∷ []
 take-next xs i x e = ap (λ n. take n xs) (let z : i + 1 ≡ suc i = omega arith in z) ∙ take-snoc xs i x e
 
-under : {X : Type 0} (xs : List X) (i : ℕ) (x : X) → slice_get xs i ≡ Some x → i < length xs
+pub under : {X : Type 0} (xs : List X) (i : ℕ) (x : X) → slice_get xs i ≡ Some x → i < length xs
 under [] i x e = absurd (true≢false (sym (ap is_some e)))
 under (y ∷ xs) zero x e = omega arith
 under (y ∷ xs) (suc i) x e = let r = under xs i x e in omega (arith, r)
@@ -79,9 +78,6 @@ pub get-is : {X : Type 0} (xs : List X) (i : ℕ) (x : X) → i < length xs → 
 get-is [] i x lt e = absurd (let z : ⊥ = omega (arith, lt) in z)
 get-is (y ∷ xs) zero x lt e = ap Some (sym e)
 get-is (y ∷ xs) (suc i) x lt e = get-is xs i x (omega (arith, lt)) e
-
-pub rebased-as : (o : Option ℕ) (flats : List Segment) (kept next : PlainPending) (a b : Name) (ps qs : List ℕ) (id : ℕ) → a ≡ b → ps ≡ qs → IsRebased o flats kept next a ps id → IsRebased o flats kept next b qs id
-rebased-as o flats kept next a b ps qs id e f h = subst (λ x. IsRebased o flats kept next x qs id) e (subst (λ l. IsRebased o flats kept next a l id) f h)
 
 tables-base : (tables : PlainTables) (bytes : List ℕ) (added : List Placed) → AreTablesOf tables added → AllStand bytes added → MayBase bytes tables tables.others tables.flat.end added
 tables-base tables bytes added t stand = record {
@@ -143,11 +139,21 @@ module _ (tables : PlainTables) (bytes : List ℕ) (base : BaseRef) (pending : P
       all-weaker (IsNewId (count_after 0 (payloads_of added)) (others_count added + length l.some)) (λ p. p < other_id (kept.first + count))
       (λ x h. ⊎_elim (λ a. omega (arith, a, small, c, k)) (λ b. let hi = b.1 in omega (arith, hi, first, many)) h) moved (new-of moved z (length l.some) l.ids_new)
 
-  pub so-far-more : (next : PlainPending) (flats : List Segment) (moved : List ℕ) → AllZip (IsMoved before added pending.first ids) row.parents moved → (o : Option ℕ) → slice_get found i ≡ Some o
-      → (id : ℕ) → IsRebased o flats kept next row.name moved id → LeftSoFar added (take (i + 1) m.rows) (ids ++ id ∷ []) next
-  so-far-more next flats moved z o f id h =
+  pub so-far-more : (next : PlainPending) (o : Option ℕ) → slice_get found i ≡ Some o → (id : ℕ) → IsRebased before added pending.first ids o kept next row id → LeftSoFar added (take (i + 1) m.rows) (ids ++ id ∷ []) next
+  so-far-more next (Some stored) f id h =
       subst (λ q. LeftSoFar added q (ids ++ id ∷ []) next) (sym (take-next m.rows i row at))
-      (next-so-far added (take i m.rows) (drop (suc i) m.rows) row ids kept next flats (subst (λ q. AreDistinct (row_names q)) (split-at m.rows i row at) m.distinct) l o id moved (zip-found added m.rows found i row o m.found_are at f) h (new-of moved z))
+      (subst (λ p. LeftSoFar added (take i m.rows ++ row ∷ []) (ids ++ id ∷ []) p) (sym h.1)
+      (found-so-far added (take i m.rows) row ids kept l id (subst (λ n. IsFoundIn added row.name (Some n)) (sym h.0) (zip-found added m.rows found i row (Some stored) m.found_are at f))))
+  so-far-more next None f id h =
+      subst (λ q. LeftSoFar added q (ids ++ id ∷ []) next) (sym (take-next m.rows i row at))
+      (kept-so-far added (take i m.rows) (drop (suc i) m.rows) row ids kept next (subst (λ q. AreDistinct (row_names q)) (split-at m.rows i row at) m.distinct) l id h.0 (zip-found added m.rows found i row None m.found_are at f) h.3 (new-of h.0 h.1))
+
+-- the parents of a row lie below the rows of which something was found
+pub parents-found : (tables : PlainTables) (bytes : List ℕ) (base : BaseRef) (pending : PlainPending) (found : List (Option ℕ)) (added before : List Placed) (m : MayRebaseOn tables bytes base pending found added before)
+    → (i : ℕ) (row : IdRow) → slice_get m.rows i ≡ Some row → AllByRecursion (λ p. p < other_id (pending.first + length found)) row.parents
+parents-found tables bytes base pending found added before m i row at =
+    let lt = found-under added m.rows found i m.found_are (under m.rows i row at) in
+    all-weaker (λ p. p < other_id pending.first + i) (λ p. p < other_id (pending.first + length found)) (λ x l. omega (arith, l, lt)) row.parents (row-parents-below (other_id pending.first) 0 m.rows m.held.section.flat i row at).0
 
 pub stored-left : (added : List Placed) (rows : List IdRow) (ids : List ℕ) (kept : PlainPending) → LeftSoFar added rows ids kept → MayStore kept added
 stored-left added rows ids kept l = record { rows = l.some; held = l.held; first = l.first; parents = l.parents; distinct = l.distinct; fresh = l.fresh }

@@ -1,41 +1,26 @@
 -- What a change means for the payloads: it may be stored behind them.
-use Rattle.std.proofs.Common.{◌≡◌, ◌<◌, ◌≤◌, ℕ, ◌+◌, true, false, ◌⊎◌, inl, inr, List, [], ◌∷◌, ◌++◌, length, map, drop, refl, sym, ap, subst, ◌∙◌, ⊎_elim, arith, true≢false, drop_at}
-use Rattle.std.proofs.lemmas.List.{map-append}
-use Rattle.id_groups.specs.Lists.{IsIn, AreDistinct}
+use Rattle.std.proofs.Common.{◌≡◌, ◌<◌, ◌≤◌, ℕ, ◌+◌, true, false, List, [], ◌++◌, length, refl, sym, ap, subst, ◌∙◌, arith, true≢false}
 use Rattle.id_groups.specs.Name.{Name, same_name}
 use Rattle.id_groups.proofs.Names.{same_name-exact, same_name-self}
-use Rattle.commit_graph.specs.World.{Row, World, names_of, rows_of, with_pending}
-use Rattle.commit_graph.proofs.Histories.{in-append}
-use Rattle.commit_graph.proofs.Down.{in-left, in-right}
+use Rattle.commit_graph.specs.World.{Row, World, rows_of, with_pending}
 use Rattle.segment_codec.specs.Record.{Segment}
-use Rattle.batch_codec.specs.Payload.{Payload, payload_bytes, known_names}
+use Rattle.batch_codec.specs.Payload.{Payload, payload_bytes}
 use Rattle.change_rules.specs.Lawful.{MayFollow, AreLawful}
 use Rattle.name_map.specs.Added.{Placed, payloads_of}
 use Rattle.change_rules.specs.declared.Limits.{Limits}
 use Rattle.flush_rebuild.specs.declared.plan.Change.{Change}
 use Rattle.change_rules.specs.Standard.{AreLimits}
 use Rattle.change_rules.specs.Change.{flush_change}
-use Rattle.change_rules.specs.Change.{known_from}
 use Rattle.payload_tables.specs.Kept.{PlainTables}
 use Rattle.payload_tables.specs.Pending.{PlainPending}
-use Rattle.change_rules.specs.Tables.{newest, other_names_in, StandFor}
+use Rattle.change_rules.specs.Tables.{StandFor}
 use Rattle.flush_rebuild.specs.Moves.{change_in}
 use Rattle.flush_rebuild.specs.Plans.{MayBeStored}
 use Rattle.payload_tables.proofs.Lists.{names-length}
-use Rattle.change_rules.proofs.Flushes.{flush-grows, flush-keeps, name-in}
-use Rattle.change_rules.proofs.Lawful.{change-follows, history-distinct}
-use Rattle.payload_tables.proofs.Lists.{distinct-parts}
+use Rattle.change_rules.proofs.Flushes.{flush-grows}
+use Rattle.change_rules.proofs.Lawful.{change-follows}
 use Rattle.flush_rebuild.specs.Facts.{MoveFacts}
 use Rattle.flush_rebuild.proofs.Sizing.{moving, next, next-named, Changes, f-change, f-some, f-same}
-
-names-of-known : (n : ℕ) (names : List Name) → map (λ k. k.name) (known_from n names) ≡ names
-names-of-known n [] = refl
-names-of-known n (x ∷ names) = ap (λ l. x ∷ l) (names-of-known (n + 1) names)
-
-row-of-name : (rows : List (Row Name)) (x : Name) → IsIn x (names_of rows) → (r : Row Name) × IsIn r rows × (r.name ≡ x)
-row-of-name [] x i = absurd i
-row-of-name (r ∷ rows) x (inl e) = (r, inl refl, sym e)
-row-of-name (r ∷ rows) x (inr i) = let q = row-of-name rows x i in (q.0, inr q.1, q.2)
 
 module _ (tables : PlainTables) (bytes : List ℕ) (pending : PlainPending) (numbers : List ℕ) (flats : List Segment) (names : List ℕ) (n before : ℕ) (w : World Name) (rows : List (Row Name)) (heads : List Name)
     (f : MoveFacts tables bytes pending numbers flats names n before w rows heads) (added : List Placed) (lawful : AreLawful [] (payloads_of added)) (stand : StandFor (payloads_of added) w) where
@@ -54,26 +39,6 @@ module _ (tables : PlainTables) (bytes : List ℕ) (pending : PlainPending) (num
   follows : length new.master ≤ 16777216 → length new.others ≤ 65536 → 0 < length (rows_of new) → MayFollow (payloads_of added) (flush_change w new)
   follows fits few some = change-follows (payloads_of added) w new lawful stand f.may.world.world (next-named tables bytes pending numbers flats names n before w rows heads f) grown.0 grown.1 fits few some
 
-  names-apart : (x : Name) → IsIn x (names_of w.master) → IsIn x (names_of w.others) → ⊥
-  names-apart x i j =
-      let d : AreDistinct (names_of (rows_of view)) = (history-distinct [] (rows_of view) f.may.pending_rows.view).0 in
-      let parts = distinct-parts (names_of w.master) (names_of (w.others ++ rows)) (subst AreDistinct (map-append (λ (r : Row Name). r.name) w.master (w.others ++ rows)) d) in
-      parts.2 x i (subst (IsIn x) (sym (map-append (λ (r : Row Name). r.name) w.others rows)) (in-left x (names_of w.others) (names_of rows) j))
-
-  -- each of the others is still there
-  keeps : (x : Name) → IsIn x (names_of w.others) → IsIn x (names_of (drop (length w.master) new.master)) ⊎ IsIn x (names_of new.others)
-  keeps x i =
-      let r = row-of-name w.others x i in
-      let kept = flush-keeps same_name same_name-exact same_name-self view f.may.pending_rows.view heads f.may.known r.0 (in-right r.0 w.master (w.others ++ rows) (in-left r.0 w.others rows r.1)) in
-      let rest : drop (length w.master) new.master ≡ grown.0 = ap (drop (length w.master)) grown.1 ∙ drop_at w.master grown.0 (length w.master) refl in
-      ⊎_elim
-      (λ j. ⊎_elim
-      (λ k. absurd (names-apart x (subst (λ z. IsIn z (names_of w.master)) r.2 (name-in r.0 w.master k)) i))
-      (λ k. inl (subst (λ l. IsIn x (names_of l)) (sym rest) (subst (λ z. IsIn z (names_of grown.0)) r.2 (name-in r.0 grown.0 k))))
-      (in-append r.0 w.master grown.0 (subst (IsIn r.0) grown.1 j)))
-      (λ j. inr (subst (λ z. IsIn z (names_of new.others)) r.2 (name-in r.0 new.others j)))
-      (in-append r.0 new.master new.others kept)
-
   abbrev last : Payload
   last = change_in flats names before n order
 
@@ -87,12 +52,14 @@ module _ (tables : PlainTables) (bytes : List ℕ) (pending : PlainPending) (num
       record {
         master_fits = lm;
         others_fit = lo;
-        stays = λ s. (
-          payload,
-          master ∙ ap (λ (x : World Name). length x.master) e ∙ sym stand.count,
-          others ∙ ap (λ (x : World Name). length x.others) e ∙ sym (ap (length {A = Name}) stand.names ∙ names-length w.others),
-        );
-        changes = λ s. absurd (true≢false (sym same ∙ s));
+        next = record {
+          stays = λ s. (
+            payload,
+            master ∙ ap (λ (x : World Name). length x.master) e ∙ sym stand.count,
+            others ∙ ap (λ (x : World Name). length x.others) e ∙ sym (ap (length {A = Name}) stand.names ∙ names-length w.others),
+          );
+          changes = λ s. absurd (true≢false (sym same ∙ s));
+        };
       }
 
   -- the payload may come behind those of the tables
@@ -104,23 +71,21 @@ module _ (tables : PlainTables) (bytes : List ℕ) (pending : PlainPending) (num
       → MayBeStored 1 limits log added change
   changes limits log change l c payload same master others lm lo fits =
       let a = l.others.1 in let b = l.master.1 in
-      let old_names : other_names_in (newest (payloads_of added)) ≡ names_of w.others = stand.names in
-      let names_known = names-of-known (length w.master) (names_of (drop (length w.master) new.master)) in
       record {
         master_fits = lm;
         others_fit = lo;
-        stays = λ s. absurd (true≢false (sym s ∙ same));
-        changes = λ s. (
-          last,
-          record {
-            payload = payload;
-            follows = may-follow (omega (arith, lm, master, b)) (omega (arith, lo, others, a)) c;
-            kind_is = refl;
-            master = master ∙ ap (λ (p : Payload). p.after) change-is;
-            others = others ∙ sym (names-length new.others) ∙ ap (λ (p : Payload). length p.other_names) change-is;
-            fits = fits;
-            keeps = λ x i. subst (λ (p : Payload). IsIn x (known_names p) ⊎ IsIn x p.other_names) change-is
-                (⊎_elim (λ j. inl (subst (IsIn x) (sym names_known) j)) (λ j. inr j) (keeps x (subst (IsIn x) old_names i)));
-          },
-        );
+        next = record {
+          stays = λ s. absurd (true≢false (sym s ∙ same));
+          changes = λ s. (
+            last,
+            record {
+              payload = payload;
+              follows = may-follow (omega (arith, lm, master, b)) (omega (arith, lo, others, a)) c;
+              kind_is = refl;
+              master = master ∙ ap (λ (p : Payload). p.after) change-is;
+              others = others ∙ sym (names-length new.others) ∙ ap (λ (p : Payload). length p.other_names) change-is;
+              fits = fits;
+            },
+          );
+        };
       }

@@ -57,8 +57,10 @@ pub none-stored : (limits : Limits) (log : ℕ) (change : Change) → change ≡
 none-stored limits log change e = subst (MayBeStored 2 limits log []) (sym e) (record {
   master_fits = zero-le;
   others_fit = zero-le;
-  stays = λ s. (refl, refl, refl);
-  changes = λ s. absurd (true≢false s);
+  next = record {
+    stays = λ s. (refl, refl, refl);
+    changes = λ s. absurd (true≢false s);
+  };
 })
 
 pub none-plan : (change : Change) (told : CloneData) → told_count told ≡ 0 → change ≡ record { payload = []; master = 0; others = 0; same = true } → IsToldPlan change told
@@ -83,19 +85,20 @@ module _ (limits : Limits) (log : ℕ) (told : CloneData) (change : Change) (som
   some-stored may few fits = record {
     master_fits = few;
     others_fit = subst (λ n. n ≤ limits.others) (sym others) zero-le;
-    stays = λ s. absurd (true≢false (sym s ∙ differs));
-    changes = λ s. (
-      told_change told,
-      record {
-        payload = payload;
-        follows = may;
-        kind_is = refl;
-        master = master;
-        others = others;
-        fits = fits;
-        keeps = λ name i. absurd i;
-      },
-    );
+    next = record {
+      stays = λ s. absurd (true≢false (sym s ∙ differs));
+      changes = λ s. (
+        told_change told,
+        record {
+          payload = payload;
+          follows = may;
+          kind_is = refl;
+          master = master;
+          others = others;
+          fits = fits;
+        },
+      );
+    };
   }
 
 -- ---- an honest remote

@@ -8,3 +8,4 @@ pub mod Rows
 pub mod Facts
 pub mod Cloning
 pub mod Sections
+pub mod Stripping

@@ -4,7 +4,7 @@ use Rattle.id_groups.specs.Lists.{IsIn, is_in, AreAllIn}
 use Rattle.assign_ids.specs.Numbers.{others_of}
 use Rattle.flush_rebuild.specs.Moves.{node_of}
 use Rattle.id_groups.specs.Name.{Name, same_name}
-use Rattle.commit_graph.specs.World.{Row, World, IsWorld, IsNamedWorld, GrowsMaster, KeepsRows, rows_of, names_of, with_pending}
+use Rattle.commit_graph.specs.World.{Row, World, IsWorld, IsNamedWorld, GrowsMaster, rows_of, names_of, with_pending}
 use Rattle.commit_graph.specs.Ids.{id_in}
 use Rattle.name_map.specs.Added.{Placed, payloads_of, AllStand}
 use Rattle.change_rules.specs.declared.Limits.{Limits}
@@ -13,7 +13,8 @@ use Rattle.change_rules.specs.declared.Limit.TheVariants.{Others, Master, Log}
 use Rattle.payload_tables.specs.declared.base.BaseRef.{BaseRef}
 use Rattle.flush_rebuild.specs.declared.plan.Change.{Change}
 use Rattle.flush_rebuild.specs.declared.fault.PlanFault.{PlanFault}
-use Rattle.flush_rebuild.specs.declared.fault.PlanFault.TheVariants.{Unknown, Conflict, Full}
+use Rattle.flush_rebuild.specs.declared.fault.PlanFault.TheVariants.{Unknown, Conflict, Lost, Full}
+use Rattle.change_rules.specs.Rebase.{first_conflict, first_lost}
 use Rattle.change_rules.specs.Change.{flush_change}
 use Rattle.change_rules.specs.Tables.{StandFor, newest, other_names_in}
 use Rattle.payload_tables.specs.Kept.{PlainTables, AreTablesOf}
@@ -90,8 +91,9 @@ pub record MayFlush (tables : PlainTables) (bytes : List ℕ) (pending : PlainPe
   pub pending_rows : ArePending w pending rows
   pub found_are : found ≡ map (stored_id w) heads
 
--- What a session rebases: its base is that of some of the payloads, and the tables that of all, whose world keeps each row of
--- the base's and has its master at the front; the names of the base's others are stored. For the name of each pending row its id in the newer world was found.
+-- What a session rebases: its base is that of some of the payloads, and the tables that of all, whose world has the base's master
+-- at the front. No commit without a stored name is one that is missing: what the world has of the base's others is stored. For the
+-- name of each pending row its id in the newer world was found.
 pub record MayRebase (tables : PlainTables) (bytes : List ℕ) (base : BaseRef) (pending : PlainPending) (found : List (Option ℕ)) (w old : World Name) (rows : List (Row Name)) : Type 0 where
   pub added : List Placed
   pub tables_of : AreTablesOf tables added
@@ -103,13 +105,20 @@ pub record MayRebase (tables : PlainTables) (bytes : List ℕ) (base : BaseRef) 
   pub base_stands : StandFor (payloads_of before) old
   pub pending_rows : ArePending old pending rows
   pub grows : GrowsMaster old w
-  pub keeps : KeepsRows old w
-  pub others_stored : (name : Name) → IsIn name (names_of old.others) → IsStored added name
+  pub missing : (name : Name) → IsIn name (names_of old.others) → IsIn name (names_of (rows_of w)) → IsStored added name
   pub found_are : found ≡ map (stored_id w) (names_of rows)
 
 abbrev pub conflict_fault : Option Name → Option PlanFault
 conflict_fault None = None
 conflict_fault (Some name) = Some (Conflict name)
+
+abbrev pub lost_fault : Option Name → Option PlanFault
+lost_fault None = None
+lost_fault (Some name) = Some (Lost name)
+
+-- why a rebase is refused: a row that is stored with other parents, or else a parent that is lost
+abbrev pub rebase_refusal : World Name → List (Row Name) → Option PlanFault
+rebase_refusal w rows = first_of (conflict_fault (first_conflict same_name w rows)) (lost_fault (first_lost same_name w rows))
 
 -- What a session flushes, where all heads are there: these are the numbers of those that aren't in master.
 pub record MayMove (tables : PlainTables) (bytes : List ℕ) (pending : PlainPending) (numbers : List ℕ) (w : World Name) (rows : List (Row Name)) (heads : List Name) : Type 0 where
@@ -135,7 +144,6 @@ pub record MayFind (pending : PlainPending) (heads : List Name) (found : List (O
   pub found_are : found ≡ map (stored_id w) heads
 
 -- The payload is one of this kind that may be stored behind these: it is in the grammar, may follow them and has room in the log.
--- No name of the others is lost by it.
 pub record IsStorable (kind : ℕ) (limits : Limits) (log : ℕ) (added : List Placed) (change : Change) (last : Payload) : Type 0 where
   pub payload : change.payload ≡ payload_bytes last
   pub follows : MayFollow (payloads_of added) last
@@ -143,11 +151,14 @@ pub record IsStorable (kind : ℕ) (limits : Limits) (log : ℕ) (added : List P
   pub master : change.master ≡ last.after
   pub others : change.others ≡ length last.other_names
   pub fits : log + 9 + length change.payload ≤ limits.log
-  pub keeps : (name : Name) → IsIn name (other_names_in (newest (payloads_of added))) → IsIn name (known_names last) ⊎ IsIn name last.other_names
 
 -- what a change means for the payloads, whatever world they stand for
-pub record MayBeStored (kind : ℕ) (limits : Limits) (log : ℕ) (added : List Placed) (change : Change) : Type 0 where
-  pub master_fits : change.master ≤ limits.master
-  pub others_fit : change.others ≤ limits.others
+pub record MayComeNext (kind : ℕ) (limits : Limits) (log : ℕ) (added : List Placed) (change : Change) : Type 0 where
   pub stays : change.same ≡ true → (change.payload ≡ []) × (change.master ≡ count_after 0 (payloads_of added)) × (change.others ≡ others_count added)
   pub changes : change.same ≡ false → (last : Payload) × IsStorable kind limits log added change last
+
+-- the same of a change that is tested against the limits of commits too
+pub record MayBeStored (kind : ℕ) (limits : Limits) (log : ℕ) (added : List Placed) (change : Change) : Type 0 where
+  pub next : MayComeNext kind limits log added change
+  pub master_fits : change.master ≤ limits.master
+  pub others_fit : change.others ≤ limits.others

@@ -26,8 +26,8 @@ use id_groups::{FIRST_OTHER, Group, Id, NameRef};
 use payload_tables::Tables;
 use std::alloc::{AllocError, Global};
 
-/// The kind of a flush's payload.
-const FLUSH: u8 = 1;
+/// The kind of a flush's payload, and of a strip's.
+pub(crate) const FLUSH: u8 = 1;
 
 /// The names of the numbers: those of the stored other ids, and behind them the pending ones.
 #[derive(Clone, Copy)]
@@ -154,7 +154,7 @@ fn add_others_section(
 }
 
 /// Adds the sections of the numbers that move and of the rest. `ids` has the new id of each.
-fn add_sections(
+pub(crate) fn add_sections(
     alloc: Global,
     build: &mut BatchBuild,
     graph: &Graph,

@@ -11,6 +11,10 @@ pub enum PlanFault {
     Unknown(Name),
     /// A pending row is stored with other parents.
     Conflict(Name),
+    /// A pending row would lose this parent: it isn't stored, and no pending row.
+    Lost(Name),
+    /// A strip would leave nothing of so many rows.
+    Emptied(u64),
     /// There would be more than so many.
     Full(Limit, u64),
     /// The item of clone data with this number is the first that breaks its rule.

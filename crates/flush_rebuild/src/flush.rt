@@ -12,7 +12,7 @@ ghost use Rattle.change_rules.specs.Standard.{AreLimits};
 ghost use Rattle.payload_tables.specs.Kept.{AreTablesOf};
 ghost use Rattle.flush_rebuild.specs.declared.fault.PlanFault.TheVariants.{Memory};
 ghost use Rattle.flush_rebuild.specs.Asked.{MayPlan};
-ghost use Rattle.flush_rebuild.specs.Plans.{MayFlush, flush_refusal, IsPlanOf, IsChangeOf, MayBeStored};
+ghost use Rattle.flush_rebuild.specs.Plans.{MayFlush, flush_refusal, IsPlanOf, IsChangeOf, MayComeNext, MayBeStored};
 ghost use Rattle.flush_rebuild.specs.Following.{change_of, with_payload, FollowChange, StandForNext};
 
 use crate::fault::PlanFault;
@@ -63,7 +63,7 @@ pub(crate) fn tables_after(
     bytes: &[u8],
     change: &Change,
 ) -> Result<Tables, AllocError>
-    requires { (kind : ℕ) × (limits : Limits) × (added : List Placed) × AreLimits limits × AreTablesOf tables added × AllStand bytes.now added × MayBeStored kind limits (length bytes.now) added change.now }
+    requires { (kind : ℕ) × (limits : Limits) × (added : List Placed) × AreLimits limits × AreTablesOf tables added × AllStand bytes.now added × MayComeNext kind limits (length bytes.now) added change.now }
     ensures { (added : List Placed) → AreTablesOf tables added → AllStand bytes.now added → IfOk result (λ after. FollowChange after (length bytes.now) added change.now) }
 {
     if change.same {

@@ -1,6 +1,6 @@
 #![tactic(auto)]
 
-//! What a flush and a clone make of a world: the payload, and the tables that follow.
+//! What a flush, a strip and a clone make of a world: the payload, and the tables that follow.
 
 mod building;
 mod cloning;
@@ -12,6 +12,7 @@ mod numbers;
 mod plan;
 mod rebasing;
 mod runs;
+mod strip;
 mod told;
 
 pub use change_rules::{Limit, Limits};
@@ -22,3 +23,4 @@ pub use laws::payloads_stand_for_a_world;
 pub use payload_tables::{BaseRef, OthersTable, PendingRows, TableFault, Tables};
 pub use plan::{Change, Payload, plan_change};
 pub use rebasing::rebase;
+pub use strip::{plan_strip, plan_strip_change};

@@ -96,7 +96,11 @@ pub(crate) fn check(which: Limit, number: u64, limit: u64) -> Result<(), PlanFau
 }
 
 /// The names of the stored other ids and of the pending rows.
-fn names_of<'a>(bytes: &'a [u8], others: &OthersTable, pending: &'a PendingRows) -> Names<'a>
+pub(crate) fn names_of<'a>(
+    bytes: &'a [u8],
+    others: &OthersTable,
+    pending: &'a PendingRows,
+) -> Names<'a>
     requires stored { others.now.names + 20 * others.now.count ≤ length bytes.now }
     requires pending { length pending.now.names ≡ 20 * length pending.now.places }
     requires rows { (rows : List IdRow) × HoldsRows pending.now rows }

@@ -1,22 +1,24 @@
 //! Pending rows on a newer world.
 
-ghost use Rattle.std.specs.Prelude.{◌≡◌, ◌<◌, ◌≤◌, ◌+◌, ◌^◌, ◌⊎◌, ◌++◌, ◌∷◌, [], ◌↔◌, List, Option, None, Some, ℕ, nat_eq, length, slice_get, true, IsTrue, IfOk, OnOk, MatchOption, MatchResult};
+ghost use Rattle.std.specs.Prelude.{◌≡◌, ◌<◌, ◌≤◌, ◌+◌, ◌^◌, ◌⊎◌, ◌++◌, ◌∷◌, [], ◌↔◌, List, Option, None, Some, ℕ, nat_eq, length, take, slice_get, true, false, IsTrue, IfOk, OnOk, MatchOption, MatchResult};
 ghost use Rattle.std.specs.List.{AllByRecursion, AllZip};
 ghost use Rattle.std.specs.Cmp.Lexicographic.{pointwise};
 ghost use Rattle.id_groups.specs.Lists.{IsIn, AreDistinct};
 ghost use Rattle.id_groups.specs.Name.{Name as NameBytes, same_name};
 ghost use Rattle.id_groups.specs.Id.{other_id};
 ghost use Rattle.segment_codec.specs.Record.{Segment};
+ghost use Rattle.segment_codec.specs.Table.{parents_at};
 ghost use Rattle.high_segments.specs.Views.{flats_in};
 ghost use Rattle.commit_graph.specs.World.{Row, World, with_pending};
 ghost use Rattle.flush_rebuild.specs.declared.fault.PlanFault.TheVariants.{Memory, Conflict};
 ghost use Rattle.name_map.specs.Added.{Placed};
+ghost use Rattle.payload_tables.specs.Kept.{PlainTables};
 ghost use Rattle.payload_tables.specs.Bases.{IsBaseOf, ArePending};
 ghost use Rattle.payload_tables.specs.Pending.{IdRow, HoldsRows};
-ghost use Rattle.change_rules.specs.Rebase.{first_conflict, left_of};
-ghost use Rattle.flush_rebuild.specs.Plans.{MayRebase, conflict_fault};
+ghost use Rattle.change_rules.specs.Rebase.{first_conflict, first_lost, left_of};
+ghost use Rattle.flush_rebuild.specs.Plans.{MayRebase, conflict_fault, lost_fault, rebase_refusal};
 ghost use Rattle.flush_rebuild.specs.Asked.{others_count, MayStore, MayRebaseOn};
-ghost use Rattle.flush_rebuild.specs.Rebasing.{IsMoved, IsLost, IsRebased, Disagrees};
+ghost use Rattle.flush_rebuild.specs.Rebasing.{IsAt, IsNowhere, AreStoredAs, AreStoredWhere, IsMoved, IsLostBy, LosesFirst, IsKept, IsRebased, IsNotLeft, LeftSoFar};
 
 use crate::fault::PlanFault;
 use crate::numbers::{listed, parents_of};
@@ -26,32 +28,188 @@ use payload_tables::{BaseRef, PendingRows, Tables};
 use segment_codec::Steps;
 use std::alloc::{AllocError, Global};
 
-/// The id in the newest base of a parent of a pending row, where the other ids of the row's own base are so many, and the
-/// pending rows before it have these ids. `None` where the newest base doesn't store the parent's name.
-fn moved_parent(
+/// The id in the newest base of a parent of a pending row, where the other ids of the row's own base are so many, and these ids
+/// were found of the pending rows. `None` where the newest base hasn't the parent.
+fn stored_parent(
     newest: &BaseRef<'_>,
     base: &BaseRef<'_>,
     first: u64,
-    ids: &[Id],
+    found: &[Option<Id>],
     parent: Id,
 ) -> Option<Id>
     requires newest { (added : List Placed) × IsBaseOf newest.now added }
     requires base { (before : List Placed) × IsBaseOf base.now before × (first ≡ others_count before) }
-    requires parent { parent < other_id (first + length ids.now) }
+    requires parent { parent < other_id (first + length found.now) }
     ensures { (added before : List Placed) → IsBaseOf newest.now added → IsBaseOf base.now before → first ≡ others_count before
-        → MatchOption result (IsLost before added parent) (IsMoved before added first ids.now parent) }
+        → MatchOption result (IsNowhere before added first found.now parent) (IsAt before added first found.now parent) }
 {
     if parent.number() < FIRST_OTHER {
         return Some(parent);
     }
     let place = parent.place();
     if place >= first {
-        return Some(ids[(place - first) as usize]);
+        return found[(place - first) as usize];
     }
     newest.id(base.name(parent)?)
 }
 
-/// These parents by their ids in the newest base, in order. `None` where one has none.
+/// These parents by their ids in the newest base, in order. `None` where it hasn't one of them.
+fn stored_parents(
+    alloc: Global,
+    newest: &BaseRef<'_>,
+    base: &BaseRef<'_>,
+    first: u64,
+    found: &[Option<Id>],
+    parents: &[Id],
+) -> Result<Option<Vec<Id>>, AllocError>
+    requires newest { (added : List Placed) × IsBaseOf newest.now added }
+    requires base { (before : List Placed) × IsBaseOf base.now before × (first ≡ others_count before) }
+    requires parents { AllByRecursion (λ p. p < other_id (first + length found.now)) parents.now }
+    ensures { (added before : List Placed) → IsBaseOf newest.now added → IsBaseOf base.now before → first ≡ others_count before
+        → IfOk result (λ stored. MatchOption stored ((p : ℕ) × IsIn p parents.now × IsNowhere before added first found.now p) (λ ids. AllZip (IsAt before added first found.now) parents.now ids.items)) }
+{
+    let mut stored = Vec::with_capacity(alloc, parents.len())?;
+    'parents: for parent in parents {
+        let Some(id) = stored_parent(newest, base, first, found, *parent) else {
+            return Ok(None);
+        };
+        stored.push(id)?;
+    }
+    Ok(Some(stored))
+}
+
+/// Whether the id of the view has these parents, in order.
+fn has_parents(alloc: Global, view: &View<'_>, id: Id, parents: &[Id]) -> Result<bool, AllocError>
+    ensures { IfOk result (λ same. same ≡ pointwise nat_eq (parents_at (flats_in view.now) id) parents.now) }
+{
+    let stored = parents_of(alloc, view, id, &mut Steps::new())?;
+    Ok(are_same(&stored, parents))
+}
+
+/// Whether these are the same, in order.
+fn are_same(a: &[Id], b: &[Id]) -> bool
+    ensures { result ≡ pointwise nat_eq a.now b.now }
+{
+    a == b
+}
+
+/// Whether the stored id has the parents of this pending row, in order.
+fn is_stored_so(
+    alloc: Global,
+    newest: &BaseRef<'_>,
+    view: &View<'_>,
+    base: &BaseRef<'_>,
+    pending: &PendingRows,
+    i: u32,
+    found: &[Option<Id>],
+    id: Id,
+) -> Result<bool, AllocError>
+    requires newest { (added : List Placed) × IsBaseOf newest.now added }
+    requires base { (before : List Placed) × IsBaseOf base.now before × (pending.now.first ≡ others_count before) }
+    requires row { (rows : List IdRow) × (row : IdRow) × HoldsRows pending.now rows × (slice_get rows i ≡ Some row)
+        × AllByRecursion (λ p. p < other_id (pending.now.first + length found.now)) row.parents }
+    ensures { (added before : List Placed) (rows : List IdRow) (row : IdRow) → IsBaseOf newest.now added → IsBaseOf base.now before
+        → pending.now.first ≡ others_count before → HoldsRows pending.now rows → slice_get rows i ≡ Some row
+        → IfOk result (AreStoredAs before added pending.now.first found.now (parents_at (flats_in view.now) id) row.parents) }
+{
+    let Some(parents) = pending.parents(i) else {
+        unreachable!()
+    };
+    let parents = listed(alloc, parents)?;
+    match stored_parents(alloc, newest, base, pending.first(), found, &parents)? {
+        Some(stored) => has_parents(alloc, view, id, &stored),
+        None => Ok(false),
+    }
+}
+
+/// Refuses a pending row that was found, where it is stored with other parents.
+fn check_row(
+    alloc: Global,
+    newest: &BaseRef<'_>,
+    view: &View<'_>,
+    base: &BaseRef<'_>,
+    pending: &PendingRows,
+    i: u32,
+    found: &[Option<Id>],
+    own: Option<Id>,
+) -> Result<(), PlanFault>
+    requires newest { (added : List Placed) × IsBaseOf newest.now added }
+    requires base { (before : List Placed) × IsBaseOf base.now before × (pending.now.first ≡ others_count before) }
+    requires row { (rows : List IdRow) × (row : IdRow) × HoldsRows pending.now rows × (slice_get rows i ≡ Some row)
+        × AllByRecursion (λ p. p < other_id (pending.now.first + length found.now)) row.parents }
+    ensures { (added before : List Placed) (rows : List IdRow) (row : IdRow) → IsBaseOf newest.now added → IsBaseOf base.now before
+        → pending.now.first ≡ others_count before → HoldsRows pending.now rows → slice_get rows i ≡ Some row
+        → MatchResult result
+        (λ done. AreStoredWhere before added pending.now.first found.now (flats_in view.now) own row.parents true)
+        (λ fault. (fault ≡ Memory) ⊎ ((fault ≡ Conflict row.name) × AreStoredWhere before added pending.now.first found.now (flats_in view.now) own row.parents false)) }
+{
+    let Some(id) = own else {
+        return Ok(());
+    };
+    if is_stored_so(alloc, newest, view, base, pending, i, found, id)? {
+        return Ok(());
+    }
+    Err(PlanFault::Conflict(pending.name(i).to_name()))
+}
+
+/// Refuses the first pending row that the newest world has with other parents. `none` has no rows.
+fn check_rows(
+    alloc: Global,
+    tables: &Tables,
+    bytes: &[u8],
+    base: &BaseRef<'_>,
+    pending: &PendingRows,
+    found: &[Option<Id>],
+    none: &PendingRows,
+) -> Result<(), PlanFault>
+    requires rebase { (added before : List Placed) × MayRebaseOn tables.now bytes.now base.now pending.now found.now added before }
+    requires none { HoldsRows none.now [] × (none.now.first ≡ tables.now.others.count) }
+    ensures { (w old : World NameBytes) (rows : List (Row NameBytes)) → MayRebase tables.now bytes.now base.now pending.now found.now w old rows
+        → MatchResult result
+        (λ done. first_conflict same_name w rows ≡ None)
+        (λ fault. (fault ≡ Memory) ⊎ (conflict_fault (first_conflict same_name w rows) ≡ Some fault)) }
+{
+    let newest = tables.newest(bytes);
+    let view = newest.view(none);
+    'rows: for i in 0..pending.len() {
+        let own = found[i as usize];
+        check_row(alloc, &newest, &view, base, pending, i, found, own)?;
+    }
+    Ok(())
+}
+
+/// The id in the newest base of a parent of a pending row, where the other ids of the row's own base are so many, and the
+/// pending rows before it have these ids. `Lost` names the parent where the newest base doesn't store its name.
+fn moved_parent(
+    newest: &BaseRef<'_>,
+    base: &BaseRef<'_>,
+    first: u64,
+    ids: &[Id],
+    parent: Id,
+) -> Result<Id, PlanFault>
+    requires newest { (added : List Placed) × IsBaseOf newest.now added }
+    requires base { (before : List Placed) × IsBaseOf base.now before × (first ≡ others_count before) }
+    requires parent { parent < other_id (first + length ids.now) }
+    ensures { (added before : List Placed) → IsBaseOf newest.now added → IsBaseOf base.now before → first ≡ others_count before
+        → MatchResult result (IsMoved before added first ids.now parent) (IsLostBy before added parent) }
+{
+    if parent.number() < FIRST_OTHER {
+        return Ok(parent);
+    }
+    let place = parent.place();
+    if place >= first {
+        return Ok(ids[(place - first) as usize]);
+    }
+    let Some(name) = base.name(parent) else {
+        unreachable!()
+    };
+    match newest.id(name) {
+        Some(id) => Ok(id),
+        None => Err(PlanFault::Lost(name.to_name())),
+    }
+}
+
+/// These parents by their ids in the newest base, in order. `Lost` names the first that has none.
 fn moved_parents(
     alloc: Global,
     newest: &BaseRef<'_>,
@@ -59,21 +217,21 @@ fn moved_parents(
     first: u64,
     ids: &[Id],
     parents: &[Id],
-) -> Result<Option<Vec<Id>>, AllocError>
+) -> Result<Vec<Id>, PlanFault>
     requires newest { (added : List Placed) × IsBaseOf newest.now added }
     requires base { (before : List Placed) × IsBaseOf base.now before × (first ≡ others_count before) }
     requires parents { AllByRecursion (λ p. p < other_id (first + length ids.now)) parents.now }
     ensures { (added before : List Placed) → IsBaseOf newest.now added → IsBaseOf base.now before → first ≡ others_count before
-        → IfOk result (λ moved. MatchOption moved ((p : ℕ) × IsIn p parents.now × IsLost before added p) (λ new. AllZip (IsMoved before added first ids.now) parents.now new.items)) }
+        → MatchResult result
+        (λ moved. AllZip (IsMoved before added first ids.now) parents.now moved.items)
+        (λ fault. (fault ≡ Memory) ⊎ LosesFirst before added first ids.now parents.now fault) }
 {
     let mut moved = Vec::with_capacity(alloc, parents.len())?;
     'parents: for parent in parents {
-        let Some(id) = moved_parent(newest, base, first, ids, *parent) else {
-            return Ok(None);
-        };
-        moved.push(id)?;
+        let id = moved_parent(newest, base, first, ids, *parent)?;
+        add_id(&mut moved, id)?;
     }
-    Ok(Some(moved))
+    Ok(moved)
 }
 
 /// Whether the id is one of these.
@@ -96,47 +254,26 @@ fn are_distinct(ids: &[Id]) -> bool
     }
 }
 
-/// Whether these are the same, in order.
-fn are_same(a: &[Id], b: &[Id]) -> bool
-    ensures { result ≡ pointwise nat_eq a.now b.now }
-{
-    a == b
-}
-
-/// Puts a row behind those that are left, with these parents; one that is stored, with the same parents, isn't put there. The
-/// answer is its id.
-fn rebase_row(
-    alloc: Global,
-    view: &View<'_>,
-    name: &Name,
-    parents: &[Id],
-    found: Option<Id>,
-    left: &mut PendingRows,
-) -> Result<Id, PlanFault>
+/// Puts a row behind those that are left, with these parents. The answer is its id. Where two parents are the same, as in no world,
+/// it counts as stored with others.
+fn keep_row(name: &Name, parents: &[Id], left: &mut PendingRows) -> Result<Id, PlanFault>
     requires few { length parents.now ≤ 8 }
     requires rows { (rows : List IdRow) × HoldsRows left.old rows × (length rows < 65536) }
     requires below { AllByRecursion (λ p. p < other_id (left.old.first + length left.old.places)) parents.now }
     ensures { MatchResult result
-        (λ id. AreDistinct parents.now × IsRebased found (flats_in view.now) left.old left.new name.now parents.now id)
-        (λ fault. (fault ≡ Memory) ⊎ ((fault ≡ Conflict name.now) × Disagrees found (flats_in view.now) parents.now)) }
+        (λ id. AreDistinct parents.now × IsKept left.old left.new name.now parents.now id)
+        (λ fault. (fault ≡ Memory) ⊎ ((fault ≡ Conflict name.now) × (AreDistinct parents.now → ⊥))) }
 {
     if !are_distinct(parents) {
         return Err(PlanFault::Conflict(*name));
     }
-    let Some(id) = found else {
-        let id = Id::other(left.first() + u64::from(left.len()));
-        left.push(name, parents)?;
-        return Ok(id);
-    };
-    let stored = parents_of(alloc, view, id, &mut Steps::new())?;
-    if !are_same(&stored, parents) {
-        return Err(PlanFault::Conflict(*name));
-    }
+    let id = Id::other(left.first() + u64::from(left.len()));
+    left.push(name, parents)?;
     Ok(id)
 }
 
-/// The parents of this pending row by their ids in the newest base, where the pending rows before it have these ids. `Conflict`
-/// names the row where the newest base doesn't store the name of one.
+/// The parents of this pending row by their ids in the newest base, where the pending rows before it have these ids. `Lost` names
+/// the first whose name the newest base doesn't store.
 fn row_parents(
     alloc: Global,
     newest: &BaseRef<'_>,
@@ -153,16 +290,41 @@ fn row_parents(
         → pending.now.first ≡ others_count before → HoldsRows pending.now rows → slice_get rows i ≡ Some row
         → MatchResult result
         (λ moved. AllZip (IsMoved before added pending.now.first ids.now) row.parents moved.items)
-        (λ fault. (fault ≡ Memory) ⊎ ((fault ≡ Conflict row.name) × (p : ℕ) × IsIn p row.parents × IsLost before added p)) }
+        (λ fault. (fault ≡ Memory) ⊎ LosesFirst before added pending.now.first ids.now row.parents fault) }
 {
     let Some(parents) = pending.parents(i) else {
-        return Err(PlanFault::Conflict(pending.name(i).to_name()));
+        unreachable!()
     };
     let parents = listed(alloc, parents)?;
-    let Some(moved) = moved_parents(alloc, newest, base, pending.first(), ids, &parents)? else {
-        return Err(PlanFault::Conflict(pending.name(i).to_name()));
-    };
-    Ok(moved)
+    moved_parents(alloc, newest, base, pending.first(), ids, &parents)
+}
+
+/// The id of this pending row in the newest base, where it was found there; else the row is put behind those that are left.
+fn left_row(
+    alloc: Global,
+    newest: &BaseRef<'_>,
+    base: &BaseRef<'_>,
+    pending: &PendingRows,
+    i: u32,
+    found: Option<Id>,
+    ids: &[Id],
+    left: &mut PendingRows,
+) -> Result<Id, PlanFault>
+    requires newest { (added : List Placed) × IsBaseOf newest.now added }
+    requires row { (tables : PlainTables) × (bytes : List ℕ) × (all : List (Option ℕ)) × (added before : List Placed) × (m : MayRebaseOn tables bytes base.now pending.now all added before)
+        × (row : IdRow) × IsBaseOf newest.now added × (slice_get m.rows i ≡ Some row) × LeftSoFar added (take i m.rows) ids.now left.old }
+    ensures { (added before : List Placed) (rows : List IdRow) (row : IdRow) → IsBaseOf newest.now added → IsBaseOf base.now before
+        → pending.now.first ≡ others_count before → HoldsRows pending.now rows → slice_get rows i ≡ Some row
+        → MatchResult result
+        (IsRebased before added pending.now.first ids.now found left.old left.new row)
+        (λ fault. (fault ≡ Memory) ⊎ IsNotLeft before added pending.now.first ids.now found row fault) }
+{
+    if let Some(id) = found {
+        return Ok(id);
+    }
+    let name = pending.name(i).to_name();
+    let moved = row_parents(alloc, newest, base, pending, i, ids)?;
+    keep_row(&name, &moved, left)
 }
 
 /// Adds an id.
@@ -174,34 +336,38 @@ fn add_id(ids: &mut Vec<Id>, id: Id) -> Result<(), AllocError>
 }
 
 /// Puts the pending rows that the newest world doesn't have behind `left`, which has none yet, and the id of each pending row
-/// behind `ids`, which has none either. `none` has no rows.
-fn rebase_rows(
+/// behind `ids`, which has none either. The newest world has none of them with other parents.
+fn keep_rows(
     alloc: Global,
     tables: &Tables,
     bytes: &[u8],
     base: &BaseRef<'_>,
     pending: &PendingRows,
     found: &[Option<Id>],
-    none: &PendingRows,
     left: &mut PendingRows,
     ids: &mut Vec<Id>,
 ) -> Result<(), PlanFault>
     requires rebase { (added before : List Placed) × MayRebaseOn tables.now bytes.now base.now pending.now found.now added before }
-    requires none { HoldsRows none.now [] × (none.now.first ≡ tables.now.others.count) }
     requires left { HoldsRows left.old [] × (left.old.first ≡ tables.now.others.count) }
     requires ids { ids.old.items ≡ [] }
     ensures worlds { (w old : World NameBytes) (rows : List (Row NameBytes)) → MayRebase tables.now bytes.now base.now pending.now found.now w old rows
         → MatchResult result
-        (λ done. (first_conflict same_name w rows ≡ None) × ArePending w left.new (left_of same_name w rows))
-        (λ fault. (fault ≡ Memory) ⊎ (conflict_fault (first_conflict same_name w rows) ≡ Some fault)) }
+        (λ done. (first_lost same_name w rows ≡ None) × ArePending w left.new (left_of same_name w rows))
+        (λ fault. (fault ≡ Memory) ⊎ (lost_fault (first_lost same_name w rows) ≡ Some fault)) }
     ensures left { (added before : List Placed) → MayRebaseOn tables.now bytes.now base.now pending.now found.now added before → OnOk result (MayStore left.new added) }
 {
     let newest = tables.newest(bytes);
-    let view = newest.view(none);
     'rows: for i in 0..pending.len() {
-        let name = pending.name(i).to_name();
-        let moved = row_parents(alloc, &newest, base, pending, i, ids)?;
-        let id = rebase_row(alloc, &view, &name, &moved, found[i as usize], left)?;
+        let id = left_row(
+            alloc,
+            &newest,
+            base,
+            pending,
+            i,
+            found[i as usize],
+            ids,
+            left,
+        )?;
         add_id(ids, id)?;
     }
     Ok(())
@@ -223,22 +389,25 @@ fn add_left(
     requires left { HoldsRows left.old [] × (left.old.first ≡ tables.now.others.count) }
     ensures worlds { (w old : World NameBytes) (rows : List (Row NameBytes)) → MayRebase tables.now bytes.now base.now pending.now found.now w old rows
         → MatchResult result
-        (λ done. (first_conflict same_name w rows ≡ None) × ArePending w left.new (left_of same_name w rows))
-        (λ fault. (fault ≡ Memory) ⊎ (conflict_fault (first_conflict same_name w rows) ≡ Some fault)) }
+        (λ done. (rebase_refusal w rows ≡ None) × ArePending w left.new (left_of same_name w rows))
+        (λ fault. (fault ≡ Memory) ⊎ (rebase_refusal w rows ≡ Some fault)) }
     ensures left { (added before : List Placed) → MayRebaseOn tables.now bytes.now base.now pending.now found.now added before → OnOk result (MayStore left.new added) }
 {
+    check_rows(alloc, tables, bytes, base, pending, found, none)?;
     let mut ids = Vec::with_capacity(alloc, found.len())?;
-    rebase_rows(
-        alloc, tables, bytes, base, pending, found, none, left, &mut ids,
-    )?;
+    keep_rows(alloc, tables, bytes, base, pending, found, left, &mut ids)?;
     Ok(())
 }
 
 /// The pending rows that the newest world doesn't have, in order, with their parents by their ids in it. `found` has for each
 /// pending row the id of its name in the newest world, where that has it.
 ///
-/// `Conflict` names the first row that the newest world has with other parents. A row whose parents can't stand in the newest
-/// base, as no world has it, counts as one: a parent's name isn't stored there, or two of them were found at one id.
+/// `Conflict` names the first row that the newest world has with other parents, and counts as well where no world has a row's parents, as
+/// two of them were found at one id. `Lost` comes where there is no conflict: it names, of the first of the rows that are left
+/// which has such a parent, the first parent that neither the newest world has nor is a pending row.
+///
+/// It speaks of the worlds in which no commit without a stored name is one that is missing: where one of the base's others isn't
+/// stored any more, the newest world doesn't have it.
 pub fn rebase(
     alloc: Global,
     tables: &Tables,
@@ -250,8 +419,8 @@ pub fn rebase(
     requires { (added before : List Placed) × MayRebaseOn tables.now bytes.now base pending.now found.now added before }
     ensures worlds { (w old : World NameBytes) (rows : List (Row NameBytes)) → MayRebase tables.now bytes.now base.entry pending.now found.now w old rows
         → MatchResult result
-        (λ left. (first_conflict same_name w rows ≡ None) × ArePending w left (left_of same_name w rows))
-        (λ fault. (fault ≡ Memory) ⊎ (conflict_fault (first_conflict same_name w rows) ≡ Some fault)) }
+        (λ left. (rebase_refusal w rows ≡ None) × ArePending w left (left_of same_name w rows))
+        (λ fault. (fault ≡ Memory) ⊎ (rebase_refusal w rows ≡ Some fault)) }
     ensures left { (added before : List Placed) → MayRebaseOn tables.now bytes.now base.entry pending.now found.now added before → IfOk result (λ left. MayStore left added) }
 {
     let others = u64::from(tables.others().count());

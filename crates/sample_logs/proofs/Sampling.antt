@@ -19,9 +19,9 @@ use Rattle.payload_tables.specs.Pending.{IdRow, PlainPending, HoldsRows, FindsRo
 use Rattle.payload_tables.specs.Bases.{MayBase, MayView, IsBaseOf, stored_in}
 use Rattle.payload_tables.proofs.Basing.{base-others, base-below, table-end}
 use Rattle.payload_tables.proofs.Lists.{all-append}
-use Rattle.flush_rebuild.specs.Asked.{IsFoundIn, IsStored, HaveParents, MayStore, MayRebaseOn}
+use Rattle.flush_rebuild.specs.Asked.{IsBaseId, IsFoundIn, IsStored, HaveParents, MayStore, MayRebaseOn}
 use Rattle.flush_rebuild.proofs.Moved.{stored-bound}
-use Rattle.sample_logs.specs.Sample.{PlainBase, IsBaseIn, IsBaseOn, AreIn, IsFramed, ArePendingOn}
+use Rattle.sample_logs.specs.Sample.{PlainBase, IsBaseIn, IsBaseOn, AreIn, IsFramed, ArePendingOn, IsOtherIn}
 
 -- ---- what a base has for a name
 
@@ -44,6 +44,16 @@ found-in base added b name None h = λ s.
     h k.0.id (stored-small base added b k.0 k.1) (subst (λ z. IsIn {X = Known} (record { id = k.0.id; name = z }) (stored_in added)) k.2 k.1)
 found-in base added b name (Some id) h =
     ⊎_elim (λ a. inl (let c = b.count in omega (arith, a, c))) (λ d. inr d) (stored-bound base added b (record { id = id; name = name }) h.1)
+
+-- an id of the base that isn't one of master
+pub other-in : (base : BaseRef) (added : List Placed) → IsBaseOf base added → (id : ℕ) → 2 ^ 56 ≤ id → IsBaseId added id → IsOtherIn added id
+other-in base added b id le h =
+    let facts = base-others base.bytes.now base.tables.now base.others.now base.below added b in
+    ⊎_elim (λ a. absurd (let s = facts.small in let c = b.count in let l : 16777216 ≤ 2 ^ 56 = lit≤ tt in let z : ⊥ = omega (arith, a, s, c, l, le) in z)) (λ d. d) h
+
+-- one more id
+pub others-next : (added : List Placed) (ids more : List ℕ) (id : ℕ) → AllByRecursion (IsOtherIn added) ids → IsOtherIn added id → more ≡ ids ++ id ∷ [] → AllByRecursion (IsOtherIn added) more
+others-next added ids more id h o e = subst (AllByRecursion (IsOtherIn added)) (sym e) (all-append (IsOtherIn added) ids (id ∷ []) h (o, tt))
 
 -- ---- names one after another
 

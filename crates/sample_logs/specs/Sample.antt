@@ -1,13 +1,14 @@
 -- A log in memory with the tables of its payloads, and the bases of some of its fronts.
-use Rattle.std.specs.Prelude.{◌≡◌, ◌++◌, ◌∷◌, [], ℕ, List, length}
+use Rattle.std.specs.Prelude.{◌≡◌, ◌<◌, ◌≤◌, ◌^◌, ◌++◌, ◌∷◌, [], ℕ, List, length}
 use Rattle.std.specs.List.{AllByRecursion}
+use Rattle.id_groups.specs.Id.{other_id}
 use Rattle.batch_codec.specs.Grammar.{count_after}
 use Rattle.name_map.specs.Added.{Placed, AllStand, payloads_of}
 use Rattle.payload_tables.specs.declared.base.BaseRef.{BaseRef}
 use Rattle.payload_tables.specs.Kept.{PlainTables, PlainOthers, AreTablesOf}
 use Rattle.payload_tables.specs.Pending.{PlainPending, HoldsRows}
 use Rattle.payload_tables.specs.Bases.{MayBase, IsBaseOf}
-use Rattle.flush_rebuild.specs.Asked.{MayStore}
+use Rattle.flush_rebuild.specs.Asked.{MayStore, others_count}
 
 -- what is kept of a base: its other ids, how many master ids it has, and no rows that are pending on it
 pub record PlainBase : Type 0 where
@@ -59,3 +60,7 @@ pub record MayFlushIn (bytes : List ℕ) (tables : PlainTables) (pending : Plain
   pub added : List Placed
   pub are_in : AreIn bytes tables added
   pub rows : MayStore pending added
+
+-- an other id of the base of these payloads
+abbrev pub IsOtherIn : List Placed → ℕ → Type 0
+IsOtherIn added id = (2 ^ 56 ≤ id) × (id < other_id (others_count added))

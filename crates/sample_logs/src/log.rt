@@ -7,7 +7,7 @@ ghost use Rattle.payload_tables.specs.Bases.{IsBaseOf};
 ghost use Rattle.sample_logs.specs.Sample.{MayFlushIn};
 
 use crate::base::KeptBase;
-use crate::stages::{add_payload, change_of, keep_base, left_of};
+use crate::stages::{add_payload, change_of, keep_base, left_of, strip_of};
 use commit_graph::Row;
 use flush_rebuild::{BaseRef, Change, Limits, PendingRows, PlanFault, TableFault, Tables};
 use high_segments::View;
@@ -107,6 +107,13 @@ impl LogSample {
         requires rows { MayFlushIn self.now.bytes self.now.tables rows.now }
     {
         change_of(self.alloc, &self.bytes, &self.tables, rows, heads, limits)
+    }
+
+    /// The change of a strip of those of the names that are stored outside master.
+    pub fn strip(&self, names: &[Name], limits: Limits) -> Result<Change, PlanFault>
+        requires { AreLimits limits }
+    {
+        strip_of(self.alloc, &self.bytes, &self.tables, names, limits)
     }
 
     /// The log with a payload more behind it.

@@ -1,22 +1,23 @@
-//! The stages of a flush.
+//! The stages of a flush, and a strip.
 
-ghost use Rattle.std.specs.Prelude.{◌≡◌, ◌≤◌, ◌+◌, ◌^◌, List, ℕ, [], length, IfOk, OnOk};
+ghost use Rattle.std.specs.Prelude.{◌≡◌, ◌≤◌, ◌+◌, ◌^◌, List, ℕ, [], length, IfOk, IfSome, OnOk};
 ghost use Rattle.std.specs.List.{AllByRecursion, AllZip};
 ghost use Rattle.name_map.specs.Added.{Placed};
 ghost use Rattle.payload_tables.specs.Pending.{IdRow, HoldsRows, row_names};
 ghost use Rattle.payload_tables.specs.Bases.{IsBaseOf};
 ghost use Rattle.change_rules.specs.Standard.{AreLimits};
 ghost use Rattle.flush_rebuild.specs.Asked.{IsFoundIn, MayStore};
-ghost use Rattle.sample_logs.specs.Sample.{AreIn, IsBaseIn, IsBaseOn, IsSample, IsFramed, MayFlushIn};
+ghost use Rattle.sample_logs.specs.Sample.{AreIn, IsBaseIn, IsBaseOn, IsSample, IsFramed, MayFlushIn, IsOtherIn};
 
 use crate::base::KeptBase;
 use crate::rows::push_rows;
 use batch_codec::BatchRef;
 use commit_graph::Row;
 use flush_rebuild::{
-    BaseRef, Change, Limit, Limits, PendingRows, PlanFault, TableFault, Tables, plan_change, rebase,
+    BaseRef, Change, Limit, Limits, PendingRows, Plan, PlanFault, TableFault, Tables, plan_change,
+    plan_strip, rebase,
 };
-use id_groups::{Id, Name, NameRef};
+use id_groups::{FIRST_OTHER, Id, Name, NameRef};
 use std::alloc::{AllocError, Global};
 
 /// How many bytes a log or a payload may have.
@@ -137,6 +138,70 @@ pub(crate) fn change_of(
     let found = names_found(alloc, &newest, heads)?;
     let mut copy = tables.copy(alloc)?;
     plan_change(alloc, &mut copy, bytes, pending, heads, &found, limits)
+}
+
+/// The id of a name, where it is one of the base's others.
+fn other_in(base: &BaseRef<'_>, name: NameRef<'_>) -> Option<Id>
+    requires { (added : List Placed) × IsBaseOf base.now added }
+    ensures { (added : List Placed) → IsBaseOf base.now added → IfSome result (IsOtherIn added) }
+{
+    let id = found_in(base, name)?;
+    if id.number() < FIRST_OTHER {
+        return None;
+    }
+    Some(id)
+}
+
+/// The ids of those of the names that are the base's others.
+fn others_in(alloc: Global, base: &BaseRef<'_>, names: &[Name]) -> Result<Vec<Id>, AllocError>
+    requires { (added : List Placed) × IsBaseOf base.now added }
+    ensures { (added : List Placed) → IsBaseOf base.now added → IfOk result (λ ids. AllByRecursion (IsOtherIn added) ids.items) }
+{
+    let mut ids = Vec::new(alloc);
+    'names: for name in names {
+        let Some(id) = other_in(base, name.lend()) else {
+            continue;
+        };
+        ids.push(id)?;
+    }
+    Ok(ids)
+}
+
+/// The change of a plan.
+fn change_in(plan: Plan) -> Change {
+    let Plan {
+        payload,
+        tables: _tables,
+        master,
+        others,
+        same,
+    } = plan;
+    Change {
+        payload,
+        master,
+        others,
+        same,
+    }
+}
+
+/// The change of a strip of those of the names that are stored outside master.
+pub(crate) fn strip_of(
+    alloc: Global,
+    bytes: &[u8],
+    tables: &Tables,
+    names: &[Name],
+    limits: Limits,
+) -> Result<Change, PlanFault>
+    requires limits { AreLimits limits }
+    requires tables { (added : List Placed) × AreIn bytes.now tables.now added }
+{
+    if bytes.len() > MOST_BYTES {
+        return Err(PlanFault::Full(Limit::Log, MOST_BYTES as u64));
+    }
+    let newest = tables.newest(bytes);
+    let ids = others_in(alloc, &newest, names)?;
+    let plan = plan_strip(alloc, tables, bytes, &ids, limits)?;
+    Ok(change_in(plan))
 }
 
 /// Puts a payload behind the bytes, as a log has it.

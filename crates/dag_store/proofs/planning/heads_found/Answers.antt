@@ -1,5 +1,6 @@
 use Rattle.step_rules.specs.State.{pending_of}
 use Rattle.name_map.specs.Added.{payloads_of}
+use Rattle.flush_rebuild.specs.Asked.{IsFoundIn}
 use Rattle.dag_store.specs.Changes.{IsHeadFound, head_test}
 use Rattle.dag_store.proofs.FlushParts.{all-stand}
 use Rattle.dag_store.proofs.NewestBase.{none-behind, none-few, none-view, plain-names, session-names, some-newest, state-newest}
@@ -21,7 +22,7 @@ returns-clause-found g c = λ added v x.
     let b = c.newest-newest.ensures added v.tables_of all in
     let s = some-newest c.args.tables.now added v.tables_of c.others.result.now c.others.ensures c.count.result c.from.result c.count.ensures c.from.ensures c.empty-none.result c.empty-none.ensures.rows c.empty-none.ensures.first c.newest-newest.result b in
     let n = plain-names c.args.session.now.pending x.pending.rows x.pending.held in
-    each-found added s.0 (head_test (payloads_of added) s.0 n.0) (IsHeadFound s.0 n.0) c.args.heads.now _ _ c.args.cache.now c.look_up_heads.new.cache c.look_up_heads.result (c.look_up_heads.ensures.finds added s.0 n.0 s.2 (none-behind c.args.tables.now c.bytes-bytes.result.now added v.tables_of all) n.1 (c.lacks_names-unnamed.ensures added s.0 v.tables_of s.1))
+    each-found added s.0 (head_test (payloads_of added) s.0 n.0) (IsFoundIn added) (IsHeadFound s.0 n.0) c.args.heads.now _ _ c.args.cache.now c.look_up_heads.new.cache c.look_up_heads.result (c.look_up_heads.ensures.finds added s.0 n.0 s.2 (none-behind c.args.tables.now c.bytes-bytes.result.now added v.tables_of all) n.1 (c.lacks_names-unnamed.ensures added s.0 v.tables_of s.1))
 
 pub returns-clause-step : goal.returns-clause-step
 returns-clause-step g c = λ began s added st v x o.

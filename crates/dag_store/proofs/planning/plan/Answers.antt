@@ -5,17 +5,21 @@ use Rattle.change_rules.specs.Rebase.{left_of}
 use Rattle.flush_rebuild.specs.Asked.{IsFoundIn}
 use Rattle.flush_rebuild.specs.Plans.{MayBeStored}
 use Rattle.step_rules.specs.State.{pending_of}
+use Rattle.step_rules.specs.Verb.{Flush}
+use Rattle.step_rules.specs.Worlds.{flush_of}
 use Rattle.dag_store.specs.Changes.{FindsHeads, PlansFlush}
 use Rattle.dag_store.proofs.FindLists.{written, zip-length}
 use Rattle.dag_store.proofs.FlushParts.{all-stand, log-size, may-flush}
-use Rattle.dag_store.proofs.FlushTests.{change-is, err-plans, payload_is, plans-change, plans-fault, plans-unfound, plans-unmoved}
+use Rattle.dag_store.proofs.ChangeSizes.{change-to, payload_to}
+use Rattle.dag_store.proofs.ChangeTests.{err-plans}
+use Rattle.dag_store.proofs.FlushTests.{plans-change, plans-fault, plans-unfound, plans-unmoved}
 use Rattle.dag_store.proofs.planning.plan.Goals as goal
 
 pub returns-in_err-found-clause-step : goal.returns-in_err-found-clause-step
 returns-in_err-found-clause-step g c = λ began s added st v x o.
     let old = map g.R.Remote.shown c.args.mirrors.now.items in
     let new = map g.R.Remote.shown c.heads_found.new.mirrors.items in
-    err-plans c.args.limits st s c.args.heads.now old new c.args.cache.now c.heads_found.new.cache c.from_residual.result c.in_err-found.field-0.0 c.from_residual.ensures.1
+    err-plans c.args.limits st s (Flush c.args.heads.now) (flush_of st s c.args.heads.now) old new c.args.cache.now c.heads_found.new.cache c.from_residual.result c.in_err-found.field-0.0 c.from_residual.ensures.1
     (plans-unfound c.args.limits st s c.args.heads.now began added c.args.session.now o old new c.args.cache.now c.heads_found.new.cache c.in_err-found.field-0.0 (c.in_err-found.ensures.step began s added st v x o))
 
 pub rebased-requires-clause-heads : goal.rebased-requires-clause-heads
@@ -28,7 +32,7 @@ returns-in_err-left-clause-step g c = λ began s added st v x o.
     let old = map g.R.Remote.shown c.args.mirrors.now.items in
     let mid = map g.R.Remote.shown c.heads_found.new.mirrors.items in
     let new = map g.R.Remote.shown c.rebased.new.mirrors.items in
-    err-plans c.args.limits st s c.args.heads.now old new c.args.cache.now c.rebased.new.cache c.from_residual-in_err-left.result c.in_err-left.field-0.0 c.from_residual-in_err-left.ensures.1
+    err-plans c.args.limits st s (Flush c.args.heads.now) (flush_of st s c.args.heads.now) old new c.args.cache.now c.rebased.new.cache c.from_residual-in_err-left.result c.in_err-left.field-0.0 c.from_residual-in_err-left.ensures.1
     (plans-unmoved c.args.limits st s c.args.heads.now began added c.args.session.now o old mid new c.args.cache.now c.heads_found.new.cache c.rebased.new.cache c.deref_mut.result.now c.rebased.new.found
     (subst (λ l. FindsHeads added st.stored (pending_of st s) c.args.heads.now old mid c.args.cache.now c.heads_found.new.cache (Ok l)) (sym c.deref_mut.ensures.value) (c.in_ok-found.ensures.step began s added st v x o))
     c.in_err-left.field-0.0 (c.in_err-left.ensures.step began s added st c.args.limits v x o))
@@ -80,9 +84,9 @@ returns-in-Ok-clause-step g c = λ began s added st v x o.
     plans-change c.args.limits st s c.args.heads.now began added c.args.session.now o old mid new c.args.cache.now c.heads_found.new.cache c.rebased.new.cache c.deref_mut.result.now c.rebased.new.found
     (subst (λ l. FindsHeads added st.stored (pending_of st s) c.args.heads.now old mid c.args.cache.now c.heads_found.new.cache (Ok l)) (sym c.deref_mut.ensures.value) (c.in_ok-found.ensures.step began s added st v x o))
     c.in_ok-left.left (c.in_ok-left.ensures.step began s added st c.args.limits v x o) (length bytes) size fits c.in-Ok.change
-    (λ left later. c.in-Ok.ensures.worlds st.stored (left_of same_name st.stored (pending_of st s)) (payload_is c.args.limits st s c.args.heads.now)
+    (λ left later. c.in-Ok.ensures.worlds st.stored (left_of same_name st.stored (pending_of st s)) (payload_to st (flush_of st s c.args.heads.now))
     (may-flush c.args.log.now c.args.tables.now added v c.args.session.now x bytes are began s st o c.in_ok-left.left left c.args.heads.now c.deref.result.now (now ∙ later))
-    (change-is c.args.limits st s c.args.heads.now))
+    (change-to st (flush_of st s c.args.heads.now)))
 
 pub returns-clause-step : goal.returns-clause-step
 returns-clause-step g c = λ began s added st v x o.
@@ -98,6 +102,6 @@ returns-clause-step g c = λ began s added st v x o.
     (plans-fault c.args.limits st s c.args.heads.now began added c.args.session.now o old mid new c.args.cache.now c.heads_found.new.cache c.rebased.new.cache c.deref_mut.result.now c.rebased.new.found
     (subst (λ l. FindsHeads added st.stored (pending_of st s) c.args.heads.now old mid c.args.cache.now c.heads_found.new.cache (Ok l)) (sym c.deref_mut.ensures.value) (c.in_ok-found.ensures.step began s added st v x o))
     c.in_ok-left.left (c.in_ok-left.ensures.step began s added st c.args.limits v x o) (length bytes) size fits c.in-Err.fault
-    (λ left later. c.in-Err.ensures.worlds st.stored (left_of same_name st.stored (pending_of st s)) (payload_is c.args.limits st s c.args.heads.now)
+    (λ left later. c.in-Err.ensures.worlds st.stored (left_of same_name st.stored (pending_of st s)) (payload_to st (flush_of st s c.args.heads.now))
     (may-flush c.args.log.now c.args.tables.now added v c.args.session.now x bytes are began s st o c.in_ok-left.left left c.args.heads.now c.deref.result.now (now ∙ later))
-    (change-is c.args.limits st s c.args.heads.now)))
+    (change-to st (flush_of st s c.args.heads.now))))

@@ -1,18 +1,33 @@
-use Rattle.std.proofs.Common.{◌≤◌, ◌∙◌, ◌^◌, arith}
-use Rattle.flush_rebuild.proofs.Moved.{unnamed, moved-stored, place-other}
+use Rattle.std.proofs.Common.{◌≡◌, ◌<◌, ◌≤◌, ◌∙◌, ◌^◌, None, subst, sym, ap, arith}
+use Rattle.name_map.specs.Map.{NamesAs}
+use Rattle.payload_tables.specs.Bases.{stored_in}
+use Rattle.flush_rebuild.specs.declared.fault.PlanFault.TheVariants.{Lost}
+use Rattle.flush_rebuild.specs.Asked.{others_count}
+use Rattle.flush_rebuild.proofs.Moved.{unnamed, other-moved, other-lost, place-other}
 use Rattle.flush_rebuild.proofs.rebasing.moved_parent.Goals as goal
 
-pub returns-in_err-name : goal.returns-in_err-name
-returns-in_err-name c = λ added before n b e.
+pub unreachable-requires : goal.unreachable-requires
+unreachable-requires c =
+    let before = c.requires.base.0 in let b = c.requires.base.1 in let e = c.requires.base.2 in
     let num = c.number.ensures.number in let f = c.if-number-lt-FIRST_OTHER.false in
     let lo : 2 ^ 56 ≤ c.args.parent = omega (arith, num, f) in
     let p = c.place-place.ensures.place ∙ place-other c.args.parent lo in
-    absurd (unnamed c.args.base.now before c.args.parent lo (let t = c.if-place-first.false in omega (arith, p, t, e, lo)) (c.in_err-name.ensures before b))
+    unnamed c.args.base.now before c.args.parent lo (let t = c.if-place-first.false in omega (arith, p, t, e, lo))
+    (subst (NamesAs (stored_in before) c.args.parent) c.in_default.is (c.name.ensures before b))
 
-pub returns : goal.returns
-returns c = λ added before n b e.
+pub returns-in-Some-id : goal.returns-in-Some-id
+returns-in-Some-id c = λ added before n b e.
     let num = c.number.ensures.number in let f = c.if-number-lt-FIRST_OTHER.false in
     let lo : 2 ^ 56 ≤ c.args.parent = omega (arith, num, f) in
     let p = c.place-place.ensures.place ∙ place-other c.args.parent lo in
-    moved-stored c.args.newest.now c.args.base.now added before n b c.args.first c.args.parent c.args.ids.now c.in_ok-name.field-0.bytes.now e lo
-    (let t = c.if-place-first.false in omega (arith, p, t, lo)) (c.in_ok-name.ensures before b) c.id.result (c.id.ensures added n)
+    other-moved c.args.newest.now c.args.base.now added before n b c.args.parent c.in-Some.name.bytes.now lo (c.in-Some.ensures before b) c.args.first c.args.ids.now
+    (let t = c.if-place-first.false in omega (arith, p, t, lo)) c.id.result c.in-Some-id.id c.in-Some-id.is (c.id.ensures added n)
+
+pub returns-in-None : goal.returns-in-None
+returns-in-None c = λ added before n b e.
+    let num = c.number.ensures.number in let f = c.if-number-lt-FIRST_OTHER.false in
+    let lo : 2 ^ 56 ≤ c.args.parent = omega (arith, num, f) in (
+      c.in-Some.name.bytes.now,
+      ap Lost c.to_name.ensures,
+      other-lost c.args.newest.now c.args.base.now added before n b c.args.parent c.in-Some.name.bytes.now lo (c.in-Some.ensures before b) c.id.result c.in-None.is (c.id.ensures added n),
+    )

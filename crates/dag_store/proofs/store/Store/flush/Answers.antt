@@ -1,137 +1,85 @@
-use Rattle.std.proofs.Common.{◌<◌, ◌^◌, Ok, Err, set, refl, sym, ap, subst, IfSome}
+use Rattle.std.proofs.Common.{◌<◌, ◌^◌, sym, subst, IfSome}
 use Rattle.gated_log.specs.Held.{Held}
 use Rattle.gated_log.specs.Holding.{IsOnDisk}
 use Rattle.payload_tables.specs.Kept.{PlainTables}
+use Rattle.step_rules.specs.Reply.{Flushed as IsFlushed}
+use Rattle.step_rules.specs.State.{Stored}
+use Rattle.step_rules.specs.Verb.{Flush}
+use Rattle.step_rules.specs.Worlds.{flush_of}
 use Rattle.dag_store.specs.Kept.{PlainStore, IsKept, IsSessionOf}
 use Rattle.dag_store.specs.Flushes.{LeavesStore}
-use Rattle.dag_store.specs.Finishes.{Finishes}
 use Rattle.dag_store.proofs.Standing.{session-there}
-use Rattle.dag_store.proofs.FlushStored.{over-of, kept-room, newest-kept, stored-kept}
-use Rattle.dag_store.proofs.FlushSteps.{finished-passed}
-use Rattle.dag_store.proofs.FlushDisk.{leaves-room, leaves-store}
-use Rattle.dag_store.proofs.FlushLeading.{flush-asks-at, flush-done-at, flush-refused-at}
+use Rattle.dag_store.proofs.FlushStored.{over-of}
+use Rattle.dag_store.proofs.ChangeSteps.{ends-refused}
+use Rattle.dag_store.proofs.FlushSteps.{flush-makes}
+use Rattle.dag_store.proofs.FlushDisk.{leaves-ends, leaves-room, made-of}
+use Rattle.dag_store.proofs.FlushLeading.{change-asks-at, change-ends-at}
 use Rattle.dag_store.proofs.store.Store.flush.Goals as goal
 
 pub invariant_of-mirrors : goal.invariant_of-mirrors
-invariant_of-mirrors g c = record { few = subst (λ n. n < 2 ^ 32) (sym c.prepare.ensures.len) c.args.mirrors.now.few }
+invariant_of-mirrors g c = record { few = subst (λ n. n < 2 ^ 32) (sym c.prepare-next.ensures.len) c.args.mirrors.now.few }
 
-pub commit-requires-clause-begins : goal.commit-requires-clause-begins
-commit-requires-clause-begins g c =
-    subst (λ (l : Held). IfSome (g.D.Disk.told c.args.disk.now) (IsOnDisk l)) (sym c.prepare.ensures.room)
+pub finish-requires-clause-begins : goal.finish-requires-clause-begins
+finish-requires-clause-begins g c =
+    subst (λ (l : Held). IfSome (g.D.Disk.told c.args.disk.now) (IsOnDisk l)) (sym c.prepare-next.ensures.room)
     (subst (λ (q : PlainStore). IfSome (g.D.Disk.told c.args.disk.now) (IsOnDisk q.log)) (sym c.self.view_is) c.requires.begins)
 
-pub commit-requires-clause-same : goal.commit-requires-clause-same
-commit-requires-clause-same g c = λ same.
+pub finish-requires-clause-made : goal.finish-requires-clause-made
+finish-requires-clause-made g c =
     let i = c.self.inside in
     let items = i.sessions.items in
-    let k = subst (λ (t : PlainTables). IsKept i.log t i.sessions.items i.limits) (sym c.deref_mut.ensures.value) c.self.invariant in
-    let s = c.args.s in
-    let small = c.requires.session in
-    let x = session-there items s c.from-at.result c.index.result.now _ small k.count c.from-at.ensures c.index.ensures in
-    let p = (c.in-Ok.ensures.ready k.added (over-of i.log c.deref_mut.result.now items i.limits k) (subst (IsSessionOf k.added) (sym x) (k.each s small))).same same in
-    kept-room i.log c.prepare.new.log c.prepare.new.tables (set items c.from-at.result c.in-Ok.next.session) i.limits c.prepare.ensures.room
-    (subst (λ (t : PlainTables). IsKept i.log t (set items c.from-at.result c.in-Ok.next.session) i.limits) (sym p.0)
-    (subst (λ n. IsKept i.log c.deref_mut.result.now (set items n c.in-Ok.next.session) i.limits) (sym c.from-at.ensures)
-    (newest-kept i.log c.deref_mut.result.now items i.limits k s small c.in-Ok.next.session p.1.0)))
-
-pub commit-requires-clause-room : goal.commit-requires-clause-room
-commit-requires-clause-room g c = λ changes.
-    let i = c.self.inside in
-    let items = i.sessions.items in
-    let k = subst (λ (t : PlainTables). IsKept i.log t i.sessions.items i.limits) (sym c.deref_mut.ensures.value) c.self.invariant in
-    let s = c.args.s in
-    let small = c.requires.session in
-    let x = session-there items s c.from-at.result c.index.result.now _ small k.count c.from-at.ensures c.index.ensures in
-    let r = (c.in-Ok.ensures.ready k.added (over-of i.log c.deref_mut.result.now items i.limits k) (subst (IsSessionOf k.added) (sym x) (k.each s small))).ready changes in
-    (r.fits, r.enough)
-
-pub commit-requires-clause-stored : goal.commit-requires-clause-stored
-commit-requires-clause-stored g c = λ new changes behind.
-    let i = c.self.inside in
-    let items = i.sessions.items in
-    let k = subst (λ (t : PlainTables). IsKept i.log t i.sessions.items i.limits) (sym c.deref_mut.ensures.value) c.self.invariant in
-    let s = c.args.s in
-    let small = c.requires.session in
-    let x = session-there items s c.from-at.result c.index.result.now _ small k.count c.from-at.ensures c.index.ensures in
-    let r = (c.in-Ok.ensures.ready k.added (over-of i.log c.deref_mut.result.now items i.limits k) (subst (IsSessionOf k.added) (sym x) (k.each s small))).ready changes in
-    subst (λ n. IsKept new c.prepare.new.tables (set items n c.in-Ok.next.session) i.limits) (sym c.from-at.ensures)
-    (stored-kept i.log c.deref_mut.result.now items i.limits k s small c.prepare.new.log c.prepare.new.tables c.in-Ok.next.change c.in-Ok.next.session r new behind)
-
-pub invariant_of-store : goal.invariant_of-store
-invariant_of-store g c =
-    let i = c.self.inside in
-    kept-room i.log c.prepare.new.log c.prepare.new.tables i.sessions.items i.limits c.prepare.ensures.room
-    (subst (λ (t : PlainTables). IsKept i.log t i.sessions.items i.limits) (sym c.in-Err.ensures.refused)
-    (subst (λ (t : PlainTables). IsKept i.log t i.sessions.items i.limits) (sym c.deref_mut.ensures.value) c.self.invariant))
-
-pub returns-in-Ok-clause-step : goal.returns-in-Ok-clause-step
-returns-in-Ok-clause-step g c =
-    let i = c.self.inside in
-    let items = i.sessions.items in
-    let kept : PlainStore = record { log = i.log; sessions = items; limits = i.limits; cache = i.names } in
     let k = subst (λ (t : PlainTables). IsKept i.log t i.sessions.items i.limits) (sym c.deref_mut.ensures.value) c.self.invariant in
     let s = c.args.s in
     let small = c.requires.session in
     let there = session-there items s c.from-at.result c.index.result.now _ small k.count c.from-at.ensures c.index.ensures in
-    let over = over-of i.log c.deref_mut.result.now items i.limits k in
-    let of = subst (IsSessionOf k.added) (sym there) (k.each s small) in
-    let change = c.in-Ok.next.change in
-    let next = c.in-Ok.next.session in
-    let told = g.D.Disk.told c.args.disk.now in
-    let then = g.D.Disk.told c.commit.new.disk in
-    let finishes = subst (λ n. Finishes c.prepare.new.log (set items n next) i.limits c.prepare.new.cache change c.commit.result) c.from-at.ensures c.commit.ensures.finishes in
-    flush-done-at i.log c.deref_mut.result.now items i.limits k s small i.names c.prepare.new.cache _ _ c.args.self c.self.view_is c.index.result.now there c.args.heads.now c.are_names.ensures c.prepare.new.log c.prepare.ensures.room told then
-    c.prepare.ensures.sound c.prepare.new.tables c.in-Ok.next (c.in-Ok.ensures.ready k.added over of) (λ began st o. c.in-Ok.ensures.step began s k.added st over of o) c.commit.result finishes
-    (leaves-room kept c.prepare.new.log c.prepare.ensures.room (set items c.from-at.result next) c.prepare.new.cache change.payload c.commit.result told then c.commit.ensures.leaves)
+    let of = subst (IsSessionOf k.added) (sym there) (k.each s small) in (
+      i.log,
+      c.deref_mut.result.now,
+      record {
+        kept = k;
+        place = subst (λ n. n < 16) (sym c.from-at.ensures) small;
+        room = c.prepare-next.ensures.room;
+        made = made-of c.prepare-next.result _ _ (c.prepare-next.ensures.ready k.added (over-of i.log c.deref_mut.result.now items i.limits k) of) c.prepare-next.ensures.refused;
+      },
+    )
 
-pub returns-in-Ok-clause-asks : goal.returns-in-Ok-clause-asks
-returns-in-Ok-clause-asks g c =
+pub returns-clause-step : goal.returns-clause-step
+returns-clause-step g c =
     let i = c.self.inside in
     let items = i.sessions.items in
     let kept : PlainStore = record { log = i.log; sessions = items; limits = i.limits; cache = i.names } in
     let k = subst (λ (t : PlainTables). IsKept i.log t i.sessions.items i.limits) (sym c.deref_mut.ensures.value) c.self.invariant in
     let s = c.args.s in
     let small = c.requires.session in
+    let heads = c.args.heads.now in
     let there = session-there items s c.from-at.result c.index.result.now _ small k.count c.from-at.ensures c.index.ensures in
     let over = over-of i.log c.deref_mut.result.now items i.limits k in
     let of = subst (IsSessionOf k.added) (sym there) (k.each s small) in
-    flush-asks-at i.log c.deref_mut.result.now items i.limits k s small i.names c.prepare.new.cache _ _ c.args.self c.self.view_is c.index.result.now there c.args.heads.now (Ok c.in-Ok.next) (λ began st o. c.in-Ok.ensures.step began s k.added st over of o) _
-    (finished-passed c.prepare.new.log (set items c.from-at.result c.in-Ok.next.session) i.limits c.prepare.new.cache c.in-Ok.next.change c.commit.result c.commit.ensures.finishes)
+    change-ends-at i.log c.deref_mut.result.now items i.limits k s small i.names c.prepare-next.new.cache _ _ c.args.self c.self.view_is c.index.result.now there
+    (Flush heads) (λ m n. IsFlushed m n) (λ (st : Stored). flush_of st s heads) (λ began st o. flush-makes i.limits k.limits_fit began k.added c.index.result.now st s o heads c.are_names.ensures)
+    c.prepare-next.new.log c.prepare-next.ensures.room (g.D.Disk.told c.args.disk.now) (g.D.Disk.told c.finish.new.disk) c.prepare-next.ensures.sound c.prepare-next.new.tables c.prepare-next.result
+    (made-of c.prepare-next.result _ _ (c.prepare-next.ensures.ready k.added over of) c.prepare-next.ensures.refused) (λ began st o. c.prepare-next.ensures.step began s k.added st over of o)
+    c.from-at.result c.from-at.ensures c.finish.result c.finish.ensures.ends
+    (leaves-room kept c.prepare-next.new.log c.prepare-next.ensures.room items c.prepare-next.new.cache _ c.finish.result (g.D.Disk.told c.args.disk.now) (g.D.Disk.told c.finish.new.disk) c.finish.ensures.leaves)
 
-pub returns-in-Ok-clause-leaves : goal.returns-in-Ok-clause-leaves
-returns-in-Ok-clause-leaves g c =
+pub returns-clause-asks : goal.returns-clause-asks
+returns-clause-asks g c =
     let i = c.self.inside in
     let items = i.sessions.items in
-    let kept : PlainStore = record { log = i.log; sessions = items; limits = i.limits; cache = i.names } in
-    let next = c.in-Ok.next.session in
-    subst (λ (q : PlainStore). LeavesStore q c.args.s c.commit.result) c.self.view_is
-    (leaves-store kept c.prepare.new.log c.prepare.ensures.room (set items c.from-at.result next) c.prepare.new.cache c.args.s next c.in-Ok.next.change c.commit.result (ap (λ n. set items n next) c.from-at.ensures) c.commit.ensures.finishes)
-
-pub returns-in-Err-clause-step : goal.returns-in-Err-clause-step
-returns-in-Err-clause-step g c =
-    let i = c.self.inside in
-    let items = i.sessions.items in
-    let kept : PlainStore = record { log = i.log; sessions = items; limits = i.limits; cache = i.names } in
     let k = subst (λ (t : PlainTables). IsKept i.log t i.sessions.items i.limits) (sym c.deref_mut.ensures.value) c.self.invariant in
     let s = c.args.s in
     let small = c.requires.session in
+    let heads = c.args.heads.now in
     let there = session-there items s c.from-at.result c.index.result.now _ small k.count c.from-at.ensures c.index.ensures in
     let over = over-of i.log c.deref_mut.result.now items i.limits k in
     let of = subst (IsSessionOf k.added) (sym there) (k.each s small) in
-    let same : PlainStore = record { log = c.prepare.new.log; sessions = items; limits = i.limits; cache = c.prepare.new.cache } in
-    let told = g.D.Disk.told c.args.disk.now in
-    flush-refused-at i.log c.deref_mut.result.now items i.limits k s small i.names c.prepare.new.cache _ _ c.args.self c.self.view_is c.index.result.now there c.args.heads.now c.are_names.ensures c.prepare.new.log c.prepare.ensures.room told told
-    c.prepare.ensures.sound same refl c.in-Err.refusal (λ began st o. c.in-Err.ensures.step began s k.added st over of o) refl
+    change-asks-at i.log c.deref_mut.result.now items i.limits k s small i.names c.prepare-next.new.cache _ _ c.args.self c.self.view_is c.index.result.now there
+    (Flush heads) (λ (st : Stored). flush_of st s heads) c.prepare-next.result (λ began st o. c.prepare-next.ensures.step began s k.added st over of o) _
+    (ends-refused c.prepare-next.new.log items i.limits c.prepare-next.new.cache c.from-at.result c.prepare-next.result c.finish.result c.finish.ensures.ends)
 
-pub returns-in-Err-clause-asks : goal.returns-in-Err-clause-asks
-returns-in-Err-clause-asks g c =
+pub returns-clause-leaves : goal.returns-clause-leaves
+returns-clause-leaves g c =
     let i = c.self.inside in
-    let items = i.sessions.items in
-    let kept : PlainStore = record { log = i.log; sessions = items; limits = i.limits; cache = i.names } in
-    let k = subst (λ (t : PlainTables). IsKept i.log t i.sessions.items i.limits) (sym c.deref_mut.ensures.value) c.self.invariant in
-    let s = c.args.s in
-    let small = c.requires.session in
-    let there = session-there items s c.from-at.result c.index.result.now _ small k.count c.from-at.ensures c.index.ensures in
-    let over = over-of i.log c.deref_mut.result.now items i.limits k in
-    let of = subst (IsSessionOf k.added) (sym there) (k.each s small) in
-    flush-asks-at i.log c.deref_mut.result.now items i.limits k s small i.names c.prepare.new.cache _ _ c.args.self c.self.view_is c.index.result.now there c.args.heads.now (Err c.in-Err.refusal) (λ began st o. c.in-Err.ensures.step began s k.added st over of o) _ refl
+    let kept : PlainStore = record { log = i.log; sessions = i.sessions.items; limits = i.limits; cache = i.names } in
+    subst (λ (q : PlainStore). LeavesStore q c.args.s c.finish.result) c.self.view_is
+    (leaves-ends kept c.prepare-next.new.log c.prepare-next.ensures.room c.prepare-next.new.cache c.args.s c.from-at.result c.from-at.ensures c.prepare-next.result c.finish.result c.finish.ensures.ends)

@@ -16,6 +16,14 @@ use Rattle.dag_store.proofs.Leading.{lazy-found}
 use Rattle.dag_store.proofs.Lending.{known-names, names-lent}
 use Rattle.dag_store.proofs.store.Store.names.Goals as goal
 
+pub over-requires-clause-base : goal.over-requires-clause-base
+over-requires-clause-base c =
+    let i = c.self.inside in
+    let k = subst (λ t. IsKept i.log t i.sessions.items i.limits) (sym c.deref.ensures) c.self.invariant in
+    let x = session-there i.sessions.items c.args.s c.from.result c.index-session.result.now _ c.requires k.count c.from.ensures c.index-session.ensures in
+    let stand = subst (λ l. AllStand l k.added) (sym c.bytes.ensures.bytes) k.stand in
+    (_, c.base.ensures k.added (subst (IsSessionOf k.added) (sym x) (k.each c.args.s c.requires)) k.tables_of stand)
+
 pub returns : goal.returns
 returns c =
     let i = c.self.inside in

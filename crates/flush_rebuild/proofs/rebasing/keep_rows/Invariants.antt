@@ -4,10 +4,10 @@ use Rattle.commit_graph.specs.World.{Row, World}
 use Rattle.name_map.specs.Added.{Placed}
 use Rattle.flush_rebuild.specs.Asked.{MayRebaseOn}
 use Rattle.flush_rebuild.specs.Plans.{MayRebase}
+use Rattle.flush_rebuild.specs.Rebasing.{LeftSoFar}
 use Rattle.flush_rebuild.proofs.Rebased.{LeftIn}
-use Rattle.flush_rebuild.proofs.LeftSoFar.{LeftSoFar}
-use Rattle.flush_rebuild.proofs.rebasing.rebase_rows.Given as goal
+use Rattle.flush_rebuild.proofs.rebasing.keep_rows.Given as goal
 
 abbrev pub invariant-rows : goal.invariant-rows
 invariant-rows l = ((added before : List Placed) (m : MayRebaseOn l.tables l.bytes l.base l.pending l.found added before) → LeftSoFar added (take l.i m.rows) l.ids.items l.left)
-    × ((w old : World Name) (rows : List (Row Name)) → MayRebase l.tables l.bytes l.base l.pending l.found w old rows → LeftIn w rows (take l.i rows) l.ids.items l.left)
+    × ((w old : World Name) (rows : List (Row Name)) → MayRebase l.tables l.bytes l.base l.pending l.found w old rows → LeftIn w (take l.i rows) l.ids.items l.left)
