@@ -52,6 +52,11 @@ def main():
         for query in (f"count ancestors({tip})", f"count only({tip},{name(commits // 2)})", "count heads(all)", f"id {tip}", "levels"):
             told(f"100 times {query.split('(')[0]}", run(log, (f"0 {query}\n" * 100).encode()))
         told("a query of all", run(log, b"0 query top(all,1000000)\n"))
+        others = [name(2 * commits + i) for i in range(10_000)]
+        adds = [f"0 add {other} {tip}" for other in others]
+        told("10000 others on the tip, and a flush", run(log, ("\n".join([*adds, "0 flush"]) + "\n").encode()))
+        told("a load with them, and a status", run(log, b"0 status\n"))
+        told("100 strips of one each", run(log, "".join(f"0 strip {other}\n" for other in others[:100]).encode()))
 
 
 if __name__ == "__main__":

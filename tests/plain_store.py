@@ -370,7 +370,24 @@ class Store:
                 left.append((name, parents))
             elif world.parents[name] != parents:
                 raise Refused(f"err conflict {name}")
+        known = set(world.ids)
+        for name, parents in left:
+            for p in parents:
+                if p not in known:
+                    raise Refused(f"err lost {p}")
+            known.add(name)
         return left
+
+    def store(self, s, new):
+        """Another world is stored, where it is another, and the session is on it."""
+        world = self.worlds[-1]
+        if not new.same(world):
+            text = payload(world, new)
+            self.check("log", self.log_length() + 9 + len(text))
+            self.payloads.append(text)
+            self.worlds.append(new)
+        self.sessions[s] = [len(self.worlds) - 1, []]
+        return f"{len(new.master)} {len(new.others)}"
 
     def find(self, world, name):
         if name not in world.ids:
@@ -417,13 +434,19 @@ class Store:
         )
         self.check("others", len(new.others))
         self.check("master", len(new.master))
-        if not new.same(world):
-            text = payload(world, new)
-            self.check("log", self.log_length() + 9 + len(text))
-            self.payloads.append(text)
-            self.worlds.append(new)
-        self.sessions[s] = [len(self.worlds) - 1, []]
-        return [f"ok flushed {len(new.master)} {len(new.others)}"]
+        return ["ok flushed " + self.store(s, new)]
+
+    def strip(self, s, names):
+        world, pending = self.worlds[-1], self.sessions[s][1]
+        if pending:
+            raise Refused(f"err pending {len(pending)}")
+        for name in names:
+            if self.find(world, name) < OTHER:
+                raise Refused(f"err master {name}")
+        new = World(world.master, [row for row in world.others if not world.reached([row[0]]) & set(names)])
+        if not new.parents:
+            raise Refused(f"err empty {len(world.parents)}")
+        return ["ok stripped " + self.store(s, new)]
 
     def reload(self, s):
         left = self.rebased(s)
@@ -483,6 +506,8 @@ class Store:
                 return self.add(s, names[0], names[1:])
             if verb == "flush" and names is not None:
                 return self.flush(s, names)
+            if verb == "strip" and names:
+                return self.strip(s, names)
             if verb in ("reload", "discard", "status") and not args:
                 return getattr(self, verb)(s)
             if verb == "levels" and not args:

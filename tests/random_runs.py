@@ -60,12 +60,14 @@ class Lines:
             return self.add()
         if kind < 0.52:
             return " ".join(["flush", *(self.name() for _ in range(draw.choice([0, 0, 1, 1, 2])))])
-        if kind < 0.62:
+        if kind < 0.57:
+            return " ".join(["strip", *(self.name() for _ in range(draw.choice([1, 1, 1, 1, 2])))])
+        if kind < 0.67:
             return draw.choice(["reload", "discard", "status", "levels", "status", "levels", "mirrors", "drop 0"])
-        if kind < 0.7:
+        if kind < 0.75:
             return f"id {self.name()}"
-        if kind < 0.72:
-            return draw.choice(["add", "flush ", "query", "id x", "level", "drop 01", "count all all", "up(all,1)", "clone", "clone 1"])
+        if kind < 0.77:
+            return draw.choice(["add", "flush ", "strip", "query", "id x", "level", "drop 01", "count all all", "up(all,1)", "clone", "clone 1"])
         return f"{draw.choice(['query', 'count'])} {self.expr()}"
 
     def line(self):
@@ -73,7 +75,11 @@ class Lines:
         if draw.random() < 0.01:
             return draw.choice(["", "# a note", "16 status", "00 status", " 0 status"])
         session = draw.choice([0, 0, 0, 1, 1, 2, draw.randrange(16)])
-        text = f"{session} {self.command()}"
+        command = self.command()
+        if command.startswith("strip"):
+            # A session with rows would be refused, and most have none.
+            session = draw.randrange(16)
+        text = f"{session} {command}"
         return text.upper().lower() if draw.random() < 0.9 else text
 
 

@@ -95,6 +95,21 @@ fresh(
     added(2) + "ok flushed 0 2; ok added N0; err conflict [b1]; err conflict [b1]; ok 0 0 1; ok discarded 1; ok reloaded 0; ok 0 2 0",
 )
 fresh(
+    "a strip, and a session that loses a parent",
+    FORK + "0 flush [c1]; 1 reload; 1 add [d1] [b1]; 0 strip [c1]; 0 strip [b1]; 0 query all; 1 count all; 1 flush; 1 discard; 1 flush; 0 strip [b1]; 0 add [b1] [c1]",
+    added(3) + "ok flushed 2 1; ok reloaded 0; ok added N1; err master [c1]; ok stripped 2 0; [c1]; [a1]; ok 2; ok 4; err lost [b1]; ok discarded 1; ok flushed 2 0; err unknown [b1]; ok added N0",
+    size=216,
+)
+check("the run after a strip", "0 query all; 0 levels", "[c1]; [a1]; ok 2; ok 1", size=216)
+fresh("descendants go too", CHAIN + "0 flush; 0 strip [b1]; 0 query all", added(3) + "ok flushed 0 3; ok stripped 0 1; [a1]; ok 1", size=219)
+check("what was stripped comes again", "0 add [b1] [a1]; 0 flush; 0 query all", "ok added N1; ok flushed 0 2; [b1]; [a1]; ok 2", size=328)
+fresh(
+    "strips that are refused",
+    PAIR + "0 strip [a1]; 0 flush; 0 strip; 0 strip [c1] [a1]; 0 strip [a1]; 0 status",
+    added(2) + "err pending 2; ok flushed 0 2; err syntax; err unknown [c1]; err empty 2; ok 0 2 0",
+    size=110,
+)
+fresh(
     "a ladder",
     ladder() + "0 flush [23]; 0 levels; 0 count ancestors([20])",
     added(35) + "ok flushed 35 0; ok 18 1; ok 32",

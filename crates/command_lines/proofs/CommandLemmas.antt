@@ -1,9 +1,10 @@
 -- What the parts of a command's text say of the whole.
 use Rattle.std.proofs.Common.{◌≡◌, ◌==◌, ◌<◌, ◌+◌, take, drop, ℕ, List, [], ◌∷◌, ◌++◌, ◌⊎◌, inl, inr, length, refl, sym, ◌∙◌, ap, subst, arith, codes, decimal, Option, Some, None, Ok, Err, true, nat_eq, append-nil}
-use Rattle.std.specs.Prelude.{IsTrue, IfOk, if◌then◌else◌, position}
+use Rattle.std.specs.Prelude.{◌≢◌, ◌≤◌, IsTrue, IfOk, if◌then◌else◌, position}
 use Rattle.std.specs.Cmp.Lexicographic.{pointwise}
 use Rattle.std.specs.declared.result.Result.{Result}
 use Rattle.std.specs.List.{AllZip}
+use Rattle.std.proofs.lemmas.Grind.{common_steps}
 use Rattle.std.proofs.lemmas.Slice.Zip.{AllZip-long}
 use Rattle.outside.specs.Parts.{HasNone, split_at}
 use Rattle.outside.proofs.PartsLemmas.{position-none, position-some, split-part, split-rest}
@@ -52,6 +53,7 @@ word-no-blank word = clear (word_text word) (all word)
     all words.Status = refl
     all words.Levels = refl
     all words.Clone = refl
+    all words.Strip = refl
     all words.Mirrors = refl
     all words.DropAt = refl
 
@@ -67,6 +69,7 @@ word_in text =
     else if pointwise nat_eq text (codes "status") then Some words.Status
     else if pointwise nat_eq text (codes "levels") then Some words.Levels
     else if pointwise nat_eq text (codes "clone") then Some words.Clone
+    else if pointwise nat_eq text (codes "strip") then Some words.Strip
     else if pointwise nat_eq text (codes "mirrors") then Some words.Mirrors
     else Some words.DropAt
 
@@ -81,6 +84,7 @@ word-again words.Id = refl
 word-again words.Status = refl
 word-again words.Levels = refl
 word-again words.Clone = refl
+word-again words.Strip = refl
 word-again words.Mirrors = refl
 word-again words.DropAt = refl
 
@@ -100,6 +104,14 @@ names-parts text word names h = by_words h.0 names h.1 h.2
     by_words (part ∷ parts) (n ∷ names) zip is =
         let split = split-words part parts (n ∷ names) zip in
         inr (part ++ more_words parts, subst (λ l. AllZip SpellsName l (n ∷ names)) (sym split) zip, is)
+
+-- there is a word before the first blank, and so a name
+some-names : (args : List ℕ) (names : List Name) → AreNames args names → names ≢ []
+some-names args names zip none =
+    let long = AllZip-long SpellsName (split_at 32 args) names zip in
+    let one : 1 ≤ length (split_at 32 args) = grind (arith, common_steps) in
+    let zero : length names ≡ 0 = ap (λ (l : List Name). length l) none in
+    omega (arith, long, one, zero)
 
 names-behind : (word args : List ℕ) (names : List Name) → AreNames args names → SpellsNames (word ++ 32 ∷ args) word names
 names-behind word args names zip = (split_at 32 args, zip, ap (λ xs. word ++ xs) (sym (words-of-text args)))
@@ -131,7 +143,11 @@ verb-parts text Status b h = (words.Status, None, (refl, tt), bare text (codes "
 verb-parts text Levels b h = (words.Levels, None, (refl, tt), bare text (codes "levels") h)
 verb-parts text Clone b h = (words.Clone, None, (refl, tt), bare text (codes "clone") h)
 verb-parts text Pull b h = cc b
-verb-parts text (Strip names) b h = cc b
+verb-parts text (Strip names) b h = by_names (names-parts text (codes "strip") names h.1)
+  where
+    by_names : ((names ≡ []) × (text ≡ codes "strip")) ⊎ ((args : List ℕ) × AreNames args names × (text ≡ codes "strip" ++ 32 ∷ args)) → Parts text (Strip names)
+    by_names (inl p) = absurd (h.0 p.0)
+    by_names (inr p) = (words.Strip, Some p.0, (refl, p.1), p.2)
 verb-parts text CountMirrors b h = (words.Mirrors, None, (refl, tt), bare text (codes "mirrors") h)
 verb-parts text (Drop k) b h = (words.DropAt, Some h.0, (refl, h.1), h.2)
 
@@ -151,16 +167,17 @@ parts-verb verb behind word e h = from verb behind h word e
     from (Query x) (Some args) h word e = subst (λ w. Spelled w (Some args) (Query x)) (some-same words.Query word e) (refl, (args, h, refl))
     from (Count x) (Some args) h word e = subst (λ w. Spelled w (Some args) (Count x)) (some-same words.Count word e) (refl, (args, h, refl))
     from (IdOf name) (Some args) h word e = subst (λ w. Spelled w (Some args) (IdOf name)) (some-same words.Id word e) (refl, (args, h, refl))
+    from (Strip names) (Some args) h word e = subst (λ w. Spelled w (Some args) (Strip names)) (some-same words.Strip word e) (refl, (some-names args names h, names-behind (codes "strip") args names h))
     from Status None h word e = subst (λ w. Spelled w None Status) (some-same words.Status word e) (refl, refl)
     from Levels None h word e = subst (λ w. Spelled w None Levels) (some-same words.Levels word e) (refl, refl)
     from Clone None h word e = subst (λ w. Spelled w None Clone) (some-same words.Clone word e) (refl, refl)
     from CountMirrors None h word e = subst (λ w. Spelled w None CountMirrors) (some-same words.Mirrors word e) (refl, refl)
     from (Drop k) (Some args) h word e = subst (λ w. Spelled w (Some args) (Drop k)) (some-same words.DropAt word e) (refl, (args, h, refl))
     from Pull behind h word e = cc e
-    from (Strip names) behind h word e = cc e
     from (Add name parents) None h word e = absurd h
     from Reload (Some args) h word e = absurd h
     from Discard (Some args) h word e = absurd h
+    from (Strip names) None h word e = absurd h
     from (Query x) None h word e = absurd h
     from (Count x) None h word e = absurd h
     from (IdOf name) None h word e = absurd h
@@ -202,6 +219,7 @@ fits-none front behind word is f verb h =
     none (Flush heads) None h word e f = subst (λ w. FitsNone w None) (sym (some-same words.Flush word e)) f
     none Reload None h word e f = subst (λ w. FitsNone w None) (sym (some-same words.Reload word e)) f
     none Discard None h word e f = subst (λ w. FitsNone w None) (sym (some-same words.Discard word e)) f
+    none (Strip names) (Some args) h word e f = let g = subst (λ w. FitsNone w (Some args)) (sym (some-same words.Strip word e)) f in g names h
     none (Query x) (Some args) h word e f = let g = subst (λ w. FitsNone w (Some args)) (sym (some-same words.Query word e)) f in g x h
     none (Count x) (Some args) h word e f = let g = subst (λ w. FitsNone w (Some args)) (sym (some-same words.Count word e)) f in g x h
     none (IdOf name) (Some args) h word e f = let g = subst (λ w. FitsNone w (Some args)) (sym (some-same words.Id word e)) f in g name h
@@ -211,10 +229,10 @@ fits-none front behind word is f verb h =
     none CountMirrors None h word e f = subst (λ w. FitsNone w None) (sym (some-same words.Mirrors word e)) f
     none (Drop k) (Some args) h word e f = let g = subst (λ w. FitsNone w (Some args)) (sym (some-same words.DropAt word e)) f in g k h
     none Pull behind h word e f = cc e
-    none (Strip names) behind h word e f = cc e
     none (Add name parents) None h word e f = absurd h
     none Reload (Some args) h word e f = absurd h
     none Discard (Some args) h word e f = absurd h
+    none (Strip names) None h word e f = absurd h
     none (Query x) None h word e f = absurd h
     none (Count x) None h word e f = absurd h
     none (IdOf name) None h word e f = absurd h

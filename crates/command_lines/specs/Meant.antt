@@ -1,9 +1,9 @@
 -- What a command of the code means.
-use Rattle.std.specs.Prelude.{◌≤◌, length, ⊤}
+use Rattle.std.specs.Prelude.{◌≢◌, ◌≤◌, [], length, ⊤}
 use Rattle.set_expr.specs.declared.parse.ExprFault.{ExprFault}
 use Rattle.set_expr.specs.declared.parse.ExprFault.TheVariants as exprs
 use Rattle.set_expr.specs.Whole.{tree_of}
-use Rattle.step_rules.specs.Verb.{Verb, Add, Flush, Reload, Discard, Query, Count, IdOf, Status, Levels, Clone, CountMirrors, Drop}
+use Rattle.step_rules.specs.Verb.{Verb, Add, Flush, Reload, Discard, Query, Count, IdOf, Status, Levels, Clone, Strip, CountMirrors, Drop}
 use Rattle.command_lines.specs.declared.command.CommandFault.{CommandFault}
 use Rattle.command_lines.specs.declared.command.CommandFault.TheVariants.{Syntax, Memory}
 use Rattle.command_lines.specs.declared.command.Verb.{Verb as Asked}
@@ -21,6 +21,7 @@ meant (asked.Id name) = IdOf name
 meant asked.Status = Status
 meant asked.Levels = Levels
 meant asked.Clone = Clone
+meant (asked.Strip names) = Strip names
 meant asked.Mirrors = CountMirrors
 meant (asked.DropAt place) = Drop place
 
@@ -29,7 +30,8 @@ abbrev pub fault_of : ExprFault → CommandFault
 fault_of exprs.Syntax = Syntax
 fault_of exprs.Memory = Memory
 
--- a commit has at most 8 parents
-abbrev pub HasFewParents : Verb → Type 0
-HasFewParents (Add name parents) = length parents ≤ 8
-HasFewParents _ = ⊤
+-- a commit has at most 8 parents, and something is stripped
+abbrev pub HasRightCount : Verb → Type 0
+HasRightCount (Add name parents) = length parents ≤ 8
+HasRightCount (Strip names) = names ≢ []
+HasRightCount _ = ⊤

@@ -5,7 +5,7 @@ use Rattle.outside.specs.Parts.{split_at}
 use Rattle.id_groups.specs.Name.{Name, SpellsName}
 use Rattle.set_expr.specs.Expr.{Expr}
 use Rattle.set_expr.specs.Spelling.{SpellsExpr, SpellsNumber}
-use Rattle.step_rules.specs.Verb.{Verb, Add, Flush, Reload, Discard, Query, Count, IdOf, Status, Levels, Clone, CountMirrors, Drop}
+use Rattle.step_rules.specs.Verb.{Verb, Add, Flush, Reload, Discard, Query, Count, IdOf, Status, Levels, Clone, Strip, CountMirrors, Drop}
 use Rattle.command_lines.specs.declared.words.Word.{Word}
 use Rattle.command_lines.specs.declared.words.Word.TheVariants as words
 
@@ -21,6 +21,7 @@ word_text words.Id = codes "id"
 word_text words.Status = codes "status"
 word_text words.Levels = codes "levels"
 word_text words.Clone = codes "clone"
+word_text words.Strip = codes "strip"
 word_text words.Mirrors = codes "mirrors"
 word_text words.DropAt = codes "drop"
 
@@ -31,6 +32,7 @@ IsChange words.Flush = ⊤
 IsChange words.Reload = ⊤
 IsChange words.Discard = ⊤
 IsChange words.Clone = ⊤
+IsChange words.Strip = ⊤
 IsChange words.DropAt = ⊤
 IsChange _ = ⊥
 
@@ -46,6 +48,7 @@ verb_word (IdOf name) = Some words.Id
 verb_word Status = Some words.Status
 verb_word Levels = Some words.Levels
 verb_word Clone = Some words.Clone
+verb_word (Strip names) = Some words.Strip
 verb_word CountMirrors = Some words.Mirrors
 verb_word (Drop k) = Some words.DropAt
 verb_word _ = None
@@ -54,7 +57,7 @@ verb_word _ = None
 abbrev pub AreNames : List ℕ → List Name → Type 0
 AreNames args names = AllZip SpellsName (split_at 32 args) names
 
--- what stands behind a verb's word spells its arguments
+-- What stands behind a verb's word spells its arguments. Names behind a blank are one at least.
 abbrev pub SpellsArgs : Verb → Option (List ℕ) → Type 0
 SpellsArgs (Add name parents) (Some args) = (length parents ≤ 8) × AreNames args (name ∷ parents)
 SpellsArgs (Flush heads) (Some args) = AreNames args heads
@@ -67,6 +70,7 @@ SpellsArgs (IdOf name) (Some args) = SpellsName args name
 SpellsArgs Status None = ⊤
 SpellsArgs Levels None = ⊤
 SpellsArgs Clone None = ⊤
+SpellsArgs (Strip names) (Some args) = AreNames args names
 SpellsArgs CountMirrors None = ⊤
 SpellsArgs (Drop k) (Some args) = SpellsNumber args k
 SpellsArgs _ _ = ⊥
@@ -83,6 +87,7 @@ SpellsParts front behind verb = (word : Word) × (front ≡ word_text word) × H
 abbrev pub FitsNone : Word → Option (List ℕ) → Type 0
 FitsNone words.Add (Some args) = (name : Name) (parents : List Name) → length parents ≤ 8 → ¬ (AreNames args (name ∷ parents))
 FitsNone words.Flush (Some args) = (heads : List Name) → ¬ (AreNames args heads)
+FitsNone words.Strip (Some args) = (names : List Name) → ¬ (AreNames args names)
 FitsNone words.Query (Some args) = (e : Expr Name) → ¬ (SpellsExpr args e)
 FitsNone words.Count (Some args) = (e : Expr Name) → ¬ (SpellsExpr args e)
 FitsNone words.Id (Some args) = (name : Name) → ¬ (SpellsName args name)

@@ -8,7 +8,7 @@ ghost use Rattle.step_rules.specs.Step.{MayWantMemory};
 ghost use Rattle.step_rules.specs.Verb.{Verb as Asked};
 ghost use Rattle.run_rules.specs.Built.{is_built};
 ghost use Rattle.run_rules.specs.Grammar.{SpellsCommand, SpellsVerb};
-ghost use Rattle.command_lines.specs.Meant.{meant, HasFewParents};
+ghost use Rattle.command_lines.specs.Meant.{meant, HasRightCount};
 ghost use Rattle.command_lines.specs.Parts.{FitsNone, HasWord, MayWant, SpellsParts};
 
 use crate::NameList;
@@ -49,6 +49,8 @@ pub enum Verb {
     Levels,
     /// Stores the master of a mirror, where nothing is stored yet.
     Clone,
+    /// Takes these commits out of what is stored, with their descendants.
+    Strip(NameList),
     /// Counts the mirrors.
     Mirrors,
     /// Drops the mirror at this place.
@@ -159,6 +161,7 @@ fn parse_args(alloc: Global, word: Word, args: &[u8]) -> Result<Verb, CommandFau
     match word {
         Word::Add => parse_add(alloc, args),
         Word::Flush => Ok(Verb::Flush(NameList::new(parse_names(alloc, args)?))),
+        Word::Strip => Ok(Verb::Strip(NameList::new(parse_names(alloc, args)?))),
         Word::Query => Ok(Verb::Query(Expr::parse(alloc, args)?)),
         Word::Count => Ok(Verb::Count(Expr::parse(alloc, args)?)),
         Word::Id => match Name::from_hex(args) {
@@ -251,7 +254,7 @@ impl Command {
     pub fn parse(alloc: Global, line: &[u8]) -> Result<Command, CommandFault>
         ensures ok { IfOk result (λ command. SpellsCommand line.now command.session (meant command.verb)) }
         ensures session { IfOk result (λ command. command.session < 16) }
-        ensures few { IfOk result (λ command. HasFewParents (meant command.verb)) }
+        ensures counted { IfOk result (λ command. HasRightCount (meant command.verb)) }
         ensures syntax { result ≡ Err CommandFault.Syntax → (s : ℕ) (verb : Asked) → ¬ (SpellsCommand line.now s verb) }
         ensures memory { result ≡ Err CommandFault.Memory
             → (s : ℕ) (verb : Asked) → SpellsCommand line.now s verb → MayWantMemory verb }

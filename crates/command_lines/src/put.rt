@@ -5,7 +5,7 @@ ghost use Rattle.outside.specs.Counts.{HasCause};
 ghost use Rattle.outside.specs.Told.{WhereTold, TookFront, Puts};
 ghost use Rattle.id_groups.specs.Id.{id_text};
 ghost use Rattle.run_rules.specs.Ends.{disk_text};
-ghost use Rattle.step_rules.specs.Reply.{Flushed, LevelSizes, reply_text, words_text};
+ghost use Rattle.step_rules.specs.Reply.{LevelSizes, reply_text, words_text};
 ghost use Rattle.dag_store.specs.Names.{names_left};
 ghost use Rattle.command_lines.specs.Sending.{Sends, lines_text, listed_text};
 ghost use Rattle.command_lines.specs.Told.{reply_head, told};
@@ -122,15 +122,13 @@ fn put_id<O: Sink>(output: &mut O, head: &[u8], id: Id) -> Result<(), SinkFault>
     put_line(output, &id_line(head, id))
 }
 
-/// Puts the line of a world that was stored.
-fn put_flushed<O: Sink>(output: &mut O, counts: &Counts) -> Result<(), SinkFault>
-    ensures bytes { Puts (O.taken output.old) (O.taken output.new) result (reply_text (Flushed counts.now.master counts.now.others)) }
+/// Puts the line with the sizes of a world that was stored behind the words.
+fn put_stored<O: Sink>(output: &mut O, head: &[u8], counts: &Counts) -> Result<(), SinkFault>
+    requires { length head.now ≤ 40 }
+    ensures bytes { Puts (O.taken output.old) (O.taken output.new) result (lines_text (words_text head.now (decimal counts.now.master ∷ decimal counts.now.others ∷ []) ∷ [])) }
     ensures cause { HasCause (O.faults output.old) (O.faults output.new) result }
 {
-    put_line(
-        output,
-        &pair_line(b"ok flushed", counts.master, counts.others),
-    )
+    put_line(output, &pair_line(head, counts.master, counts.others))
 }
 
 /// The words in front of a reply's line.
@@ -142,6 +140,7 @@ fn reply_words(reply: &Reply) -> &'static [u8]
         Reply::Added(_) => b"ok added",
         Reply::Old(_) => b"ok old",
         Reply::Flushed(_) => b"ok flushed",
+        Reply::Stripped(_) => b"ok stripped",
         Reply::Cloned(_) => b"ok cloned",
         Reply::Reloaded(_) => b"ok reloaded",
         Reply::Discarded(_) => b"ok discarded",
@@ -161,7 +160,7 @@ pub fn put_reply<O: Sink>(reply: &Reply, output: &mut O) -> Result<(), SinkFault
     let words = reply_words(reply);
     match reply {
         Reply::Added(id) | Reply::Old(id) | Reply::Identified(id) => put_id(output, words, *id),
-        Reply::Flushed(counts) => put_flushed(output, counts),
+        Reply::Flushed(counts) | Reply::Stripped(counts) => put_stored(output, words, counts),
         Reply::Reloaded(rows) | Reply::Discarded(rows) => {
             put_number(output, words, u64::from(*rows))
         }

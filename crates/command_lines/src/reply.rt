@@ -12,6 +12,8 @@ pub enum Reply {
     Old(Id),
     /// The sizes of the world that was stored.
     Flushed(Counts),
+    /// The sizes of the world that a strip left.
+    Stripped(Counts),
     /// A mirror's master was stored, with so many rows.
     Cloned(u64),
     /// The session is on the newest world, with so many rows that aren't stored.

@@ -19,6 +19,7 @@ fn shown(verb: &Verb) -> (&'static str, u64) {
         Verb::Status => ("status", 0),
         Verb::Levels => ("levels", 0),
         Verb::Clone => ("clone", 0),
+        Verb::Strip(names) => ("strip", names.names().len() as u64),
         Verb::Mirrors => ("mirrors", 0),
         Verb::DropAt(place) => ("drop", *place),
     }
@@ -55,7 +56,7 @@ fn add_line(alloc: Global, parents: u32) -> Result<Vec<u8>, AllocError> {
 /// A line, its session, its verb's word, and how many names stand in its arguments, or the number that does.
 type Read = (&'static str, u8, &'static str, u64);
 
-const READ: [Read; 21] = [
+const READ: [Read; 23] = [
     ("7 clone", 7, "clone", 0),
     ("0 status", 0, "status", 0),
     ("15 status", 15, "status", 0),
@@ -82,6 +83,18 @@ const READ: [Read; 21] = [
         7,
         "flush",
         2,
+    ),
+    (
+        "15 strip 00000000000000000000000000000000000000a1",
+        15,
+        "strip",
+        1,
+    ),
+    (
+        "0 strip 00000000000000000000000000000000000000a1 00000000000000000000000000000000000000A1 00000000000000000000000000000000000000b1",
+        0,
+        "strip",
+        3,
     ),
     (
         "0 add 00000000000000000000000000000000000000A1",
@@ -128,7 +141,7 @@ fn lines_are_read(rt: HostRuntime) {
 }
 
 /// Lines that are no commands.
-const REFUSED: [&str; 40] = [
+const REFUSED: [&str; 43] = [
     "",
     " ",
     "0",
@@ -168,7 +181,10 @@ const REFUSED: [&str; 40] = [
     "0 query nothing",
     "0 clone all",
     "0 pull",
-    "0 strip 00000000000000000000000000000000000000a1",
+    "0 strip",
+    "0 strip ",
+    "0 strip all",
+    "0 strip 00000000000000000000000000000000000000a1 ",
 ];
 
 #[test]
@@ -220,6 +236,7 @@ fn wrong_reply(alloc: Global) -> Result<Option<&'static str>, AllocError> {
         (Reply::Added(Id::other(1)), "ok added N1\n"),
         (Reply::Old(Id::master(0)), "ok old 0\n"),
         (Reply::Flushed(counts), "ok flushed 2 0\n"),
+        (Reply::Stripped(counts), "ok stripped 2 0\n"),
         (Reply::Cloned(10), "ok cloned 10\n"),
         (Reply::Reloaded(4), "ok reloaded 4\n"),
         (Reply::Discarded(0), "ok discarded 0\n"),

@@ -8,7 +8,7 @@ use Rattle.std.proofs.lemmas.List.{length-map}
 use Rattle.outside.specs.Told.{WhereTold}
 use Rattle.outside.proofs.ToldLemmas.{WhereTold-map}
 use Rattle.id_groups.specs.Name.{Name, same_name}
-use Rattle.commit_graph.specs.World.{Row}
+use Rattle.commit_graph.specs.World.{Row, World}
 use Rattle.commit_graph.specs.Ids.{id_in}
 use Rattle.disk_trait.specs.Images.{Told as Disk}
 use Rattle.disk_trait.specs.Calls.{Goes}
@@ -20,7 +20,8 @@ use Rattle.gated_log.specs.Held.{Held}
 use Rattle.set_expr.specs.Expr.{Expr}
 use Rattle.set_query.specs.declared.evaluation.Answer.{Answer}
 use Rattle.change_rules.specs.declared.Limits.{Limits}
-use Rattle.change_rules.specs.Change.{clone_change as clone_payload}
+use Rattle.change_rules.specs.Change.{flush_change, clone_change as clone_payload}
+use Rattle.change_rules.specs.Strip.{stripped}
 use Rattle.remote_rules.specs.CloneData.{KnownName}
 use Rattle.remote_rules.specs.Known.{master_world}
 use Rattle.remote_rules.specs.Mirror.{Mirror}
@@ -28,9 +29,9 @@ use Rattle.step_rules.specs.declared.Refusal.{Refusal}
 use Rattle.step_rules.specs.declared.Refusal.TheVariants as why
 use Rattle.step_rules.specs.State.{State, Stored, view_of}
 use Rattle.step_rules.specs.Verb.{Verb, IsVerb, Add, Flush, Reload, Discard, Query, Count, IdOf, Status, Levels, Clone, Pull, Strip, CountMirrors, Drop}
-use Rattle.step_rules.specs.Reply.{Reply, Counted, Dropped, Flushed, Listed, Refused, reply_text}
+use Rattle.step_rules.specs.Reply.{Reply, Counted, Dropped, Flushed, Stripped, Listed, Refused, reply_text}
 use Rattle.step_rules.specs.Tests.{tests}
-use Rattle.step_rules.specs.Worlds.{has, with_added}
+use Rattle.step_rules.specs.Worlds.{has, with_added, after_flush}
 use Rattle.step_rules.specs.Step.{Told, Answers, CommandStep, GoesOutside, IsRefused, MayWantMemory, without}
 use Rattle.step_rules.proofs.Kept.{step-state}
 use Rattle.step_rules.proofs.Plain.{all-memory, outside-same}
@@ -41,7 +42,7 @@ use Rattle.command_lines.specs.Sending.{listed_text}
 use Rattle.dag_store.specs.Kept.{PlainStore}
 use Rattle.dag_store.specs.Stands.{Stands, StandsBeside, IsOutsideOf, IsRight}
 use Rattle.dag_store.specs.Steps.{AreIdsOf, CountStep, ChangesOnly, KeepsAll, Leads}
-use Rattle.dag_store.specs.Flushes.{HasRoom, HasStored, Stores, StoresBy, FlushLeaves, LeavesStore, flush_end, change_of as change_in}
+use Rattle.dag_store.specs.Flushes.{HasRoom, HasStored, Stores, StoresBy, FlushLeaves, LeavesStore, flush_end}
 use Rattle.dag_store.specs.Clones.{StoresClone, StoresCloneBy, clone_end}
 use Rattle.dag_store.specs.declared.replies.Counts.{Counts}
 use Rattle.dag_store.specs.declared.replies.Flushed.TheVariants as flushes
@@ -165,18 +166,27 @@ module _ (limits : Limits) (st : State) (s : ℕ) where
       by_verdict None a = a.0.1
       by_verdict (Some refusal) a = cc a.0.0
 
+  -- and a strip this
+  pub strip-next : (names : List Name) (m o : ℕ) (st' : State) → CommandStep limits st s (Strip names) (Stripped m o) st' → st'.store ≡ after_flush st.store s (stripped same_name st.store.stored names)
+  strip-next names m o st' (verdict, mirrors, found, tries, ends) = by_verdict verdict ends
+    where
+      by_verdict : (v : Option Refusal) → MatchOption v (Answers limits st s (Strip names) mirrors found (Stripped m o) st') (λ refusal. IsRefused st.store refusal (Stripped m o) st'.store × GoesOutside st.outside mirrors found st'.outside)
+          → st'.store ≡ after_flush st.store s (stripped same_name st.store.stored names)
+      by_verdict None a = a.0.1
+      by_verdict (Some refusal) a = cc a.0.0
+
   -- there is no memory
   pub memory-step : (verb : Verb) → MayWantMemory verb → CommandStep limits st s verb (Refused why.Memory) st
   memory-step verb may =
       (Some why.Memory, st.outside.mirrors, [], all-memory (MayWantMemory verb) st.outside.mirrors (tests limits st.store s verb) may, ((refl, refl), outside-same st st.store))
 
--- ---- what a flush and a clone change
-pub change-of : (st : Stored) (s : ℕ) (heads : List Name) (payload : List ℕ) (now : Stored) → now ≡ flush_end st s heads → StoresBy st s heads payload → HasChanged st now payload
-change-of st s heads payload now e h = subst (λ n. HasChanged st n payload) (sym e) (record { change = change_in st s heads; past = h.past; payloads = h.payloads; text = h.text })
+-- ---- what a flush, a strip and a clone change
+pub change-of : (st : Stored) (s : ℕ) (new : World Name) (payload : List ℕ) (now : Stored) → now ≡ after_flush st s new → StoresBy st s new payload → HasChanged st now payload
+change-of st s new payload now e h = subst (λ n. HasChanged st n payload) (sym e) (record { change = flush_change st.stored new; past = h.past; payloads = h.payloads; text = h.text })
 
-pub flush-changes : (clock : Option ℕ) (st : Stored) (s : ℕ) (heads : List Name) (payload : List ℕ) (now : Stored) → now ≡ flush_end st s heads → Stores clock st s heads payload → Changes clock st now payload
-flush-changes None st s heads payload now e h = subst (λ n. Changes None st n payload) (sym e) h
-flush-changes (Some clock) st s heads payload now e h = change-of st s heads payload now e h
+pub flush-changes : (clock : Option ℕ) (st : Stored) (s : ℕ) (new : World Name) (payload : List ℕ) (now : Stored) → now ≡ after_flush st s new → Stores clock st s new payload → Changes clock st now payload
+flush-changes None st s new payload now e h = subst (λ n. Changes None st n payload) (sym e) h
+flush-changes (Some clock) st s new payload now e h = change-of st s new payload now e h
 
 pub clone-change : (st : Stored) (s : ℕ) (rows : List (Row Name)) (payload : List ℕ) → StoresCloneBy st s rows payload → HasChanged st (clone_end st s rows) payload
 clone-change st s rows payload h = record { change = clone_payload (master_world rows); past = h.past; payloads = h.payloads; text = h.text }

@@ -1,23 +1,26 @@
 -- Which mirrors a run may have, at its start and from line to line.
-use Rattle.std.proofs.Common.{◌≡◌, ◌<◌, ◌+◌, ℕ, zero, suc, Bool, true, false, inl, inr, ◌⊎◌, ⊎_elim, List, [], ◌∷◌, ◌++◌, length, nat_lt, Option, Some, None, is_some, MatchOption, refl, sym, ap, subst, subst₂, ◌∙◌, arith, zero-le, true≢false, length-append, le_refl, if◌then◌else◌}
+use Rattle.std.proofs.Common.{◌≡◌, ◌<◌, ◌+◌, ℕ, zero, suc, Bool, true, false, inl, inr, ◌⊎◌, ⊎_elim, List, [], ◌∷◌, ◌++◌, length, take, nat_lt, Option, Some, None, is_some, MatchOption, refl, sym, ap, subst, subst₂, ◌∙◌, arith, zero-le, true≢false, length-append, le_refl, if◌then◌else◌}
 use Rattle.std.specs.Prelude.{IsTrue}
 use Rattle.std.specs.Bool.{MatchBool}
 use Rattle.std.specs.List.{AllByRecursion}
 use Rattle.std.proofs.lemmas.Bool.{lt-ltb}
-use Rattle.id_groups.specs.Lists.{IsIn}
+use Rattle.std.proofs.lemmas.List.{length-map, take_all}
 use Rattle.id_groups.specs.Name.{Name}
-use Rattle.commit_graph.specs.World.{Row, World, KeepsRows, rows_of}
+use Rattle.commit_graph.specs.World.{Row, World, rows_of}
 use Rattle.line_io.specs.Lines.{is_too_long}
 use Rattle.batch_codec.specs.Payload.{Payload}
+use Rattle.batch_codec.specs.Grammar.{IsPayload, IsFlush, IsClone, IsWhole}
 use Rattle.change_rules.specs.declared.Limits.{Limits}
-use Rattle.change_rules.specs.Tables.{cloned_count}
-use Rattle.change_rules.specs.Holding.{HoldAs}
+use Rattle.change_rules.specs.Tables.{cloned_count, other_names_in}
+use Rattle.change_rules.specs.Holding.{HoldAs, HoldPayloads}
+use Rattle.change_rules.specs.Lawful.{AreLawful}
+use Rattle.change_rules.proofs.Changes.{count-last, last-of}
 use Rattle.remote_rules.specs.CloneData.{KnownName}
 use Rattle.remote_rules.specs.Mirror.{Mirror}
 use Rattle.remote_rules.specs.Honest.{IsSound}
 use Rattle.step_rules.specs.declared.Refusal.{Refusal}
 use Rattle.step_rules.specs.declared.Refusal.TheVariants as why
-use Rattle.step_rules.specs.State.{State, Stored, IsState, at_start, start, with_stored, on_newest, with_session, world_at}
+use Rattle.step_rules.specs.State.{State, Stored, IsState, at_start, start, with_stored, on_newest}
 use Rattle.step_rules.specs.Verb.{Verb, Add, Flush, Reload, Discard, Query, Count, IdOf, Status, Levels, Clone, Pull, Strip, CountMirrors, Drop}
 use Rattle.step_rules.specs.Reply.{Reply, Dropped, Refused, LongLine}
 use Rattle.step_rules.specs.Tests.{first_some, has_pending, refused_first, tests}
@@ -27,7 +30,7 @@ use Rattle.step_rules.specs.Plain.{IsInside}
 use Rattle.step_rules.proofs.Plain.{all-tried, command-back}
 use Rattle.step_rules.proofs.Served.{step-served}
 use Rattle.step_rules.proofs.Kept.{start-is}
-use Rattle.step_rules.proofs.Sessions.{IsPlaced, Shape, command-shape, newest-now, world_at-stored}
+use Rattle.step_rules.proofs.Sessions.{IsPlaced, Shape, command-shape, newest-now}
 use Rattle.run_rules.specs.Built.{is_built}
 use Rattle.run_rules.specs.Run.{Commands, IsNoCommand, IsUnread, Step}
 use Rattle.run_rules.proofs.Starts.{served-sound, start-served}
@@ -95,33 +98,42 @@ clone-same limits st s reply st' some (verdict, mirrors, found, tries, ends) =
     by_verdict None (inr m) a = absurd (true≢false (sym (ap is_some m.1)))
     by_verdict (Some refusal) v a = a.0.1
 
--- ---- no row goes
-in-none : (rows : List (Row Name)) (row : Row Name) → length rows ≡ 0 → IsIn row rows → ⊥
-in-none [] row e i = i
-in-none (r ∷ rows) row e i = absurd (omega (arith, e))
+-- ---- the last row never goes
+-- what a payload stores has a commit
+payload-some : (p : Payload) → IsPayload p → (0 < p.after) ⊎ (0 < length p.other_names)
+payload-some p h = ⊎_elim (λ (f : IsFlush p). f.something) (λ o. ⊎_elim (λ (c : IsClone p). inl c.something) (λ (w : IsWhole p). w.something) o) h.by_kind
 
-none-before : (w v : World Name) → KeepsRows w v → length (rows_of v) ≡ 0 → length (rows_of w) ≡ 0
-none-before w v keeps none = by_rows (rows_of w) keeps
-  where
-    by_rows : (rows : List (Row Name)) → ((row : Row Name) → IsIn row rows → IsIn row (rows_of v)) → length rows ≡ 0
-    by_rows [] f = refl
-    by_rows (row ∷ rows) f = absurd (in-none (rows_of v) row none (f row (inl refl)))
+last-whole : (before payloads : List Payload) (p : Payload) → AreLawful before (payloads ++ p ∷ []) → IsPayload p
+last-whole before [] p h = h.0.whole
+last-whole before (q ∷ payloads) p h = last-whole (before ++ q ∷ []) payloads p h.1
+
+holds-some : (payloads : List Payload) (p : Payload) (w : World Name) → HoldPayloads (payloads ++ p ∷ []) w → 0 < length (rows_of w)
+holds-some payloads p w h =
+    let master : p.after ≡ length w.master = sym (count-last 0 payloads p) ∙ h.stand.count in
+    let others : length p.other_names ≡ length w.others =
+    ap (λ o. length (other_names_in o)) (sym (last-of None payloads p)) ∙ ap length h.stand.names ∙ length-map w.others (λ (r : Row Name). r.name) in
+    let all = length-append w.master w.others in
+    ⊎_elim (λ some. omega (arith, some, master, all)) (λ some. omega (arith, some, others, all))
+    (payload-some p (last-whole [] payloads p h.lawful))
 
 shape-rows : (began : ℕ) (kept : PlainStore) (st : Stored) (s : ℕ) (now : Stored) → Stands began kept now → Shape st s now → length (rows_of now.stored) ≡ 0 → length (rows_of st.stored) ≡ 0
 shape-rows began kept st s now h (inl e) none = subst (λ (z : Stored). length (rows_of z.stored) ≡ 0) e none
 shape-rows began kept st s now h (inr (inl (x, le, e))) none = subst (λ (z : Stored). length (rows_of z.stored) ≡ 0) e none
 shape-rows began kept st s now h (inr (inr (new, payload, rows, e))) none =
-    none-before st.stored new keeps (subst (λ (z : Stored). length (rows_of z.stored) ≡ 0) e none)
+    absurd (let some = holds-some st.payloads payload new holds in let zero : length (rows_of new) ≡ 0 = subst (λ (z : Stored). length (rows_of z.stored) ≡ 0) e none in omega (arith, some, zero))
   where
     next : Stored
     next = on_newest (with_stored st new payload) s rows
 
-    more : length (st.past ++ st.stored ∷ []) ≡ length st.past + 1
-    more = length-append st.past (st.stored ∷ [])
+    there : Stands began kept next
+    there = subst (Stands began kept) e h
 
-    keeps : KeepsRows st.stored new
-    keeps = subst₂ KeepsRows (world_at-stored st new payload (length st.past) (le_refl _) ∙ newest-now st) (newest-now next)
-        ((subst (Stands began kept) e h).keeps (length st.past) (length (st.past ++ st.stored ∷ [])) (let m = more in omega (arith, m)) (le_refl _))
+    -- all payloads are those of the newest world
+    all : take (began + length next.past) next.payloads ≡ next.payloads
+    all = take_all (began + length next.past) next.payloads (let n = there.count in omega (arith, n))
+
+    holds : HoldPayloads (st.payloads ++ payload ∷ []) new
+    holds = subst₂ HoldPayloads all (newest-now next) (there.worlds (length next.past) (le_refl _))
 
 -- ---- from line to line
 module _ (limits : Limits) (began : ℕ) (old new : PlainStore) (first left : List Mirror) (st next : State) (h : StandsBeside began old first st) (k : StandsBeside began new left next) (enough : HasEnough st) where
@@ -153,7 +165,7 @@ module _ (limits : Limits) (began : ℕ) (old new : PlainStore) (first left : Li
   named-next s Levels reply some built named step = inside s Levels reply tt named step
   named-next s Clone reply some built named step = same (sym (clone-same limits st s reply next some step)) named
   named-next s Pull reply some built named step = cc built
-  named-next s (Strip names) reply some built named step = cc built
+  named-next s (Strip names) reply some built named step = inside s (Strip names) reply tt named step
   named-next s CountMirrors reply some built named step = same (sym (counts-same limits st s reply next step)) named
   named-next s (Drop n) reply some built named step = same (sym (drops-same limits st s n reply next step)) named
 

@@ -1,16 +1,16 @@
 //! What one line does.
 
-ghost use Rattle.std.specs.Prelude.{◌≡◌, ◌<◌, ◌≤◌, [], ℕ, List, Option, Err, length, IfErr, IfOk, IfSome, MatchResult, false, map, vec_capacity};
+ghost use Rattle.std.specs.Prelude.{◌≡◌, ◌≢◌, ◌<◌, ◌≤◌, [], ℕ, List, Option, Err, length, IfErr, IfOk, IfSome, MatchResult, false, map, vec_capacity};
 ghost use Rattle.outside.specs.Counts.{Rose};
 ghost use Rattle.outside.specs.Told.{WhereTold};
 ghost use Rattle.disk_trait.specs.Calls.{Goes};
 ghost use Rattle.gated_log.specs.Holding.{IsOnDisk};
 ghost use Rattle.line_io.specs.Next.{IsLine};
 ghost use Rattle.line_io.specs.Lines.{is_empty_or_comment};
-ghost use Rattle.step_rules.specs.Verb.{Clone as ToClone, Flush as ToFlush};
+ghost use Rattle.step_rules.specs.Verb.{Clone as ToClone, Flush as ToFlush, Strip as ToStrip};
 ghost use Rattle.run_rules.specs.Grammar.{SpellsCommand};
 ghost use Rattle.dag_store.specs.Flushes.{HasRoom};
-ghost use Rattle.command_lines.specs.Meant.{meant, HasFewParents};
+ghost use Rattle.command_lines.specs.Meant.{meant, HasRightCount};
 ghost use Rattle.dag_run.specs.Stops.{IsLineStop};
 ghost use Rattle.command_lines.specs.Told.{told};
 ghost use Rattle.dag_run.specs.Replies.{IsUnreadFor};
@@ -92,6 +92,47 @@ fn flush<D: Disk, O: Sink>(
     }
 }
 
+/// Takes commits out of what is stored. The memory for the change's moment is taken before.
+fn strip<D: Disk, O: Sink>(
+    store: Store,
+    log: &mut D,
+    mirrors: &mut Mirrors,
+    changes: &mut Vec<u64>,
+    s: u8,
+    names: &[Name],
+    output: &mut O,
+) -> Result<Store, Stop>
+    requires session { s < 16 }
+    requires names { names.now ≢ [] }
+    requires begins { IfSome (D.told log.old) (IsOnDisk store.log) }
+    ensures step { let first = map (λ b. (⟦<dyn Remote as Remote>⟧ b.vtable).shown b.value) mirrors.old.list.items in let left = map (λ b. (⟦<dyn Remote as Remote>⟧ b.vtable).shown b.value) mirrors.new.list.items in
+        (payload : List ℕ) × (clock : Option ℕ) × (changes.new.items ≡ changes_with changes.old.items clock)
+        × Goes (LineLeaves store payload clock result) (D.told log.old) (D.told log.new)
+        × WhereTold (O.taken output.old) (O.taken output.new) (CommandReplies first left (Rose (O.faults output.old) (O.faults output.new)) store s (ToStrip names.now) payload clock result) }
+    ensures limits { IfOk result (λ next. next.limits ≡ store.limits) }
+    ensures stop { IfErr result IsLineStop }
+    ensures disk { result ≡ Err Stop.NotStored → Rose (D.faults log.old) (D.faults log.new) }
+    ensures disk_later { D.faults log.old ≤ D.faults log.new }
+    ensures sink { result ≡ Err Stop.Sink → Rose (O.faults output.old) (O.faults output.new) }
+    ensures sink_later { O.faults output.old ≤ O.faults output.new }
+{
+    if changes.try_reserve(1).is_err() {
+        return tell(store, &Reply::Refused(Refusal::Memory), output);
+    }
+    let _limit = store.log_limit();
+    match store.strip(log, s, mirrors, names) {
+        Flushed::Done(store, counts, at) => {
+            note(changes, at);
+            tell(store, &Reply::Stripped(counts), output)
+        }
+        Flushed::Refused(store, refusal) => tell(store, &Reply::Refused(refusal), output),
+        Flushed::Disk(_) => {
+            tell_fault(output);
+            Err(Stop::NotStored)
+        }
+    }
+}
+
 /// Stores the master of a mirror. The memory for the change's moment is taken before.
 fn take_clone<D: Disk, O: Sink>(
     store: Store,
@@ -145,7 +186,7 @@ fn drop_mirror(mirrors: &mut Mirrors, place: u64) -> Reply
 /// Does what a command asks for that neither stores nor lists, and gives the reply.
 fn reply_of(store: &mut Store, mirrors: &mut Mirrors, s: u8, verb: &Verb) -> Reply
     requires session { s < 16 }
-    requires few { HasFewParents (meant verb.now) }
+    requires counted { HasRightCount (meant verb.now) }
     requires brief { IsBrief (meant verb.now) }
     ensures does { DoesBeside (map (λ b. (⟦<dyn Remote as Remote>⟧ b.vtable).shown b.value) mirrors.old.list.items) (map (λ b. (⟦<dyn Remote as Remote>⟧ b.vtable).shown b.value) mirrors.new.list.items) store.old store.new s (meant verb.now) (told result) }
     ensures room { HasRoom store.old.log store.new.log }
@@ -161,7 +202,7 @@ fn reply_of(store: &mut Store, mirrors: &mut Mirrors, s: u8, verb: &Verb) -> Rep
         Verb::Levels => Reply::LevelSizes(store.levels()),
         Verb::Mirrors => Reply::Counted(u64::from(mirrors.len())),
         Verb::DropAt(place) => drop_mirror(mirrors, *place),
-        Verb::Flush(_) | Verb::Clone | Verb::Query(_) => unreachable!(),
+        Verb::Flush(_) | Verb::Strip(_) | Verb::Clone | Verb::Query(_) => unreachable!(),
     }
 }
 
@@ -175,7 +216,7 @@ fn execute_command<D: Disk, O: Sink>(
     output: &mut O,
 ) -> Result<Store, Stop>
     requires session { command.now.session < 16 }
-    requires few { HasFewParents (meant command.now.verb) }
+    requires counted { HasRightCount (meant command.now.verb) }
     requires begins { IfSome (D.told log.old) (IsOnDisk store.log) }
     ensures step { let first = map (λ b. (⟦<dyn Remote as Remote>⟧ b.vtable).shown b.value) mirrors.old.list.items in let left = map (λ b. (⟦<dyn Remote as Remote>⟧ b.vtable).shown b.value) mirrors.new.list.items in
         (payload : List ℕ) × (clock : Option ℕ) × (changes.new.items ≡ changes_with changes.old.items clock)
@@ -192,6 +233,7 @@ fn execute_command<D: Disk, O: Sink>(
     let mut store = store;
     match &command.verb {
         Verb::Flush(heads) => flush(store, log, mirrors, changes, s, heads.names(), output),
+        Verb::Strip(names) => strip(store, log, mirrors, changes, s, names.names(), output),
         Verb::Clone => take_clone(store, log, mirrors, changes, s, output),
         Verb::Query(expr) => list(store, mirrors, s, expr, output),
         verb => {
@@ -211,7 +253,7 @@ fn execute_parsed<D: Disk, O: Sink>(
     output: &mut O,
 ) -> Result<Store, Stop>
     requires session { IfOk parsed.now (λ command. command.session < 16) }
-    requires few { IfOk parsed.now (λ command. HasFewParents (meant command.verb)) }
+    requires counted { IfOk parsed.now (λ command. HasRightCount (meant command.verb)) }
     requires begins { IfSome (D.told log.old) (IsOnDisk store.log) }
     ensures step { let first = map (λ b. (⟦<dyn Remote as Remote>⟧ b.vtable).shown b.value) mirrors.old.list.items in let left = map (λ b. (⟦<dyn Remote as Remote>⟧ b.vtable).shown b.value) mirrors.new.list.items in
         (payload : List ℕ) × (clock : Option ℕ) × (changes.new.items ≡ changes_with changes.old.items clock)

@@ -20,7 +20,7 @@ is_built CountMirrors = true
 is_built (Drop k) = true
 is_built Clone = true
 is_built Levels = true
-is_built (Strip names) = false
+is_built (Strip names) = true
 is_built Pull = false
 
 -- the session's command is built

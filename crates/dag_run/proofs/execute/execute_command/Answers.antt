@@ -1,8 +1,9 @@
-use Rattle.std.proofs.Common.{[], None, refl, sym, ap, ◌∙◌}
+use Rattle.std.proofs.Common.{[], None, refl, sym, ap, subst, ◌∙◌}
+use Rattle.std.specs.Prelude.{◌≢◌}
 use Rattle.outside.specs.Counts.{Rose}
 use Rattle.set_expr.specs.Whole.{tree_of}
-use Rattle.step_rules.specs.Verb.{Clone, Flush, Query}
-use Rattle.command_lines.specs.Meant.{meant}
+use Rattle.step_rules.specs.Verb.{Clone, Flush, Query, Strip}
+use Rattle.command_lines.specs.Meant.{meant, HasRightCount}
 use Rattle.command_lines.specs.Told.{told}
 use Rattle.dag_run.proofs.Doing.{kept-goes, still-goes, told-as, brief-told}
 use Rattle.dag_run.proofs.execute.execute_command.Goals as goal
@@ -15,6 +16,19 @@ returns-in-Flush-clause-step g c =
       step.2,
       step.3,
       told-as _ _ (Rose (g.O.Sink.faults c.args.output.now) (g.O.Sink.faults c.flush.new.output)) c.args.store c.args.command.now.session (Flush c.names.result.now) (meant c.args.command.now.verb) step.0 step.1 c.flush.result (g.O.Sink.taken c.args.output.now) (g.O.Sink.taken c.flush.new.output) (ap meant c.in-Flush.is ∙ ap Flush (sym c.names.ensures)) step.4,
+    )
+
+pub strip-requires-clause-names : goal.strip-requires-clause-names
+strip-requires-clause-names g c = subst (λ l. l ≢ []) (sym c.names-in-Strip.ensures) (subst HasRightCount (ap meant c.in-Strip.is) c.requires.counted)
+
+pub returns-in-Strip-clause-step : goal.returns-in-Strip-clause-step
+returns-in-Strip-clause-step g c =
+    let step = c.strip.ensures.step in (
+      step.0,
+      step.1,
+      step.2,
+      step.3,
+      told-as _ _ (Rose (g.O.Sink.faults c.args.output.now) (g.O.Sink.faults c.strip.new.output)) c.args.store c.args.command.now.session (Strip c.names-in-Strip.result.now) (meant c.args.command.now.verb) step.0 step.1 c.strip.result (g.O.Sink.taken c.args.output.now) (g.O.Sink.taken c.strip.new.output) (ap meant c.in-Strip.is ∙ ap Strip (sym c.names-in-Strip.ensures)) step.4,
     )
 
 pub returns-in-Clone-clause-step : goal.returns-in-Clone-clause-step

@@ -4,6 +4,7 @@ use Rattle.outside.proofs.ToldLemmas.{WhereTold-map}
 use Rattle.step_rules.specs.declared.Refusal.TheVariants as why
 use Rattle.step_rules.specs.Verb.{Flush}
 use Rattle.step_rules.specs.Reply.{Flushed, Refused}
+use Rattle.step_rules.specs.Worlds.{flush_of}
 use Rattle.dag_run.specs.Lines.{changes_with, CommandReplies, PutsFault}
 use Rattle.dag_run.specs.declared.stops.Stop.TheVariants as stops
 use Rattle.dag_run.proofs.Doing.{still-goes, flush-goes, refused-goes, short-goes, limit-of, memory-step, command-told, flush-next, flush-changes, change-of, refused-changes}
@@ -38,7 +39,7 @@ returns-in-Done-clause-step g c =
       flush-goes old new step.0 r c.args.s counts clock (g.D.Disk.told c.args.log.now) (g.D.Disk.told c.flush.new.disk) c.tell-in-Done.ensures.same c.tell-in-Done.ensures.stop
           (limit-of old c.log_limit-limit.result c.log_limit-limit.ensures.limits c.log_limit-limit.ensures.log) c.in-Done.ensures.leaves step.1,
       command-told _ _ (Rose (g.O.Sink.faults c.args.output.now) (g.O.Sink.faults c.tell-in-Done.new.output)) old new c.args.s verb step.0 clock r (Flushed counts.master counts.others) o p
-          (λ began st h enough. let f = step.2 began st h enough.0 in (f.0.0, f.0.1, flush-changes clock st.store c.args.s c.args.heads.now step.0 f.0.0.store (flush-next old.limits st c.args.s c.args.heads.now counts.master counts.others f.0.0 f.0.1) f.2, f.0.2))
+          (λ began st h enough. let f = step.2 began st h enough.0 in (f.0.0, f.0.1, flush-changes clock st.store c.args.s (flush_of st.store c.args.s c.args.heads.now) step.0 f.0.0.store (flush-next old.limits st c.args.s c.args.heads.now counts.master counts.others f.0.0 f.0.1) f.2, f.0.2))
           c.tell-in-Done.ensures.bytes,
     )
 
@@ -72,6 +73,6 @@ returns-in-Disk-clause-step g c =
       c.try_reserve.ensures.items,
       short-goes old step.0 None c.in-Disk.field-0 (g.D.Disk.told c.args.log.now) (g.D.Disk.told c.flush.new.disk) (limit-of old c.log_limit-limit.result c.log_limit-limit.ensures.limits c.log_limit-limit.ensures.log) step.1,
       WhereTold-map o p (PutsFault failed) (CommandReplies _ _ failed old c.args.s verb step.0 None (Err stops.NotStored))
-          (λ before now put began st h enough. let f = step.2 began st h enough.0 in (Flushed _ _, f.0, f.1, change-of st.store c.args.s c.args.heads.now step.0 f.0.store f.2 f.4, sym f.3, refl, put))
+          (λ before now put began st h enough. let f = step.2 began st h enough.0 in (Flushed _ _, f.0, f.1, change-of st.store c.args.s (flush_of st.store c.args.s c.args.heads.now) step.0 f.0.store f.2 f.4, sym f.3, refl, put))
           c.tell_fault.ensures.bytes,
     )
