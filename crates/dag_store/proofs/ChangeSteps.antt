@@ -1,5 +1,5 @@
 -- From a change that was prepared, and how it ended, to the step of a state, whichever command makes the new world.
-use Rattle.std.proofs.Common.{◌≡◌, ◌<◌, ⊎_elim, ℕ, Bool, true, false, List, [], ◌∷◌, ◌++◌, length, map, set, Option, Some, None, Result, Ok, Err, refl, sym, ap, subst, ◌∙◌, true≢false, if◌then◌else◌}
+use Rattle.std.proofs.Common.{◌≡◌, ◌<◌, ⊎_elim, ℕ, Bool, true, false, List, [], ◌∷◌, ◌++◌, length, set, Option, Some, None, Result, Ok, Err, refl, sym, ap, subst, ◌∙◌, true≢false, if◌then◌else◌}
 use Rattle.std.specs.Prelude.{MatchResult}
 use Rattle.id_groups.specs.Name.{Name}
 use Rattle.commit_graph.specs.World.{World, IsNamedWorld, GrowsMaster}
@@ -12,7 +12,6 @@ use Rattle.remote_rules.specs.CloneData.{KnownName}
 use Rattle.remote_rules.specs.Mirror.{Mirror}
 use Rattle.lazy_names.specs.Cache.{PlainCache}
 use Rattle.payload_tables.specs.Kept.{PlainTables}
-use Rattle.flush_rebuild.specs.declared.plan.Change.{Change}
 use Rattle.step_rules.specs.declared.Refusal.{Refusal}
 use Rattle.step_rules.specs.State.{State, Stored, with_stored, on_newest}
 use Rattle.step_rules.specs.Verb.{Verb, IsVerb}

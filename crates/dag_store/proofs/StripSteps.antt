@@ -1,5 +1,5 @@
 -- The world that a strip makes.
-use Rattle.std.proofs.Common.{◌≡◌, ◌≤◌, not, cond, ℕ, suc, Bool, true, false, inl, List, [], ◌∷◌, ◌++◌, length, filter, map, nat_lt, Some, None, refl, sym, ap₂, append-nil, arith, le_trans}
+use Rattle.std.proofs.Common.{◌≡◌, ◌≤◌, not, ℕ, Bool, inl, List, [], ◌∷◌, ◌++◌, length, filter, map, nat_lt, Some, None, refl, sym, ap₂, append-nil, arith, le_trans}
 use Rattle.std.specs.List.{list_any}
 use Rattle.std.proofs.lemmas.Bool.{ltb-true}
 use Rattle.std.proofs.lemmas.List.Sums.{count_by-le-length, length-filter}
@@ -13,7 +13,7 @@ use Rattle.change_rules.specs.Change.{flush_change}
 use Rattle.change_rules.specs.Holding.{HoldPayloads}
 use Rattle.change_rules.proofs.Held.{change-held}
 use Rattle.step_rules.specs.declared.Refusal.TheVariants as why
-use Rattle.step_rules.specs.State.{State, base_of, pending_of}
+use Rattle.step_rules.specs.State.{State}
 use Rattle.step_rules.specs.Verb.{Strip}
 use Rattle.step_rules.specs.Reply.{Reply, Stripped}
 use Rattle.step_rules.specs.Tests.{has_pending, not_strippable, refuse_if, refused_first, tests}

@@ -1,6 +1,5 @@
 use Rattle.std.proofs.Common.{sym, subst}
-use Rattle.name_map.specs.Added.{AllStand, payloads_of}
-use Rattle.dag_store.specs.Strips.{IsOtherOf, MayBeOther, strip_test}
+use Rattle.name_map.specs.Added.{AllStand}
 use Rattle.dag_store.proofs.NewestBase.{newest-sees, none-behind, none-few, none-view, some-newest}
 use Rattle.dag_store.proofs.StripLooks.{found-others}
 use Rattle.dag_store.proofs.stripping.others_found.Goals as goal
