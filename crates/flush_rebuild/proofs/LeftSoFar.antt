@@ -4,7 +4,6 @@ use Rattle.std.specs.List.{AllByRecursion, AllZip}
 use Rattle.std.proofs.lemmas.List.{map-append}
 use Rattle.std.proofs.lemmas.Bool.{cases_lt}
 use Rattle.id_groups.specs.Lists.{IsIn, AreDistinct}
-use Rattle.id_groups.specs.Name.{Name}
 use Rattle.id_groups.specs.Id.{other_id}
 use Rattle.commit_graph.proofs.Histories.{in-append}
 use Rattle.commit_graph.proofs.Down.{in-left, in-right}
@@ -14,11 +13,11 @@ use Rattle.flat_segments.specs.Placed.{Placed as PlacedSegment, placed}
 use Rattle.name_map.specs.Added.{Placed, payloads_of}
 use Rattle.change_rules.specs.Tables.{newest, other_names_in}
 use Rattle.payload_tables.specs.declared.base.BaseRef.{BaseRef}
-use Rattle.payload_tables.specs.Pending.{IdRow, PlainPending, HoldsRows, row_names, segments_from}
+use Rattle.payload_tables.specs.Pending.{IdRow, PlainPending, row_names, segments_from}
 use Rattle.payload_tables.specs.Bases.{IsBaseOf}
 use Rattle.payload_tables.proofs.Lists.{all-append, distinct-join}
 use Rattle.payload_tables.proofs.Rows.{get-below, count-rows}
-use Rattle.flush_rebuild.specs.Asked.{others_count, IsStored, IsFoundIn, HaveParents}
+use Rattle.flush_rebuild.specs.Asked.{others_count, IsStored, IsFoundIn}
 use Rattle.flush_rebuild.specs.Rebasing.{IsMoved, IsKept, IsNewId, LeftSoFar}
 use Rattle.flush_rebuild.proofs.Moved.{stored-bound}
 

@@ -17,7 +17,7 @@ use Rattle.payload_tables.proofs.Lists.{names-length}
 use Rattle.payload_tables.proofs.Joined.{get-map}
 use Rattle.payload_tables.proofs.Rows.{get-below}
 use Rattle.flush_rebuild.specs.declared.fault.PlanFault.{PlanFault}
-use Rattle.flush_rebuild.specs.declared.fault.PlanFault.TheVariants.{Memory, Conflict, Lost}
+use Rattle.flush_rebuild.specs.declared.fault.PlanFault.TheVariants.{Memory, Conflict}
 use Rattle.flush_rebuild.specs.Asked.{others_count}
 use Rattle.flush_rebuild.specs.Plans.{MayRebase, stored_id, conflict_fault, lost_fault}
 use Rattle.flush_rebuild.specs.Rebasing.{IsMoved, AreStoredAs, AreStoredWhere, IsRebased, IsNotLeft}

@@ -35,7 +35,7 @@ use Rattle.flush_rebuild.specs.declared.fault.PlanFault.{PlanFault}
 use Rattle.flush_rebuild.specs.declared.fault.PlanFault.TheVariants.{Lost}
 use Rattle.flush_rebuild.specs.Asked.{IsStored}
 use Rattle.flush_rebuild.specs.Plans.{stored_id}
-use Rattle.flush_rebuild.specs.Rebasing.{IsMoved, IsLost, IsLostBy, LosesFirst, IsAt, IsNowhere, AreStoredAs, IsKept}
+use Rattle.flush_rebuild.specs.Rebasing.{IsMoved, IsLost, LosesFirst, IsAt, IsNowhere, AreStoredAs, IsKept}
 
 pub known-from-at : (id : ℕ) (names : List Name) (k : Known) → IsIn k (known_from id names) → (j : ℕ) × (k.id ≡ id + j) × (slice_get names j ≡ Some k.name)
 known-from-at id [] k i = absurd i
@@ -86,33 +86,6 @@ known-all (a ∷ added) = ap (λ l. a.payload.known ++ l) (known-all added)
 mapped-same : (f g : Name → ℕ) (xs : List Name) → ((x : Name) → IsIn x xs → f x ≡ g x) → map f xs ≡ map g xs
 mapped-same f g [] h = refl
 mapped-same f g (x ∷ xs) h = ap₂ (λ a b. a ∷ b) (h x (inl refl)) (mapped-same f g xs (λ y i. h y (inr i)))
-
-cons-parts : (x y : ℕ) (xs ys : List ℕ) → ◌≡◌ {A = List ℕ} (x ∷ xs) (y ∷ ys) → (x ≡ y) × (xs ≡ ys)
-cons-parts x y xs ys e = (ap head e, ap tail e)
-  where
-    head : List ℕ → ℕ
-    head [] = x
-    head (a ∷ more) = a
-
-    tail : List ℕ → List ℕ
-    tail [] = []
-    tail (a ∷ more) = more
-
-no-cons : (x : ℕ) (xs : List ℕ) → ◌≡◌ {A = List ℕ} [] (x ∷ xs) → ⊥
-no-cons x xs e = let l = ap (length {A = ℕ}) e in let z : ⊥ = omega (arith, l) in z
-
-mapped-one : (f : Name → ℕ) (P : Name → Type 0) → ((x y : Name) → P x → P y → f x ≡ f y → x ≡ y) → (xs ys : List Name) → ((x : Name) → IsIn x xs → P x) → ((y : Name) → IsIn y ys → P y) → map f xs ≡ map f ys → xs ≡ ys
-mapped-one f P one [] [] hx hy e = refl
-mapped-one f P one [] (y ∷ ys) hx hy e = absurd (no-cons (f y) (map f ys) e)
-mapped-one f P one (x ∷ xs) [] hx hy e = absurd (no-cons (f x) (map f xs) (sym e))
-mapped-one f P one (x ∷ xs) (y ∷ ys) hx hy e =
-    let p = cons-parts (f x) (f y) (map f xs) (map f ys) e in
-    ap₂ (λ a b. a ∷ b) (one x y (hx x (inl refl)) (hy y (inl refl)) p.0) (mapped-one f P one xs ys (λ z i. hx z (inr i)) (λ z i. hy z (inr i)) p.1)
-
--- equal lists of names, by their test
-pw-self : (xs : List Name) → pointwise same_name xs xs ≡ true
-pw-self [] = refl
-pw-self (x ∷ xs) = ap (λ b. b && pointwise same_name xs xs) (same_name-self x) ∙ pw-self xs
 
 pw-exact : (xs ys : List Name) → pointwise same_name xs ys ≡ true → xs ≡ ys
 pw-exact [] [] e = refl
@@ -574,9 +547,6 @@ module _ (added before : List Placed) (w old : World Name) (rows : List (Row Nam
   found-at (q ∷ all) (suc k) r e = found-at all k r e
 
   module _ (first : ℕ) (fe : first ≡ length old.others) where
-    whole_found : List (Option ℕ)
-    whole_found = map (stored_id w) (names_of rows)
-
     -- where a parent is in the world
     pub at-id : (front more : List (Row Name)) → rows ≡ front ++ more → (p : Name) (id : ℕ) → Earlier front p → IsAt before added first (map (stored_id w) (names_of rows)) (id_in same_name seen p) id
         → IsIn p (names_of (rows_of w)) × (id ≡ id_in same_name w p)

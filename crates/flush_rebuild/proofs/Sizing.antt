@@ -10,22 +10,18 @@ use Rattle.commit_graph.specs.World.{Row, World, IsNamedWorld, names_of, rows_of
 use Rattle.commit_graph.proofs.Naming.{each, named-by, name-of, pending-names}
 use Rattle.segment_codec.specs.Record.{Segment}
 use Rattle.batch_codec.specs.Payload.{names_bytes, payload_bytes}
-use Rattle.batch_codec.specs.Grammar.{IsPayload}
 use Rattle.assign_ids.specs.Numbers.{AreBelow, HaveOlderParents, others_of, order_of}
 use Rattle.assign_ids.specs.declared.graph.Node.{Node}
 use Rattle.assign_ids.proofs.NumberLemmas.{same-exact}
 use Rattle.name_map.specs.Part.{upward}
-use Rattle.change_rules.specs.declared.Limits.{Limits}
 use Rattle.change_rules.specs.Flush.{flushed}
 use Rattle.change_rules.specs.Change.{flush_change}
 use Rattle.payload_tables.specs.Kept.{PlainTables}
-use Rattle.change_rules.specs.Standard.{AreLimits}
 use Rattle.flush_rebuild.specs.Plans.{IsChangeOf}
 use Rattle.payload_tables.specs.Pending.{PlainPending, IdRow, row_names, segments_from}
 use Rattle.flush_rebuild.specs.Moves.{node_of, nodes_in, rest_of, change_in}
 use Rattle.commit_graph.specs.Ids.{id_in, place_of}
-use Rattle.change_rules.proofs.Flushes.{flush-world, flush-grows, flush-names}
-use Rattle.change_rules.proofs.Lawful.{change-follows}
+use Rattle.change_rules.proofs.Flushes.{flush-world, flush-names}
 use Rattle.flush_rebuild.proofs.Spans.{place-below}
 use Rattle.std.specs.Result.{IsErrAnd}
 use Rattle.std.specs.Prelude.{MatchResult}
@@ -99,13 +95,6 @@ module _ (tables : PlainTables) (bytes : List ℕ) (pending : PlainPending) (num
   next-named = named-by next (flush-world same_name same_name-exact same_name-self (with_pending w rows) f.may.pending_rows.view heads f.may.known)
       (λ x i. name-of (with_pending w rows) view-named x (flush-names same_name same_name-exact same_name-self (with_pending w rows) f.may.pending_rows.view heads f.may.known x i))
 
-  -- the payload is in the grammar
-  pub f-payload : length next.master ≤ 16777216 → length next.others ≤ 65536 → 0 < length (rows_of next) → IsPayload (change_in flats names before n moving)
-  f-payload fits few some =
-      let grown = flush-grows same_name same_name-exact same_name-self (with_pending w rows) f.may.pending_rows.view heads f.may.known in
-      subst IsPayload f-change
-      (change-follows _ w next f.may.tables_of.lawful f.may.stand_for f.may.world.world next-named grown.0 grown.1 fits few some).whole
-
   upward-all : (first m : ℕ) → filter (λ k. not (is_in nat_eq k [])) (upward first m) ≡ upward first m
   upward-all first zero = refl
   upward-all first (suc m) = ap (λ l. first ∷ l) (upward-all (first + 1) m)
@@ -160,11 +149,6 @@ module _ (tables : PlainTables) (bytes : List ℕ) (pending : PlainPending) (num
   -- something moves, or is pending
   abbrev pub Changes : Type 0
   Changes = (0 < length moving) ⊎ (0 < length rows)
-
-  pub f-lawful : (limits : Limits) → AreLimits limits → (o m : ℕ) → o ≤ limits.others → m ≤ limits.master → o ≡ length next.others → m ≡ length next.master → Changes → IsPayload (change_in flats names before n moving)
-  f-lawful limits l o m lo lm eo em c =
-      let a = l.others.1 in let b = l.master.1 in
-      f-payload (omega (arith, lm, em, b)) (omega (arith, lo, eo, a)) (f-some c)
 
   pub f-differs : Changes → next ≡ w → ⊥
   f-differs c e = let none = f-none e in let a = none.0 in let b = none.1 in ⊎_elim (λ lt. omega (arith, lt, a)) (λ lt. omega (arith, lt, b)) c

@@ -3,7 +3,6 @@ use Rattle.std.proofs.Common.{◌≡◌, ◌<◌, ◌≤◌, ◌+◌, ◌^◌, �
 use Rattle.std.specs.List.{AllByRecursion, AllZip}
 use Rattle.std.proofs.lemmas.List.{length-map}
 use Rattle.id_groups.specs.Lists.{AreDistinct}
-use Rattle.id_groups.specs.Name.{Name}
 use Rattle.id_groups.specs.Id.{other_id}
 use Rattle.batch_codec.specs.Grammar.{count_after}
 use Rattle.name_map.specs.Added.{Placed, payloads_of, AllStand}

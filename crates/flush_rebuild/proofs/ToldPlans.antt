@@ -1,11 +1,10 @@
 -- What the plan of a clone says, for what a remote told, and for the world of an honest one.
-use Rattle.std.proofs.Common.{◌≡◌, ◌<◌, ◌≤◌, ◌+◌, ℕ, Bool, true, false, inl, inr, List, [], ◌∷◌, length, Option, Some, None, is_some, refl, sym, ap, ap₂, subst, ◌∙◌, arith, true≢false, nat_lt, if◌then◌else◌, zero-le}
+use Rattle.std.proofs.Common.{◌≡◌, ◌<◌, ◌≤◌, ◌+◌, ℕ, Bool, true, false, inl, inr, List, [], ◌∷◌, length, Option, Some, None, is_some, refl, sym, ap, ap₂, subst, ◌∙◌, arith, true≢false, nat_lt, if◌then◌else◌}
 use Rattle.std.specs.Prelude.{MatchResult, ◌⊎◌, Result, Ok, Err}
 use Rattle.std.proofs.lemmas.Bool.{lt-ltb}
 use Rattle.id_groups.specs.Name.{Name}
 use Rattle.commit_graph.specs.World.{Row, World, IsNamedWorld, empty_world}
 use Rattle.batch_codec.specs.Payload.{payload_bytes}
-use Rattle.change_rules.specs.Lawful.{MayFollow}
 use Rattle.remote_rules.specs.CloneData.{CloneData, first_broken}
 use Rattle.remote_rules.specs.Known.{master_world}
 use Rattle.remote_rules.specs.Honest.{heads_of, clone_data_of, master_segments}
@@ -20,10 +19,10 @@ use Rattle.payload_tables.specs.Kept.{PlainTables}
 use Rattle.flush_rebuild.specs.declared.plan.Change.{Change}
 use Rattle.flush_rebuild.specs.declared.fault.PlanFault.{PlanFault}
 use Rattle.flush_rebuild.specs.declared.fault.PlanFault.TheVariants.{Memory}
-use Rattle.flush_rebuild.specs.Plans.{over, first_of, length_with, IsPlanOf, MayBeStored}
+use Rattle.flush_rebuild.specs.Plans.{over, first_of, length_with, IsPlanOf}
 use Rattle.flush_rebuild.specs.Following.{with_payload, FollowChange}
 use Rattle.flush_rebuild.specs.Cloning.{told_count, told_payload, broken_fault, counts_refusal, log_refusal, told_refusal, IsToldPlan, clone_payload, clone_refusal, IsToldBy, StandForClone}
-use Rattle.flush_rebuild.proofs.Refusing.{over-none, over-zero, written, has-bytes}
+use Rattle.flush_rebuild.proofs.Refusing.{over-none, written, has-bytes}
 
 pub first-here : (a b : Option PlanFault) (fault : PlanFault) → a ≡ Some fault → first_of a b ≡ Some fault
 first-here a b fault e = ap (λ o. first_of o b) e
@@ -41,65 +40,10 @@ first-first (Some fault) b c = refl
 pub some-payload : (told : CloneData) → 0 < told_count told → told_payload told ≡ text_of (told_change told)
 some-payload told lt = ap (λ b. if b then text_of (told_change told) else []) (lt-ltb 0 (told_count told) lt)
 
--- of none
-pub none-payload : (told : CloneData) → told_count told ≡ 0 → told_payload told ≡ []
-none-payload told e = ap (λ n. if nat_lt 0 n then text_of (told_change told) else []) e
-
 pub some-log : (limits : Limits) (log n : ℕ) (told : CloneData) → 0 < told_count told → n ≡ length (text_of (told_change told)) → log_refusal limits log told ≡ over limits.log (log + 9 + n) Log
 some-log limits log n told lt e =
     ap (λ p. over limits.log (length_with log p) Log) (some-payload told lt)
     ∙ ap (λ m. over limits.log m Log) (let w = written log (text_of (told_change told)) (has-bytes (told_change told)) in let z : length_with log (text_of (told_change told)) ≡ log + 9 + n = omega (arith, w, e) in z)
-
-pub none-log : (limits : Limits) (log : ℕ) (told : CloneData) → told_count told ≡ 0 → log_refusal limits log told ≡ None
-none-log limits log told e = ap (λ p. over limits.log (length_with log p) Log) (none-payload told e) ∙ over-zero limits.log Log
-
-pub none-stored : (limits : Limits) (log : ℕ) (change : Change) → change ≡ record { payload = []; master = 0; others = 0; same = true } → MayBeStored 2 limits log [] change
-none-stored limits log change e = subst (MayBeStored 2 limits log []) (sym e) (record {
-  master_fits = zero-le;
-  others_fit = zero-le;
-  next = record {
-    stays = λ s. (refl, refl, refl);
-    changes = λ s. absurd (true≢false s);
-  };
-})
-
-pub none-plan : (change : Change) (told : CloneData) → told_count told ≡ 0 → change ≡ record { payload = []; master = 0; others = 0; same = true } → IsToldPlan change told
-none-plan change told z e = subst (λ c. IsToldPlan c told) (sym e) (record {
-  payload_is = sym (none-payload told z);
-  master = sym z;
-  others = refl;
-  same = (λ t. z, λ n. refl);
-})
-
-module _ (limits : Limits) (log : ℕ) (told : CloneData) (change : Change) (some : 0 < told_count told) (payload : change.payload ≡ payload_bytes (told_change told))
-    (master : change.master ≡ told_count told) (others : change.others ≡ 0) (differs : change.same ≡ false) where
-  pub some-plan : IsToldPlan change told
-  some-plan = record {
-    payload_is = payload ∙ sym (some-payload told some);
-    master = master;
-    others = others;
-    same = (λ t. absurd (true≢false (sym t ∙ differs)), λ z. absurd (omega (arith, some, z)));
-  }
-
-  pub some-stored : MayFollow [] (told_change told) → change.master ≤ limits.master → log + 9 + length change.payload ≤ limits.log → MayBeStored 2 limits log [] change
-  some-stored may few fits = record {
-    master_fits = few;
-    others_fit = subst (λ n. n ≤ limits.others) (sym others) zero-le;
-    next = record {
-      stays = λ s. absurd (true≢false (sym s ∙ differs));
-      changes = λ s. (
-        told_change told,
-        record {
-          payload = payload;
-          follows = may;
-          kind_is = refl;
-          master = master;
-          others = others;
-          fits = fits;
-        },
-      );
-    };
-  }
 
 -- ---- an honest remote
 

@@ -1,6 +1,5 @@
 -- Flat segments: ranges of ids in which each id but the lowest has its predecessor as its only parent.
-use Rattle.std.specs.Prelude.{ℕ, ◌+◌, ◌-◌, List, [], ◌∷◌, flat_map, nat_eq, if◌then◌else◌}
-use Rattle.segment_rules.specs.Flat.{followers}
+use Rattle.std.specs.Prelude.{ℕ, ◌+◌, List, [], ◌∷◌, nat_eq, if◌then◌else◌}
 use Rattle.std.specs.Cmp.Lexicographic.{pointwise}
 
 pub record Span : Type 0 where
@@ -25,10 +24,3 @@ with_id id parents (next ∷ more) =
 abbrev pub flat_segments : ℕ → List (List ℕ) → List Span
 flat_segments first [] = []
 flat_segments first (parents ∷ more) = with_id first parents (flat_segments (first + 1) more)
-
--- the parents of each id of a segment, and of some segments
-abbrev pub span_parents : Span → List (List ℕ)
-span_parents s = s.parents ∷ followers s.low (s.high - s.low)
-
-abbrev pub parents_of_ids : List Span → List (List ℕ)
-parents_of_ids spans = flat_map span_parents spans

@@ -16,14 +16,14 @@ use Rattle.flush_rebuild.specs.declared.fault.PlanFault.{PlanFault}
 use Rattle.flush_rebuild.specs.declared.fault.PlanFault.TheVariants.{Unknown, Conflict, Lost, Full}
 use Rattle.change_rules.specs.Rebase.{first_conflict, first_lost}
 use Rattle.change_rules.specs.Change.{flush_change}
-use Rattle.change_rules.specs.Tables.{StandFor, newest, other_names_in}
+use Rattle.change_rules.specs.Tables.{StandFor}
 use Rattle.payload_tables.specs.Kept.{PlainTables, AreTablesOf}
 use Rattle.payload_tables.specs.Pending.{IdRow, PlainPending, HoldsRows}
 use Rattle.id_groups.specs.Id.{other_id}
 use Rattle.std.specs.List.{AllZip}
 use Rattle.payload_tables.specs.Bases.{ArePending, IsBaseOf}
 use Rattle.flush_rebuild.specs.Asked.{others_count, IsStored}
-use Rattle.batch_codec.specs.Payload.{Payload, payload_bytes, known_names}
+use Rattle.batch_codec.specs.Payload.{Payload, payload_bytes}
 use Rattle.batch_codec.specs.Grammar.{count_after}
 use Rattle.change_rules.specs.Lawful.{MayFollow}
 

@@ -1,15 +1,14 @@
 //! Pending rows on a newer world.
 
-ghost use Rattle.std.specs.Prelude.{◌≡◌, ◌<◌, ◌≤◌, ◌+◌, ◌^◌, ◌⊎◌, ◌++◌, ◌∷◌, [], ◌↔◌, List, Option, None, Some, ℕ, nat_eq, length, take, slice_get, true, false, IsTrue, IfOk, OnOk, MatchOption, MatchResult};
+ghost use Rattle.std.specs.Prelude.{◌≡◌, ◌<◌, ◌≤◌, ◌+◌, ◌⊎◌, ◌++◌, ◌∷◌, [], ◌↔◌, List, Option, None, Some, ℕ, nat_eq, length, take, slice_get, true, false, IsTrue, IfOk, OnOk, MatchOption, MatchResult};
 ghost use Rattle.std.specs.List.{AllByRecursion, AllZip};
 ghost use Rattle.std.specs.Cmp.Lexicographic.{pointwise};
 ghost use Rattle.id_groups.specs.Lists.{IsIn, AreDistinct};
 ghost use Rattle.id_groups.specs.Name.{Name as NameBytes, same_name};
 ghost use Rattle.id_groups.specs.Id.{other_id};
-ghost use Rattle.segment_codec.specs.Record.{Segment};
 ghost use Rattle.segment_codec.specs.Table.{parents_at};
 ghost use Rattle.high_segments.specs.Views.{flats_in};
-ghost use Rattle.commit_graph.specs.World.{Row, World, with_pending};
+ghost use Rattle.commit_graph.specs.World.{Row, World};
 ghost use Rattle.flush_rebuild.specs.declared.fault.PlanFault.TheVariants.{Memory, Conflict};
 ghost use Rattle.name_map.specs.Added.{Placed};
 ghost use Rattle.payload_tables.specs.Kept.{PlainTables};

@@ -112,3 +112,36 @@ pub fn draw_heads(
     }
     Ok(heads)
 }
+
+/// The numbers of some of these rows, most of them late.
+fn draw_some(alloc: Global, draws: &mut Draws, rows: &[Commit]) -> Result<Vec<u32>, AllocError> {
+    let mut numbers = Vec::new(alloc);
+    for _number in 0..draws.below(3) {
+        if let Some(row) = draws.row(rows) {
+            numbers.push(row.number)?;
+        }
+    }
+    Ok(numbers)
+}
+
+/// The numbers of all these rows.
+fn all_of(alloc: Global, rows: &[Commit]) -> Result<Vec<u32>, AllocError> {
+    let mut numbers = Vec::new(alloc);
+    for row in rows {
+        numbers.push(row.number)?;
+    }
+    Ok(numbers)
+}
+
+/// The numbers of some of the others of the world, or of all.
+pub fn draw_others(
+    alloc: Global,
+    draws: &mut Draws,
+    world: &World,
+) -> Result<Vec<u32>, AllocError> {
+    let others = world.rows.get(world.masters..).unwrap_or_default();
+    if draws.one_of(3) {
+        return all_of(alloc, others);
+    }
+    draw_some(alloc, draws, others)
+}

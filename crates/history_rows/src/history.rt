@@ -4,10 +4,10 @@ ghost use Rattle.change_rules.specs.Standard.{AreLimits};
 ghost use Rattle.sample_logs.specs.Sample.{MayFlushIn};
 
 use crate::compared::is_base;
-use crate::draws::{Draws, draw_heads, may_come};
+use crate::draws::{Draws, draw_heads, draw_others, may_come};
 use crate::met::Met;
 use crate::names::name_of;
-use crate::plain::{Commit, World, flushed};
+use crate::plain::{Commit, World, flushed, stripped};
 use crate::rows::rows_of;
 use crate::wrong::Wrong;
 use flush_rebuild::{Change, Limit, Limits, PendingRows, PlanFault};
@@ -87,19 +87,27 @@ fn fault_of(sample: &LogSample, left: &PendingRows, heads: &[Name], log: u64) ->
     }
 }
 
-/// Whether the change, which writes so many bytes, is refused in a log that may have one byte less than it needs, and in no
-/// other.
-fn is_just_within(sample: &LogSample, left: &PendingRows, heads: &[Name], written: usize) -> bool
-    requires { MayFlushIn sample.now.bytes sample.now.tables left.now }
-{
+/// How many bytes a log needs for a payload of so many; `None` where no limit can be a byte less, or so high.
+fn needed(sample: &LogSample, written: usize) -> Option<u64> {
     let need = sample
         .len()
         .saturating_add(9)
         .saturating_add(written as u64);
     if need <= LEAST_LOG || need > 1 << 30 {
-        return true;
+        return None;
     }
-    let less = need - 1;
+    Some(need)
+}
+
+/// Whether the change, which writes so many bytes, is refused in a log that may have one byte less than it needs, and in no
+/// other.
+fn is_just_within(sample: &LogSample, left: &PendingRows, heads: &[Name], written: usize) -> bool
+    requires { MayFlushIn sample.now.bytes sample.now.tables left.now }
+{
+    let Some(need) = needed(sample, written) else {
+        return true;
+    };
+    let less = need.saturating_sub(1);
     fault_of(sample, left, heads, less) == Some(PlanFault::Full(Limit::Log, less))
         && fault_of(sample, left, heads, need).is_none()
 }
@@ -140,6 +148,36 @@ fn flush(
         Ok(left) => change_of(sample, &left, &names, limits),
         Err(fault) => Ok(Err(fault)),
     }
+}
+
+/// Why the strip of these commits is refused in a log of so many bytes at most.
+fn strip_fault(sample: &LogSample, names: &[Name], log: u64) -> Option<PlanFault> {
+    match sample.strip(names, limits_of(1 << 16, 1 << 24, log)) {
+        Ok(_change) => None,
+        Err(fault) => Some(fault),
+    }
+}
+
+/// Whether the strip, which writes so many bytes, is refused in a log that may have one byte less than it needs, and in no other.
+fn is_strip_just_within(sample: &LogSample, names: &[Name], written: usize) -> bool {
+    let Some(need) = needed(sample, written) else {
+        return true;
+    };
+    let less = need.saturating_sub(1);
+    strip_fault(sample, names, less) == Some(PlanFault::Full(Limit::Log, less))
+        && strip_fault(sample, names, need).is_none()
+}
+
+/// The change of a strip of these commits; `Room` where the log's limit isn't kept.
+fn strip_of(sample: &LogSample, names: &[Name]) -> Result<Result<Change, PlanFault>, Wrong> {
+    let change = match sample.strip(names, limits_of(1 << 16, 1 << 24, 1 << 30)) {
+        Ok(change) => change,
+        Err(fault) => return Ok(Err(fault)),
+    };
+    if !change.same && !is_strip_just_within(sample, names, change.payload.bytes().len()) {
+        return Err(Wrong::Room);
+    }
+    Ok(Ok(change))
 }
 
 /// A change, and the plain world after it.
@@ -199,6 +237,21 @@ fn refused(
     match answer {
         Err(answered) if *answered == fault => Ok(Err(fault)),
         _ => Err(Wrong::Flush),
+    }
+}
+
+/// The change of a strip of these others of the newest world, or why it is refused. `Flush` where the plain strip differs, and
+/// `Counts` where its counts do.
+fn compared_strip(
+    alloc: Global,
+    sample: &LogSample,
+    newest: &World,
+    numbers: &[u32],
+) -> Result<Result<Next, PlanFault>, Wrong> {
+    let answer = strip_of(sample, &names_of(alloc, numbers)?)?;
+    match stripped(alloc, newest, numbers) {
+        Ok(world) => planned(answer, world, newest),
+        Err(fault) => refused(&answer, fault),
     }
 }
 
@@ -325,7 +378,7 @@ impl History {
     fn refuse(&mut self, s: usize, fault: &PlanFault) {
         self.met.count_fault(fault);
         match fault {
-            PlanFault::Conflict(_) => self.renew(s),
+            PlanFault::Conflict(_) | PlanFault::Lost(_) => self.renew(s),
             _ => {}
         }
     }
@@ -395,9 +448,54 @@ impl History {
         }
     }
 
-    /// One drawn step of a session: a few rows, and a flush in most.
+    /// The change of a strip of drawn others, or why it is refused. `Flush` where the plain strip differs.
+    fn plan_strip(&mut self, sample: &LogSample) -> Result<Result<Next, PlanFault>, Wrong> {
+        let Some(newest) = self.worlds.last() else {
+            return Err(Wrong::Flush);
+        };
+        let numbers = draw_others(self.alloc, &mut self.draws, newest)?;
+        compared_strip(self.alloc, sample, newest, &numbers)
+    }
+
+    /// Plans a strip of drawn others. `None` where it is refused or writes nothing.
+    fn strip(&mut self, sample: &LogSample) -> Result<Option<Next>, Wrong> {
+        match self.plan_strip(sample)? {
+            Ok(next) if next.change.same => Ok(None),
+            Ok(next) => {
+                self.met.count_strip();
+                Ok(Some(next))
+            }
+            Err(fault) => {
+                self.met.count_fault(&fault);
+                Ok(None)
+            }
+        }
+    }
+
+    /// Whether the session has rows.
+    fn has_rows(&self, s: usize) -> bool {
+        self.sessions
+            .get(s)
+            .is_some_and(|session| !session.rows.is_empty())
+    }
+
+    /// A drawn strip of a session, where it has no rows.
+    fn step_strip(&mut self, sample: LogSample, s: usize) -> Result<LogSample, Wrong> {
+        if self.has_rows(s) {
+            return Ok(sample);
+        }
+        match self.strip(&sample)? {
+            Some(next) => self.store(sample, s, next),
+            None => Ok(sample),
+        }
+    }
+
+    /// One drawn step of a session: a few rows, and a flush in most; or a strip.
     pub fn step(&mut self, sample: LogSample) -> Result<LogSample, Wrong> {
         let s = self.draws.below(SESSIONS) as usize;
+        if self.draws.one_of(4) {
+            return self.step_strip(sample, s);
+        }
         match self.next(&sample, s)? {
             Some(next) => self.store(sample, s, next),
             None => Ok(sample),

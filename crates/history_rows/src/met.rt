@@ -1,10 +1,13 @@
 //! What the draws of a history met.
 
-use crate::plain::{Commit, World, find};
+use crate::plain::{Commit, World, find, first_lost};
 use flush_rebuild::{Limit, PlanFault};
 
 /// How many flushes are to be stored at least.
 const FLUSHES: u32 = 200;
+
+/// How many strips are to be stored at least.
+const STRIPS: u32 = 24;
 
 /// How often each kind of flush was met.
 #[derive(Clone, Copy, Drop)]
@@ -24,6 +27,10 @@ pub struct Met {
     pub full_others: u32,
     pub full_master: u32,
     pub full_log: u32,
+    pub strips: u32,
+    pub emptied: u32,
+    pub lost: u32,
+    pub lost_behind_conflicts: u32,
 }
 
 impl Met {
@@ -45,6 +52,10 @@ impl Met {
             full_others: 0,
             full_master: 0,
             full_log: 0,
+            strips: 0,
+            emptied: 0,
+            lost: 0,
+            lost_behind_conflicts: 0,
         }
     }
 
@@ -72,6 +83,25 @@ impl Met {
                 return Some(name);
             }
         }
+        self.missed_strip()
+    }
+
+    /// A case of a strip that wasn't met, or was met too seldom.
+    fn missed_strip(&self) -> Option<&'static str> {
+        let cases = [
+            ("dozens of strips", self.strips / STRIPS),
+            ("a strip of all", self.emptied),
+            ("a lost parent", self.lost),
+            (
+                "a lost parent behind a conflict",
+                self.lost_behind_conflicts,
+            ),
+        ];
+        for (name, count) in cases {
+            if count == 0 {
+                return Some(name);
+            }
+        }
         None
     }
 
@@ -88,13 +118,15 @@ impl Met {
         }
     }
 
-    /// Counts rows of which two or more are stored with other parents.
+    /// Counts rows of which two or more are stored with other parents, and rows of which one is and another would lose a parent.
     pub fn count_conflicts(&mut self, world: &World, rows: &[Commit]) {
         let conflicts = rows
             .iter()
             .filter(|row| find(&world.rows, row.number).is_some_and(|stored| stored != **row))
             .count();
+        let loses = first_lost(world, rows).is_some();
         add(&mut self.two_conflicts, conflicts > 1);
+        add(&mut self.lost_behind_conflicts, conflicts > 0 && loses);
     }
 
     /// Counts a flush that made another world of one.
@@ -103,6 +135,11 @@ impl Met {
         add(&mut self.nothing, old.is(new));
         add(&mut self.joined, has_joined(old, new));
         add(&mut self.renumbered, has_renumbered(old, new));
+    }
+
+    /// Counts a strip that is stored.
+    pub fn count_strip(&mut self) {
+        add(&mut self.strips, true);
     }
 
     /// Counts a base, the last segment of which may have grown past it.
@@ -115,6 +152,8 @@ impl Met {
         match fault {
             PlanFault::Conflict(_) => add(&mut self.conflicts, true),
             PlanFault::Unknown(_) => add(&mut self.unknown, true),
+            PlanFault::Lost(_) => add(&mut self.lost, true),
+            PlanFault::Emptied(_) => add(&mut self.emptied, true),
             PlanFault::Full(Limit::Others, _) => add(&mut self.full_others, true),
             PlanFault::Full(Limit::Master, _) => add(&mut self.full_master, true),
             _ => {}

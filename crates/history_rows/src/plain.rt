@@ -106,7 +106,8 @@ fn put(rows: &mut Vec<Commit>, row: Commit) -> Result<(), AllocError> {
     Ok(())
 }
 
-/// The rows that the world doesn't have; `Conflict` names the first that it has with other parents.
+/// The rows that the world doesn't have; `Conflict` names the first that it has with other parents, or else `Lost` the first parent
+/// that would be missing.
 pub fn left_of(alloc: Global, world: &World, rows: &[Commit]) -> Result<Vec<Commit>, PlanFault> {
     let mut left = Vec::new(alloc);
     for row in rows {
@@ -116,7 +117,62 @@ pub fn left_of(alloc: Global, world: &World, rows: &[Commit]) -> Result<Vec<Comm
             Some(_) => return Err(PlanFault::Conflict(name_of(row.number))),
         }
     }
-    Ok(left)
+    match first_lost(world, rows) {
+        Some(number) => Err(PlanFault::Lost(name_of(number))),
+        None => Ok(left),
+    }
+}
+
+/// The first parent of those of the rows that the world doesn't have which neither it has nor is one of the rows.
+pub fn first_lost(world: &World, rows: &[Commit]) -> Option<u32> {
+    for row in rows {
+        if find(&world.rows, row.number).is_some() {
+            continue;
+        }
+        for parent in row.parents() {
+            if find(&world.rows, *parent).is_none() && find(rows, *parent).is_none() {
+                return Some(*parent);
+            }
+        }
+    }
+    None
+}
+
+/// Those of the world's others that are these or reach one.
+fn leaving(alloc: Global, world: &World, numbers: &[u32]) -> Result<Vec<Commit>, AllocError> {
+    let mut gone = Vec::new(alloc);
+    for row in world.rows.get(world.masters..).unwrap_or_default() {
+        if numbers.contains(&row.number) || row.parents().iter().any(|parent| has(&gone, *parent)) {
+            put(&mut gone, *row)?;
+        }
+    }
+    Ok(gone)
+}
+
+/// Those of the rows that don't go.
+fn staying(alloc: Global, rows: &[Commit], gone: &[Commit]) -> Result<Vec<Commit>, AllocError> {
+    let mut kept = Vec::new(alloc);
+    for row in rows {
+        if !has(gone, row.number) {
+            put(&mut kept, *row)?;
+        }
+    }
+    Ok(kept)
+}
+
+/// The rows of the world without those of its others that are these or reach one.
+fn rows_without(alloc: Global, world: &World, numbers: &[u32]) -> Result<Vec<Commit>, AllocError> {
+    let gone = leaving(alloc, world, numbers)?;
+    staying(alloc, &world.rows, &gone)
+}
+
+/// The world without those of its others that are these or reach one. `Emptied` where nothing is left.
+pub fn stripped(alloc: Global, world: &World, numbers: &[u32]) -> Result<World, PlanFault> {
+    let rows = rows_without(alloc, world, numbers)?;
+    if rows.is_empty() {
+        return Err(PlanFault::Emptied(world.rows.len() as u64));
+    }
+    Ok(World::of(alloc, rows, world.masters)?)
 }
 
 /// Whether one of these commits has the number.

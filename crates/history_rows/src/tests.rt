@@ -11,7 +11,7 @@ use std::test::Fail;
 const SEEDS: [u64; 8] = [1, 2, 3, 4, 5, 6, 7, 8];
 
 /// How many steps a history has.
-const STEPS: u32 = 60;
+const STEPS: u32 = 75;
 
 /// Draws the steps of a history.
 fn go(alloc: Global, history: &mut History) -> Result<(), Wrong> {
