@@ -1,5 +1,5 @@
 -- Logs that have a name for each commit go on so.
-use Rattle.std.proofs.Common.{◌≡◌, ◌<◌, ◌≤◌, ◌+◌, not, ℕ, zero, suc, Bool, true, false, inl, inr, ⊎_elim, List, [], ◌∷◌, ◌++◌, length, map, nat_lt, nat_eq, drop, Option, Some, None, refl, sym, ap, ◌∙◌, subst, arith, MatchOption, zero-le, true≢false, eq-or-lt_of_le, ◌-◌, append-nil, length-append, le_refl}
+use Rattle.std.proofs.Common.{◌≡◌, ◌<◌, ◌≤◌, ◌+◌, not, ℕ, Bool, true, false, inl, inr, ⊎_elim, List, [], ◌∷◌, ◌++◌, length, map, nat_lt, nat_eq, drop, Option, Some, None, refl, sym, ap, ◌∙◌, subst, arith, MatchOption, zero-le, true≢false, eq-or-lt_of_le, ◌-◌, append-nil, length-append, le_refl}
 use Rattle.std.proofs.lemmas.Bool.{ltb-true, lt-ltb}
 use Rattle.std.proofs.lemmas.List.{map-append, length-map, length-drop}
 use Rattle.std.proofs.lemmas.Grind.{flat_map-append}

@@ -1,9 +1,9 @@
 -- Whether the input is longer than its limit, by how a run ended, whatever the disk.
-use Rattle.std.proofs.Common.{ℕ, ◌≡◌, ◌+◌, ◌≤◌, ◌<◌, ◌∙◌, ◌⊎◌, ⊎_elim, true, false, true≢false, Bool, List, Option, Some, None, Ok, Err, length, nat_lt, sym, ap, tt}
+use Rattle.std.proofs.Common.{ℕ, ◌≡◌, ◌∙◌, Bool, List, Option, Ok, Err, length, sym}
 use Rattle.std.specs.declared.result.Result.{Result}
 use Rattle.std.proofs.lemmas.Bool.{ltb-true, ltb-false}
 use Rattle.outside.specs.Told.{WhereTold}
-use Rattle.outside.proofs.ToldLemmas.{WhereTold-map, WhereTold-same}
+use Rattle.outside.proofs.ToldLemmas.{WhereTold-same}
 use Rattle.line_io.specs.Reading.{Reading, is_over, new_reading}
 use Rattle.line_io.specs.Next.{NextLine}
 use Rattle.line_io.specs.declared.lines.LineFault.{LineFault}
@@ -19,30 +19,30 @@ use Rattle.program_words.specs.declared.usage.Mode.TheVariants.{Run}
 use Rattle.dag_run.proofs.Usages.{only-memory}
 
 -- no line could be read
-pub fault-over : {S : Type 0} (fault : LineFault) (old new : Reading) (before after : List ℕ) → NextLine (Err fault) old before new after
+pub fault-over : (S : Type 0) (fault : LineFault) (old new : Reading) (before after : List ℕ) → NextLine (Err fault) old before new after
     → GoesOver {S = S} (Err (stop_of fault)) (is_over old before) (is_over new after)
-fault-over Read old new before after h = tt
-fault-over Limit old new before after h = h.1
+fault-over S Read old new before after h = tt
+fault-over S Limit old new before after h = h.1
 
 -- a line stopped the run
-pub line-over : {S : Type 0} (stop : Stop) → IsLineStop stop → (old new : Bool) → GoesOver {S = S} (Err stop) old new
-line-over stops.Memory is old new = tt
-line-over stops.NoLog is old new = tt
-line-over stops.NotLoaded is old new = tt
-line-over stops.NotStored is old new = tt
-line-over stops.Source is old new = tt
-line-over stops.Sink is old new = tt
-line-over stops.Limit is old new = absurd is
+pub line-over : (S : Type 0) (stop : Stop) → IsLineStop stop → (old new : Bool) → GoesOver {S = S} (Err stop) old new
+line-over S stops.Memory is old new = tt
+line-over S stops.NoLog is old new = tt
+line-over S stops.NotLoaded is old new = tt
+line-over S stops.NotStored is old new = tt
+line-over S stops.Source is old new = tt
+line-over S stops.Sink is old new = tt
+line-over S stops.Limit is old new = absurd is
 
 -- one of some lines did
-pub stop-over : {S : Type 0} (stop : Stop) (first old new : Bool) → old ≡ first → GoesOver {S = S} (Err stop) old new → IsOverAt (Err stop) first
-stop-over stops.Memory first old new same h = tt
-stop-over stops.NoLog first old new same h = tt
-stop-over stops.NotLoaded first old new same h = tt
-stop-over stops.NotStored first old new same h = tt
-stop-over stops.Source first old new same h = tt
-stop-over stops.Sink first old new same h = tt
-stop-over stops.Limit first old new same h = sym same ∙ h
+pub stop-over : (S : Type 0) (stop : Stop) (first old new : Bool) → old ≡ first → GoesOver {S = S} (Err stop) old new → IsOverAt (Err stop) first
+stop-over S stops.Memory first old new same h = tt
+stop-over S stops.NoLog first old new same h = tt
+stop-over S stops.NotLoaded first old new same h = tt
+stop-over S stops.NotStored first old new same h = tt
+stop-over S stops.Source first old new same h = tt
+stop-over S stops.Sink first old new same h = tt
+stop-over S stops.Limit first old new same h = sym same ∙ h
 
 -- no store was loaded
 pub load-over : (stop : Stop) → IsLoadStop stop → (over : Bool) → IsOverAt (Err stop) over

@@ -1,5 +1,5 @@
 -- Which mirrors a run may have.
-use Rattle.std.specs.Prelude.{ℕ, ◌≡◌, ◌<◌, ◌⊎◌, false, List, length}
+use Rattle.std.specs.Prelude.{◌≡◌, ◌<◌, ◌⊎◌, false, List, length}
 use Rattle.std.specs.List.{AllByRecursion}
 use Rattle.id_groups.specs.Name.{Name}
 use Rattle.commit_graph.specs.World.{World, rows_of}

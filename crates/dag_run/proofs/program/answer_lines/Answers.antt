@@ -2,6 +2,7 @@ use Rattle.std.proofs.Common.{◌≤◌, ◌∙◌, rules, refl, sym, arith}
 use Rattle.std.proofs.lemmas.Result.{err_from_is_err_and}
 use Rattle.outside.proofs.ToldLemmas.{WhereTold-join, WhereTold-same}
 use Rattle.dag_run.specs.Seen.{seen}
+use Rattle.dag_store.specs.Kept.{PlainStore}
 use Rattle.dag_run.proofs.Over.{stop-over}
 use Rattle.dag_run.proofs.program.answer_lines.Goals as goal
 
@@ -68,7 +69,7 @@ pub returns-in_err-next-clause-over : goal.returns-in_err-next-clause-over
 returns-in_err-next-clause-over g c =
     let p = err_from_is_err_and c.from_residual.result c.from_residual.ensures.1 in
     rw (p.1, p.2) (WhereTold-join (g.I.Source.left c.args.input.now) (g.I.Source.left c.lines.input) (g.I.Source.left c.answer_next.new.input) _ _ _
-    (λ x y z same turn. stop-over c.in_err-next.field-0.0 _ _ _ same turn) c.lines.invariant.over c.in_err-next.ensures.over)
+    (λ x y z same turn. stop-over PlainStore c.in_err-next.field-0.0 _ _ _ same turn) c.lines.invariant.over c.in_err-next.ensures.over)
 
 pub returns-clause-over : goal.returns-clause-over
 returns-clause-over g c =

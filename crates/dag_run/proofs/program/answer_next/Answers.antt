@@ -14,6 +14,7 @@ use Rattle.dag_run.proofs.Going.{going-as, going-line}
 use Rattle.dag_run.proofs.Ending.{means-as, going-end, going-fault, going-stop}
 use Rattle.dag_run.proofs.Statuses.{fault-answers, line-answers}
 use Rattle.dag_run.proofs.Over.{fault-over, line-over}
+use Rattle.dag_store.specs.Kept.{PlainStore}
 use Rattle.dag_run.proofs.program.answer_next.Goals as goal
 
 pub returns-in-Err-clause-means : goal.returns-in-Err-clause-means
@@ -107,13 +108,22 @@ pub returns-in-Err-clause-over : goal.returns-in-Err-clause-over
 returns-in-Err-clause-over g c =
     let old = c.args.lines.now in let new = c.next.new.self in
     rw c.fail_run.ensures (WhereTold-map (g.I.Source.left c.args.input.now) (g.I.Source.left c.next.new.source) (λ x y. NextLine (Err c.in-Err.fault) old x new y) _
-    (λ x y h. fault-over c.in-Err.fault old new x y h) c.in-Err.ensures.line)
+    (λ x y h. fault-over PlainStore c.in-Err.fault old new x y h) c.in-Err.ensures.line)
 
-pub returns-in-Ok-Some-execute-clause-over : goal.returns-in-Ok-Some-execute-clause-over
-returns-in-Ok-Some-execute-clause-over g c = ?
+pub returns-in-Ok-clause-over : goal.returns-in-Ok-clause-over
+returns-in-Ok-clause-over g c =
+    let old = c.args.lines.now in let new = c.next.new.self in
+    WhereTold-map (g.I.Source.left c.args.input.now) (g.I.Source.left c.next.new.source) (λ x y. NextLine (Ok (Some c.in-Ok-Some.kind)) old x new y) _
+    (λ x y h. h.3) (rw c.in-Ok-Some.field-0-is at c.in-Ok-Some.ensures.line)
+
+pub returns-in-Ok-None-clause-over : goal.returns-in-Ok-None-clause-over
+returns-in-Ok-None-clause-over g c =
+    let old = c.args.lines.now in let new = c.next.new.self in
+    rw c.end_run.ensures (WhereTold-map (g.I.Source.left c.args.input.now) (g.I.Source.left c.next.new.source) (λ x y. NextLine (Ok None) old x new y) _
+    (λ x y h. h.1) (rw c.in-Ok-None.field-0-is at c.in-Ok-None.ensures.line))
 
 pub returns-in-Err-execute-clause-over : goal.returns-in-Err-execute-clause-over
 returns-in-Err-execute-clause-over g c =
     let old = c.args.lines.now in let new = c.next.new.self in
     WhereTold-map (g.I.Source.left c.args.input.now) (g.I.Source.left c.next.new.source) (λ x y. NextLine (Ok (Some c.in-Ok-Some.kind)) old x new y) _
-    (λ x y h. line-over c.in-Err-execute.stop c.in-Err-execute.ensures.stop (is_over old x) (is_over new y)) (rw c.in-Ok-Some.field-0-is at c.in-Ok-Some.ensures.line)
+    (λ x y h. line-over PlainStore c.in-Err-execute.stop c.in-Err-execute.ensures.stop (is_over old x) (is_over new y)) (rw c.in-Ok-Some.field-0-is at c.in-Ok-Some.ensures.line)

@@ -4,7 +4,6 @@ use Rattle.outside.specs.Told.{WhereTold}
 use Rattle.program_words.specs.declared.usage.Mode.TheVariants.{Demo, Run}
 use Rattle.dag_run.specs.Demo.{DemoMeans}
 use Rattle.dag_run.specs.Modes.{EndsAtOnce}
-use Rattle.dag_run.specs.Seen.{seen}
 use Rattle.dag_run.proofs.Usages.{once-means, cache-least, one-cache, once-refuses, once-demo, one-mode, run-or-demo, of-demo, size-least, demo-means}
 use Rattle.dag_run.proofs.Over.{once-over}
 use Rattle.dag_run.proofs.program.top.Goals as goal
