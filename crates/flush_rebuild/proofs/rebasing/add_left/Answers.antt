@@ -1,4 +1,4 @@
-use Rattle.std.proofs.Common.{◌≡◌, ◌∙◌, inl, inr, ⊎_elim, ap}
+use Rattle.std.proofs.Common.{◌∙◌, inl, inr, ⊎_elim, ap}
 use Rattle.id_groups.specs.Name.{same_name}
 use Rattle.change_rules.specs.Rebase.{first_lost}
 use Rattle.flush_rebuild.specs.Plans.{first_of, conflict_fault, lost_fault}

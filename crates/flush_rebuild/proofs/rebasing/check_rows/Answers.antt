@@ -1,4 +1,4 @@
-use Rattle.std.proofs.Common.{◌≡◌, ◌<◌, ◌+◌, ◌∙◌, ◌⊎◌, [], map, length, sym, subst, arith}
+use Rattle.std.proofs.Common.{◌∙◌, [], map, arith}
 use Rattle.high_segments.specs.Views.{flats_in}
 use Rattle.commit_graph.specs.World.{with_pending}
 use Rattle.payload_tables.specs.Bases.{id_row}

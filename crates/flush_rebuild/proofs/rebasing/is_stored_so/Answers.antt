@@ -1,4 +1,4 @@
-use Rattle.std.proofs.Common.{◌≡◌, ◌∙◌, ℕ, nat_eq, inl, inr, refl, subst, ap}
+use Rattle.std.proofs.Common.{◌∙◌, ℕ, nat_eq, inl, inr, refl, subst, ap}
 use Rattle.std.specs.Prelude.{MatchOption}
 use Rattle.std.specs.Cmp.Lexicographic.{pointwise}
 use Rattle.std.specs.List.{AllZip}

@@ -1,4 +1,4 @@
-use Rattle.std.proofs.Common.{◌≡◌, ◌<◌, ◌+◌, ◌∙◌, ◌⊎◌, [], map, take, length, sym, subst, arith}
+use Rattle.std.proofs.Common.{◌≡◌, ◌+◌, ◌∙◌, ◌⊎◌, [], map, take, sym, subst, arith}
 use Rattle.commit_graph.specs.World.{with_pending}
 use Rattle.payload_tables.specs.Bases.{id_row}
 use Rattle.payload_tables.proofs.Rows.{get-below}

@@ -1,4 +1,4 @@
-use Rattle.std.proofs.Common.{◌≡◌, ◌<◌, ◌≤◌, ◌+◌, length, sym, subst}
+use Rattle.std.proofs.Common.{◌<◌, ◌≤◌, ◌+◌, length, sym, subst}
 use Rattle.std.specs.List.{AllByRecursion}
 use Rattle.id_groups.specs.Id.{other_id}
 use Rattle.payload_tables.proofs.Rows.{count-rows}

@@ -1,8 +1,7 @@
-use Rattle.std.proofs.Common.{◌≡◌, ◌<◌, ◌≤◌, ◌∙◌, ◌^◌, None, subst, sym, ap, arith}
+use Rattle.std.proofs.Common.{◌≤◌, ◌∙◌, ◌^◌, subst, ap, arith}
 use Rattle.name_map.specs.Map.{NamesAs}
 use Rattle.payload_tables.specs.Bases.{stored_in}
 use Rattle.flush_rebuild.specs.declared.fault.PlanFault.TheVariants.{Lost}
-use Rattle.flush_rebuild.specs.Asked.{others_count}
 use Rattle.flush_rebuild.proofs.Moved.{unnamed, other-moved, other-lost, place-other}
 use Rattle.flush_rebuild.proofs.rebasing.moved_parent.Goals as goal
 

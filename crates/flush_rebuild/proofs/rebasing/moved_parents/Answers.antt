@@ -1,6 +1,6 @@
-use Rattle.std.proofs.Common.{◌≡◌, ◌<◌, inr, Some, slice_get, arith, subst}
+use Rattle.std.proofs.Common.{inr, arith, subst}
 use Rattle.std.specs.List.{AllZip}
-use Rattle.flush_rebuild.specs.Rebasing.{IsMoved, LosesFirst}
+use Rattle.flush_rebuild.specs.Rebasing.{IsMoved}
 use Rattle.flush_rebuild.proofs.Marking.{all-taken}
 use Rattle.flush_rebuild.proofs.Moved.{zip-more}
 use Rattle.flush_rebuild.proofs.Sizing.{err-match}
