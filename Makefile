@@ -23,4 +23,5 @@ test:
 	sh tests/whole_runs.sh
 	sh tests/real_files.sh
 	sh tests/format.sh
+	sh tests/damaged.sh
 	sh tests/guide.sh
