@@ -1,6 +1,8 @@
 //! A flush over a fresh disk and a strip over a log, stopped behind each call of the disk or failing at one: what each crash leaves is
 //! the world from before or the one after, and only what the moment allows.
 
+ghost use Rattle.std.specs.Prelude.{◌≤◌};
+
 use crate::answers::{FLUSH, LOG, are_answered};
 use disk_memory::{Choice, Fill, MemoryDisk};
 use disk_trait::Disk;
@@ -26,59 +28,92 @@ ok 0 1 0
 /// What is answered where the disk fails while the store is loaded.
 const NOT_LOADED: &str = "err disk\n";
 
-/// One change over a disk.
-struct Change {
-    /// The disk's bytes before it.
-    start: &'static [u8],
-    /// The lines, what they are answered, and where the disk fails at the change.
-    lines: &'static str,
-    stored: &'static str,
-    not_stored: &'static str,
-    /// What the world before it and the one after answer.
-    before: &'static str,
-    after: &'static str,
-    /// How many calls of the disk loading makes, and how many there are with the four of the change.
-    loading: u64,
-    calls: u64,
-    /// The moment behind which its gate is written, and the one at which it is acknowledged.
-    closed: u64,
-    sure: u64,
-    /// How many bytes a crash may leave: those of the start, some of the payload more, all but the last gate, and all.
-    sizes: [u64; 5],
+/// A change over a disk.
+#[derive(Clone, Copy)]
+enum Change {
+    /// A flush of two commits over a fresh disk.
+    Flush,
+    /// A strip of the second over their log.
+    Strip,
 }
 
-/// A flush of two commits over a fresh disk.
-const FLUSHED: Change = Change {
-    start: &[],
-    lines: FLUSH,
-    stored: "ok added N0\nok added N1\nok flushed 0 2\n",
-    not_stored: "ok added N0\nok added N1\nerr disk\n",
-    before: NOTHING,
-    after: BOTH,
-    loading: 4,
-    calls: 8,
-    closed: 12,
-    sure: 16,
-    sizes: [0, 1, 50, 109, 110],
-};
+impl Change {
+    /// The disk's bytes before it.
+    fn start(self) -> &'static [u8] {
+        match self {
+            Change::Flush => &[],
+            Change::Strip => &LOG,
+        }
+    }
 
-/// A strip of the second over their log.
-const STRIPPED: Change = Change {
-    start: &LOG,
-    lines: "0 strip 00000000000000000000000000000000000000b1\n",
-    stored: "ok stripped 0 1\n",
-    not_stored: "err disk\n",
-    before: BOTH,
-    after: FIRST,
-    loading: 3,
-    calls: 7,
-    closed: 10,
-    sure: 14,
-    sizes: [110, 111, 150, 198, 199],
-};
+    /// Its lines.
+    fn lines(self) -> &'static str {
+        match self {
+            Change::Flush => FLUSH,
+            Change::Strip => "0 strip 00000000000000000000000000000000000000b1\n",
+        }
+    }
+
+    /// What they are answered.
+    fn stored(self) -> &'static str {
+        match self {
+            Change::Flush => "ok added N0\nok added N1\nok flushed 0 2\n",
+            Change::Strip => "ok stripped 0 1\n",
+        }
+    }
+
+    /// What they are answered where the disk fails at the change.
+    fn not_stored(self) -> &'static str {
+        match self {
+            Change::Flush => "ok added N0\nok added N1\nerr disk\n",
+            Change::Strip => "err disk\n",
+        }
+    }
+
+    /// What the world before it answers.
+    fn before(self) -> &'static str {
+        match self {
+            Change::Flush => NOTHING,
+            Change::Strip => BOTH,
+        }
+    }
+
+    /// What the world after it answers.
+    fn after(self) -> &'static str {
+        match self {
+            Change::Flush => BOTH,
+            Change::Strip => FIRST,
+        }
+    }
+
+    /// How many calls of the disk loading makes before the four of the change.
+    fn loading(self) -> u64
+        ensures { result ≤ 4 }
+    {
+        match self {
+            Change::Flush => 4,
+            Change::Strip => 3,
+        }
+    }
+
+    /// The moment behind which its gate is written: two calls of the change have returned.
+    fn closed(self) -> u64
+        ensures { result ≤ 12 }
+    {
+        2 * self.loading() + 4
+    }
+
+    /// How many bytes a crash may leave: those of the start, some of the payload more, all but the last gate, and all.
+    fn sizes(self) -> &'static [u64] {
+        match self {
+            Change::Flush => &[0, 1, 50, 109, 110],
+            Change::Strip => &[110, 111, 150, 198, 199],
+        }
+    }
+}
 
 /// The world that a disk has.
-#[derive(Clone, Copy, PartialEq, Eq, Debug)]
+#[derive(Clone, Copy, PartialEq, Eq)]
 enum World {
     /// That of the start.
     Before,
@@ -89,11 +124,11 @@ enum World {
 }
 
 /// Which world a run over the disk tells.
-fn world_of(alloc: Global, change: &Change, disk: &mut MemoryDisk) -> Result<World, AllocError> {
-    if are_answered(alloc, disk, ALL, (0, 0), change.before)? {
+fn world_of(alloc: Global, change: Change, disk: &mut MemoryDisk) -> Result<World, AllocError> {
+    if are_answered(alloc, disk, ALL, (0, 0), change.before())? {
         return Ok(World::Before);
     }
-    if are_answered(alloc, disk, ALL, (0, 0), change.after)? {
+    if are_answered(alloc, disk, ALL, (0, 0), change.after())? {
         return Ok(World::After);
     }
     Ok(World::Wrong)
@@ -102,7 +137,7 @@ fn world_of(alloc: Global, change: &Change, disk: &mut MemoryDisk) -> Result<Wor
 /// Which world a crash leaves at a moment that the disk has reached.
 fn world_left(
     alloc: Global,
-    change: &Change,
+    change: Change,
     disk: &MemoryDisk,
     choice: &Choice,
 ) -> Result<World, AllocError> {
@@ -114,10 +149,10 @@ fn world_left(
 }
 
 /// Whether a crash may leave the world at the moment, of a change that was acknowledged, or wasn't.
-fn may_be_left(change: &Change, world: World, moment: u64, acknowledged: bool) -> bool {
+fn may_be_left(change: Change, world: World, moment: u64, acknowledged: bool) -> bool {
     match world {
-        World::Before => moment < change.sure || !acknowledged,
-        World::After => moment > change.closed,
+        World::Before => moment < change.closed() + 4 || !acknowledged,
+        World::After => moment > change.closed(),
         World::Wrong => false,
     }
 }
@@ -128,13 +163,13 @@ const FILLS: [Fill; 4] = [Fill::Old, Fill::New, Fill::Byte(127), Fill::Byte(1)];
 /// Whether each crash at the moment with this fill leaves what it may.
 fn fill_is_right(
     alloc: Global,
-    change: &Change,
+    change: Change,
     disk: &MemoryDisk,
     moment: u64,
     fill: Fill,
     acknowledged: bool,
 ) -> Result<bool, AllocError> {
-    for size in &change.sizes {
+    for size in change.sizes() {
         let size = *size;
         let choice = Choice { moment, fill, size };
         let world = world_left(alloc, change, disk, &choice)?;
@@ -148,7 +183,7 @@ fn fill_is_right(
 /// Whether each crash at the moment leaves what it may.
 fn moment_is_right(
     alloc: Global,
-    change: &Change,
+    change: Change,
     disk: &MemoryDisk,
     moment: u64,
     acknowledged: bool,
@@ -164,7 +199,7 @@ fn moment_is_right(
 /// The first moment that the disk has reached at which a crash leaves what it may not.
 fn first_wrong(
     alloc: Global,
-    change: &Change,
+    change: Change,
     disk: &MemoryDisk,
     acknowledged: bool,
 ) -> Result<Option<u64>, AllocError> {
@@ -178,31 +213,40 @@ fn first_wrong(
 }
 
 /// How the change ends where the disk fails at the call of this number: loading makes the first ones, the change the others.
-fn end_at(change: &Change, call: u64) -> ((u8, usize), &'static str) {
-    if call <= change.loading {
+fn end_at(change: Change, call: u64) -> ((u8, usize), &'static str) {
+    if call <= change.loading() {
         ((3, 0), NOT_LOADED)
-    } else if call <= change.calls {
-        ((3, 0), change.not_stored)
+    } else if call <= change.loading() + 4 {
+        ((3, 0), change.not_stored())
     } else {
-        ((0, 1), change.stored)
+        ((0, 1), change.stored())
     }
 }
 
+/// Whether the change over the disk ends as it should where that fails at the call of this number.
+fn ends_at(
+    alloc: Global,
+    change: Change,
+    disk: &mut MemoryDisk,
+    call: u64,
+) -> Result<bool, AllocError> {
+    let (wanted, replies) = end_at(change, call);
+    are_answered(alloc, disk, change.lines(), wanted, replies)
+}
+
 /// Whether the change over a disk that stops behind so many calls ends as it should, and each crash at each moment leaves what it may.
-fn stop_is_right(alloc: Global, change: &Change, calls: u64) -> Result<bool, AllocError> {
-    let mut disk = MemoryDisk::new(alloc, change.start, &[], Some(calls))?;
-    let (wanted, replies) = end_at(change, calls.saturating_add(1));
-    if !are_answered(alloc, &mut disk, change.lines, wanted, replies)? {
-        return Ok(false);
-    }
-    Ok(first_wrong(alloc, change, &disk, wanted.0 == 0)?.is_none())
+fn stop_is_right(alloc: Global, change: Change, calls: u64) -> Result<bool, AllocError> {
+    let mut disk = MemoryDisk::new(alloc, change.start(), &[], Some(calls))?;
+    let acknowledged = calls >= change.loading() + 4;
+    let is_ended = ends_at(alloc, change, &mut disk, calls.saturating_add(1))?;
+    Ok(is_ended && first_wrong(alloc, change, &disk, acknowledged)?.is_none())
 }
 
 #[test]
 fn a_flush_stops_behind_each_call(rt: HostRuntime) -> Result<(), AllocError> {
     for calls in 0..9u8 {
         assert!(rt;
-            stop_is_right(rt.alloc(), &FLUSHED, u64::from(calls))?,
+            stop_is_right(rt.alloc(), Change::Flush, u64::from(calls))?,
             "behind {calls}"
         );
     }
@@ -213,7 +257,7 @@ fn a_flush_stops_behind_each_call(rt: HostRuntime) -> Result<(), AllocError> {
 fn a_strip_stops_behind_each_call(rt: HostRuntime) -> Result<(), AllocError> {
     for calls in 0..8u8 {
         assert!(rt;
-            stop_is_right(rt.alloc(), &STRIPPED, u64::from(calls))?,
+            stop_is_right(rt.alloc(), Change::Strip, u64::from(calls))?,
             "behind {calls}"
         );
     }
@@ -222,20 +266,18 @@ fn a_strip_stops_behind_each_call(rt: HostRuntime) -> Result<(), AllocError> {
 
 /// Whether the change over a disk of which a call fails ends as it should, with the clock behind that call, and each crash at the end
 /// leaves what it may.
-fn failure_is_right(alloc: Global, change: &Change, call: u64) -> Result<bool, AllocError> {
-    let mut disk = MemoryDisk::new(alloc, change.start, &[call], None)?;
-    let (wanted, replies) = end_at(change, call);
-    if !are_answered(alloc, &mut disk, change.lines, wanted, replies)? || call > 8 {
-        return Ok(false);
-    }
-    Ok(disk.clock() == 2 * call && moment_is_right(alloc, change, &disk, 2 * call, false)?)
+fn failure_is_right(alloc: Global, change: Change, call: u64) -> Result<bool, AllocError> {
+    let mut disk = MemoryDisk::new(alloc, change.start(), &[call], None)?;
+    let is_ended = ends_at(alloc, change, &mut disk, call)?;
+    let moment = 2 * call.min(8);
+    Ok(is_ended && disk.clock() == moment && moment_is_right(alloc, change, &disk, moment, false)?)
 }
 
 #[test]
 fn a_flush_fails_at_each_call(rt: HostRuntime) -> Result<(), AllocError> {
     for call in 1..9u8 {
         assert!(rt;
-            failure_is_right(rt.alloc(), &FLUSHED, u64::from(call))?,
+            failure_is_right(rt.alloc(), Change::Flush, u64::from(call))?,
             "at {call}"
         );
     }
@@ -246,40 +288,34 @@ fn a_flush_fails_at_each_call(rt: HostRuntime) -> Result<(), AllocError> {
 fn a_strip_fails_at_each_call(rt: HostRuntime) -> Result<(), AllocError> {
     for call in 1..8u8 {
         assert!(rt;
-            failure_is_right(rt.alloc(), &STRIPPED, u64::from(call))?,
+            failure_is_right(rt.alloc(), Change::Strip, u64::from(call))?,
             "at {call}"
         );
     }
     Ok(())
 }
 
-/// The worlds that crashes leave while the gate is written: with what was there before, and with what is written.
-fn left_by_gate(alloc: Global, change: &Change) -> Result<(World, World), AllocError> {
-    let mut disk = MemoryDisk::new(alloc, change.start, &[], None)?;
-    if !are_answered(alloc, &mut disk, change.lines, (0, 1), change.stored)? {
-        return Ok((World::Wrong, World::Wrong));
+/// The world that a crash leaves while the gate is written, with what was there before or with what is written.
+fn left_by_gate(alloc: Global, change: Change, fill: Fill) -> Result<World, AllocError> {
+    let mut disk = MemoryDisk::new(alloc, change.start(), &[], None)?;
+    if !are_answered(alloc, &mut disk, change.lines(), (0, 1), change.stored())? {
+        return Ok(World::Wrong);
     }
-    let moment = change.closed.saturating_add(2);
-    let old = Choice {
-        moment,
-        fill: Fill::Old,
-        size: 199,
-    };
-    let new = Choice {
-        moment,
-        fill: Fill::New,
-        size: 199,
-    };
-    Ok((
-        world_left(alloc, change, &disk, &old)?,
-        world_left(alloc, change, &disk, &new)?,
-    ))
+    let moment = change.closed() + 2;
+    let size = 199;
+    world_left(alloc, change, &disk, &Choice { moment, fill, size })
+}
+
+/// Whether it is the world from before or the one after, by that.
+fn leaves_either(alloc: Global, change: Change) -> Result<bool, AllocError> {
+    let old = left_by_gate(alloc, change, Fill::Old)?;
+    let new = left_by_gate(alloc, change, Fill::New)?;
+    Ok(old == World::Before && new == World::After)
 }
 
 #[test]
 fn either_world_is_left_while_the_gate_is_written(rt: HostRuntime) -> Result<(), AllocError> {
-    let both = (World::Before, World::After);
-    assert_eq!(rt; left_by_gate(rt.alloc(), &FLUSHED)?, both);
-    assert_eq!(rt; left_by_gate(rt.alloc(), &STRIPPED)?, both);
+    assert!(rt; leaves_either(rt.alloc(), Change::Flush)?);
+    assert!(rt; leaves_either(rt.alloc(), Change::Strip)?);
     Ok(())
 }
