@@ -125,7 +125,7 @@ module _ (limits : Limits) (fair : AreLimits limits) (w : World Name) (payloads 
       ⊎_elim
       (λ le. unloaded (stopped-loading limits w payloads before.disk after.disk fresh holds) (inr (refl, le)))
       (λ lt. unloaded (stopped-loaded limits w payloads before.disk after.disk fresh holds (log-of limits.log before.disk.bytes w payloads begins.0.read) (behind lt))
-          (inl (let near : moment_of before.disk + 2 ≤ moment_of before.disk + 2 = omega arith in near)))
+      (inl (let near : moment_of before.disk + 2 ≤ moment_of before.disk + 2 = omega arith in near)))
       (le_or_lt (moment_of after.disk) (moment_of before.disk + 2))
     where
       fresh : ArePrefixes payloads (start w payloads)

@@ -12,6 +12,7 @@ use std::alloc::{AllocError, Global};
 
 /// How many commits the log has, and how many lines go over it.
 const COMMITS: u64 = 90;
+
 const LINES: u64 = 300;
 
 /// What a mirror is made of.

@@ -88,11 +88,7 @@ fn add_flush(alloc: Global, text: &mut String, from: u64, to: u64) -> Result<(),
 }
 
 /// The lines that store so many commits in master, by a flush for each sixteen.
-pub fn stored_lines(
-    alloc: Global,
-    draws: &mut Draws,
-    commits: u64,
-) -> Result<String, AllocError> {
+pub fn stored_lines(alloc: Global, draws: &mut Draws, commits: u64) -> Result<String, AllocError> {
     let mut text = String::new(alloc);
     for number in 0..commits {
         let parents = draw_parents(draws, number);
