@@ -15,4 +15,4 @@ if ! command -v python3 > /dev/null; then
 fi
 folder=$(mktemp -d)
 trap 'rm -rf "$folder"' EXIT
-PYTHONDONTWRITEBYTECODE=1 python3 tests/damaged.py "$program" "$folder" "${1:-400}" "${2:-1}"
+PYTHONDONTWRITEBYTECODE=1 python3 tests/damaged.py "$program" "$folder" "${1:-150}" "${2:-1}"
