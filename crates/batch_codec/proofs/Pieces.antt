@@ -23,13 +23,13 @@ let-through false x y e = (refl, cc)
 
 -- ---- numbers
 
-record IsWide (w : Width) (limit : ℕ) : Type 0 where
+pub record IsWide (w : Width) (limit : ℕ) : Type 0 where
   pub len : (n : ℕ) → length (to_be_bytes w n) ≡ byte_len w
   pub back : (bytes : List ℕ) → length bytes ≡ byte_len w → IsBytes bytes → to_be_bytes w (from_be_bytes w bytes) ≡ bytes
   pub again : (n : ℕ) → n < limit → from_be_bytes w (to_be_bytes w n) ≡ n
   pub below : (bytes : List ℕ) → IsBytes bytes → from_be_bytes w bytes < limit
 
-wide16 : IsWide w16 (2 ^ 16)
+pub wide16 : IsWide w16 (2 ^ 16)
 wide16 = record {
   len = λ n. refl;
   back = λ bytes len fits. be_bytes_2 bytes _ len fits refl;
@@ -37,7 +37,7 @@ wide16 = record {
   below = λ bytes fits. omega (arith, fits 0, fits 1);
 }
 
-wide32 : IsWide w32 (2 ^ 32)
+pub wide32 : IsWide w32 (2 ^ 32)
 wide32 = record {
   len = λ n. refl;
   back = λ bytes len fits. be_bytes_4 bytes _ len fits refl;
@@ -45,7 +45,7 @@ wide32 = record {
   below = λ bytes fits. omega (arith, fits 0, fits 1, fits 2, fits 3);
 }
 
-wide64 : IsWide w64 (2 ^ 64)
+pub wide64 : IsWide w64 (2 ^ 64)
 wide64 = record {
   len = λ n. refl;
   back = λ bytes len fits. be_bytes_8 bytes _ len fits refl;
@@ -53,12 +53,12 @@ wide64 = record {
   below = λ bytes fits. omega (arith, fits 0, fits 1, fits 2, fits 3, fits 4, fits 5, fits 6, fits 7);
 }
 
-record FixedTaken (w : Width) (limit : ℕ) (bytes : List ℕ) (x : ℕ × List ℕ) : Type 0 where
+pub record FixedTaken (w : Width) (limit : ℕ) (bytes : List ℕ) (x : ℕ × List ℕ) : Type 0 where
   pub parts : bytes ≡ to_be_bytes w x.0 ++ x.1
   pub below : x.0 < limit
   pub rest : IsBytes x.1
 
-fixed_takes : (w : Width) (limit : ℕ) (wide : IsWide w limit) (bytes : List ℕ) (x : ℕ × List ℕ) → IsBytes bytes → fixed_at w bytes ≡ Some x → FixedTaken w limit bytes x
+pub fixed_takes : (w : Width) (limit : ℕ) (wide : IsWide w limit) (bytes : List ℕ) (x : ℕ × List ℕ) → IsBytes bytes → fixed_at w bytes ≡ Some x → FixedTaken w limit bytes x
 fixed_takes w limit wide bytes x fits e =
     let made : ℕ × List ℕ = (from_be_bytes w (take (byte_len w) bytes), drop (byte_len w) bytes) in
     let g = let-through (ltb (length bytes) (byte_len w)) made x e in
@@ -71,7 +71,7 @@ fixed_takes w limit wide bytes x fits e =
       rest = bytes-drop (to_be_bytes w made.0) made.1 bytes parts fits;
     })
 
-fixed_again : (w : Width) (limit : ℕ) (wide : IsWide w limit) (n : ℕ) (rest : List ℕ) → n < limit → fixed_at w (to_be_bytes w n ++ rest) ≡ Some (n, rest)
+pub fixed_again : (w : Width) (limit : ℕ) (wide : IsWide w limit) (n : ℕ) (rest : List ℕ) → n < limit → fixed_at w (to_be_bytes w n ++ rest) ≡ Some (n, rest)
 fixed_again w limit wide n rest lt =
     let len = wide.len n in
     let long : ltb (length (to_be_bytes w n ++ rest)) (byte_len w) ≡ false = le-ltb _ _ (omega (arith, len, length-append (to_be_bytes w n) rest)) in
@@ -79,13 +79,13 @@ fixed_again w limit wide n rest lt =
 
 -- ---- pieces
 
-record PieceTaken (n : ℕ) (bytes : List ℕ) (x : List ℕ × List ℕ) : Type 0 where
+pub record PieceTaken (n : ℕ) (bytes : List ℕ) (x : List ℕ × List ℕ) : Type 0 where
   pub parts : bytes ≡ x.0 ++ x.1
   pub len : length x.0 ≡ n
   pub front : IsBytes x.0
   pub rest : IsBytes x.1
 
-piece_takes : (n : ℕ) (bytes : List ℕ) (x : List ℕ × List ℕ) → IsBytes bytes → piece_at n bytes ≡ Some x → PieceTaken n bytes x
+pub piece_takes : (n : ℕ) (bytes : List ℕ) (x : List ℕ × List ℕ) → IsBytes bytes → piece_at n bytes ≡ Some x → PieceTaken n bytes x
 piece_takes n bytes x fits e =
     let made : List ℕ × List ℕ = (take n bytes, drop n bytes) in
     let g = let-through (ltb (length bytes) n) made x e in
@@ -98,20 +98,20 @@ piece_takes n bytes x fits e =
       rest = bytes-drop (take n bytes) (drop n bytes) bytes parts fits;
     })
 
-piece_again : (n : ℕ) (front rest : List ℕ) → length front ≡ n → piece_at n (front ++ rest) ≡ Some (front, rest)
+pub piece_again : (n : ℕ) (front rest : List ℕ) → length front ≡ n → piece_at n (front ++ rest) ≡ Some (front, rest)
 piece_again n front rest len =
     let long : ltb (length (front ++ rest)) n ≡ false = le-ltb _ _ (omega (arith, len, length-append front rest)) in
     rw (long, take_at front rest n len, drop_at front rest n len) refl
 
 -- ---- names
 
-record NamesTaken (count : ℕ) (bytes : List ℕ) (x : List Name × List ℕ) : Type 0 where
+pub record NamesTaken (count : ℕ) (bytes : List ℕ) (x : List Name × List ℕ) : Type 0 where
   pub parts : bytes ≡ names_bytes x.0 ++ x.1
   pub many : length x.0 ≡ count
   pub are : AllByRecursion IsName x.0
   pub rest : IsBytes x.1
 
-names_takes : (count : ℕ) (bytes : List ℕ) (x : List Name × List ℕ) → IsBytes bytes → names_at count bytes ≡ Some x → NamesTaken count bytes x
+pub names_takes : (count : ℕ) (bytes : List ℕ) (x : List Name × List ℕ) → IsBytes bytes → names_at count bytes ≡ Some x → NamesTaken count bytes x
 unfolding names_at
 names_takes count bytes x fits e =
     let a = bind_some (piece_at (20 * count) bytes) (λ piece. Some (names_in count piece.0, piece.1)) x e in
@@ -124,7 +124,7 @@ names_takes count bytes x fits e =
       rest = piece.rest;
     })
 
-names_again : (names : List Name) (rest : List ℕ) → AllByRecursion IsName names → names_at (length names) (names_bytes names ++ rest) ≡ Some (names, rest)
+pub names_again : (names : List Name) (rest : List ℕ) → AllByRecursion IsName names → names_at (length names) (names_bytes names ++ rest) ≡ Some (names, rest)
 unfolding names_at
 names_again names rest h = rw (piece_again (20 * length names) (names_bytes names) rest (names-size names h), names-again names h) refl
 
@@ -190,12 +190,12 @@ known_again before after ks rest lt h up =
 
 -- ---- sections of records
 
-record SectionTaken (end first : ℕ) (bytes : List ℕ) (x : List Segment × List ℕ) : Type 0 where
+pub record SectionTaken (end first : ℕ) (bytes : List ℕ) (x : List Segment × List ℕ) : Type 0 where
   pub parts : bytes ≡ to_be_bytes w32 (length x.0) ++ (flat_map segment_bytes x.0 ++ x.1)
   pub stand : AllStand end first first x.0
   pub rest : IsBytes x.1
 
-section_takes : (end first : ℕ) (bytes : List ℕ) (x : List Segment × List ℕ) → IsBytes bytes → section_at end first bytes ≡ Some x → SectionTaken end first bytes x
+pub section_takes : (end first : ℕ) (bytes : List ℕ) (x : List Segment × List ℕ) → IsBytes bytes → section_at end first bytes ≡ Some x → SectionTaken end first bytes x
 unfolding section_at
 section_takes end first bytes x fits e =
     let a = bind_some (fixed_at w32 bytes) (λ count. records_at (may_stand end first) behind_segment first count.0 count.1) x e in
@@ -207,7 +207,7 @@ section_takes end first bytes x fits e =
       rest = bytes-drop (flat_map segment_bytes x.0) x.1 a.0.1 records.parts count.rest;
     }
 
-section_again : (end first : ℕ) (ss : List Segment) (rest : List ℕ) → length ss < 2 ^ 32 → AllStand end first first ss
+pub section_again : (end first : ℕ) (ss : List Segment) (rest : List ℕ) → length ss < 2 ^ 32 → AllStand end first first ss
     → section_at end first (to_be_bytes w32 (length ss) ++ (flat_map segment_bytes ss ++ rest)) ≡ Some (ss, rest)
 unfolding section_at
 section_again end first ss rest lt h =

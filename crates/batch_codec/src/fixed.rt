@@ -15,6 +15,7 @@ pub fn front_u64(bytes: &[u8]) -> u64
     ])
 }
 
+/// A number of eight bytes at the front, and the rest; `None` where there are fewer.
 pub fn read_u64(bytes: &[u8]) -> Option<(u64, &[u8])>
     ensures exact { Gives (λ r. (r.0, r.1.now)) result (fixed_at w64 bytes.now) }
     ensures size { IfSome result (λ r. length bytes.now ≡ 8 + length r.1.now) }
@@ -26,6 +27,7 @@ pub fn read_u64(bytes: &[u8]) -> Option<(u64, &[u8])>
     Some((front_u64(front), rest))
 }
 
+/// A number of four bytes at the front, and the rest; `None` where there are fewer.
 pub fn read_u32(bytes: &[u8]) -> Option<(u32, &[u8])>
     ensures exact { Gives (λ r. (r.0, r.1.now)) result (fixed_at w32 bytes.now) }
     ensures size { IfSome result (λ r. length bytes.now ≡ 4 + length r.1.now) }
@@ -38,6 +40,7 @@ pub fn read_u32(bytes: &[u8]) -> Option<(u32, &[u8])>
     Some((number, rest))
 }
 
+/// A number of two bytes at the front, and the rest; `None` where there are fewer.
 pub fn read_u16(bytes: &[u8]) -> Option<(u16, &[u8])>
     ensures exact { Gives (λ r. (r.0, r.1.now)) result (fixed_at w16 bytes.now) }
     ensures size { IfSome result (λ r. length bytes.now ≡ 2 + length r.1.now) }
@@ -60,7 +63,7 @@ pub fn piece(bytes: &[u8], place: usize, len: usize) -> &[u8]
     piece
 }
 
-/// So many bytes, and the rest.
+/// So many bytes at the front, and the rest; `None` where there are fewer.
 pub fn read_piece(bytes: &[u8], len: usize) -> Option<(&[u8], &[u8])>
     ensures exact { Gives (λ r. (r.0.now, r.1.now)) result (piece_at len bytes.now) }
     ensures len { IfSome result (λ r. length r.0.now ≡ len) }

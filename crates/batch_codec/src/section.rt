@@ -77,7 +77,8 @@ fn read_segments<'a>(
     Some((section, place, rest))
 }
 
-/// A section of records, the place behind them, and the rest. `total` is the length of the payload.
+/// A section of records that stand one behind the other from id `first` on, below `end`, the place behind them, and the rest;
+/// `None` exactly where no such section begins there. `total` is the length of the whole that the bytes are the end of.
 #[tactic(auto, unfolding(crate::specs::Reading::section_at))]
 pub fn read_section<'a>(
     bytes: &'a [u8],
@@ -179,7 +180,7 @@ pub fn read_levels<'a>(
     Some((section, rest))
 }
 
-/// So many names, and the rest.
+/// So many names at the front, and the rest; `None` where there are fewer bytes. `total` is as for [`read_section`].
 #[tactic(auto, unfolding(crate::specs::Reading::names_at))]
 pub fn read_names<'a>(
     bytes: &'a [u8],
