@@ -27,7 +27,7 @@ module _ (Left Does : Mirror → Mirror → Type 0) (to : (m n : Mirror) → Lef
   failed-length (m ∷ ms) [] f = absurd f
   failed-length (m ∷ ms) (n ∷ ns) f = ap suc (failed-length ms ns f.2)
 
-  answered-ruled : (Right : Mirror → Type 0) (before now : List Mirror) (end : Option MirrorFault) → (end ≡ None) ⊎ (end ≡ Some Memory) → Answered Left Right before now → IsOneAsk Does before end now
+  pub answered-ruled : (Right : Mirror → Type 0) (before now : List Mirror) (end : Option MirrorFault) → (end ≡ None) ⊎ (end ≡ Some Memory) → Answered Left Right before now → IsOneAsk Does before end now
   answered-ruled Right before now end which a = (
     take a.count before,
     a.moved,

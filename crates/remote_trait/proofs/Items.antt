@@ -20,7 +20,7 @@ use Rattle.id_groups.proofs.Listing.{and_true}
 use Rattle.segment_codec.proofs.Tables.{le_or_lt}
 use Rattle.segment_codec.specs.Record.{Segment}
 use Rattle.segment_codec.specs.Turns.{place_behind}
-use Rattle.remote_rules.specs.CloneData.{KnownName, are_distinct, segment_fits, segments_fit, name_fits, names_fit, merge_parents, names_at, heads_fit, first_false, first_of}
+use Rattle.remote_rules.specs.CloneData.{CloneData, KnownName, first_broken, are_distinct, segment_fits, segments_fit, name_fits, names_fit, merge_parents, names_at, heads_fit, first_false, first_of}
 use Rattle.remote_trait.specs.Broken.{AscendFrom, HasSeen}
 
 -- one more item in front of what is dropped
@@ -232,6 +232,17 @@ ascends n end names (k ∷ ks) from least h = by_test (nat_lt k.id end && name_f
 
 pub names-ascend : (n end : ℕ) (names : List KnownName) → None ≡ first_false n (names_fit end [] names) → AscendFrom 0 names
 names-ascend n end names h = ascends n end [] names 0 (λ q e. omega arith) (sym h)
+
+first-none : (a b : Option ℕ) → first_of a b ≡ None → (a ≡ None) × (b ≡ None)
+first-none None b e = (refl, e)
+first-none (Some n) b e = absurd (true≢false (ap is_some e))
+
+-- the names of clone data that break no rule ascend
+pub ascend-unbroken : (told : CloneData) → first_broken told ≡ None → AscendFrom 0 told.names
+ascend-unbroken told e =
+    let a = first-none (first_false 0 (segments_fit 0 told.segments)) _ e in
+    let b = first-none (first_false (length told.segments) (names_fit (place_behind 0 told.segments) [] told.names)) _ a.1 in
+    names-ascend (length told.segments) (place_behind 0 told.segments) told.names (sym b.0)
 
 -- ---- the name of an id
 

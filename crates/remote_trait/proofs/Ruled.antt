@@ -23,13 +23,13 @@ use Rattle.remote_trait.specs.Calls.{Leaves, Refreshes, Fails, ToldSo, AreGrown,
 use Rattle.remote_trait.specs.Honest.{AreNamesOf, rows_graph}
 use Rattle.remote_trait.specs.Serving.{Serves}
 
-tells : {X : Type 0} (P : X → X → Type 0) (a b : Option X) → ToldSo a b P → is_some b ≡ is_some a
+pub tells : {X : Type 0} (P : X → X → Type 0) (a b : Option X) → ToldSo a b P → is_some b ≡ is_some a
 tells P None None h = refl
 tells P None (Some y) h = absurd h
 tells P (Some x) None h = absurd h
 tells P (Some x) (Some y) h = refl
 
-where-both : (R : ℕ → ℕ → Type 0) (a b : Option ℕ) → ToldSo a b R → WhereBoth R a b
+pub where-both : (R : ℕ → ℕ → Type 0) (a b : Option ℕ) → ToldSo a b R → WhereBoth R a b
 where-both R None None h = tt
 where-both R None (Some y) h = tt
 where-both R (Some x) None h = tt
@@ -39,7 +39,7 @@ fewer-both : (a b : Option ℕ) → ToldSo a b (λ m n. n < m) → WhereBoth (λ
 fewer-both a b h = where-both (λ m n. n < m) a b h
 
 -- what is told stays, and so it is sound as before
-sound-as : (before now : Mirror) → now.master ≡ before.master → now.cloned ≡ before.cloned → IsSound before → IsSound now
+pub sound-as : (before now : Mirror) → now.master ≡ before.master → now.cloned ≡ before.cloned → IsSound before → IsSound now
 sound-as before now e f s =
     subst (λ (o : Option (List (Row Name))). IsSound (record now { master = o })) (sym e)
     (subst (λ (o : Option CloneData). IsSound (record before { cloned = o })) (sym f) s)

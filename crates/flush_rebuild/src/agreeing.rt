@@ -1,0 +1,206 @@
+//! Whether what was taken from a remote agrees with what is stored of the cloned commits.
+
+ghost use Rattle.std.specs.Prelude.{◌≡◌, ◌<◌, ◌+◌, ◌-◌, ◌⊎◌, ◌↔◌, ◌||◌, not, List, None, Some, ℕ, length, min, nat_eq, slice_get, IsTrue, MatchResult};
+ghost use Rattle.std.specs.List.{list_all};
+ghost use Rattle.std.specs.Cmp.Lexicographic.{pointwise};
+ghost use Rattle.id_groups.specs.Name.{Name as NameBytes, same_name};
+ghost use Rattle.commit_graph.specs.World.{World};
+ghost use Rattle.segment_codec.specs.Record.{Segment};
+ghost use Rattle.segment_codec.specs.Lent.{parents_left, segment_of};
+ghost use Rattle.high_segments.specs.Views.{flats_in};
+ghost use Rattle.name_map.specs.Added.{Placed, payloads_of, known_of, AllStand};
+ghost use Rattle.remote_rules.specs.CloneData.{first_broken};
+ghost use Rattle.change_rules.specs.Tables.{StandFor, cloned_count};
+ghost use Rattle.change_rules.specs.Disagree.{first_unlike, first_bad_row, same_segment, name_agrees};
+ghost use Rattle.payload_tables.specs.Kept.{AreTablesOf};
+ghost use Rattle.payload_tables.specs.Bases.{AreSegmentsOf};
+ghost use Rattle.flush_rebuild.specs.declared.fault.PlanFault.TheVariants.{Memory};
+ghost use Rattle.flush_rebuild.specs.Pulling.{MayPullOn, clone_fault, row_fault, mismatch, unlike_segment, unlike_name};
+
+use crate::fault::PlanFault;
+use high_segments::View;
+use id_groups::{Id, Name};
+use mirror_set::Fresh;
+use payload_tables::Tables;
+use remote_trait::{CloneData, CloneSegment};
+use segment_codec::{Parents, SegmentRef, SegmentTable, Steps};
+use std::alloc::{AllocError, Global};
+use std::collections::BTreeSet;
+
+/// Whether these are the same ids, in order.
+fn are_same(parents: Parents<'_>, numbers: &[u64]) -> bool
+    ensures { result ≡ pointwise nat_eq numbers.now (parents_left parents.entry) }
+{
+    let mut rest = numbers;
+    'parents: for parent in parents {
+        let [first, more @ ..] = rest else {
+            return false;
+        };
+        if parent.number() != *first {
+            return false;
+        }
+        rest = more;
+    }
+    rest.is_empty()
+}
+
+/// Whether a segment that a remote told, cut below this id, is the stored one, cut so too.
+fn is_stored(told: &CloneSegment, stored: SegmentRef<'_>, below: u64) -> bool
+    ensures { result ≡ same_segment (record (told.now) { high = min told.now.high (below - 1) }) (record (segment_of stored.entry) { high = min (segment_of stored.entry).high (below - 1) }) }
+{
+    let end = below.saturating_sub(1);
+    told.low == stored.low().number()
+        && told.high.min(end) == stored.high().number().min(end)
+        && are_same(stored.parents(), told.parents.numbers())
+}
+
+/// Whether the view has a flat segment at this place that begins below this id.
+fn begins_below(view: &View<'_>, k: u32, below: u64) -> bool
+    ensures { IsTrue result ↔ ((s : Segment) × (slice_get (flats_in view.now) k ≡ Some s) × (s.low < below)) }
+{
+    k < view.flat_count() && view.flat_at(k, &mut Steps::new()).low().number() < below
+}
+
+/// The number of the first segment that isn't the stored one of its place, below the id; the number of all items where one is missing.
+fn first_unlike_segment(view: &View<'_>, told: &CloneData, below: u64) -> Option<u64>
+    requires { first_broken told.now ≡ None }
+    ensures { result ≡ unlike_segment told.now.segments (flats_in view.now) below (length told.now.segments + length told.now.names + length told.now.heads) }
+{
+    let mut steps = Steps::new();
+    let count = told.segments.len();
+    let mut k = 0;
+    'segments: while k < count && told.segments.at(k).low < below {
+        if !begins_below(view, k, below)
+            || !is_stored(told.segments.at(k), view.flat_at(k, &mut steps), below)
+        {
+            return Some(u64::from(k));
+        }
+        k += 1;
+    }
+    if begins_below(view, k, below) {
+        let items = u64::from(count) + u64::from(told.names.len()) + u64::from(told.heads.len());
+        return Some(items);
+    }
+    None
+}
+
+/// Whether the id has no other stored name.
+fn is_named_so(tables: &Tables, bytes: &[u8], id: u64, name: &Name) -> bool
+    requires { (added : List Placed) × AreTablesOf tables.now added × AllStand bytes.now added }
+    ensures { (added : List Placed) → AreTablesOf tables.now added → AllStand bytes.now added → result ≡ name_agrees (known_of added) (record { id = id; name = name.now }) }
+{
+    match tables.names().name(bytes, Id::from_number(id)) {
+        Some(stored) => stored.to_name().is(name),
+        None => true,
+    }
+}
+
+/// The number of the first name below the id that isn't the stored one, where one is stored; the names are numbered behind the segments.
+fn first_unlike_name(tables: &Tables, bytes: &[u8], told: &CloneData, below: u64) -> Option<u64>
+    requires unbroken { first_broken told.now ≡ None }
+    requires tables { (added : List Placed) × AreTablesOf tables.now added × AllStand bytes.now added }
+    ensures { (added : List Placed) → AreTablesOf tables.now added → AllStand bytes.now added → result ≡ unlike_name told.now.names (known_of added) below (length told.now.segments) }
+{
+    let first = u64::from(told.segments.len());
+    'names: for i in 0..told.names.len() {
+        let known = told.names.at(i);
+        if known.id >= below {
+            return None;
+        }
+        if !is_named_so(tables, bytes, known.id, &known.name) {
+            return Some(first + u64::from(i));
+        }
+    }
+    None
+}
+
+/// Refuses clone data of which an item below the cloned count is unlike what is stored.
+fn check_cloned(
+    tables: &Tables,
+    bytes: &[u8],
+    view: &View<'_>,
+    told: &CloneData,
+) -> Result<(), PlanFault>
+    requires unbroken { first_broken told.now ≡ None }
+    requires tables { (added : List Placed) × AreTablesOf tables.now added × AllStand bytes.now added }
+    requires view { (added : List Placed) (w : World NameBytes) → AreTablesOf tables.now added → StandFor (payloads_of added) w → AreSegmentsOf w (flats_in view.now) }
+    ensures { (added : List Placed) → AreTablesOf tables.now added → AllStand bytes.now added
+        → MatchResult result
+        (λ done. first_unlike (payloads_of added) (cloned_count (payloads_of added)) told.now ≡ None)
+        (λ fault. clone_fault (first_unlike (payloads_of added) (cloned_count (payloads_of added)) told.now) ≡ Some fault) }
+{
+    let cloned = tables.cloned();
+    if let Some(at) = first_unlike_segment(view, told, cloned) {
+        return Err(PlanFault::BadClone(at));
+    }
+    if let Some(at) = first_unlike_name(tables, bytes, told, cloned) {
+        return Err(PlanFault::BadClone(at));
+    }
+    Ok(())
+}
+
+/// The bytes of a name.
+fn bytes_of(name: &Name) -> [u8; 20]
+    ensures { result ≡ name.now }
+{
+    let mut bytes = [0; 20];
+    bytes.copy_from_slice(name.lend().bytes);
+    bytes
+}
+
+/// Whether the clone data give the id no other name.
+fn is_told_so(told: &CloneData, id: u64, name: &Name) -> bool
+    requires { first_broken told.now ≡ None }
+    ensures { result ≡ list_all (λ k. not (nat_eq k.id id) || same_name k.name name.now) told.now.names }
+{
+    match told.name_of(id) {
+        Some(known) => known.is(name),
+        None => true,
+    }
+}
+
+/// Puts a name to those that were seen; whether it wasn't among them.
+fn add_seen(seen: &mut BTreeSet<[u8; 20]>, name: &Name) -> Result<bool, AllocError> {
+    let is_new = seen.insert(bytes_of(name))?;
+    Ok(is_new)
+}
+
+/// Refuses the first fetched name that can't be that of a new row.
+fn check_names(alloc: Global, tables: &Tables, bytes: &[u8], fresh: &Fresh) -> Result<(), PlanFault>
+    requires { (added : List Placed) × MayPullOn tables.now bytes.now fresh.now added }
+    ensures { (added : List Placed) → MayPullOn tables.now bytes.now fresh.now added
+        → MatchResult result
+        (λ done. first_bad_row (payloads_of added) (cloned_count (payloads_of added)) fresh.now.cloned fresh.now.names ≡ None)
+        (λ fault. (fault ≡ Memory) ⊎ (row_fault (first_bad_row (payloads_of added) (cloned_count (payloads_of added)) fresh.now.cloned fresh.now.names) ≡ Some fault)) }
+{
+    let cloned = tables.cloned();
+    let mut seen = BTreeSet::new(alloc);
+    'names: for i in 0..fresh.names.len() {
+        let name = fresh.names.at(i);
+        let id = cloned + u64::from(i);
+        let is_new = add_seen(&mut seen, name)?;
+        let is_cloned = tables.names().id(bytes, name.lend(), cloned).is_some();
+        if !is_new || is_cloned || !is_told_so(&fresh.cloned, id, name) {
+            return Err(PlanFault::BadRow(id));
+        }
+    }
+    Ok(())
+}
+
+/// Refuses what was taken from a remote where it disagrees with what is stored of the cloned commits: by the first item of the clone
+/// data that is unlike it, or else by the first fetched name that can't be a new row's.
+pub(crate) fn check_fresh(
+    alloc: Global,
+    tables: &Tables,
+    bytes: &[u8],
+    view: &View<'_>,
+    fresh: &Fresh,
+) -> Result<(), PlanFault>
+    requires may { (added : List Placed) × MayPullOn tables.now bytes.now fresh.now added }
+    requires view { (added : List Placed) (w : World NameBytes) → AreTablesOf tables.now added → StandFor (payloads_of added) w → AreSegmentsOf w (flats_in view.now) }
+    ensures { (added : List Placed) → MayPullOn tables.now bytes.now fresh.now added
+        → MatchResult result (λ done. mismatch added fresh.now ≡ None) (λ fault. (fault ≡ Memory) ⊎ (mismatch added fresh.now ≡ Some fault)) }
+{
+    check_cloned(tables, bytes, view, &fresh.cloned)?;
+    check_names(alloc, tables, bytes, fresh)
+}
