@@ -61,3 +61,4 @@ pub mod FlushLeading
 pub mod PullPlans
 pub mod PullTold
 pub mod PullSteps
+pub mod PullAgrees

@@ -8,6 +8,7 @@ use Rattle.dag_store.specs.Changes.{IsOn}
 use Rattle.dag_store.proofs.Standing.{session-there}
 use Rattle.dag_store.proofs.FlushStored.{over-of, on-of}
 use Rattle.dag_store.proofs.FlushDisk.{leaves-ends, leaves-room, made-of}
+use Rattle.dag_store.proofs.PullAgrees.{agrees}
 use Rattle.dag_store.proofs.PullSteps.{pull-ends}
 use Rattle.dag_store.proofs.store.Store.take_pull.Goals as goal
 
@@ -51,7 +52,7 @@ returns-clause-step g c =
     let of = subst (IsSessionOf k.added) (sym there) (k.each s small) in
     let told = g.D.Disk.told c.args.disk.now in
     let then = g.D.Disk.told c.finish.new.disk in
-    pull-ends kept c.args.self c.self.view_is c.deref_mut.result.now k s small _ _ (λ began st h. ?) c.prepare_pull-next.new.log c.prepare_pull-next.ensures.room told then c.prepare_pull-next.new.tables c.prepare_pull-next.result
+    pull-ends kept c.args.self c.self.view_is c.deref_mut.result.now k s small _ _ (λ began st h. let o = on-of i.log c.deref_mut.result.now items i.limits k began st h s small in agrees k.added st o.payloads o.hold) c.prepare_pull-next.new.log c.prepare_pull-next.ensures.room told then c.prepare_pull-next.new.tables c.prepare_pull-next.result
     (made-of c.prepare_pull-next.result _ _ (c.prepare_pull-next.ensures.ready k.added over) c.prepare_pull-next.ensures.refused)
     (λ began st h. c.prepare_pull-next.ensures.asks began s k.added st over (subst (λ (y : PlainSession). IsOn began k.added y st s) (sym there) (on-of i.log c.deref_mut.result.now items i.limits k began st h s small)))
     c.from-at.result c.from-at.ensures c.finish.result c.finish.ensures.ends
