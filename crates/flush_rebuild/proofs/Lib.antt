@@ -30,3 +30,4 @@ pub mod Stripped
 pub mod Spreading
 pub mod StripFacts
 pub mod StripMeans
+pub mod Beside

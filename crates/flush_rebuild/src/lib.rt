@@ -2,6 +2,7 @@
 
 //! What a flush, a strip and a clone make of a world: the payload, and the tables that follow.
 
+mod agreeing;
 mod building;
 mod cloning;
 mod fault;
