@@ -31,3 +31,4 @@ pub mod Spreading
 pub mod StripFacts
 pub mod StripMeans
 pub mod Beside
+pub mod StoredBeside
