@@ -1,5 +1,5 @@
 -- What tables store of names, beside those that a remote told.
-use Rattle.std.proofs.Common.{◌≡◌, ◌≤◌, ◌<◌, ◌+◌, ◌&&◌, ◌||◌, not, cond, ℕ, zero, suc, Bool, true, false, ◌⊎◌, inl, inr, List, [], ◌∷◌, ◌++◌, length, map, filter, flat_map, drop, nat_eq, nat_lt, Option, Some, None, is_some, refl, sym, ap, ap₂, subst, ◌∙◌, ⊎_elim, true≢false, arith, lit≤, if◌then◌else◌}
+use Rattle.std.proofs.Common.{◌≡◌, ◌≤◌, ◌<◌, ◌+◌, ◌&&◌, ◌||◌, not, cond, ℕ, zero, suc, Bool, true, false, ◌⊎◌, inl, inr, List, [], ◌∷◌, ◌++◌, length, map, filter, flat_map, take, drop, nat_eq, nat_lt, Option, Some, None, is_some, refl, sym, ap, ap₂, subst, ◌∙◌, ⊎_elim, true≢false, arith, lit≤, if◌then◌else◌}
 use Rattle.std.specs.Prelude.{slice_get, IsTrue, ◌↔◌}
 use Rattle.std.specs.List.{AllByRecursion}
 use Rattle.std.proofs.lemmas.Bool.{ltb-true, lt-ltb, le-ltb, eq-eqb}
@@ -11,16 +11,19 @@ use Rattle.id_groups.proofs.Listing.{all-in, implied, implies, in-all-true, foun
 use Rattle.commit_graph.specs.World.{World, names_of}
 use Rattle.commit_graph.proofs.Naming.{each}
 use Rattle.batch_codec.specs.Payload.{Payload, Known}
+use Rattle.batch_codec.specs.Grammar.{IsFlush, IsClone, IsWhole}
 use Rattle.name_map.specs.Added.{Placed, payloads_of, known_of, AllStand}
 use Rattle.name_map.specs.Map.{IsIdOf, IsNameOf, NamesAs}
-use Rattle.remote_rules.specs.CloneData.{KnownName, first_false}
+use Rattle.remote_rules.specs.CloneData.{CloneData, KnownName, first_false}
 use Rattle.remote_trait.specs.Broken.{AscendFrom}
 use Rattle.change_rules.specs.Lawful.{AreLawful}
-use Rattle.change_rules.specs.Tables.{known_in}
-use Rattle.change_rules.specs.Disagree.{name_agrees}
+use Rattle.change_rules.specs.Tables.{known_in, cloned_count}
+use Rattle.change_rules.specs.Disagree.{name_agrees, rows_fit, first_bad_row}
 use Rattle.payload_tables.specs.Kept.{PlainTables, AreTablesOf}
-use Rattle.flush_rebuild.specs.Pulling.{cloned_names, unlike_name}
+use Rattle.flush_rebuild.specs.Pulling.{cloned_names, is_told, row_fault, unlike_name}
+use Rattle.flush_rebuild.specs.declared.fault.PlanFault.TheVariants.{BadRow}
 use Rattle.flush_rebuild.proofs.Invented.{FitBehind, some-world}
+use Rattle.flush_rebuild.proofs.Stepping.{take-next}
 use Rattle.flush_rebuild.proofs.Beside.{some-one, behind-at, none-at}
 
 pub known-in : (added : List Placed) → known_of added ≡ known_in (payloads_of added)
@@ -155,3 +158,57 @@ module _ (known : List Known) (told : List KnownName) (below first i : ℕ) (so_
       none-left [] (suc j) h = refl
       none-left (k ∷ ks) zero h = absurd (omega (arith, h))
       none-left (k ∷ ks) (suc j) h = none-left ks j (omega (arith, h))
+
+-- ---- fetched names, in turn
+
+pub cloned-small : (tables : PlainTables) (added : List Placed) → AreTablesOf tables added → cloned_count (payloads_of added) ≤ 16777216
+cloned-small tables added t = by_first (payloads_of added) t.lawful
+  where
+    by_first : (payloads : List Payload) → AreLawful [] payloads → cloned_count payloads ≤ 16777216
+    by_first [] h = lit≤ tt
+    by_first (p ∷ more) h =
+        let top = h.0.whole.counts.master in
+        ⊎_elim
+        (λ (f : IsFlush p). let e = f.cloned in omega (arith, e))
+        (⊎_elim (λ (f : IsClone p). let e = f.cloned in omega (arith, e, top)) (λ (f : IsWhole p). let le = f.cloned in omega (arith, le, top)))
+        h.0.whole.by_kind
+
+module _ (stored names : List Name) (told : CloneData) (cloned i : ℕ) (so_far : first_false cloned (rows_fit stored [] told cloned names) ≡ first_false (cloned + i) (rows_fit stored (take i names) told (cloned + i) (drop i names))) where
+  at-row : (name : Name) → slice_get names i ≡ Some name → (is_new may : Bool) → is_new ≡ not (is_in same_name name (take i names)) → may ≡ (not (is_in same_name name stored) && is_told told (cloned + i) name)
+      → first_false cloned (rows_fit stored [] told cloned names) ≡ (if is_new && may then first_false (cloned + i + 1) (rows_fit stored (take i names ++ name ∷ []) told (cloned + i + 1) (drop (i + 1) names)) else Some (cloned + i))
+  at-row name e is_new may n m =
+      so_far ∙ ap (λ l. first_false (cloned + i) (rows_fit stored (take i names) told (cloned + i) l)) (behind-at names i name e)
+      ∙ ap (λ b. if b then first_false (cloned + i + 1) (rows_fit stored (take i names ++ name ∷ []) told (cloned + i + 1) (drop (i + 1) names)) else Some (cloned + i))
+      (regroup (not (is_in same_name name (take i names))) (not (is_in same_name name stored)) (is_told told (cloned + i) name) ∙ ap₂ (λ a b. a && b) (sym n) (sym m))
+    where
+      regroup : (a b c : Bool) → (a && b && c) ≡ (a && (b && c))
+      regroup true b c = refl
+      regroup false b c = refl
+
+  pub row-next : (name : Name) → slice_get names i ≡ Some name → true ≡ not (is_in same_name name (take i names)) → true ≡ (not (is_in same_name name stored) && is_told told (cloned + i) name)
+      → first_false cloned (rows_fit stored [] told cloned names) ≡ first_false (cloned + (i + 1)) (rows_fit stored (take (i + 1) names) told (cloned + (i + 1)) (drop (i + 1) names))
+  row-next name e n m =
+      at-row name e true true n m
+      ∙ ap (λ l. first_false (cloned + i + 1) (rows_fit stored l told (cloned + i + 1) (drop (i + 1) names))) (sym (take-next names i name e))
+      ∙ ap (λ k. first_false k (rows_fit stored (take (i + 1) names) told k (drop (i + 1) names))) (let z : cloned + i + 1 ≡ cloned + (i + 1) = omega arith in z)
+
+  pub row-seen : (name : Name) → slice_get names i ≡ Some name → false ≡ not (is_in same_name name (take i names)) → first_false cloned (rows_fit stored [] told cloned names) ≡ Some (cloned + i)
+  row-seen name e n = at-row name e false (not (is_in same_name name stored) && is_told told (cloned + i) name) n refl
+
+  pub row-other : (name : Name) → slice_get names i ≡ Some name → true ≡ not (is_in same_name name (take i names)) → false ≡ (not (is_in same_name name stored) && is_told told (cloned + i) name)
+      → first_false cloned (rows_fit stored [] told cloned names) ≡ Some (cloned + i)
+  row-other name e n m = at-row name e true false n m
+
+  pub row-end : length names ≤ i → first_false cloned (rows_fit stored [] told cloned names) ≡ None
+  row-end le = so_far ∙ ap (λ l. first_false (cloned + i) (rows_fit stored (take i names) told (cloned + i) l)) (none-left names i le)
+    where
+      none-left : (ks : List Name) (j : ℕ) → length ks ≤ j → drop j ks ≡ []
+      none-left [] zero h = refl
+      none-left [] (suc j) h = refl
+      none-left (k ∷ ks) zero h = absurd (omega (arith, h))
+      none-left (k ∷ ks) (suc j) h = none-left ks j (omega (arith, h))
+
+-- the first bad row, as the fault that names it
+pub bad-row : (payloads : List Payload) (all cloned : ℕ) (told : CloneData) (names : List Name) (k : ℕ) → cloned ≡ all
+    → first_false cloned (rows_fit (cloned_names cloned payloads) [] told cloned names) ≡ Some k → row_fault (first_bad_row payloads all told names) ≡ Some (BadRow k)
+bad-row payloads all cloned told names k e h = ap row_fault (ap (λ n. first_bad_row payloads n told names) (sym e) ∙ h)
