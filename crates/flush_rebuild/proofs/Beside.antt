@@ -54,7 +54,7 @@ none-le a = by_test (nat_le (suc a) 0) refl
     by_test true e = absurd (let le = leb-true (suc a) 0 e in let z : ⊥ = omega (arith, le) in z)
 
 -- what begins above an id is cut away with all behind it
-cut-above : (below : ℕ) (ss : List Segment) → AllByRecursion (λ (s : Segment). below ≤ s.low) ss → cut_below below ss ≡ []
+pub cut-above : (below : ℕ) (ss : List Segment) → AllByRecursion (λ (s : Segment). below ≤ s.low) ss → cut_below below ss ≡ []
 cut-above below [] h = refl
 cut-above below (s ∷ ss) h = cut-past below s ss h.0 ∙ cut-above below ss h.1
 

@@ -32,3 +32,4 @@ pub mod StripFacts
 pub mod StripMeans
 pub mod Beside
 pub mod StoredBeside
+pub mod BaseBeside
