@@ -1,8 +1,8 @@
 -- The flat segments of the newest base, cut at the cloned count: those of the payloads' master ids.
-use Rattle.std.proofs.Common.{◌≡◌, ◌≤◌, ◌<◌, ◌+◌, ◌-◌, ◌^◌, ℕ, Bool, true, false, List, [], ◌∷◌, ◌++◌, length, flat_map, min, nat_lt, nat_le, Option, Some, None, refl, sym, ap, ap₂, subst, ◌∙◌, arith, lit≤, append-nil, if◌then◌else◌}
+use Rattle.std.proofs.Common.{◌≡◌, ◌≤◌, ◌+◌, ◌-◌, ◌^◌, ℕ, Bool, true, false, List, [], ◌∷◌, ◌++◌, length, flat_map, min, nat_lt, nat_le, Option, Some, None, refl, sym, ap, ap₂, subst, ◌∙◌, arith, lit≤, append-nil, if◌then◌else◌}
 use Rattle.std.specs.List.{AllByRecursion}
 use Rattle.id_groups.specs.Name.{Name, same_name}
-use Rattle.commit_graph.specs.World.{World, IsWorld, with_pending}
+use Rattle.commit_graph.specs.World.{World, IsWorld}
 use Rattle.commit_graph.specs.Ids.{parent_ids}
 use Rattle.segment_codec.specs.Record.{Segment}
 use Rattle.segment_codec.specs.Turns.{is_only}
@@ -19,7 +19,7 @@ use Rattle.payload_tables.specs.Pending.{PlainPending, HoldsRows}
 use Rattle.payload_tables.specs.Bases.{ArePending, MayView, flat_segments_in}
 use Rattle.payload_tables.proofs.Lists.{names-length}
 use Rattle.flush_rebuild.specs.Pulling.{unlike_segment, unlike_name}
-use Rattle.flush_rebuild.proofs.Invented.{FitBehind, Stands, some-world}
+use Rattle.flush_rebuild.proofs.Invented.{Stands, some-world}
 use Rattle.flush_rebuild.proofs.Stepping.{tables-count, no-rows-viewed}
 use Rattle.flush_rebuild.proofs.Beside.{cut-above}
 use Rattle.flush_rebuild.proofs.StoredBeside.{cloned-small}

@@ -1,25 +1,25 @@
 -- Whether what a remote told agrees with what is stored, item by item.
-use Rattle.std.proofs.Common.{◌≡◌, ◌≤◌, ◌<◌, ◌+◌, ◌-◌, ◌&&◌, ◌||◌, not, cond, ℕ, zero, suc, Bool, true, false, ◌⊎◌, inl, inr, List, [], ◌∷◌, ◌++◌, length, map, filter, drop, min, nat_eq, nat_lt, nat_le, Option, Some, None, is_some, refl, sym, ap, ap₂, subst, ◌∙◌, ⊎_elim, true≢false, arith, if◌then◌else◌}
+use Rattle.std.proofs.Common.{◌≡◌, ◌≤◌, ◌<◌, ◌+◌, ◌-◌, ◌&&◌, ◌||◌, not, cond, ℕ, zero, suc, Bool, true, false, List, [], ◌∷◌, ◌++◌, length, map, filter, drop, min, nat_eq, nat_le, Option, Some, None, is_some, refl, sym, ap, ap₂, subst, ◌∙◌, ⊎_elim, true≢false, arith, if◌then◌else◌}
 use Rattle.std.specs.Prelude.{slice_get, IsTrue, MatchOption, ◌↔◌}
 use Rattle.std.specs.List.{AllByRecursion, list_all}
 use Rattle.std.specs.Option.{option_to_list}
 use Rattle.std.specs.Ordering.{nat_cmp}
 use Rattle.std.specs.BTreeSet.{BTreeSet, contains, Updates}
 use Rattle.std.specs.Cmp.Lexicographic.{slice_cmp, texts_ties}
-use Rattle.std.proofs.lemmas.Bool.{ltb-true, lt-ltb, le-ltb, leb-true, le-leb}
+use Rattle.std.proofs.lemmas.Bool.{lt-ltb, le-ltb, leb-true, le-leb}
 use Rattle.id_groups.specs.Lists.{is_in}
 use Rattle.id_groups.specs.Name.{Name, same_name}
 use Rattle.id_groups.proofs.Names.{same_name-exact, same_name-self}
 use Rattle.segment_codec.specs.Record.{Segment}
-use Rattle.segment_codec.specs.Table.{Follow, IsLawful}
-use Rattle.segment_codec.proofs.Tables.{le_or_lt, AreOver, AreRising, lawful-rising, follow-rising}
+use Rattle.segment_codec.specs.Table.{Follow}
+use Rattle.segment_codec.proofs.Tables.{le_or_lt, AreOver, AreRising, follow-rising}
 use Rattle.segment_codec.specs.Turns.{place_behind}
 use Rattle.segment_codec.proofs.Turns.{turn-follow}
 use Rattle.batch_codec.specs.Grammar.{cut_below}
 use Rattle.remote_rules.specs.Lawful.{MayStandHere}
 use Rattle.remote_rules.proofs.Unbroken.{unbroken-is-lawful}
 use Rattle.remote_trait.proofs.Items.{in-more}
-use Rattle.remote_rules.specs.CloneData.{CloneData, KnownName, segment_fits, segments_fit, names_at, first_false, first_of, first_broken}
+use Rattle.remote_rules.specs.CloneData.{CloneData, KnownName, names_at, first_false, first_of, first_broken}
 use Rattle.change_rules.specs.Disagree.{same_segment, segments_agree}
 use Rattle.flush_rebuild.specs.Pulling.{HasSeen, cut_at, unlike_segment, is_told}
 

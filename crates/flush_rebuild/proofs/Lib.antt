@@ -33,3 +33,4 @@ pub mod StripMeans
 pub mod Beside
 pub mod StoredBeside
 pub mod BaseBeside
+pub mod HonestTold

@@ -1,19 +1,18 @@
 -- What tables store of names, beside those that a remote told.
-use Rattle.std.proofs.Common.{◌≡◌, ◌≤◌, ◌<◌, ◌+◌, ◌&&◌, ◌||◌, not, cond, ℕ, zero, suc, Bool, true, false, ◌⊎◌, inl, inr, List, [], ◌∷◌, ◌++◌, length, map, filter, flat_map, take, drop, nat_eq, nat_lt, Option, Some, None, is_some, refl, sym, ap, ap₂, subst, ◌∙◌, ⊎_elim, true≢false, arith, lit≤, if◌then◌else◌}
+use Rattle.std.proofs.Common.{◌≡◌, ◌≤◌, ◌<◌, ◌+◌, ◌&&◌, ◌||◌, not, cond, ℕ, zero, suc, Bool, true, false, inl, inr, List, [], ◌∷◌, ◌++◌, length, map, filter, take, drop, nat_eq, nat_lt, Option, Some, None, is_some, refl, sym, ap, ap₂, subst, ◌∙◌, ⊎_elim, true≢false, arith, lit≤, if◌then◌else◌}
 use Rattle.std.specs.Prelude.{slice_get, IsTrue, ◌↔◌}
-use Rattle.std.specs.List.{AllByRecursion}
 use Rattle.std.proofs.lemmas.Bool.{ltb-true, lt-ltb, le-ltb, eq-eqb}
 use Rattle.std.proofs.lemmas.Map.Views.{exact_unsigned_eq}
 use Rattle.id_groups.specs.Lists.{IsIn, is_in}
 use Rattle.id_groups.specs.Name.{Name, same_name}
 use Rattle.id_groups.proofs.Names.{same_name-exact, same_name-self}
 use Rattle.id_groups.proofs.Listing.{all-in, implied, implies, in-all-true, found, there}
-use Rattle.commit_graph.specs.World.{World, names_of}
+use Rattle.commit_graph.specs.World.{names_of}
 use Rattle.commit_graph.proofs.Naming.{each}
 use Rattle.batch_codec.specs.Payload.{Payload, Known}
 use Rattle.batch_codec.specs.Grammar.{IsFlush, IsClone, IsWhole}
-use Rattle.name_map.specs.Added.{Placed, payloads_of, known_of, AllStand}
-use Rattle.name_map.specs.Map.{IsIdOf, IsNameOf, NamesAs}
+use Rattle.name_map.specs.Added.{Placed, payloads_of, known_of}
+use Rattle.name_map.specs.Map.{IsIdOf, IsNameOf}
 use Rattle.remote_rules.specs.CloneData.{CloneData, KnownName, first_false}
 use Rattle.remote_trait.specs.Broken.{AscendFrom}
 use Rattle.change_rules.specs.Lawful.{AreLawful}
@@ -24,7 +23,7 @@ use Rattle.flush_rebuild.specs.Pulling.{cloned_names, is_told, row_fault, unlike
 use Rattle.flush_rebuild.specs.declared.fault.PlanFault.TheVariants.{BadRow}
 use Rattle.flush_rebuild.proofs.Invented.{FitBehind, some-world}
 use Rattle.flush_rebuild.proofs.Stepping.{take-next}
-use Rattle.flush_rebuild.proofs.Beside.{some-one, behind-at, none-at}
+use Rattle.flush_rebuild.proofs.Beside.{some-one, behind-at}
 
 pub known-in : (added : List Placed) → known_of added ≡ known_in (payloads_of added)
 known-in [] = refl

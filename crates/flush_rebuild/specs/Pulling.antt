@@ -1,5 +1,5 @@
 -- What a pull is planned from, and what the plan answers.
-use Rattle.std.specs.Prelude.{◌≡◌, ◌<◌, ◌≤◌, ◌+◌, ◌-◌, ℕ, List, [], ◌∷◌, ◌++◌, Option, Some, None, length, map, take, drop, flat_map, nat_eq, nat_lt, nat_le, not, Bool, filter, min, ◌||◌, slice_get, if◌then◌else◌}
+use Rattle.std.specs.Prelude.{◌≡◌, ◌-◌, ℕ, List, [], ◌∷◌, ◌++◌, Option, Some, None, length, map, take, filter_map, nat_eq, nat_lt, nat_le, not, Bool, filter, min, ◌||◌, slice_get}
 use Rattle.std.specs.List.{list_all}
 use Rattle.std.specs.Ordering.{nat_cmp}
 use Rattle.std.specs.Cmp.Lexicographic.{slice_cmp}
@@ -12,7 +12,6 @@ use Rattle.batch_codec.specs.Payload.{Known, Payload}
 use Rattle.batch_codec.specs.Grammar.{cut_below}
 use Rattle.remote_rules.specs.CloneData.{CloneData, KnownName, first_broken, first_false, first_of as first_some}
 use Rattle.remote_rules.specs.Known.{master_world}
-use Rattle.segment_codec.specs.Turns.{place_behind}
 use Rattle.segment_rules.specs.Flat.{parents_listed}
 use Rattle.mirror_set.specs.Fresh.{PlainFresh, count_from}
 use Rattle.name_map.specs.Added.{Placed, payloads_of, AllStand}
@@ -32,12 +31,7 @@ told_names w cloned fetched = take cloned (names_of w.master) ++ fetched
 
 -- the names at these places, of those that are there
 abbrev pub names_at_all : List Name → List ℕ → List Name
-names_at_all names [] = []
-names_at_all names (id ∷ ids) = option_or (names_at_all names ids) (slice_get names id)
-  where
-    option_or : List Name → Option Name → List Name
-    option_or more None = more
-    option_or more (Some name) = name ∷ more
+names_at_all names ids = filter_map (λ id. slice_get names id) ids
 
 -- rows with these names, whose parents are at these places among all names
 abbrev pub rows_with : List Name → List Name → List (List ℕ) → List (Row Name)

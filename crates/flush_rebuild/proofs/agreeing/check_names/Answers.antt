@@ -1,6 +1,6 @@
-use Rattle.std.proofs.Common.{◌≡◌, ◌∙◌, ◌+◌, ◌⊎◌, ◌&&◌, not, inr, ℕ, List, Some, take, slice_get, sym, ap, ap₂, subst}
+use Rattle.std.proofs.Common.{◌≡◌, ◌∙◌, ◌+◌, ◌&&◌, not, inr, ℕ, Some, take, slice_get, sym, ap, ap₂, subst}
 use Rattle.id_groups.specs.Lists.{is_in}
-use Rattle.id_groups.specs.Name.{Name, same_name}
+use Rattle.id_groups.specs.Name.{same_name}
 use Rattle.name_map.specs.Added.{payloads_of}
 use Rattle.remote_rules.specs.CloneData.{CloneData}
 use Rattle.change_rules.specs.Tables.{cloned_count}

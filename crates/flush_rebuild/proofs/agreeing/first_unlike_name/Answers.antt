@@ -1,4 +1,4 @@
-use Rattle.std.proofs.Common.{◌≡◌, ◌∙◌, ◌+◌, Some, length, slice_get, sym, ap, ap₂, subst, arith, ℕ}
+use Rattle.std.proofs.Common.{◌≡◌, ◌∙◌, ◌+◌, Some, length, slice_get, sym, ap, subst, arith}
 use Rattle.segment_codec.specs.Record.{Segment}
 use Rattle.name_map.specs.Added.{payloads_of}
 use Rattle.remote_rules.specs.CloneData.{CloneData, KnownName}

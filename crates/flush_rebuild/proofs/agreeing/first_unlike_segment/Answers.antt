@@ -1,7 +1,7 @@
 use Rattle.std.specs.Prelude.{MatchOption}
-use Rattle.std.proofs.Common.{◌≡◌, ◌<◌, ◌≤◌, ◌∙◌, ◌+◌, Some, List, drop, length, slice_get, refl, sym, ap, subst, arith, true≢false}
+use Rattle.std.proofs.Common.{◌≡◌, ◌<◌, ◌∙◌, Some, length, slice_get, refl, sym, ap, subst, arith, true≢false}
 use Rattle.segment_codec.specs.Record.{Segment}
-use Rattle.segment_codec.proofs.Tables.{AreRising, lawful-rising}
+use Rattle.segment_codec.proofs.Tables.{lawful-rising}
 use Rattle.high_segments.specs.Views.{flats_in}
 use Rattle.high_segments.proofs.Viewing.{lawful_flats}
 use Rattle.remote_rules.specs.CloneData.{CloneData}
