@@ -9,8 +9,8 @@ use Rattle.std.proofs.lemmas.Bool.{eq-eqb}
 use Rattle.std.proofs.lemmas.Map.Views.{exact_unsigned_eq}
 use Rattle.std.specs.Prelude.{nat_eq}
 use Rattle.outside.specs.Counts.{Rose}
-use Rattle.id_groups.specs.Lists.{IsIn, is_in}
-use Rattle.id_groups.specs.Name.{Name, same_name}
+use Rattle.id_groups.specs.Lists.{IsIn}
+use Rattle.id_groups.specs.Name.{Name}
 use Rattle.id_groups.proofs.Listing.{there}
 use Rattle.commit_graph.specs.World.{Row, names_of}
 use Rattle.segment_codec.specs.Record.{Segment}
@@ -29,7 +29,7 @@ use Rattle.remote_trait.specs.declared.fault.RemoteFault.TheVariants as remote
 use Rattle.remote_trait.proofs.Items.{named-is}
 use Rattle.mirror_set.specs.Asking.{IsItsClone}
 use Rattle.mirror_set.specs.Round.{Stays}
-use Rattle.mirror_set.specs.Fresh.{PlainFresh, IsPulledFrom, IsItsFresh, GivesFresh, GivesFew, GaveFew, GaveBroken, AsksOn, AsksLine, GaveLine, AreNamesBelow, names_between, count_from, part_fault}
+use Rattle.mirror_set.specs.Fresh.{IsPulledFrom, IsItsFresh, GivesFresh, AsksOn, AsksLine, GaveLine, AreNamesBelow, names_between, count_from, part_fault}
 use Rattle.mirror_set.specs.declared.pulling.PartFault.{PartFault}
 use Rattle.mirror_set.specs.declared.pulling.PartFault.TheVariants as part
 use Rattle.mirror_set.proofs.Rounds.{stays, stays-self, stays-then}
@@ -217,7 +217,7 @@ module _ (told : CloneData) (e : first_broken told ≡ None) (from k : ℕ) (s :
             let line = given-line rows w told c s (segment-in told.segments k s at) (omega (arith, under, ends)) x named count sizes.0 l.0 l.2 (omega (arith, len)) in
             let place = place_behind 0 (take k told.segments) - from in
             let whole : reverse l.0 ≡ take count (drop place (drop from ns)) =
-                line ∙ ap (λ n. take n (drop (s.high + 1 - n) ns)) len ∙ ap (λ n. take count (drop n ns)) (sizes.1 ∙ ap (λ n. from + n) (sym sizes.3)) ∙ ap (take count) (sym (drop-drop place from ns)) in
+            line ∙ ap (λ n. take n (drop (s.high + 1 - n) ns)) len ∙ ap (λ n. take count (drop n ns)) (sizes.1 ∙ ap (λ n. from + n) (sym sizes.3)) ∙ ap (take count) (sym (drop-drop place from ns)) in
             l.3 ∙ ap (λ z. z ++ reverse l.0) (h w c) ∙ ap (λ z. names_between rows from place ++ z) whole ∙ sym (take-add place count (drop from ns)) ∙ ap (names_between rows from) (sym sizes.2)
 
     pub count-line : (result : Result ⊤ PartFault) → AsksLine x count names more a b result → OnOk result (length more ≡ place_behind 0 (take (k + 1) told.segments) - from)
@@ -247,9 +247,10 @@ module _ (told : CloneData) (e : first_broken told ≡ None) (from k : ℕ) (bef
   reach : (place_behind 0 (take k told.segments) ≤ place_behind 0 (take (k + 1) told.segments)) × (place_behind 0 (take (k + 1) told.segments) ≤ place_behind 0 told.segments)
   reach =
       let f = told-follow told e in
-      let next : suc k ≡ k + 1 = omega arith in
-      (subst (λ n. place_behind 0 (take k told.segments) ≤ place_behind 0 (take n told.segments)) next (place-next 0 (place_behind 0 told.segments) told.segments f k),
-      (place-grows 0 (place_behind 0 told.segments) told.segments f (k + 1)).0)
+      let next : suc k ≡ k + 1 = omega arith in (
+        subst (λ n. place_behind 0 (take k told.segments) ≤ place_behind 0 (take n told.segments)) next (place-next 0 (place_behind 0 told.segments) told.segments f k),
+        (place-grows 0 (place_behind 0 told.segments) told.segments f (k + 1)).0,
+      )
 
   pub so-next : Stays (place_behind 0 (take (k + 1) told.segments) - from - length names) mid now → length more ≡ place_behind 0 (take (k + 1) told.segments) - from
       → (AreNamesBelow from (place_behind 0 (take k told.segments)) told mid names → AreNamesBelow from (place_behind 0 (take (k + 1) told.segments)) told now more) → SoFar told from (k + 1) before now more

@@ -96,11 +96,7 @@ fn add_names<R: Remote>(
 fn later(a: u64, b: u64) -> u64
     ensures { result ≡ a + (b - a) }
 {
-    if a < b {
-        b
-    } else {
-        a
-    }
+    if a < b { b } else { a }
 }
 
 /// Asks for the names of the ids of a segment from this id on, by the name of its highest one.
