@@ -40,7 +40,7 @@ module _ (names : List ℕ) (n more before log : ℕ) (graph : List (List ℕ)) 
   pending-size : more ≡ length rows
   pending-size = m.pending_is ∙ pending-count w m.pending rows m.facts.may.pending_rows
 
-  pub n-few : n ≤ 131072
+  pub n-few : n ≤ 16842752
   n-few = let i = m.facts.n_is in let f = m.facts.few in omega (arith, i, f)
 
   -- something moves, or is pending

@@ -233,8 +233,7 @@ others-own m (s ∷ more) h g =
 pub record FitBehind (payloads : List Payload) (rows : List IdRow) : Type 0 where
   pub parents : AllRows (Behind (count_after 0 payloads)) (length (other_names_in (newest payloads))) rows
   pub distinct : AreDistinct (row_names rows)
-  pub whole : AllByRecursion IsName (row_names rows)
-  pub few : length rows ≤ 65536
+  pub few : length rows ≤ 2 ^ 32
   pub new : (x : Name) → IsIn x (row_names rows) → IsIn x (flat_map known_names payloads) ⊎ IsIn x (other_names_in (newest payloads)) → ⊥
 
 -- a world for which payloads stand, and the rows of a session that sees it

@@ -129,7 +129,7 @@ module _ (tables : PlainTables) (bytes : List ℕ) (base : BaseRef) (pending : P
   pub moved-few : (moved : List ℕ) → AllZip (IsMoved before added pending.first ids) row.parents moved → length moved ≤ 8
   moved-few moved z = let e = zip-long (IsMoved before added pending.first ids) row.parents moved z in let f = parents-few in omega (arith, e, f)
 
-  pub some-few : length l.some < 65536
+  pub some-few : length l.some < 16777216
   some-few = let a = l.few in let b = take-long m.rows i row at in let c = under m.rows i row at in let d = m.held.few in omega (arith, a, b, c, d)
 
   pub moved-under : (moved : List ℕ) → AllZip (IsMoved before added pending.first ids) row.parents moved → (count : ℕ) → count ≡ length l.some → AllByRecursion (λ p. p < other_id (kept.first + count)) moved

@@ -24,7 +24,7 @@ pub record MoveFacts (tables : PlainTables) (bytes : List ℕ) (pending : PlainP
   pub before_is : before ≡ length w.master
   pub small : length w.master ≤ 16777216
   pub names_whole : AllByRecursion IsName (names_of (w.others ++ rows))
-  pub few : length (w.others ++ rows) ≤ 131072
+  pub few : length (w.others ++ rows) ≤ 16842752
 
 -- A flush of a log of so many bytes, by its numbers, of which so many are pending: their parents, which of them move, and
 -- which stay.

@@ -257,7 +257,7 @@ fn are_distinct(ids: &[Id]) -> bool
 /// it counts as stored with others.
 fn keep_row(name: &Name, parents: &[Id], left: &mut PendingRows) -> Result<Id, PlanFault>
     requires few { length parents.now ≤ 8 }
-    requires rows { (rows : List IdRow) × HoldsRows left.old rows × (length rows < 65536) }
+    requires rows { (rows : List IdRow) × HoldsRows left.old rows × (length rows < 16777216) }
     requires below { AllByRecursion (λ p. p < other_id (left.old.first + length left.old.places)) parents.now }
     ensures { MatchResult result
         (λ id. AreDistinct parents.now × IsKept left.old left.new name.now parents.now id)

@@ -26,7 +26,7 @@ pub row-is-segment : (id first count : ℕ) (parents : List ℕ) → id ≡ othe
 row-is-segment id first count parents e room m = record {
   ascending = omega arith;
   one_group = refl;
-  valid = (let r = m.room in let l : 2 ^ 56 + 131072 ≤ id_end = lit≤ tt in omega (arith, e, room, r, l));
+  valid = (let r = m.room in let l : 2 ^ 56 + 16842752 ≤ id_end = lit≤ tt in omega (arith, e, room, r, l));
   level = omega arith;
   below = subst (λ n. AllByRecursion (λ p. p < n) parents) (sym e) m.below;
   distinct = m.distinct;
@@ -111,7 +111,7 @@ pub record RowAdded (old new : PlainPending) (rows : List IdRow) (name : Name) (
   pub places : new.places ≡ old.places ++ place ∷ []
   pub names : new.names ≡ old.names ++ name
   pub index : FindsNames new.index (row_names rows ++ name ∷ [])
-  pub few : length rows < 65536
+  pub few : length rows < 16777216
   pub whole : IsName name
 
 pub holds-more : (old new : PlainPending) (rows : List IdRow) (name : Name) (parents : List ℕ) (id place : ℕ) → HoldsRows old rows → RowAdded old new rows name parents id place
