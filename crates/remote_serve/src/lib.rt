@@ -14,4 +14,4 @@ mod spelling;
 pub use ask::Ask;
 pub use laws::{failures_are_counted, frames_are_split};
 pub use served::Served;
-pub use serving::{serve, serve_only, serve_remote};
+pub use serving::{Desk, serve, serve_remote};

@@ -18,6 +18,7 @@ use id_groups::Name;
 use line_io::{Sink, Source};
 use remote_trait::Remote;
 use std::alloc::{AllocError, Global};
+use std::marker::Model;
 
 /// The most names that one request asks for, or has.
 const MOST_NAMES: usize = 65_536;
@@ -128,30 +129,79 @@ fn make_room(alloc: Global) -> Result<Vec<Name>, AllocError>
     vec![in alloc; Name::default(); MOST_NAMES]
 }
 
-/// Reads and answers all frames, with room for the names of one request.
-fn serve_frames<R: Remote, I: Source, O: Sink>(
-    alloc: Global,
-    remote: &mut R,
-    frames: &mut Frames,
-    input: &mut I,
-    output: &mut O,
-    limit: u64,
-) -> Served
-    requires { frames.old ≡ new_reading limit }
-    ensures serves { WhereTold (ports (I.left input.old) (O.taken output.old)) (ports (I.left input.new) (O.taken output.new))
-        (λ before after. EndsAs result limit (streams before after) (R.shown remote.old) (R.shown remote.new)) }
-    ensures quiet { result ≡ Served.Memory → (input.new ≡ input.old) × (output.new ≡ output.old) × (remote.new ≡ remote.old) }
-    ensures source { result ≡ Served.SourceFault → Rose (I.faults input.old) (I.faults input.new) }
-    ensures sink { result ≡ Served.SinkFault → Rose (O.faults output.old) (O.faults output.new) }
-    ensures source_later { I.faults input.old ≤ I.faults input.new }
-    ensures sink_later { O.faults output.old ≤ O.faults output.new }
-{
-    match make_room(alloc) {
-        Ok(room) => {
-            let mut room = room;
-            serve_all(alloc, remote, &mut room, frames, input, output)
-        }
-        Err(_) => Served::Memory,
+/// All memory that serving takes before the first frame: room for a frame, and for the names of one request.
+#[derive(Drop)]
+pub struct Desk {
+    frames: Frames,
+    names: Vec<Name>,
+}
+
+impl Model for Desk {
+    ghost use Rattle.std.specs.Prelude.{◌≡◌, length};
+    ghost use Rattle.line_io.specs.Reading.{Reading};
+    ghost use Rattle.remote_serve.specs.Requests.{most_names};
+
+    ghost Value = { Reading };
+
+    ghost view = { λ d. d.frames };
+
+    ghost invariant = { λ d. length d.names.items ≡ most_names };
+}
+
+impl Desk {
+    /// The memory to serve an input of which `limit` bytes count.
+    pub fn new(alloc: Global, limit: u64) -> Result<Desk, AllocError>
+        ensures { IfOk result (λ desk. desk ≡ new_reading limit) }
+    {
+        let frames = Frames::new(alloc, limit)?;
+        let names = make_room(alloc)?;
+        Ok(Desk { frames, names })
+    }
+
+    /// Reads requests in frames, asks the mirror, and puts the answers in frames. Each answer is put before the next frame is read.
+    /// It never ends for want of memory.
+    pub fn serve<R: Remote, I: Source, O: Sink>(
+        self,
+        alloc: Global,
+        remote: &mut R,
+        input: &mut I,
+        output: &mut O,
+    ) -> Served
+        ensures serves { (limit : ℕ) → self ≡ new_reading limit → WhereTold (ports (I.left input.old) (O.taken output.old)) (ports (I.left input.new) (O.taken output.new))
+            (λ before after. EndsAs result limit (streams before after) (R.shown remote.old) (R.shown remote.new)) }
+        ensures end { result ≢ Served.Memory }
+        ensures source { result ≡ Served.SourceFault → Rose (I.faults input.old) (I.faults input.new) }
+        ensures sink { result ≡ Served.SinkFault → Rose (O.faults output.old) (O.faults output.new) }
+        ensures source_later { I.faults input.old ≤ I.faults input.new }
+        ensures sink_later { O.faults output.old ≤ O.faults output.new }
+    {
+        let Desk {
+            mut frames,
+            mut names,
+        } = self;
+        serve_all(alloc, remote, &mut names, &mut frames, input, output)
+    }
+
+    /// Serves the one remote of a list.
+    pub fn serve_only<R: Remote, I: Source, O: Sink>(
+        self,
+        alloc: Global,
+        list: &mut Vec<R>,
+        input: &mut I,
+        output: &mut O,
+    ) -> Served
+        requires one { length list.old.items ≡ 1 }
+        ensures serves { (limit : ℕ) → self ≡ new_reading limit → WhereTold (ports (I.left input.old) (O.taken output.old)) (ports (I.left input.new) (O.taken output.new))
+            (λ before after. ServesOnly result limit (streams before after) (map R.shown list.old.items) (map R.shown list.new.items)) }
+        ensures len { length list.new.items ≡ length list.old.items }
+        ensures end { result ≢ Served.Memory }
+        ensures source { result ≡ Served.SourceFault → Rose (I.faults input.old) (I.faults input.new) }
+        ensures sink { result ≡ Served.SinkFault → Rose (O.faults output.old) (O.faults output.new) }
+        ensures source_later { I.faults input.old ≤ I.faults input.new }
+        ensures sink_later { O.faults output.old ≤ O.faults output.new }
+    {
+        let remote = &mut list[0];
+        self.serve(alloc, remote, input, output)
     }
 }
 
@@ -172,35 +222,10 @@ pub fn serve_remote<R: Remote, I: Source, O: Sink>(
     ensures source_later { I.faults input.old ≤ I.faults input.new }
     ensures sink_later { O.faults output.old ≤ O.faults output.new }
 {
-    match Frames::new(alloc, limit) {
-        Ok(frames) => {
-            let mut frames = frames;
-            serve_frames(alloc, remote, &mut frames, input, output, limit)
-        }
-        Err(_) => Served::Memory,
+    match Desk::new(alloc, limit) {
+        Ok(desk) => desk.serve(alloc, remote, input, output),
+        Err(AllocError) => Served::Memory,
     }
-}
-
-/// Serves the one remote of a list, as `serve_remote` does.
-pub fn serve_only<R: Remote, I: Source, O: Sink>(
-    alloc: Global,
-    list: &mut Vec<R>,
-    input: &mut I,
-    output: &mut O,
-    limit: u64,
-) -> Served
-    requires one { length list.old.items ≡ 1 }
-    ensures serves { WhereTold (ports (I.left input.old) (O.taken output.old)) (ports (I.left input.new) (O.taken output.new))
-        (λ before after. ServesOnly result limit (streams before after) (map R.shown list.old.items) (map R.shown list.new.items)) }
-    ensures quiet { result ≡ Served.Memory → (input.new ≡ input.old) × (output.new ≡ output.old) × (map R.shown list.new.items ≡ map R.shown list.old.items) }
-    ensures len { length list.new.items ≡ length list.old.items }
-    ensures source { result ≡ Served.SourceFault → Rose (I.faults input.old) (I.faults input.new) }
-    ensures sink { result ≡ Served.SinkFault → Rose (O.faults output.old) (O.faults output.new) }
-    ensures source_later { I.faults input.old ≤ I.faults input.new }
-    ensures sink_later { O.faults output.old ≤ O.faults output.new }
-{
-    let remote = &mut list[0];
-    serve_remote(alloc, remote, input, output, limit)
 }
 
 /// Serves a mirror, as `serve_remote` does.
