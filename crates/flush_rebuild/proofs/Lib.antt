@@ -30,3 +30,7 @@ pub mod Stripped
 pub mod Spreading
 pub mod StripFacts
 pub mod StripMeans
+pub mod Beside
+pub mod StoredBeside
+pub mod BaseBeside
+pub mod HonestTold

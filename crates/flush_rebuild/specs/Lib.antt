@@ -9,3 +9,4 @@ pub mod Facts
 pub mod Cloning
 pub mod Sections
 pub mod Stripping
+pub mod Pulling

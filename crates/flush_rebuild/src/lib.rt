@@ -2,6 +2,7 @@
 
 //! What a flush, a strip and a clone make of a world: the payload, and the tables that follow.
 
+mod agreeing;
 mod building;
 mod cloning;
 mod fault;
@@ -19,7 +20,7 @@ pub use change_rules::{Limit, Limits};
 pub use cloning::{plan_clone, plan_clone_change};
 pub use fault::PlanFault;
 pub use flush::{Plan, plan_flush};
-pub use laws::payloads_stand_for_a_world;
+pub use laws::{honest_pulls_are_told, payloads_stand_for_a_world};
 pub use payload_tables::{BaseRef, OthersTable, PendingRows, TableFault, Tables};
 pub use plan::{Change, Payload, plan_change};
 pub use rebasing::rebase;

@@ -9,8 +9,8 @@ use Rattle.std.proofs.lemmas.Bool.{eq-eqb}
 use Rattle.std.proofs.lemmas.Map.Views.{exact_unsigned_eq}
 use Rattle.std.specs.Prelude.{nat_eq}
 use Rattle.outside.specs.Counts.{Rose}
-use Rattle.id_groups.specs.Lists.{IsIn, is_in}
-use Rattle.id_groups.specs.Name.{Name, same_name}
+use Rattle.id_groups.specs.Lists.{IsIn}
+use Rattle.id_groups.specs.Name.{Name}
 use Rattle.id_groups.proofs.Listing.{there}
 use Rattle.commit_graph.specs.World.{Row, names_of}
 use Rattle.segment_codec.specs.Record.{Segment}
@@ -29,7 +29,7 @@ use Rattle.remote_trait.specs.declared.fault.RemoteFault.TheVariants as remote
 use Rattle.remote_trait.proofs.Items.{named-is}
 use Rattle.mirror_set.specs.Asking.{IsItsClone}
 use Rattle.mirror_set.specs.Round.{Stays}
-use Rattle.mirror_set.specs.Fresh.{PlainFresh, IsPulledFrom, IsItsFresh, GivesFresh, GivesFew, GaveFew, GaveBroken, AsksOn, AsksLine, GaveLine, AreNamesBelow, names_between, count_from, part_fault}
+use Rattle.mirror_set.specs.Fresh.{IsPulledFrom, IsItsFresh, GivesFresh, AsksOn, AsksLine, GaveLine, AreNamesBelow, names_between, count_from, part_fault}
 use Rattle.mirror_set.specs.declared.pulling.PartFault.{PartFault}
 use Rattle.mirror_set.specs.declared.pulling.PartFault.TheVariants as part
 use Rattle.mirror_set.proofs.Rounds.{stays, stays-self, stays-then}

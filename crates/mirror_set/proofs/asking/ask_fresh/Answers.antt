@@ -3,7 +3,6 @@ use Rattle.std.proofs.lemmas.Grind.{common_steps}
 use Rattle.std.specs.Prelude.{⊤}
 use Rattle.mirror_set.specs.Fresh.{IsPulledFrom, IsItsFresh, GivesFresh, GaveBroken, GaveFew}
 use Rattle.mirror_set.proofs.Turns.{answered-by, turned-more, turned-items}
-use Rattle.mirror_set.proofs.Pulled.{fresh-none}
 use Rattle.mirror_set.proofs.asking.ask_fresh.Goals as goal
 
 pub returns-in-Ok-clause-asked : goal.returns-in-Ok-clause-asked

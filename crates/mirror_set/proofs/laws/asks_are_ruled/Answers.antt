@@ -1,7 +1,6 @@
 use Rattle.mirror_set.proofs.Ruled.{ask-ruled, turns-ruled, clone-ruled}
 use Rattle.mirror_set.proofs.Pulled.{fresh-ruled}
 use Rattle.mirror_set.proofs.laws.asks_are_ruled.Goals as goal
-use Rattle.mirror_set.proofs.Parts.{lawful}
 
 pub returns-clause-names : goal.returns-clause-names
 returns-clause-names c = ask-ruled

@@ -1,5 +1,5 @@
 use Rattle.std.proofs.lemmas.Result.{err_from_is_err_and}
-use Rattle.mirror_set.proofs.Parts.{so-first, so-next, so-failed, so-whole, asks-stay, failed-on}
+use Rattle.mirror_set.proofs.Parts.{so-next, so-failed, asks-stay, failed-on}
 use Rattle.mirror_set.proofs.pulling.names_from.Goals as goal
 
 pub returns-in_err-add_segment-clause-stays : goal.returns-in_err-add_segment-clause-stays

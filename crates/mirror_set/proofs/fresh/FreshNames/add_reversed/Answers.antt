@@ -1,4 +1,4 @@
-use Rattle.std.proofs.Common.{◌≡◌, ◌∙◌, ◌++◌, ap, sym, arith, drop}
+use Rattle.std.proofs.Common.{◌≡◌, ◌∙◌, ◌++◌, ap, arith, drop}
 use Rattle.std.specs.Prelude.{reverse}
 use Rattle.mirror_set.proofs.FlatNames.{reversed-none, reversed-more, reversed-length}
 use Rattle.mirror_set.proofs.fresh.FreshNames.add_reversed.Goals as goal
