@@ -22,7 +22,7 @@ fresh-start limits image w payloads lines hold = record {
   holds = λ other is. subst (λ bytes. HoldBytes limits.log bytes w) (sym (image-stable image other is)) (payloads, hold);
   read = hold;
   serve = record { each = tt; first_clone = λ none. inl zero-le };
-  begin = λ h. absurd (cc h.3.1.1);
+  begin = λ h. record { each = tt; first_clone = λ clones none. inl zero-le };
 }
 
 module _ (limits : Limits) (w : World Name) (payloads : List Payload) (changes : List ℕ) (final : Stored) (old new : Told) (s : Stopped limits.log w payloads changes final old new) (moment : ℕ) (image : List ℕ) (lines : List (List ℕ)) where
