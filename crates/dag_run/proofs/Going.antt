@@ -141,7 +141,7 @@ module _ (limits : Limits) (fair : AreLimits limits) (w : World Name) (payloads 
         out = put-more before.taken mid.taken after.taken h.replies reply h.out put;
         stands = stands;
         enough = line-enough limits (length payloads) store next left now h.last st h.stands stands h.enough line.0 reply (step-as reply st step);
-        begun = λ has. line-begun limits (length payloads) store next left now h.last st h.stands stands (lines_of limits.input before.left) (h.begun has) line.0 here reply (step-as reply st step);
+        begun = λ has. line-begun limits (length payloads) store next left now h.last st h.stands stands h.enough (lines_of limits.input before.left) (h.begun has) line.0 here reply (step-as reply st step);
         stays = stays-line limits fair w payloads room mirrors before begins store changes payload clock h.lines (h.lines ++ line.0 ∷ []) h.replies (h.replies ++ reply ∷ []) h.last st mid.disk after.disk same h.run (run-on reply st silent step) h.stands.stored h.stays changed
             (on-disk store next payload clock mid.disk after.disk leaves);
       }

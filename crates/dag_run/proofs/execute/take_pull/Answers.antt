@@ -1,11 +1,11 @@
-use Rattle.std.proofs.Common.{[], None, Err, refl, ap, ◌∙◌}
+use Rattle.std.proofs.Common.{[], None, Err, refl, ap, subst, ◌∙◌}
 use Rattle.outside.specs.Counts.{Rose}
 use Rattle.outside.proofs.ToldLemmas.{WhereTold-map}
 use Rattle.step_rules.specs.declared.Refusal.TheVariants as why
 use Rattle.step_rules.specs.Verb.{Pull}
 use Rattle.step_rules.specs.Reply.{Pulled, Refused}
 use Rattle.dag_store.specs.Clones.{beside}
-use Rattle.dag_store.specs.Pulls.{pull_end, pull_of}
+use Rattle.dag_store.specs.Pulls.{AllBeginWith, pull_end, pull_of}
 use Rattle.dag_run.specs.Lines.{changes_with, CommandReplies, PutsFault}
 use Rattle.dag_run.specs.declared.stops.Stop.TheVariants as stops
 use Rattle.dag_run.proofs.Doing.{still-goes, flush-goes, refused-goes, short-goes, limit-of, memory-step, command-told, change-of, flush-changes}
@@ -40,7 +40,7 @@ returns-in-Done-clause-step g c =
       flush-goes old new step.0 r c.args.s counts clock (g.D.Disk.told c.args.log.now) (g.D.Disk.told c.take_pull.new.disk) c.tell-in-Done.ensures.same c.tell-in-Done.ensures.stop
           (limit-of old c.log_limit-limit.result c.log_limit-limit.ensures.limits c.log_limit-limit.ensures.log) c.in-Done.ensures.leaves step.1,
       command-told _ _ (Rose (g.O.Sink.faults c.args.output.now) (g.O.Sink.faults c.tell-in-Done.new.output)) old new c.args.s verb step.0 clock r (Pulled counts.master counts.others) o p
-          (λ began st h enough. let f = step.2 began st h (enough.2 refl) in (beside st (pull_end st.store c.args.s f.0) _, f.2, flush-changes clock st.store c.args.s (pull_of st.store f.0) step.0 (pull_end st.store c.args.s f.0) refl f.4, f.3))
+          (λ began st h enough. let f = step.2 began st h (subst (AllBeginWith st.store) h.outside_of.mirrors_are (enough.2 refl)) in (beside st (pull_end st.store c.args.s f.0) _, f.2, flush-changes clock st.store c.args.s (pull_of st.store f.0) step.0 (pull_end st.store c.args.s f.0) refl f.4, f.3))
           c.tell-in-Done.ensures.bytes,
     )
 
@@ -58,7 +58,7 @@ returns-in-Refused-clause-step g c =
       c.try_reserve.ensures.items,
       refused-goes old new step.0 r refusal (g.D.Disk.told c.args.log.now) (g.D.Disk.told c.take_pull.new.disk) c.tell-in-Refused.ensures.same c.tell-in-Refused.ensures.stop c.in-Refused.ensures.leaves.1 step.1,
       command-told _ _ (Rose (g.O.Sink.faults c.args.output.now) (g.O.Sink.faults c.tell-in-Refused.new.output)) old new c.args.s verb step.0 None r (Refused refusal) o p
-          (λ began st h enough. let f = step.2 began st h (enough.2 refl) in (beside st st.store _, f.0, (refl, refl), f.1))
+          (λ began st h enough. let f = step.2 began st h (subst (AllBeginWith st.store) h.outside_of.mirrors_are (enough.2 refl)) in (beside st st.store _, f.0, (refl, refl), f.1))
           c.tell-in-Refused.ensures.bytes,
     )
 
@@ -74,6 +74,6 @@ returns-in-Disk-clause-step g c =
       c.try_reserve.ensures.items,
       short-goes old step.0 None c.in-Disk.field-0 (g.D.Disk.told c.args.log.now) (g.D.Disk.told c.take_pull.new.disk) (limit-of old c.log_limit-limit.result c.log_limit-limit.ensures.limits c.log_limit-limit.ensures.log) step.1,
       WhereTold-map o p (PutsFault failed) (CommandReplies _ _ failed old c.args.s verb step.0 None (Err stops.NotStored))
-          (λ before now put began st h enough. let f = step.2 began st h (enough.2 refl) in (Pulled _ _, beside st (pull_end st.store c.args.s f.0) _, f.2, change-of st.store c.args.s (pull_of st.store f.0) step.0 (pull_end st.store c.args.s f.0) refl f.3, refl, refl, put))
+          (λ before now put began st h enough. let f = step.2 began st h (subst (AllBeginWith st.store) h.outside_of.mirrors_are (enough.2 refl)) in (Pulled _ _, beside st (pull_end st.store c.args.s f.0) _, f.2, change-of st.store c.args.s (pull_of st.store f.0) step.0 (pull_end st.store c.args.s f.0) refl f.3, refl, refl, put))
           c.tell_fault.ensures.bytes,
     )
