@@ -30,3 +30,6 @@ pub mod Stripped
 pub mod Spreading
 pub mod StripFacts
 pub mod StripMeans
+pub mod ToldRows
+pub mod Agreed
+pub mod Taking
