@@ -33,3 +33,4 @@ pub mod StripMeans
 pub mod ToldRows
 pub mod Agreed
 pub mod Taking
+pub mod Walking

@@ -28,7 +28,7 @@ use high_segments::View;
 use id_groups::{Id, Name};
 use mirror_set::Fresh;
 use payload_tables::{BaseRef, PendingRows, Tables};
-use remote_trait::{CloneSegment, CloneSegments};
+use remote_trait::{CloneData, CloneSegment};
 use std::alloc::{AllocError, Global};
 
 /// For how many rows there is room behind a world's others.
@@ -181,17 +181,19 @@ fn add_segment(
     Ok(())
 }
 
-/// Goes on by all rows from the cloned ones on.
+/// Goes on by all rows from the cloned ones on; `told` is what was told of their ids and parents.
 fn add_rows(
     alloc: Global,
     newest: &BaseRef<'_>,
     view: &View<'_>,
     cloned: u64,
     fresh: &Fresh,
+    told: &CloneData,
     ids: &mut Vec<Id>,
     left: &mut PendingRows,
 ) -> Result<(), PlanFault>
     requires names { length fresh.now.names < 2 ^ 31 }
+    requires told { told.now ≡ fresh.now.cloned }
     requires rows { (w : World NameBytes) × (rows : List (Row NameBytes)) × MayWalk newest.now (flats_in view.now) cloned fresh.now w rows
         × (left.old.first ≡ length w.others) }
     requires ids { ids.old.items ≡ [] }
@@ -202,19 +204,19 @@ fn add_rows(
         (λ done. AreTaken w cloned rows ids.new.items left.new)
         (λ fault. (fault ≡ Memory) ⊎ (conflict_fault (first_conflict same_name w rows) ≡ Some fault)) }
 {
-    'segments: for k in 0..fresh.cloned.segments.len() {
-        let segment = fresh.cloned.segments.at(k);
+    'segments: for k in 0..told.segments.len() {
+        let segment = told.segments.at(k);
         add_segment(alloc, newest, view, cloned, fresh, segment, ids, left)?;
     }
     Ok(())
 }
 
 /// No segment has more parents than a row may have: their type has no room for more.
-fn count_parents(segments: &CloneSegments)
-    ensures { AllByRecursion (λ (s : Segment). length s.parents ≤ 8) segments.now }
+fn count_parents(told: &CloneData)
+    ensures { AllByRecursion (λ (s : Segment). length s.parents ≤ 8) told.now.segments }
 {
-    'segments: for k in 0..segments.len() {
-        let segment = segments.at(k);
+    'segments: for k in 0..told.segments.len() {
+        let segment = told.segments.at(k);
         let _numbers = segment.parents.numbers();
     }
 }
@@ -250,7 +252,7 @@ pub(crate) fn taken_of(
         → IfOk result (λ taken. (w : World NameBytes) × (rows : List (Row NameBytes)) × (m : MayTake tables.now bytes.now fresh.now w rows) × (m.added ≡ added)) }
 {
     check_fresh(alloc, tables, bytes, fresh)?;
-    count_parents(&fresh.cloned.segments);
+    count_parents(&fresh.cloned);
     let newest = tables.newest(bytes);
     let view = newest.view(none);
     let count = fresh.names.len();
@@ -262,6 +264,7 @@ pub(crate) fn taken_of(
         &view,
         tables.cloned(),
         fresh,
+        &fresh.cloned,
         &mut ids,
         &mut left,
     )?;

@@ -4,4 +4,4 @@ use Rattle.segment_codec.specs.Record.{Segment}
 use Rattle.flush_rebuild.proofs.pulled.count_parents.Given as goal
 
 abbrev pub invariant-segments : goal.invariant-segments
-invariant-segments l = AllByRecursion (λ (s : Segment). length s.parents ≤ 8) (take l.k l.segments)
+invariant-segments l = AllByRecursion (λ (s : Segment). length s.parents ≤ 8) (take l.k l.told.segments)
