@@ -2,7 +2,6 @@
 use Rattle.std.proofs.Common.{◌≡◌, ◌<◌, ◌≤◌, ◌+◌, ◌-◌, ◌&&◌, ℕ, zero, suc, Bool, true, false, ◌⊎◌, inl, inr, List, [], ◌∷◌, ◌++◌, length, map, take, drop, filter, flat_map, min, nat_eq, nat_lt, nat_le, Option, Some, None, slice_get, is_some, filter_map, refl, sym, ap, ap₂, subst, ◌∙◌, ⊎_elim, if◌then◌else◌, arith, true≢false, append-nil, length-append}
 use Rattle.std.specs.List.{AllByRecursion, cons_option}
 use Rattle.std.specs.Cmp.Lexicographic.{pointwise}
-use Rattle.std.proofs.Math.Nat.{min-eq_left, min-eq_right}
 use Rattle.std.proofs.lemmas.Bool.{ltb-true, ltb-false, lt-ltb, le-ltb, leb-true}
 use Rattle.std.proofs.lemmas.Map.Views.{exact_unsigned_eq}
 use Rattle.id_groups.specs.Lists.{IsIn, AreAllIn}
@@ -36,7 +35,7 @@ use Rattle.flush_rebuild.proofs.Stepping.{split-at, under}
 
 -- ---- segments cut below an id
 
-take-none : {X : Type 0} (n : ℕ) → take n [] ≡ [] {A = X}
+take-none : {X : Type 0} (n : ℕ) → ◌≡◌ {A = List X} (take n []) []
 take-none zero = refl
 take-none (suc n) = refl
 
@@ -63,7 +62,7 @@ cut-none below first end (s ∷ ss) le f =
 
 parents-cut : (below first end : ℕ) (ss : List Segment) → Follow first end ss → parents_listed (cut_below below ss) ≡ take (below - first) (parents_listed ss)
 parents-cut below first end [] f = sym (take-none (below - first))
-parents-cut below first end (s ∷ ss) f = by_test (nat_lt s.low below) refl
+parents-cut below first end (s ∷ ss) f = by_test (parents-cut below (s.high + 1) end ss f.2) (nat_lt s.low below) refl
   where
     low : s.low ≡ first
     low = f.0
@@ -71,23 +70,23 @@ parents-cut below first end (s ∷ ss) f = by_test (nat_lt s.low below) refl
     long : length (segment_parents s) ≡ s.high + 1 - s.low
     long = let l = followers-long s.low (s.high - s.low) in let o = f.1 in let e = f.0 in omega (arith, l, o, e)
 
-    by_end : s.low < below → (s.high < below) ⊎ (below ≤ s.high) → parents_listed (record s { high = min s.high (below - 1) } ∷ cut_below below ss) ≡ take (below - first) (parents_listed (s ∷ ss))
-    by_end lt (inl h) =
-        ap₂ (λ n l. (s.parents ∷ followers s.low (n - s.low)) ++ l) (min-eq_left {n = s.high} {m = below - 1} (omega (arith, h))) (parents-cut below (s.high + 1) end ss f.2)
+    by_end : parents_listed (cut_below below ss) ≡ take (below - (s.high + 1)) (parents_listed ss) → s.low < below → (s.high < below) ⊎ (below ≤ s.high) → parents_listed (record s { high = min s.high (below - 1) } ∷ cut_below below ss) ≡ take (below - first) (parents_listed (s ∷ ss))
+    by_end rec lt (inl h) =
+        ap₂ (λ n l. (s.parents ∷ followers s.low (n - s.low)) ++ l) (let z : min s.high (below - 1) ≡ s.high = omega (arith, h) in z) rec
         ∙ ap (λ n. segment_parents s ++ take n (parents_listed ss)) (let o = f.1 in let z : below - (s.high + 1) ≡ below - first - length (segment_parents s) = omega (arith, long, low, h, o) in z)
         ∙ sym (take-join (below - first) (segment_parents s) (parents_listed ss) (omega (arith, long, low, h)))
-    by_end lt (inr h) =
-        ap₂ (λ n l. (s.parents ∷ followers s.low (n - s.low)) ++ parents_listed l) (min-eq_right {n = s.high} {m = below - 1} (omega (arith, h, lt))) (cut-none below (s.high + 1) end ss (omega (arith, h)) f.2)
+    by_end rec lt (inr h) =
+        ap₂ (λ n l. (s.parents ∷ followers s.low (n - s.low)) ++ parents_listed l) (let z : min s.high (below - 1) ≡ below - 1 = omega (arith, h, lt) in z) (cut-none below (s.high + 1) end ss (omega (arith, h)) f.2)
         ∙ append-nil (s.parents ∷ followers s.low (below - 1 - s.low))
         ∙ ap (λ l. s.parents ∷ l) (sym (take-followers (below - 1 - s.low) s.low (s.high - s.low) (omega (arith, h))))
         ∙ ap (λ n. take n (segment_parents s)) (let z : suc (below - 1 - s.low) ≡ below - first = omega (arith, low, lt) in z)
         ∙ sym (take-within (below - first) (segment_parents s) (parents_listed ss) (omega (arith, long, low, h)))
 
-    by_test : (b : Bool) → nat_lt s.low below ≡ b → parents_listed (if nat_lt s.low below then record s { high = min s.high (below - 1) } ∷ cut_below below ss else cut_below below ss) ≡ take (below - first) (parents_listed (s ∷ ss))
-    by_test true e =
+    by_test : parents_listed (cut_below below ss) ≡ take (below - (s.high + 1)) (parents_listed ss) → (b : Bool) → nat_lt s.low below ≡ b → parents_listed (if nat_lt s.low below then record s { high = min s.high (below - 1) } ∷ cut_below below ss else cut_below below ss) ≡ take (below - first) (parents_listed (s ∷ ss))
+    by_test rec true e =
         ap (λ b. parents_listed (if b then record s { high = min s.high (below - 1) } ∷ cut_below below ss else cut_below below ss)) e
-        ∙ by_end (ltb-true s.low below e) (⊎_elim (λ h. inr h) (λ h. inl h) (le_or_lt below s.high))
-    by_test false e =
+        ∙ by_end rec (ltb-true s.low below e) (⊎_elim (λ h. inr h) (λ h. inl h) (le_or_lt below s.high))
+    by_test rec false e =
         let le = ltb-false s.low below e in
         ap (λ b. parents_listed (if b then record s { high = min s.high (below - 1) } ∷ cut_below below ss else cut_below below ss)) e
         ∙ ap parents_listed (cut-none below (s.high + 1) end ss (let o = f.1 in omega (arith, le, o, low)) f.2)
@@ -102,7 +101,7 @@ neither : (a b : Option ℕ) → first_some a b ≡ None → (a ≡ None) × (b 
 neither None b e = (refl, e)
 neither (Some n) b e = absurd (no-some n e)
 
-all-true : (n : ℕ) (bs : List Bool) → first_false n bs ≡ None → AllByRecursion (λ b. b ≡ true) bs
+pub all-true : (n : ℕ) (bs : List Bool) → first_false n bs ≡ None → AllByRecursion (λ b. b ≡ true) bs
 all-true n [] e = tt
 all-true n (b ∷ bs) e = by_test b e (λ f. all-true (n + 1) bs f)
   where
@@ -139,9 +138,11 @@ parents-same payloads told end f e =
     let a = neither (first_false 0 (segments_agree theirs stored)) _ e in
     let b = neither (first_false (length told.segments + length told.names + length told.heads) (nat_le (length stored) (length theirs) ∷ [])) _ a.1 in
     let long = leb-true (length stored) (length theirs) (all-true (length told.segments + length told.names + length told.heads) (nat_le (length stored) (length theirs) ∷ []) b.0).0 in
-    sym (parents-cut c 0 end told.segments f)
+    ap (λ n. take n (parents_listed told.segments)) (let z : c ≡ c - 0 = omega arith in z)
+    ∙ sym (parents-cut c 0 end told.segments f)
     ∙ agree-same theirs stored (all-true 0 (segments_agree theirs stored) a.0) long
     ∙ parents-cut c 0 (0 + length ps) (flat_segments_of 0 ps) (flat-follow 0 ps)
+    ∙ ap (λ n. take n (parents_listed (flat_segments_of 0 ps))) (let z : c - 0 ≡ c = omega arith in z)
     ∙ ap (take c) (flat-keeps 0 ps)
 
 -- ---- rows

@@ -34,3 +34,4 @@ pub mod ToldRows
 pub mod Agreed
 pub mod Taking
 pub mod Walking
+pub mod SomeTold
