@@ -35,3 +35,5 @@ pub mod Agreed
 pub mod Taking
 pub mod Walking
 pub mod SomeTold
+pub mod PulledFlushed
+pub mod Pulls

@@ -321,7 +321,7 @@ module _ (tables : PlainTables) (bytes : List ℕ) (fresh : PlainFresh) (w : Wor
   front : cloned ≤ length w.master
   front = let a = cloned-few (payloads_of t.added) t.may.tables_of.lawful in let b = t.stand_for.count in omega (arith, a, b)
 
-  rows-same : take cloned rows ≡ take cloned w.master
+  pub rows-same : take cloned rows ≡ take cloned w.master
   rows-same = ap (take cloned) t.rows_are ∙ cloned-same (payloads_of t.added) w t.stand_for t.world.world fresh t.may.unbroken t.may.count front (none-unlike t.added fresh none)
 
   stored-name : (name : Name) → IsIn name (names_of (drop cloned rows)) → IsIn name (names_of (rows_of w)) → IsStored t.added name

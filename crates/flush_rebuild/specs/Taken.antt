@@ -9,19 +9,22 @@ use Rattle.commit_graph.specs.Ids.{id_in}
 use Rattle.segment_codec.specs.Record.{Segment}
 use Rattle.segment_codec.specs.Table.{parents_at}
 use Rattle.batch_codec.specs.Payload.{Known}
-use Rattle.name_map.specs.Added.{Placed, payloads_of}
+use Rattle.name_map.specs.Added.{Placed, payloads_of, AllStand}
 use Rattle.remote_rules.specs.CloneData.{first_broken}
 use Rattle.remote_rules.specs.Known.{master_world}
 use Rattle.change_rules.specs.Tables.{StandFor, cloned_count}
+use Rattle.change_rules.specs.declared.Limits.{Limits}
+use Rattle.change_rules.specs.declared.Limit.TheVariants.{Master, Log}
 use Rattle.change_rules.specs.Rebase.{first_conflict, first_lost, left_of}
 use Rattle.mirror_set.specs.Fresh.{PlainFresh, count_from}
 use Rattle.payload_tables.specs.declared.base.BaseRef.{BaseRef}
-use Rattle.payload_tables.specs.Kept.{PlainTables}
+use Rattle.payload_tables.specs.Kept.{PlainTables, AreTablesOf}
 use Rattle.payload_tables.specs.Pending.{PlainPending, HoldsRows}
 use Rattle.payload_tables.specs.Bases.{IsBaseOf, AreSegmentsOf, id_row, stored_in}
 use Rattle.flush_rebuild.specs.declared.fault.PlanFault.{PlanFault}
 use Rattle.flush_rebuild.specs.declared.fault.PlanFault.TheVariants.{Memory, Conflict}
 use Rattle.flush_rebuild.specs.Asked.{IsStored}
+use Rattle.flush_rebuild.specs.Plans.{over, first_of, length_with}
 use Rattle.flush_rebuild.specs.Pulling.{MayPullOn, told_rows}
 use Rattle.flush_rebuild.specs.Rebasing.{IsKept}
 
@@ -89,3 +92,23 @@ pub record MayTake (tables : PlainTables) (bytes : List ℕ) (fresh : PlainFresh
   pub world : IsNamedWorld w
   pub rows_are : rows ≡ told_rows w (cloned_count (payloads_of added)) fresh
   pub theirs : IsWorld (master_world rows)
+
+-- What was taken of a remote, by numbers and rows alone: the payloads stand for the world, beside which these are the ids and the
+-- rows that are left.
+pub record MayPut (tables : PlainTables) (bytes : List ℕ) (ids : List ℕ) (left : PlainPending) (w : World Name) (rows : List (Row Name)) : Type 0 where
+  pub added : List Placed
+  pub tables_of : AreTablesOf tables added
+  pub stand : AllStand bytes added
+  pub stand_for : StandFor (payloads_of added) w
+  pub world : IsNamedWorld w
+  pub theirs : IsWorld (master_world rows)
+  pub cloned_rows : take (cloned_count (payloads_of added)) rows ≡ take (cloned_count (payloads_of added)) w.master
+  pub taken : AreTaken w (cloned_count (payloads_of added)) rows ids left
+
+-- why a pull is refused for its sizes: the first of these numbers that is above its limit; others don't become more
+abbrev pub pull_sizes : Limits → ℕ → World Name → List ℕ → Option PlanFault
+pull_sizes limits log new payload = first_of (over limits.master (length new.master) Master) (over limits.log (length_with log payload) Log)
+
+-- the limits of a run, but for that of others, which is the most that a payload has room for
+abbrev pub any_others : Limits → Limits
+any_others limits = record limits { others = 65536 }
