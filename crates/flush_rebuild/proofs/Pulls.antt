@@ -162,7 +162,7 @@ module _ (tables : PlainTables) (bytes ids : List ℕ) (left : PlainPending) (w 
   new = pulled same_name w (master_world rows)
 
   pub new-is : flushed same_name view (names_of rows) ≡ new
-  new-is = sym (pulled-flushed w rows p.world.world p.theirs p.taken.calm)
+  new-is = sym (pulled-flushed same_name same_name-exact same_name-self w (master_world rows) p.world.world theirs p.taken.calm)
 
   others-few : length new.others ≤ 65536
   others-few = let s = filter-short (λ (r : Row Name). not (is_in same_name r.name (names_of new.master))) w.others in let f = few in omega (arith, s, f)
@@ -214,3 +214,75 @@ taken-put tables bytes fresh ids left w rows t none taken = (
   },
   refl,
 )
+
+-- ---- what a pull is refused for
+
+pub pull-fault : (limits : Limits) (log : ℕ) (added : List Placed) (fresh : PlainFresh) (w : World Name) (rows : List (Row Name)) (new : World Name) (payload : List ℕ) (fault : PlanFault)
+    → (fault ≡ Memory) ⊎ ((mismatch added fresh ≡ Some fault) ⊎ ((mismatch added fresh ≡ None) × (conflict_fault (first_conflict same_name w rows) ≡ Some fault)))
+    → (fault ≡ Memory) ⊎ (pull_refusal limits log added fresh w rows new payload ≡ Some fault)
+pull-fault limits log added fresh w rows new payload fault (inl e) = inl e
+pull-fault limits log added fresh w rows new payload fault (inr (inl e)) = inr (ap (λ o. first_of o (first_of (conflict_fault (first_conflict same_name w rows)) (pull_sizes limits log new payload))) e)
+pull-fault limits log added fresh w rows new payload fault (inr (inr e)) =
+    inr (ap (λ o. first_of o (first_of (conflict_fault (first_conflict same_name w rows)) (pull_sizes limits log new payload))) e.0 ∙ ap (λ o. first_of o (pull_sizes limits log new payload)) e.1)
+
+pub sizes-alone : (limits : Limits) (log : ℕ) (added : List Placed) (fresh : PlainFresh) (w : World Name) (rows : List (Row Name)) (new : World Name) (payload : List ℕ)
+    → mismatch added fresh ≡ None → first_conflict same_name w rows ≡ None → pull_refusal limits log added fresh w rows new payload ≡ pull_sizes limits log new payload
+sizes-alone limits log added fresh w rows new payload none calm =
+    ap (λ o. first_of o (first_of (conflict_fault (first_conflict same_name w rows)) (pull_sizes limits log new payload))) none
+    ∙ ap (λ o. first_of (conflict_fault o) (pull_sizes limits log new payload)) calm
+
+-- ---- the tables that follow
+
+pub pull-next : (tables : PlainTables) (bytes : List ℕ) (fresh : PlainFresh) (w : World Name) (rows : List (Row Name)) (m : MayPull tables bytes fresh w rows) (limits : Limits) (some : List Placed) (change : Change) (payload : List ℕ) (after : PlainTables)
+    → MayComeNext 1 limits (length bytes) some change → IsPlanOf change w (pulled same_name w (master_world rows)) payload → IsChangeOf w (pulled same_name w (master_world rows)) payload
+    → FollowChange after (length bytes) m.added change → StandForNext after (length bytes) m.added w (pulled same_name w (master_world rows))
+pull-next tables bytes fresh w rows m limits some change payload after stored plan is tables_after = by_same change.same refl
+  where
+    theirs : IsHistory [] rows
+    theirs = world-master rows m.theirs.world
+
+    new-named : IsNamedWorld (pulled same_name w (master_world rows))
+    new-named = named-by (pulled same_name w (master_world rows)) (pull-world same_name same_name-exact same_name-self w (master_world rows) m.world.world theirs)
+        (λ x i. ⊎_elim (λ j. name-of w m.world x j)
+        (λ j. name-of (master_world rows) m.theirs x (subst (IsIn x) (sym (map-append (λ (r : Row Name). r.name) rows [])) (in-left x (names_of rows) [] j)))
+        (pull-names same_name same_name-exact same_name-self w (master_world rows) m.world.world theirs x i))
+
+    rest : List (Row Name)
+    rest = rows_outside same_name rows (names_of w.master)
+
+    may-follow : (last : Payload) → IsStorable 1 limits (length bytes) some change last → MayFollow (payloads_of m.added) (flush_change w (pulled same_name w (master_world rows)))
+    may-follow last p =
+        let c = p.follows.whole.counts in
+        let cm = c.master in let co = c.others in let sm = p.master in let so = p.others in let ma = plan.master in let ot = plan.others in
+        let l = length-append (pulled same_name w (master_world rows)).master (pulled same_name w (master_world rows)).others in
+        change-follows (payloads_of m.added) w (pulled same_name w (master_world rows)) m.may.tables_of.lawful m.stand_for m.world.world new-named (rows_outside same_name rows (names_of w.master)) refl
+        (omega (arith, cm, sm, ma)) (omega (arith, co, so, ot))
+        (⊎_elim
+        (λ flush. ⊎_elim (λ a. omega (arith, a, sm, ma, l)) (λ b. omega (arith, b, so, ot, l)) flush.something)
+        (λ kinds. ⊎_elim (λ clone. let a = clone.something in omega (arith, a, sm, ma, l))
+        (λ store. ⊎_elim (λ a. omega (arith, a, sm, ma, l)) (λ b. omega (arith, b, so, ot, l)) store.something) kinds)
+        p.follows.whole.by_kind)
+
+    by_same : (b : Bool) → change.same ≡ b → StandForNext after (length bytes) m.added w (pulled same_name w (master_world rows))
+    by_same true e =
+        let stay : pulled same_name w (master_world rows) ≡ w = plan.same.0 e in
+        record {
+          after = m.added;
+          stays = λ t. refl;
+          changes = λ h. absurd (h stay);
+          tables_of = tables_after.stays e;
+          stand_for = subst (StandFor (payloads_of m.added)) (sym stay) m.stand_for;
+        }
+    by_same false e =
+        let h : pulled same_name w (master_world rows) ≡ w → ⊥ = λ t. true≢false (sym (plan.same.1 t) ∙ e) in
+        let last = stored.changes e in
+        let may = may-follow last.0 last.1 in
+        record {
+          after = with_payload (length bytes) m.added (flush_change w (pulled same_name w (master_world rows)));
+          stays = λ t. absurd (h t);
+          changes = λ d. refl;
+          tables_of = tables_after.changes e (flush_change w (pulled same_name w (master_world rows))) may.whole (plan.payload_is ∙ is.some h);
+          stand_for = subst (λ l. StandFor l (pulled same_name w (master_world rows)))
+              (sym (map-append (λ (a : Placed). a.payload) m.added (record { at = length bytes + 8; payload = flush_change w (pulled same_name w (master_world rows)) } ∷ [])))
+              (change-stands (payloads_of m.added) w (pulled same_name w (master_world rows)) m.world.world m.stand_for (rows_outside same_name rows (names_of w.master), refl));
+        }
