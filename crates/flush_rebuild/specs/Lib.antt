@@ -9,3 +9,5 @@ pub mod Facts
 pub mod Cloning
 pub mod Sections
 pub mod Stripping
+pub mod Pulling
+pub mod Taken
