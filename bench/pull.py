@@ -1,9 +1,10 @@
 #!/usr/bin/env python3
-"""Times a pull by the built program: of 1,000 new commits, onto a clone of a log beside it. Usage: bench/pull.py [COMMITS], behind
-`make run`; a million where none is given, a multiple of 1,000.
+"""Times a pull by the built program: of 1,000 new commits, onto a clone of a log beside it. Usage: bench/pull.py
+[COMMITS], behind `make run`; a million where none is given, a multiple of 1,000.
 
-Each line is given when the one before it was answered, and timed by itself. The mirror's log is read by the first line that asks
-it, and once more by each pull: what the first ask takes longer than the second is that reading, which is taken off.
+Each line is given when the one before it was answered, and timed by itself. The mirror's log is read by the first line
+that asks it, and once more by each pull: what the first ask takes longer than the second is that reading, which is
+taken off.
 """
 import os
 import subprocess
@@ -26,7 +27,7 @@ def chain(commits, each):
 
 
 def unnamed(text):
-    """Commits of master whose names a clone doesn't store: they have one child, which is no merge, and no flush named them."""
+    """Commits of master whose names a clone doesn't store: with one child, which is no merge, and named by no flush."""
     parents_of, heads = {}, []
     for line in text:
         _, verb, own, *parents = line.split(" ")
@@ -92,7 +93,8 @@ def main():
     if commits < 1000 or commits % 1000:
         sys.exit("pull: the number of commits is a multiple of 1000")
     with tempfile.TemporaryDirectory() as folder:
-        done = subprocess.run([PROGRAM, os.path.join(folder, "new"), "--", "run"], input=b"0 pull\n", stdout=subprocess.PIPE)
+        words = [PROGRAM, os.path.join(folder, "new"), "--", "run"]
+        done = subprocess.run(words, input=b"0 pull\n", stdout=subprocess.PIPE)
         if done.stdout == b"err syntax\n":
             sys.exit("pull: the program doesn't know pull")
     for kind, history in (("a chain", chain), ("three merges of ten", lines)):

@@ -1,13 +1,13 @@
 #!/usr/bin/env python3
 """The store as its definitions have it: plain worlds, walks of rows, one world for each session.
 
-Reads command lines and prints the reply to each, as the program does. It is slow and shares no code and no idea with the
-program, so that the two can be compared. `plain_store.py LOG [REMOTE]... < LINES` goes on from the world of LOG, if there is
-such a file, and writes the log afterwards.
+Reads command lines and prints the reply to each, as the program does. It is slow and shares no code and no idea with
+the program, so that the two can be compared. `plain_store.py LOG [REMOTE]... < LINES` goes on from the world of LOG, if
+there is such a file, and writes the log afterwards.
 
-Each REMOTE is a log that is a mirror. Its commits all have names here, those of LOG that have none there too: LOG's are taken
-from the first mirror that is there at the beginning. Mirrors are asked where the definitions say so, and the ones that fail go to
-the back; of the cache it is only kept which names were found, as if there were room for all of them.
+Each REMOTE is a log that is a mirror. Every commit has its name here: where LOG stores none, it is taken from the first
+mirror that is there at the beginning. Mirrors are asked where the definitions say so, and those that fail go to the
+back. Of names that were found it is kept which they are, as if there were room for all.
 """
 import os
 import re
@@ -291,8 +291,8 @@ def spelled(kind, before, after, masters, levels, known, heads, new):
 
 
 def clone_data(rows):
-    """What is told to who clones this master: its flat segments; the names of the segments' highest ids and of the parents of
-    merges, with their ids; and the heads' names."""
+    """What is told to who clones this master: its flat segments; the names of the segments' highest ids and of the
+    parents of merges, with their ids; and the heads' names."""
     world = World(rows, [])
     segments = flat_segments(0, ids_of(world, rows))
     below = {p for parents in ids_of(world, rows) for p in parents}
@@ -355,8 +355,8 @@ def first_version(data):
 
 
 def read_payload(data):
-    """Of a payload of either version: how many ids were cloned, the parents of the new master ids, the names of those that have
-    one by their ids, and the others' parents and names. Segments of levels are passed over."""
+    """Of a payload of either version: how many ids were cloned, the parents of the new master ids, the names of those
+    that have one by their ids, and the others' parents and names. Segments of levels are passed over."""
     is_second = data[0] == 2
     after = int.from_bytes(data[10:18], "big")
     cloned = int.from_bytes(data[18:26], "big") if is_second else after * (data[1] == 2)
@@ -373,8 +373,8 @@ def read_payload(data):
 
 
 def read_log(data, served=()):
-    """The payloads of a log, of either version, and its world. A cloned commit without a stored name has the one to which the
-    served rows lead from the commit above it, or where these don't have it, a `?` and its id."""
+    """The payloads of a log, of either version, and its world. A cloned commit without a stored name has the one to
+    which the served rows lead from the commit above it, or where these don't have it, a `?` and its id."""
     payloads = read_payloads(data)
     parents, names, others, other_names = [], {}, [], []
     for data in payloads:
@@ -391,8 +391,8 @@ def read_log(data, served=()):
 
 
 class Mirror:
-    """A log that is asked for its master. It fails where there is none, where it is damaged, and where some commit of it has no
-    name. What it read it keeps, up to a refresh or a fault."""
+    """A log that is asked for its master. It fails where there is none, where it is damaged, and where some commit of
+    it has no name. What it read it keeps, up to a refresh or a fault."""
 
     def __init__(self, path):
         self.path = path
@@ -428,8 +428,8 @@ class Store:
         self.note_cloned()
 
     def note_cloned(self):
-        """What is stored of the cloned ids: how many they are, the names of some, and the names of the others, which aren't
-        stored. No name of these was found yet."""
+        """What is stored of the cloned ids: how many they are, the names of some, and the names of the others, which
+        aren't stored. No name of these was found yet."""
         first = read_payload(self.payloads[0]) if self.payloads else (0, [], {}, [], [])
         self.cloned = first[0]
         self.named = {i: name for i, name in first[2].items() if i < self.cloned}
@@ -449,12 +449,12 @@ class Store:
         """Asks for the names of commits. A mirror that answers has to have served when the log was read."""
         self.ask(Mirror.answers)
         if any(name.startswith("?") for name in self.lazy):
-            sys.exit("plain_store: names are asked of a mirror that wasn't there at the beginning, or doesn't have the clone")
+            sys.exit("plain_store: a mirror is asked for names that wasn't there at the beginning, or hasn't the clone")
         self.found |= self.lazy.intersection(names)
 
     def ask_name(self, world, name, pending=()):
-        """Asks for a name that is looked up in a world, where the world has commits without stored names, and it is neither
-        a stored name there nor that of a pending row."""
+        """Asks for a name that is looked up in a world, where the world has commits without stored names, and it is
+        neither a stored name there nor that of a pending row."""
         is_stored = name in world.ids and name not in self.lazy
         if self.lazy and world.master and not is_stored and name not in (row[0] for row in pending):
             self.ask_for([name])
@@ -494,7 +494,7 @@ class Store:
         return left
 
     def store(self, s, new, text=None):
-        """Another world is stored, where it is another, by this payload or that of a flush, and the session is on it."""
+        """Another world is stored, where it is another, by this payload or a flush's, and the session is on it."""
         world = self.worlds[-1]
         if not new.same(world):
             text = text or payload(world, new)
@@ -614,9 +614,9 @@ class Store:
         return ["ok pulled " + self.store(s, new)]
 
     def told_rows(self, rows):
-        """The master that a mirror with these rows tells to who pulls: the cloned rows are the stored ones, since neither their
-        names nor their parents are taken from it. It is refused where what it tells of them is unlike what is stored, or where
-        the name of a row behind them is a stored name of theirs."""
+        """The master that a mirror with these rows tells to who pulls: the cloned rows are the stored ones, since
+        neither their names nor their parents are taken from it. It is refused where what it tells of them is unlike
+        what is stored, or where the name of a row behind them is a stored name of theirs."""
         data = clone_data(rows)
         at = self.first_unlike(data)
         if at is not None:
@@ -632,8 +632,8 @@ class Store:
         return [(name, [names[p] for p in ids[i]]) for i, name in enumerate(names)]
 
     def first_unlike(self, data):
-        """The number of the first item of clone data, segments and then names, that is unlike what is stored of the cloned
-        ids; where segments are wanting, how many items there are."""
+        """The number of the first item of clone data, segments and then names, that is unlike what is stored of the
+        cloned ids; where segments are wanting, how many items there are."""
         segments, known, heads = data
         world = self.worlds[-1]
         stored = cut_below(self.cloned, flat_segments(0, ids_of(world, world.master)))

@@ -1,8 +1,9 @@
-"""Drawn runs that pull: the built program against plain_store.py, line by line, and the bytes of the log at the end of each run.
+"""Drawn runs that pull: the built program against plain_store.py, line by line, and the bytes of the log at the end of
+each run.
 
-A log pulls from others, which are real logs too and grow meanwhile by runs of their own: by commits of their own, by those that
-the first one added, and by its names with other parents. In most runs it is a clone of one of them. Now and then it runs beside a
-stranger: a log that is like the cloned one, but for what was changed in it.
+A log pulls from others, which are real logs too and grow meanwhile by runs of their own: by commits of their own, by
+those that the first one added, and by its names with other parents. In most runs it is a clone of one of them. Now and
+then it runs beside a stranger: a log that is like the cloned one, but for what was changed in it.
 """
 import random
 import shutil
@@ -26,13 +27,14 @@ class Differs(Exception):
 def knows(program):
     """Whether a pull is a command of the program."""
     with tempfile.TemporaryDirectory() as folder:
-        done = subprocess.run([program, Path(folder, "log"), "--", "run"], input=b"0 pull\n", capture_output=True, timeout=60)
+        words = [program, Path(folder, "log"), "--", "run"]
+        done = subprocess.run(words, input=b"0 pull\n", capture_output=True, timeout=60)
     return done.stdout != b"err syntax\n"
 
 
 class Run:
-    """A run of the program beside a plain store. A line is given when the one before it was answered, so that other logs may
-    grow between two."""
+    """A run of the program beside a plain store. A line is given when the one before it was answered, so that other
+    logs may grow between two."""
 
     def __init__(self, program, log, mirrors, cache):
         words = [program, log, *mirrors, "--", "run", "--cache", str(cache)]
@@ -89,7 +91,8 @@ def world_of(log):
 
 
 def copies(draw, rows, known, wrong):
-    """Adds of some of these rows that the known names lack, each with its parents, or, where it is to go wrong, with others."""
+    """Adds of some of these rows that the known names lack, each with its parents, or, where it is to go wrong, with
+    others."""
     known, lines = set(known), []
     for name, parents in rows:
         if name in known or not set(parents) <= known or draw.random() < 0.3:
@@ -108,8 +111,8 @@ def renamed(rows, old, new):
 
 
 def strange(draw, rows, named, cloned):
-    """Rows of master that are like these, but for something of the cloned ones, of which these ids have a name, or of the newer
-    ones."""
+    """Rows of master that are like these, but for something of the cloned ones, of which these ids have a name, or of
+    the newer ones."""
     kind, at = draw.randrange(9), draw.randrange(cloned)
     if kind == 0:
         return rows[: draw.randrange(len(rows))]
@@ -121,8 +124,8 @@ def strange(draw, rows, named, cloned):
         others = draw.sample(before, min(len(before), draw.choice([0, 1, 2])))
         return rows[:at] + [(name, others)] + rows[at + 1 :]
     if kind < 6:
-        # A cloned commit has another name, and its own comes again at the end. Where a clone of the stranger needs no name for it,
-        # only the row at the end is wrong; so it is mostly the last cloned one, on which another comes.
+        # A cloned commit has another name, and its own comes again at the end. Where a clone of the stranger needs no
+        # name for it, only the row at the end is wrong; so it is mostly the last cloned one, on which another comes.
         old = rows[draw.choice([max(named), max(named), draw.choice(sorted(named))])][0]
         rows = renamed(rows[: draw.choice([cloned, cloned, len(rows)])], old, "e" * 40)
         return [*rows, ("d" * 40, [rows[-1][0]]), (old, ["d" * 40])]
@@ -186,8 +189,8 @@ class Scene:
         return some
 
     def draw_line(self, run):
-        """A line of the log's own. Where names have to be asked no mirror is dropped, so that one goes on answering. What isn't
-        to be a clone is none."""
+        """A line of the log's own. Where names have to be asked no mirror is dropped, so that one goes on answering.
+        What isn't to be a clone is none."""
         while True:
             line = self.mine.line()
             is_clone = line.lower().endswith(" clone") and not run.store.worlds[-1].parents
@@ -243,14 +246,16 @@ class Scene:
             self.pull(run)
 
     def stranger(self):
-        """A run beside a log that isn't quite the one that was cloned, whose names aren't asked; how many lines it had."""
+        """A run beside a log that isn't quite the one that was cloned, whose names aren't asked; how many lines it
+        had."""
         rows = world_of(self.remotes[0]).master
         store = plain_store.Store(self.here.read_bytes(), plain_store.LIMITS)
         if store.cloned == 0:
             return 0
-        world, log = plain_store.World(strange(self.draw, rows, store.named, store.cloned), []), Path(self.folder, "stranger")
-        empty = plain_store.World([], [])
-        log.write_bytes(plain_store.log_of([plain_store.payload(empty, world)] if world.master else []))
+        world = plain_store.World(strange(self.draw, rows, store.named, store.cloned), [])
+        payloads = [plain_store.payload(plain_store.World([], []), world)] if world.master else []
+        log = Path(self.folder, "stranger")
+        log.write_bytes(plain_store.log_of(payloads))
 
         def ask(run):
             self.pull(run)

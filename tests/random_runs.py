@@ -1,10 +1,11 @@
 #!/usr/bin/env python3
 """Drawn command lines of sixteen sessions, answered by the built program and by plain_store.py: replies and logs must agree.
 
-`random_runs.py PROGRAM [RUNS [SEED]]`. Each run goes over the log of the one before, up to four, so that logs are opened again.
-Between two of them some first payloads become those of version 1. Behind them come runs over clones: a drawn log is cloned by
-a second one, whose lines go beside the first as a mirror, among files that aren't there, with room for few names. Replies are
-those of a plain store that has all names. The last are runs that pull, drawn by random_pulls.py, where the program knows how.
+`random_runs.py PROGRAM [RUNS [SEED]]`. Each run goes over the log of the one before, up to four, so that logs are
+opened again. Between two of them some first payloads become those of version 1. Behind them come runs over clones: a
+drawn log is cloned by a second one, whose lines go beside the first as a mirror, among files that aren't there, with
+room for few names. Replies are those of a plain store that has all names. The last are runs that pull, drawn by
+random_pulls.py, where the program knows how.
 """
 import random
 import subprocess

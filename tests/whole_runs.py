@@ -195,7 +195,8 @@ def pulls():
         size=244,
         mirrors=[there],
     )
-    check("the run after it", "0 query top(all,3); 0 id [0b]; 0 id [05]", "[0c]; [0b]; [0a]; ok 3; ok 10; err no-remote")
+    replies = "[0c]; [0b]; [0a]; ok 3; ok 10; err no-remote"
+    check("the run after it", "0 query top(all,3); 0 id [0b]; 0 id [05]", replies)
     check(
         "rows of one's own, of which the remote gets one",
         "0 add [0d] [0c]; 0 add [20] [0c]; 0 flush; 0 pull",
@@ -226,7 +227,7 @@ def pulls():
     check("no mirror", "0 pull; 0 status", "err no-remote; ok 15 0 0", size=size)
     os.rename(there + ".gone", there)
     both = [there + ".not", there]
-    check("it is back, behind one that isn't there", "0 pull; 0 mirrors", "ok pulled 15 0; ok 2", size=size, mirrors=both)
+    check("it is back, behind one that isn't", "0 pull; 0 mirrors", "ok pulled 15 0; ok 2", size=size, mirrors=both)
     os.rename(here, here + ".aside")
     fresh("another history", ten.replace("[0a]", "[1a]") + "0 flush [1a]", added(10) + "ok flushed 10 0")
     other = here + ".other"
