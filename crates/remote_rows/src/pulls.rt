@@ -117,59 +117,47 @@ fn the_names_from_an_id_on_come(rt: HostRuntime) -> Result<(), Fail> {
 
 // ---- mirrors that fail
 
-/// At which calls each of three mirrors fails, which have nine, eight and seven of the fork's rows, and how many names three pulls bring,
-/// the first mirror being dropped behind each. A mirror is refreshed first, then it tells its clone data, and then it is asked for the
-/// names of its segments, three, three and two.
-type Failing = ([&'static [u64]; 3], [Result<u32, FreshFault>; 3]);
+/// At which call each of three mirrors fails, 0 where it never does, and how many names three pulls bring, the first mirror being dropped
+/// behind each. The mirrors have nine, eight and seven of the fork's rows. Each is refreshed first, then it tells its clone data, and then
+/// it is asked for the names of its segments: three, three and two.
+type Failing = ([u64; 3], [Result<u32, FreshFault>; 3]);
 
 /// One mirror fails, at each of its calls, and not behind them.
 const ONE_FAILS: [Failing; 8] = [
-    ([&[], &[], &[]], [Ok(9), Ok(8), Ok(7)]),
-    ([&[1], &[], &[]], [Ok(8), Ok(7), Ok(9)]),
-    ([&[2], &[], &[]], [Ok(8), Ok(7), Ok(9)]),
-    ([&[3], &[], &[]], [Ok(8), Ok(7), Ok(9)]),
-    ([&[4], &[], &[]], [Ok(8), Ok(7), Ok(9)]),
-    ([&[5], &[], &[]], [Ok(8), Ok(7), Ok(9)]),
-    ([&[6], &[], &[]], [Ok(9), Ok(8), Ok(7)]),
-    (
-        [&[], &[], &[4]],
-        [Ok(9), Ok(8), Err(FreshFault::AllFailed(1))],
-    ),
+    ([0, 0, 0], [Ok(9), Ok(8), Ok(7)]),
+    ([1, 0, 0], [Ok(8), Ok(7), Ok(9)]),
+    ([2, 0, 0], [Ok(8), Ok(7), Ok(9)]),
+    ([3, 0, 0], [Ok(8), Ok(7), Ok(9)]),
+    ([4, 0, 0], [Ok(8), Ok(7), Ok(9)]),
+    ([5, 0, 0], [Ok(8), Ok(7), Ok(9)]),
+    ([6, 0, 0], [Ok(9), Ok(8), Ok(7)]),
+    ([0, 0, 4], [Ok(9), Ok(8), Err(FreshFault::AllFailed(1))]),
 ];
 
-/// More than one fails, or one again.
+/// More than one fails.
 const MORE_FAIL: [Failing; 5] = [
-    ([&[2], &[3], &[]], [Ok(7), Ok(9), Ok(8)]),
-    ([&[5], &[], &[1]], [Ok(8), Ok(9), Ok(7)]),
-    (
-        [&[1], &[2], &[3]],
-        [Err(FreshFault::AllFailed(3)), Ok(8), Ok(7)],
-    ),
-    (
-        [&[1], &[3, 5], &[4]],
-        [Err(FreshFault::AllFailed(3)), Ok(7), Ok(8)],
-    ),
-    (
-        [&[], &[1], &[4]],
-        [Ok(9), Err(FreshFault::AllFailed(2)), Ok(7)],
-    ),
+    ([2, 3, 0], [Ok(7), Ok(9), Ok(8)]),
+    ([5, 0, 1], [Ok(8), Ok(9), Ok(7)]),
+    ([1, 2, 3], [Err(FreshFault::AllFailed(3)), Ok(8), Ok(7)]),
+    ([4, 5, 4], [Err(FreshFault::AllFailed(3)), Ok(8), Ok(7)]),
+    ([0, 1, 4], [Ok(9), Err(FreshFault::AllFailed(2)), Ok(7)]),
 ];
 
-/// Adds a mirror of the fork's first rows, so many, which fails at these calls.
+/// Adds a mirror of the fork's first rows, so many, which fails at this call.
 fn push_mirror(
     alloc: Global,
     list: &mut Vec<Box<dyn Remote>>,
     commits: usize,
-    fails: &[u64],
+    fails: u64,
 ) -> Result<(), AllocError> {
     let world = fork(alloc, commits)?;
-    let mirror = remote_of(alloc, world, fails)?;
+    let mirror = remote_of(alloc, world, &[fails])?;
     list.push(Box::new(alloc, mirror)?)?;
     Ok(())
 }
 
 /// The three mirrors.
-fn three(alloc: Global, fails: &[&[u64]; 3]) -> Result<Mirrors, AllocError> {
+fn three(alloc: Global, fails: [u64; 3]) -> Result<Mirrors, AllocError> {
     let mut list: Vec<Box<dyn Remote>> = Vec::new(alloc);
     push_mirror(alloc, &mut list, 9, fails[0])?;
     push_mirror(alloc, &mut list, 8, fails[1])?;
@@ -202,7 +190,7 @@ fn are_pulled(alloc: Global, mirrors: &mut Mirrors, want: &[Result<u32, FreshFau
 /// Whether three pulls from mirrors that fail at these calls come to this.
 fn failing_holds(alloc: Global, row: &Failing) -> Result<bool, AllocError> {
     let (fails, want) = row;
-    let mut mirrors = three(alloc, fails)?;
+    let mut mirrors = three(alloc, *fails)?;
     Ok(are_pulled(alloc, &mut mirrors, want))
 }
 
@@ -218,10 +206,24 @@ fn wrong_failing(alloc: Global, rows: &[Failing]) -> Result<Option<u64>, AllocEr
     Ok(None)
 }
 
+/// The number of the first row with one that fails which comes to something else.
+fn wrong_one(alloc: Global) -> Result<Option<u64>, AllocError> {
+    wrong_failing(alloc, &ONE_FAILS)
+}
+
+/// The number of the first of the other rows that does.
+fn wrong_more(alloc: Global) -> Result<Option<u64>, AllocError> {
+    wrong_failing(alloc, &MORE_FAIL)
+}
+
+/// The numbers of both.
+fn wrong_rows(alloc: Global) -> Result<(Option<u64>, Option<u64>), AllocError> {
+    Ok((wrong_one(alloc)?, wrong_more(alloc)?))
+}
+
 #[test]
 fn a_mirror_that_fails_moves_back_and_the_next_begins_anew(rt: HostRuntime) -> Result<(), Fail> {
-    assert_eq!(rt; wrong_failing(rt.alloc(), &ONE_FAILS)?, None);
-    assert_eq!(rt; wrong_failing(rt.alloc(), &MORE_FAIL)?, None);
+    assert_eq!(rt; wrong_rows(rt.alloc())?, (None, None));
     Ok(())
 }
 
@@ -240,17 +242,23 @@ const FEW: [(u64, usize, Result<u32, FreshFault>); 8] = [
     (8, 0, Ok(0)),
 ];
 
-/// A mirror with these clone data, which gives so many names at most.
-fn liar(alloc: Global, given: CloneData, most: usize) -> Result<FixedRemote, AllocError> {
+/// Adds a mirror with these clone data, which gives so many names at most.
+fn push_liar(
+    alloc: Global,
+    mirrors: &mut Vec<FixedRemote>,
+    given: CloneData,
+    most: usize,
+) -> Result<(), AllocError> {
     let names = vec![in alloc; name(0x33); most.min(16)]?;
-    Ok(FixedRemote::new(given, None, names))
+    mirrors.push(FixedRemote::new(given, None, names))?;
+    Ok(())
 }
 
-/// A mirror that gives so many names at most, and behind it one that gives all.
-fn liars(alloc: Global, most: usize) -> Result<Vec<FixedRemote>, AllocError> {
+/// A mirror with these clone data, which gives so many names at most, and behind it one of the fork that gives all.
+fn liars(alloc: Global, given: CloneData, most: usize) -> Result<Vec<FixedRemote>, AllocError> {
     let mut mirrors = Vec::new(alloc);
-    mirrors.push(liar(alloc, fork_data(alloc)?, most)?)?;
-    mirrors.push(liar(alloc, fork_data(alloc)?, 16)?)?;
+    push_liar(alloc, &mut mirrors, given, most)?;
+    push_liar(alloc, &mut mirrors, fork_data(alloc)?, 16)?;
     Ok(mirrors)
 }
 
@@ -271,7 +279,7 @@ fn brought_from(
 fn wrong_few(alloc: Global) -> Result<Option<u64>, AllocError> {
     let mut number = 0u64;
     for (from, most, want) in &FEW {
-        let mut mirrors = liars(alloc, *most)?;
+        let mut mirrors = liars(alloc, fork_data(alloc)?, *most)?;
         if brought_from(alloc, &mut mirrors, *from) != *want {
             return Ok(Some(number));
         }
@@ -282,9 +290,7 @@ fn wrong_few(alloc: Global) -> Result<Option<u64>, AllocError> {
 
 /// The number of the item by which a pull of no names is refused from a mirror with these clone data, and another one behind it.
 pub fn refusal_of(alloc: Global, given: CloneData) -> Result<Option<u64>, AllocError> {
-    let mut mirrors = Vec::new(alloc);
-    mirrors.push(liar(alloc, given, 0)?)?;
-    mirrors.push(liar(alloc, fork_data(alloc)?, 0)?)?;
+    let mut mirrors = liars(alloc, given, 0)?;
     match brought_from(alloc, &mut mirrors, u64::MAX) {
         Ok(0) => Ok(None),
         Err(FreshFault::BadClone(at)) => Ok(Some(at)),
@@ -295,12 +301,15 @@ pub fn refusal_of(alloc: Global, given: CloneData) -> Result<Option<u64>, AllocE
 /// The greatest id but one.
 const HIGH: u64 = u64::MAX - 1;
 
-/// What a pull from this id on brings from a mirror that tells of ids up to the greatest but one, in one segment.
-fn brought_of_all(alloc: Global, from: u64) -> Result<Result<u32, FreshFault>, AllocError> {
-    let given = given_of(alloc, &[(0, HIGH, &[])], &[(HIGH, 0x14)], &[0x14])?;
-    let mut mirrors = Vec::new(alloc);
-    mirrors.push(liar(alloc, given, 16)?)?;
-    Ok(brought_from(alloc, &mut mirrors, from))
+/// Clone data of ids up to the greatest but one, in one segment.
+fn all_data(alloc: Global) -> Result<CloneData, AllocError> {
+    given_of(alloc, &[(0, HIGH, &[])], &[(HIGH, 0x14)], &[0x14])
+}
+
+/// Whether a pull from this id on comes to this, of a mirror that tells of all ids.
+fn all_comes(alloc: Global, from: u64, want: Result<u32, FreshFault>) -> Result<bool, AllocError> {
+    let mut mirrors = liars(alloc, all_data(alloc)?, 16)?;
+    Ok(brought_from(alloc, &mut mirrors, from) == want)
 }
 
 #[test]
@@ -311,8 +320,9 @@ fn too_few_names_are_refused(rt: HostRuntime) -> Result<(), Fail> {
 
 #[test]
 fn more_names_than_there_may_be_find_no_memory(rt: HostRuntime) -> Result<(), Fail> {
-    assert_eq!(rt; brought_of_all(rt.alloc(), 0)?, Err(FreshFault::Memory));
-    assert_eq!(rt; brought_of_all(rt.alloc(), HIGH - 3)?, Ok(4));
+    let alloc = rt.alloc();
+    assert!(rt; all_comes(alloc, 0, Err(FreshFault::Memory))?);
+    assert!(rt; all_comes(alloc, HIGH - 3, Ok(4))?);
     Ok(())
 }
 
