@@ -1,5 +1,5 @@
 -- What tables store of names, beside those that a remote told.
-use Rattle.std.proofs.Common.{◌≡◌, ◌≤◌, ◌<◌, ◌+◌, ◌&&◌, ◌||◌, not, cond, ℕ, zero, suc, Bool, true, false, inl, inr, List, [], ◌∷◌, ◌++◌, length, map, filter, take, drop, nat_eq, nat_lt, Option, Some, None, is_some, refl, sym, ap, ap₂, subst, ◌∙◌, ⊎_elim, true≢false, arith, lit≤, if◌then◌else◌}
+use Rattle.std.proofs.Common.{◌≡◌, ◌≤◌, ◌<◌, ◌+◌, ◌&&◌, ◌||◌, not, cond, ℕ, zero, suc, Bool, true, false, inl, inr, List, [], ◌∷◌, ◌++◌, length, map, filter, take, drop, nat_eq, nat_lt, Option, Some, None, is_some, refl, sym, ap, ap₂, subst, ◌∙◌, ⊎_elim, true≢false, arith, lit≤, zero-le, if◌then◌else◌}
 use Rattle.std.specs.Prelude.{slice_get, IsTrue, ◌↔◌}
 use Rattle.std.proofs.lemmas.Bool.{ltb-true, lt-ltb, le-ltb, eq-eqb}
 use Rattle.std.proofs.lemmas.Map.Views.{exact_unsigned_eq}
@@ -76,7 +76,7 @@ some-or x (Some y) = y
 -- an id has one name
 pub one-name : (tables : PlainTables) (added : List Placed) → AreTablesOf tables added → (a b : Known) → IsIn a (known_in (payloads_of added)) → IsIn b (known_in (payloads_of added)) → a.id ≡ b.id → a.name ≡ b.name
 one-name tables added t a b i j e =
-    let fit : FitBehind (payloads_of added) [] = record { parents = tt; distinct = tt; whole = tt; few = (let z : 0 ≤ 65536 = lit≤ tt in z); new = λ x i d. absurd i } in
+    let fit : FitBehind (payloads_of added) [] = record { parents = tt; distinct = tt; few = zero-le; new = λ x i d. absurd i } in
     let st = some-world (payloads_of added) t.lawful [] fit in
     let names = names_of st.of_world.master in
     let at = each (λ (k : Known). slice_get names k.id ≡ Some k.name) (known_in (payloads_of added)) st.stand.known in
