@@ -59,7 +59,7 @@ module _ (tables : PlainTables) (bytes : List ℕ) (none : PlainPending) (held :
   view-may b = no-rows-viewed b added none (first ∙ tables-count tables bytes added t stand) held
 
   some-stands : Stands (payloads_of added) []
-  some-stands = some-world (payloads_of added) t.lawful [] (record { parents = tt; distinct = tt; few = zero-le; new = λ x i d. absurd i })
+  some-stands = some-world (payloads_of added) t.lawful [] (record { parents = tt; distinct = tt; whole = tt; few = zero-le; new = λ x i d. absurd i })
 
   none-behind : (w : World Name) → StandFor (payloads_of added) w → IsWorld w → ArePending w none []
   none-behind w s world = record {

@@ -72,7 +72,7 @@ is-cloned cloned name added o h = cloned-named cloned name (known_of added) o h 
 -- an id has one name
 pub one-name : (tables : PlainTables) (added : List Placed) → AreTablesOf tables added → (a b : Known) → IsIn a (known_in (payloads_of added)) → IsIn b (known_in (payloads_of added)) → a.id ≡ b.id → a.name ≡ b.name
 one-name tables added t a b i j e =
-    let fit : FitBehind (payloads_of added) [] = record { parents = tt; distinct = tt; few = zero-le; new = λ x i d. absurd i } in
+    let fit : FitBehind (payloads_of added) [] = record { parents = tt; distinct = tt; whole = tt; few = zero-le; new = λ x i d. absurd i } in
     let st = some-world (payloads_of added) t.lawful [] fit in
     let names = names_of st.of_world.master in
     let at = each (λ (k : Known). slice_get names k.id ≡ Some k.name) (known_in (payloads_of added)) st.stand.known in

@@ -4,5 +4,5 @@ use Rattle.flush_rebuild.proofs.laws.payloads_stand_for_a_world.Goals as goal
 
 pub returns : goal.returns
 returns c = λ payloads lawful.
-    let s = some-world payloads lawful [] (record { parents = tt; distinct = tt; few = zero-le; new = λ x i. absurd i }) in
+    let s = some-world payloads lawful [] (record { parents = tt; distinct = tt; whole = tt; few = zero-le; new = λ x i. absurd i }) in
     (s.of_world, s.named, s.stand)
