@@ -24,4 +24,5 @@ test:
 	sh tests/real_files.sh
 	sh tests/format.sh
 	sh tests/damaged.sh
+	sh tests/serve.sh
 	sh tests/guide.sh

@@ -37,3 +37,7 @@ pub mod Walking
 pub mod SomeTold
 pub mod PulledFlushed
 pub mod Pulls
+pub mod Beside
+pub mod StoredBeside
+pub mod BaseBeside
+pub mod HonestTold

@@ -1,20 +1,25 @@
 -- What a pull is planned from, and what the plan answers.
-use Rattle.std.specs.Prelude.{◌≡◌, ◌<◌, ◌≤◌, ◌+◌, ◌-◌, ℕ, List, [], ◌∷◌, ◌++◌, Option, Some, None, length, map, take, drop, flat_map, nat_lt, nat_le, not, ◌||◌, slice_get, if◌then◌else◌}
+use Rattle.std.specs.Prelude.{◌≡◌, ◌-◌, ℕ, List, [], ◌∷◌, ◌++◌, Option, Some, None, length, map, take, filter_map, nat_eq, nat_lt, nat_le, not, Bool, filter, min, ◌||◌, slice_get}
+use Rattle.std.specs.List.{list_all}
+use Rattle.std.specs.Ordering.{nat_cmp}
+use Rattle.std.specs.Cmp.Lexicographic.{slice_cmp}
+use Rattle.std.specs.BTreeSet.{BTreeSet, contains}
+use Rattle.id_groups.specs.Lists.{is_in}
 use Rattle.id_groups.specs.Name.{Name, same_name}
 use Rattle.commit_graph.specs.World.{Row, World, IsNamedWorld, names_of}
 use Rattle.segment_codec.specs.Record.{Segment}
-use Rattle.batch_codec.specs.Payload.{Known}
+use Rattle.batch_codec.specs.Payload.{Known, Payload}
+use Rattle.batch_codec.specs.Grammar.{cut_below}
 use Rattle.remote_rules.specs.CloneData.{CloneData, KnownName, first_broken, first_false, first_of as first_some}
 use Rattle.remote_rules.specs.Known.{master_world}
-use Rattle.segment_codec.specs.Turns.{place_behind}
 use Rattle.segment_rules.specs.Flat.{parents_listed}
 use Rattle.mirror_set.specs.Fresh.{PlainFresh, count_from}
 use Rattle.name_map.specs.Added.{Placed, payloads_of, AllStand}
 use Rattle.change_rules.specs.declared.Limits.{Limits}
 use Rattle.change_rules.specs.declared.Limit.TheVariants.{Master, Log}
-use Rattle.change_rules.specs.Tables.{StandFor, cloned_count}
+use Rattle.change_rules.specs.Tables.{StandFor, known_in, cloned_count}
 use Rattle.change_rules.specs.Rebase.{first_conflict}
-use Rattle.change_rules.specs.Disagree.{first_unlike, first_bad_row, cut_below, segments_agree, name_agrees}
+use Rattle.change_rules.specs.Disagree.{first_unlike, first_bad_row, segments_agree, name_agrees}
 use Rattle.payload_tables.specs.Kept.{PlainTables, AreTablesOf}
 use Rattle.flush_rebuild.specs.declared.fault.PlanFault.{PlanFault}
 use Rattle.flush_rebuild.specs.declared.fault.PlanFault.TheVariants.{BadClone, BadRow}
@@ -26,12 +31,7 @@ told_names w cloned fetched = take cloned (names_of w.master) ++ fetched
 
 -- the names at these places, of those that are there
 abbrev pub names_at_all : List Name → List ℕ → List Name
-names_at_all names [] = []
-names_at_all names (id ∷ ids) = option_or (names_at_all names ids) (slice_get names id)
-  where
-    option_or : List Name → Option Name → List Name
-    option_or more None = more
-    option_or more (Some name) = name ∷ more
+names_at_all names ids = filter_map (λ id. slice_get names id) ids
 
 -- rows with these names, whose parents are at these places among all names
 abbrev pub rows_with : List Name → List Name → List (List ℕ) → List (Row Name)
@@ -95,3 +95,19 @@ unlike_segment told stored below items =
 -- the first name below an id that isn't the stored one of its id; they are numbered from this number on
 abbrev pub unlike_name : List KnownName → List Known → ℕ → ℕ → Option ℕ
 unlike_name told known below first = first_false first (map (λ k. not (nat_lt k.id below) || name_agrees known k) told)
+
+-- a segment, cut below an id
+abbrev pub cut_at : ℕ → Segment → Segment
+cut_at below s = record s { high = min s.high (below - 1) }
+
+-- the names that are stored of ids below the cloned count
+abbrev pub cloned_names : ℕ → List Payload → List Name
+cloned_names cloned payloads = map (λ k. k.name) (filter (λ k. nat_lt k.id cloned) (known_in payloads))
+
+-- whether clone data give the id no other name
+abbrev pub is_told : CloneData → ℕ → Name → Bool
+is_told told id name = list_all (λ k. not (nat_eq k.id id) || same_name k.name name) told.names
+
+-- the set has these names
+abbrev pub HasSeen : List Name → BTreeSet Name → Type 0
+HasSeen before seen = (q : Name) → contains (slice_cmp nat_cmp) seen q ≡ is_in same_name q before

@@ -19,6 +19,8 @@ pub enum PlanFault {
     Full(Limit, u64),
     /// The item of clone data with this number is the first that breaks its rule.
     BadClone(u64),
+    /// The fetched name of the row with this id can't be a new row's.
+    BadRow(u64),
     /// There was no memory.
     Memory,
 }

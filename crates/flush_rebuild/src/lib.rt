@@ -22,7 +22,7 @@ pub use change_rules::{Limit, Limits};
 pub use cloning::{plan_clone, plan_clone_change};
 pub use fault::PlanFault;
 pub use flush::{Plan, plan_flush};
-pub use laws::payloads_stand_for_a_world;
+pub use laws::{honest_pulls_are_told, payloads_stand_for_a_world};
 pub use payload_tables::{BaseRef, OthersTable, PendingRows, TableFault, Tables};
 pub use plan::{Change, Payload, plan_change};
 pub use pull::{plan_pull, plan_pull_change};

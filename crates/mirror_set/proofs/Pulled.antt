@@ -1,23 +1,20 @@
 -- Asking calls of pulls.
-use Rattle.std.proofs.Common.{◌≡◌, ℕ, ◌<◌, ◌≤◌, ◌+◌, ◌-◌, Bool, true, false, if◌then◌else◌, inl, inr, List, [], ◌∷◌, ◌++◌, length, map, take, drop, Option, Some, None, Ok, Err, refl, sym, ap, subst, ◌∙◌, arith, append-nil, is_some}
-use Rattle.std.proofs.lemmas.Bool.Decides.{nat_tests}
+use Rattle.std.proofs.Common.{◌≡◌, ℕ, ◌≤◌, ◌+◌, ◌-◌, Bool, true, false, if◌then◌else◌, inl, inr, List, length, Option, Some, None, Ok, Err, refl, sym, ap, subst, ◌∙◌, arith, is_some}
 use Rattle.std.specs.Prelude.{◌==◌, ⊤, IfSome}
 use Rattle.std.specs.declared.result.Result.{Result}
 use Rattle.id_groups.specs.Name.{Name}
 use Rattle.commit_graph.specs.World.{Row}
 use Rattle.remote_rules.specs.Mirror.{Mirror}
-use Rattle.remote_rules.specs.Calls.{IsCloned, IsPulled, RowsFrom, MasterGoesOn}
+use Rattle.remote_rules.specs.Calls.{IsPulled, RowsFrom, MasterGoesOn}
 use Rattle.remote_rules.specs.Asking.{Asks as IsOneAsk}
-use Rattle.remote_rules.specs.declared.MirrorFault.{MirrorFault}
 use Rattle.remote_rules.specs.declared.MirrorFault.TheVariants as ask
-use Rattle.remote_trait.specs.Calls.{Refreshes, ToldSo}
+use Rattle.remote_trait.specs.Calls.{ToldSo}
 use Rattle.remote_trait.proofs.Ruled.{cloned-from, tells, where-both, sound-as}
-use Rattle.mirror_set.specs.Asking.{AreFailed, Turned, Answered, Asks}
-use Rattle.mirror_set.specs.Round.{Stays}
+use Rattle.mirror_set.specs.Asking.{Turned, Asks}
 use Rattle.mirror_set.specs.Fresh.{PlainFresh, IsPulledFrom, AsksFresh, fresh_end}
 use Rattle.mirror_set.specs.declared.fresh.FreshFault.{FreshFault}
 use Rattle.mirror_set.specs.declared.fresh.FreshFault.TheVariants.{NoRemote, AllFailed, BadClone, BadNames, Memory}
-use Rattle.mirror_set.proofs.Turns.{all-failed, asks-none}
+use Rattle.mirror_set.proofs.Turns.{asks-none}
 use Rattle.mirror_set.proofs.Ruled.{answered-ruled, asks-ruled}
 
 -- no mirror answered

@@ -1,5 +1,5 @@
 -- What a pull takes from a mirror: its clone data behind a refresh, and the names of its rows from an id on.
-use Rattle.std.specs.Prelude.{◌≡◌, ◌<◌, ◌≤◌, ◌-◌, ◌⊎◌, ℕ, Option, Some, None, List, [], length, take, drop, ⊤, IfSome, IfOk}
+use Rattle.std.specs.Prelude.{◌≡◌, ◌<◌, ◌≤◌, ◌+◌, ◌-◌, ◌++◌, ℕ, Option, Some, None, List, [], ◌∷◌, length, take, drop, reverse, ⊤, IfSome}
 use Rattle.std.specs.Prelude.{Ok, Err}
 use Rattle.std.specs.declared.result.Result.{Result}
 use Rattle.id_groups.specs.Name.{Name}
@@ -11,6 +11,7 @@ use Rattle.remote_rules.specs.Mirror.{Mirror}
 use Rattle.remote_rules.specs.declared.MirrorFault.{MirrorFault}
 use Rattle.remote_rules.specs.declared.MirrorFault.TheVariants as ask
 use Rattle.remote_trait.specs.Calls.{Refreshes, AreMaster, Fails}
+use Rattle.remote_trait.specs.Honest.{AreNamesOf}
 use Rattle.remote_trait.specs.declared.fault.RemoteFault.{RemoteFault}
 use Rattle.remote_trait.specs.declared.fault.RemoteFault.TheVariants as remote
 use Rattle.mirror_set.specs.Asking.{AreFailed, Answered, IsItsClone}
@@ -101,13 +102,31 @@ part_fault remote.Memory = part.Memory
 abbrev pub names_between : List (Row Name) → ℕ → ℕ → List Name
 names_between rows from count = take count (drop from (names_of rows))
 
--- What asks for the names of some ids leave of a mirror, where so many names were asked for at most: it tells what it told.
-abbrev pub AsksOn : ℕ → Mirror → Mirror → Result ⊤ PartFault → Type 0
-AsksOn most before now (Ok done) = Stays most before now
-AsksOn most before now (Err part.Failed) = Stays most before now × Fails before now
-AsksOn most before now (Err (part.BadClone at)) = ⊥
-AsksOn most before now (Err (part.BadNames asked given)) = Stays most before now × GaveFew asked given now
-AsksOn most before now (Err part.Memory) = Stays most before now
+-- It gave fewer names than were asked for of ids of this clone data, so it tells no master whose clone data these are.
+pub record GivesFew (told : CloneData) (asked given : ℕ) (m : Mirror) : Type 0 where
+  pub fewer : given < asked
+  pub untold : IfSome m.master (λ rows. AreMaster rows → IsCloneOf rows told → ⊥)
+
+-- What asks for the names of some ids of this clone data leave of a mirror, where so many names were asked for at most: it tells what it told.
+abbrev pub AsksOn : CloneData → ℕ → Mirror → Mirror → Result ⊤ PartFault → Type 0
+AsksOn told most before now (Ok done) = Stays most before now
+AsksOn told most before now (Err part.Failed) = Stays most before now × Fails before now
+AsksOn told most before now (Err (part.BadClone at)) = ⊥
+AsksOn told most before now (Err (part.BadNames asked given)) = Stays most before now × GivesFew told asked given now
+AsksOn told most before now (Err part.Memory) = Stays most before now
+
+-- where the mirror tells its rows, the names of the first of x and its first parents, so many, are these
+abbrev pub GaveLine : Name → ℕ → ℕ → Mirror → (List Name → Type 0) → Type 0
+GaveLine x room count m Are = IfSome m.master (λ rows. (got : List Name) × (length got ≡ count) × AreNamesOf rows x 0 room got × Are got)
+
+-- What a call for so many names, back from x, leaves of a mirror and gives: all of them, put behind those before with the last one first,
+-- or fewer.
+abbrev pub AsksLine : Name → ℕ → List Name → List Name → Mirror → Mirror → Result ⊤ PartFault → Type 0
+AsksLine x count names more before now (Ok done) = Stays count before now × (length more ≡ length names + count) × GaveLine x count count now (λ got. more ≡ names ++ reverse got)
+AsksLine x count names more before now (Err part.Failed) = Stays count before now × Fails before now
+AsksLine x count names more before now (Err (part.BadClone at)) = ⊥
+AsksLine x count names more before now (Err (part.BadNames asked given)) = Stays count before now × (asked ≡ count) × (given < count) × GaveLine x count given now (λ got. ⊤)
+AsksLine x count names more before now (Err part.Memory) = Stays count before now
 
 -- The names of the ids below an end, from an id on: where the mirror tells its master, whose clone data these are, they are its rows'.
 abbrev pub AreNamesBelow : ℕ → ℕ → CloneData → Mirror → List Name → Type 0

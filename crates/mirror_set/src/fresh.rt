@@ -1,6 +1,6 @@
 //! What a pull takes from a mirror.
 
-ghost use Rattle.std.specs.Prelude.{◌≡◌, ◌<◌, ◌+◌, ◌^◌, ◌++◌, length, reverse, Some, slice_get, IfOk, OnOk};
+ghost use Rattle.std.specs.Prelude.{◌≡◌, ◌<◌, ◌+◌, ◌^◌, ◌++◌, [], length, reverse, Some, slice_get, OnOk};
 
 use id_groups::Name;
 use remote_trait::CloneData;

@@ -1,12 +1,10 @@
 //! The calls on one mirror that a pull makes.
 
-ghost use Rattle.std.specs.Prelude.{◌≡◌, ◌<◌, ◌≤◌, ◌+◌, ◌-◌, ◌^◌, ◌⊎◌, ◌++◌, [], List, None, Some, Err, ℕ, length, reverse, take, IfOk, IfErr, IfSome, OnOk};
-ghost use Rattle.id_groups.specs.Name.{Name as NameBytes};
+ghost use Rattle.std.specs.Prelude.{◌≡◌, ◌<◌, ◌≤◌, ◌+◌, ◌-◌, ◌^◌, ◌⊎◌, None, Some, Err, ℕ, length, take, IfOk, IfErr, OnOk};
 ghost use Rattle.segment_codec.specs.Turns.{place_behind};
 ghost use Rattle.remote_rules.specs.CloneData.{first_broken};
-ghost use Rattle.remote_trait.specs.Honest.{AreNamesOf};
 ghost use Rattle.mirror_set.specs.Round.{Stays};
-ghost use Rattle.mirror_set.specs.Fresh.{IsPulledFrom, GivesFresh, AsksOn, AreNamesBelow, count_from, part_fault};
+ghost use Rattle.mirror_set.specs.Fresh.{IsPulledFrom, GivesFresh, AsksOn, AsksLine, AreNamesBelow, count_from, part_fault};
 ghost use Rattle.mirror_set.specs.declared.pulling.PartFault.TheVariants.{Memory, BadClone};
 
 use crate::asking::clone_of;
@@ -80,9 +78,7 @@ fn add_names<R: Remote>(
     names: &mut FreshNames,
 ) -> Result<(), PartFault>
     requires { length names.old + count < 2 ^ 31 }
-    ensures asked { AsksOn count (R.shown remote.old) (R.shown remote.new) result }
-    ensures count { OnOk result (length names.new ≡ length names.old + count) }
-    ensures names { OnOk result (IfSome (R.shown remote.new).master (λ rows. (got : List NameBytes) × (names.new ≡ names.old ++ reverse got) × (length got ≡ count) × AreNamesOf rows name.now 0 count got)) }
+    ensures { AsksLine name.now count names.old names.new (R.shown remote.old) (R.shown remote.new) result }
 {
     let mut out = names_like(alloc, name, count)?;
     let given = match remote.names_of(alloc, name, 0, &mut out) {
@@ -94,6 +90,13 @@ fn add_names<R: Remote>(
     }
     names.add_reversed(&out)?;
     Ok(())
+}
+
+/// The greater of two ids.
+fn later(a: u64, b: u64) -> u64
+    ensures { result ≡ a + (b - a) }
+{
+    if a < b { b } else { a }
 }
 
 /// Asks for the names of the ids of a segment from this id on, by the name of its highest one.
@@ -108,7 +111,7 @@ fn add_segment<R: Remote>(
     requires unbroken { first_broken cloned.now ≡ None }
     requires there { k < length cloned.now.segments }
     requires count { length names.old ≡ place_behind 0 (take k cloned.now.segments) - from }
-    ensures asked { AsksOn (place_behind 0 (take (k + 1) cloned.now.segments) - from - length names.old) (R.shown remote.old) (R.shown remote.new) result }
+    ensures asked { AsksOn cloned.now (place_behind 0 (take (k + 1) cloned.now.segments) - from - length names.old) (R.shown remote.old) (R.shown remote.new) result }
     ensures count { OnOk result (length names.new ≡ place_behind 0 (take (k + 1) cloned.now.segments) - from) }
     ensures names { OnOk result (AreNamesBelow from (place_behind 0 (take k cloned.now.segments)) cloned.now (R.shown remote.old) names.old
         → AreNamesBelow from (place_behind 0 (take (k + 1) cloned.now.segments)) cloned.now (R.shown remote.new) names.new) }
@@ -117,7 +120,7 @@ fn add_segment<R: Remote>(
     if segment.high < from {
         return Ok(());
     }
-    let first = segment.low.max(from);
+    let first = later(segment.low, from);
     let count = segment.high - first;
     if count >= MOST_NAMES - u64::from(names.len()) {
         return Err(PartFault::Memory);
@@ -139,7 +142,7 @@ fn names_from<R: Remote>(
     ensures stays { Stays (count_from from cloned.now) (R.shown remote.old) (R.shown remote.new) }
     ensures count { IfOk result (λ names. length names ≡ count_from from cloned.now) }
     ensures names { IfOk result (λ names. AreNamesBelow from (place_behind 0 cloned.now.segments) cloned.now (R.shown remote.new) names) }
-    ensures faults { IfErr result (λ fault. AsksOn (count_from from cloned.now) (R.shown remote.old) (R.shown remote.new) (Err fault)) }
+    ensures faults { IfErr result (λ fault. AsksOn cloned.now (count_from from cloned.now) (R.shown remote.old) (R.shown remote.new) (Err fault)) }
 {
     let mut names = FreshNames::empty(alloc);
     'segments: for k in 0..cloned.segments.len() {

@@ -1,0 +1,50 @@
+-- Serving: the one mirror, words that end it at once, and modes that are others.
+use Rattle.std.proofs.Common.{ℕ, ◌≡◌, ◌≢◌, ◌⊎◌, ◌∙◌, arith, inl, inr, List, [], ◌∷◌, Option, length, map, refl, sym, ap, subst}
+use Rattle.outside.specs.Told.{WhereTold}
+use Rattle.outside.proofs.ToldLemmas.{WhereTold-same}
+use Rattle.remote_rules.specs.Mirror.{Mirror}
+use Rattle.program_words.specs.Usage.{IsUsage}
+use Rattle.program_words.specs.declared.usage.Mode.{Mode}
+use Rattle.program_words.specs.declared.usage.Mode.TheVariants.{Run, Demo, Serve}
+use Rattle.program_words.specs.declared.usage.Usage.{Usage}
+use Rattle.remote_serve.specs.Ends.{ServesOnly}
+use Rattle.remote_serve.specs.Steps.{ports, streams}
+use Rattle.remote_serve.specs.declared.served.Served.TheVariants as served
+use Rattle.dag_run.specs.Modes.{IsUsageOf, EndsAtOnce}
+use Rattle.dag_run.specs.Serving.{IsServeStatus, ServeMeans, WantsOne}
+use Rattle.dag_run.proofs.Usages.{only-memory, one-mode}
+
+-- words of one mode are none of another
+pub of-mode : (words : List (List ℕ)) (usage : Usage) (a b : Mode) → IsUsage words usage → usage.mode ≡ a → IsUsageOf b words → a ≡ b
+of-mode words usage a b is e of = sym e ∙ one-mode words usage b is of
+
+pub run-serve : Run ≡ Serve → ⊥
+run-serve e = cc e
+
+pub demo-serve : Demo ≡ Serve → ⊥
+demo-serve e = cc e
+
+-- the one of a list
+pub the-one : {X Y : Type 0} (f : X → Y) (xs : List X) → length xs ≡ 1 → (y : Y) × (map f xs ≡ y ∷ [])
+the-one f [] e = absurd (omega (arith, e))
+the-one f (x ∷ []) e = (f x, refl)
+the-one f (x ∷ y ∷ xs) e = absurd (omega (arith, e))
+
+-- nothing is read and nothing put
+pub unserved : (limit status : ℕ) → status ≡ 7 → (first : List Mirror) → (m : Mirror) × (first ≡ m ∷ []) → (i o : Option (List ℕ))
+    → WhereTold (ports i o) (ports i o) (λ before after. ServeMeans limit status (streams before after) first first)
+unserved limit status seven first one i o =
+    WhereTold-same (ports i o) _ (λ x. (served.Memory, seven, (one.0, one.0, one.1, one.1, refl, refl, refl)))
+
+-- words that end it at once
+pub once-serves : (words : List (List ℕ)) (status limit : ℕ) → EndsAtOnce words status → IsUsageOf Serve words → (first : List Mirror) → (m : Mirror) × (first ≡ m ∷ []) → (i o : Option (List ℕ))
+    → WhereTold (ports i o) (ports i o) (λ before after. ServeMeans limit status (streams before after) first first)
+once-serves words status limit once of first one i o = unserved limit status (only-memory words status of.0 once of.1) first one i o
+
+pub once-one : (words : List (List ℕ)) (status count : ℕ) → EndsAtOnce words status → IsUsageOf Serve words → WantsOne count status
+once-one words status count once of =
+    let seven = only-memory words status of.0 once of.1 in
+    (λ e. absurd (omega (arith, e, seven)), λ h. inr seven)
+
+pub once-served : (words : List (List ℕ)) (status : ℕ) → EndsAtOnce words status → IsUsageOf Serve words → IsServeStatus status
+once-served words status once of = subst IsServeStatus (sym (only-memory words status of.0 once of.1)) tt
