@@ -53,6 +53,7 @@ word-no-blank word = clear (word_text word) (all word)
     all words.Status = refl
     all words.Levels = refl
     all words.Clone = refl
+    all words.Pull = refl
     all words.Strip = refl
     all words.Mirrors = refl
     all words.DropAt = refl
@@ -69,6 +70,7 @@ word_in text =
     else if pointwise nat_eq text (codes "status") then Some words.Status
     else if pointwise nat_eq text (codes "levels") then Some words.Levels
     else if pointwise nat_eq text (codes "clone") then Some words.Clone
+    else if pointwise nat_eq text (codes "pull") then Some words.Pull
     else if pointwise nat_eq text (codes "strip") then Some words.Strip
     else if pointwise nat_eq text (codes "mirrors") then Some words.Mirrors
     else Some words.DropAt
@@ -84,6 +86,7 @@ word-again words.Id = refl
 word-again words.Status = refl
 word-again words.Levels = refl
 word-again words.Clone = refl
+word-again words.Pull = refl
 word-again words.Strip = refl
 word-again words.Mirrors = refl
 word-again words.DropAt = refl
@@ -142,7 +145,7 @@ verb-parts text (IdOf name) b h = (words.Id, Some h.0, (refl, h.1), h.2)
 verb-parts text Status b h = (words.Status, None, (refl, tt), bare text (codes "status") h)
 verb-parts text Levels b h = (words.Levels, None, (refl, tt), bare text (codes "levels") h)
 verb-parts text Clone b h = (words.Clone, None, (refl, tt), bare text (codes "clone") h)
-verb-parts text Pull b h = cc b
+verb-parts text Pull b h = (words.Pull, None, (refl, tt), bare text (codes "pull") h)
 verb-parts text (Strip names) b h = by_names (names-parts text (codes "strip") names h.1)
   where
     by_names : ((names ≡ []) × (text ≡ codes "strip")) ⊎ ((args : List ℕ) × AreNames args names × (text ≡ codes "strip" ++ 32 ∷ args)) → Parts text (Strip names)
@@ -171,9 +174,10 @@ parts-verb verb behind word e h = from verb behind h word e
     from Status None h word e = subst (λ w. Spelled w None Status) (some-same words.Status word e) (refl, refl)
     from Levels None h word e = subst (λ w. Spelled w None Levels) (some-same words.Levels word e) (refl, refl)
     from Clone None h word e = subst (λ w. Spelled w None Clone) (some-same words.Clone word e) (refl, refl)
+    from Pull None h word e = subst (λ w. Spelled w None Pull) (some-same words.Pull word e) (refl, refl)
     from CountMirrors None h word e = subst (λ w. Spelled w None CountMirrors) (some-same words.Mirrors word e) (refl, refl)
     from (Drop k) (Some args) h word e = subst (λ w. Spelled w (Some args) (Drop k)) (some-same words.DropAt word e) (refl, (args, h, refl))
-    from Pull behind h word e = cc e
+    from Pull (Some args) h word e = absurd h
     from (Add name parents) None h word e = absurd h
     from Reload (Some args) h word e = absurd h
     from Discard (Some args) h word e = absurd h
@@ -226,9 +230,10 @@ fits-none front behind word is f verb h =
     none Status None h word e f = subst (λ w. FitsNone w None) (sym (some-same words.Status word e)) f
     none Levels None h word e f = subst (λ w. FitsNone w None) (sym (some-same words.Levels word e)) f
     none Clone None h word e f = subst (λ w. FitsNone w None) (sym (some-same words.Clone word e)) f
+    none Pull None h word e f = subst (λ w. FitsNone w None) (sym (some-same words.Pull word e)) f
     none CountMirrors None h word e f = subst (λ w. FitsNone w None) (sym (some-same words.Mirrors word e)) f
     none (Drop k) (Some args) h word e f = let g = subst (λ w. FitsNone w (Some args)) (sym (some-same words.DropAt word e)) f in g k h
-    none Pull behind h word e f = cc e
+    none Pull (Some args) h word e f = absurd h
     none (Add name parents) None h word e f = absurd h
     none Reload (Some args) h word e f = absurd h
     none Discard (Some args) h word e f = absurd h

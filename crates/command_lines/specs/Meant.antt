@@ -3,7 +3,7 @@ use Rattle.std.specs.Prelude.{◌≢◌, ◌≤◌, [], length, ⊤}
 use Rattle.set_expr.specs.declared.parse.ExprFault.{ExprFault}
 use Rattle.set_expr.specs.declared.parse.ExprFault.TheVariants as exprs
 use Rattle.set_expr.specs.Whole.{tree_of}
-use Rattle.step_rules.specs.Verb.{Verb, Add, Flush, Reload, Discard, Query, Count, IdOf, Status, Levels, Clone, Strip, CountMirrors, Drop}
+use Rattle.step_rules.specs.Verb.{Verb, Add, Flush, Reload, Discard, Query, Count, IdOf, Status, Levels, Clone, Pull, Strip, CountMirrors, Drop}
 use Rattle.command_lines.specs.declared.command.CommandFault.{CommandFault}
 use Rattle.command_lines.specs.declared.command.CommandFault.TheVariants.{Syntax, Memory}
 use Rattle.command_lines.specs.declared.command.Verb.{Verb as Asked}
@@ -21,6 +21,7 @@ meant (asked.Id name) = IdOf name
 meant asked.Status = Status
 meant asked.Levels = Levels
 meant asked.Clone = Clone
+meant asked.Pull = Pull
 meant (asked.Strip names) = Strip names
 meant asked.Mirrors = CountMirrors
 meant (asked.DropAt place) = Drop place

@@ -5,7 +5,7 @@ use Rattle.outside.specs.Parts.{split_at}
 use Rattle.id_groups.specs.Name.{Name, SpellsName}
 use Rattle.set_expr.specs.Expr.{Expr}
 use Rattle.set_expr.specs.Spelling.{SpellsExpr, SpellsNumber}
-use Rattle.step_rules.specs.Verb.{Verb, Add, Flush, Reload, Discard, Query, Count, IdOf, Status, Levels, Clone, Strip, CountMirrors, Drop}
+use Rattle.step_rules.specs.Verb.{Verb, Add, Flush, Reload, Discard, Query, Count, IdOf, Status, Levels, Clone, Pull, Strip, CountMirrors, Drop}
 use Rattle.command_lines.specs.declared.words.Word.{Word}
 use Rattle.command_lines.specs.declared.words.Word.TheVariants as words
 
@@ -21,6 +21,7 @@ word_text words.Id = codes "id"
 word_text words.Status = codes "status"
 word_text words.Levels = codes "levels"
 word_text words.Clone = codes "clone"
+word_text words.Pull = codes "pull"
 word_text words.Strip = codes "strip"
 word_text words.Mirrors = codes "mirrors"
 word_text words.DropAt = codes "drop"
@@ -32,11 +33,12 @@ IsChange words.Flush = ⊤
 IsChange words.Reload = ⊤
 IsChange words.Discard = ⊤
 IsChange words.Clone = ⊤
+IsChange words.Pull = ⊤
 IsChange words.Strip = ⊤
 IsChange words.DropAt = ⊤
 IsChange _ = ⊥
 
--- the word of a verb that is built
+-- the word of a verb
 abbrev pub verb_word : Verb → Option Word
 verb_word (Add name parents) = Some words.Add
 verb_word (Flush heads) = Some words.Flush
@@ -48,10 +50,10 @@ verb_word (IdOf name) = Some words.Id
 verb_word Status = Some words.Status
 verb_word Levels = Some words.Levels
 verb_word Clone = Some words.Clone
+verb_word Pull = Some words.Pull
 verb_word (Strip names) = Some words.Strip
 verb_word CountMirrors = Some words.Mirrors
 verb_word (Drop k) = Some words.DropAt
-verb_word _ = None
 
 -- the words of a text spell these names
 abbrev pub AreNames : List ℕ → List Name → Type 0
@@ -70,6 +72,7 @@ SpellsArgs (IdOf name) (Some args) = SpellsName args name
 SpellsArgs Status None = ⊤
 SpellsArgs Levels None = ⊤
 SpellsArgs Clone None = ⊤
+SpellsArgs Pull None = ⊤
 SpellsArgs (Strip names) (Some args) = AreNames args names
 SpellsArgs CountMirrors None = ⊤
 SpellsArgs (Drop k) (Some args) = SpellsNumber args k
@@ -98,6 +101,7 @@ FitsNone words.Discard None = ⊥
 FitsNone words.Status None = ⊥
 FitsNone words.Levels None = ⊥
 FitsNone words.Clone None = ⊥
+FitsNone words.Pull None = ⊥
 FitsNone words.Mirrors None = ⊥
 FitsNone _ _ = ⊤
 

@@ -1,6 +1,6 @@
 -- What a reply of the code tells.
 use Rattle.std.specs.Prelude.{ℕ, List, codes}
-use Rattle.step_rules.specs.Reply.{Reply, Added, Old, Flushed, Stripped, Cloned, Reloaded, Discarded, Counted, Identified, Sizes, LevelSizes, Dropped, Refused, NoCommand, LongLine}
+use Rattle.step_rules.specs.Reply.{Reply, Added, Old, Flushed, Pulled, Stripped, Cloned, Reloaded, Discarded, Counted, Identified, Sizes, LevelSizes, Dropped, Refused, NoCommand, LongLine}
 use Rattle.command_lines.specs.declared.reply.Reply.{Reply as Given}
 use Rattle.command_lines.specs.declared.reply.Reply.TheVariants as given
 
@@ -9,6 +9,7 @@ abbrev pub told : Given → Reply
 told (given.Added id) = Added id
 told (given.Old id) = Old id
 told (given.Flushed counts) = Flushed counts.master counts.others
+told (given.Pulled counts) = Pulled counts.master counts.others
 told (given.Stripped counts) = Stripped counts.master counts.others
 told (given.Cloned count) = Cloned count
 told (given.Reloaded count) = Reloaded count
@@ -27,6 +28,7 @@ abbrev pub reply_head : Given → List ℕ
 reply_head (given.Added id) = codes "ok added"
 reply_head (given.Old id) = codes "ok old"
 reply_head (given.Flushed counts) = codes "ok flushed"
+reply_head (given.Pulled counts) = codes "ok pulled"
 reply_head (given.Stripped counts) = codes "ok stripped"
 reply_head (given.Cloned count) = codes "ok cloned"
 reply_head (given.Reloaded count) = codes "ok reloaded"

@@ -49,6 +49,8 @@ pub enum Verb {
     Levels,
     /// Stores the master of a mirror, where nothing is stored yet.
     Clone,
+    /// Stores the new master rows of a mirror behind those that are stored.
+    Pull,
     /// Takes these commits out of what is stored, with their descendants.
     Strip(NameList),
     /// Counts the mirrors.
@@ -189,6 +191,7 @@ fn parse_bare(alloc: Global, word: Word) -> Result<Verb, CommandFault>
         Word::Status => Ok(Verb::Status),
         Word::Levels => Ok(Verb::Levels),
         Word::Clone => Ok(Verb::Clone),
+        Word::Pull => Ok(Verb::Pull),
         Word::Mirrors => Ok(Verb::Mirrors),
         _ => Err(CommandFault::Syntax),
     }

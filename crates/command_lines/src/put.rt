@@ -141,6 +141,7 @@ fn reply_words(reply: &Reply) -> &'static [u8]
         Reply::Old(_) => b"ok old",
         Reply::Flushed(_) => b"ok flushed",
         Reply::Stripped(_) => b"ok stripped",
+        Reply::Pulled(_) => b"ok pulled",
         Reply::Cloned(_) => b"ok cloned",
         Reply::Reloaded(_) => b"ok reloaded",
         Reply::Discarded(_) => b"ok discarded",
@@ -160,7 +161,9 @@ pub fn put_reply<O: Sink>(reply: &Reply, output: &mut O) -> Result<(), SinkFault
     let words = reply_words(reply);
     match reply {
         Reply::Added(id) | Reply::Old(id) | Reply::Identified(id) => put_id(output, words, *id),
-        Reply::Flushed(counts) | Reply::Stripped(counts) => put_stored(output, words, counts),
+        Reply::Flushed(counts) | Reply::Stripped(counts) | Reply::Pulled(counts) => {
+            put_stored(output, words, counts)
+        }
         Reply::Reloaded(rows) | Reply::Discarded(rows) => {
             put_number(output, words, u64::from(*rows))
         }

@@ -14,6 +14,8 @@ pub enum Reply {
     Flushed(Counts),
     /// The sizes of the world that a strip left.
     Stripped(Counts),
+    /// The sizes of the world after a pull.
+    Pulled(Counts),
     /// A mirror's master was stored, with so many rows.
     Cloned(u64),
     /// The session is on the newest world, with so many rows that aren't stored.

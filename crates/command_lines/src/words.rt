@@ -31,6 +31,8 @@ pub enum Word {
     Levels,
     /// A mirror's master to be stored.
     Clone,
+    /// A mirror's new rows to be stored.
+    Pull,
     /// Commits to be taken out of what is stored.
     Strip,
     /// How many mirrors there are.
@@ -91,6 +93,8 @@ fn change_of(text: &[u8]) -> Option<Word>
         Some(Word::Discard)
     } else if text == b"clone".as_slice() {
         Some(Word::Clone)
+    } else if text == b"pull".as_slice() {
+        Some(Word::Pull)
     } else if text == b"strip".as_slice() {
         Some(Word::Strip)
     } else if text == b"drop".as_slice() {

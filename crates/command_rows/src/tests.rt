@@ -19,6 +19,7 @@ fn shown(verb: &Verb) -> (&'static str, u64) {
         Verb::Status => ("status", 0),
         Verb::Levels => ("levels", 0),
         Verb::Clone => ("clone", 0),
+        Verb::Pull => ("pull", 0),
         Verb::Strip(names) => ("strip", names.names().len() as u64),
         Verb::Mirrors => ("mirrors", 0),
         Verb::DropAt(place) => ("drop", *place),
@@ -56,8 +57,9 @@ fn add_line(alloc: Global, parents: u32) -> Result<Vec<u8>, AllocError> {
 /// A line, its session, its verb's word, and how many names stand in its arguments, or the number that does.
 type Read = (&'static str, u8, &'static str, u64);
 
-const READ: [Read; 23] = [
+const READ: [Read; 24] = [
     ("7 clone", 7, "clone", 0),
+    ("8 pull", 8, "pull", 0),
     ("0 status", 0, "status", 0),
     ("15 status", 15, "status", 0),
     ("10 levels", 10, "levels", 0),
@@ -180,7 +182,7 @@ const REFUSED: [&str; 43] = [
     "0 query",
     "0 query nothing",
     "0 clone all",
-    "0 pull",
+    "0 pull all",
     "0 strip",
     "0 strip ",
     "0 strip all",
@@ -237,6 +239,7 @@ fn wrong_reply(alloc: Global) -> Result<Option<&'static str>, AllocError> {
         (Reply::Old(Id::master(0)), "ok old 0\n"),
         (Reply::Flushed(counts), "ok flushed 2 0\n"),
         (Reply::Stripped(counts), "ok stripped 2 0\n"),
+        (Reply::Pulled(counts), "ok pulled 2 0\n"),
         (Reply::Cloned(10), "ok cloned 10\n"),
         (Reply::Reloaded(4), "ok reloaded 4\n"),
         (Reply::Discarded(0), "ok discarded 0\n"),

@@ -46,7 +46,7 @@ use Rattle.dag_store.specs.Flushes.{HasRoom, HasStored, Stores, StoresBy, FlushL
 use Rattle.dag_store.specs.Clones.{StoresClone, StoresCloneBy, clone_end}
 use Rattle.dag_store.specs.declared.replies.Counts.{Counts}
 use Rattle.dag_store.specs.declared.replies.Flushed.TheVariants as flushes
-use Rattle.dag_run.specs.Enough.{HasEnough}
+use Rattle.dag_run.specs.Enough.{HasEnough, IsEnoughFor, IsEnoughOn}
 use Rattle.dag_run.specs.Lines.{Changes, HasChanged, IsBrief, PutsReply, IsLimited, Replies, CommandReplies, DoesBeside, DropsAt, LineReplies, LineLeaves}
 use Rattle.dag_run.specs.Replies.{reply_of_count}
 use Rattle.dag_run.specs.declared.stops.Stop.{Stop}
@@ -222,7 +222,7 @@ module _ (SinkFailed : Type 0) (began : ℕ) (left : List Mirror) (st : State) (
 
 -- the reply of a command
 pub command-told : (first left : List Mirror) (SinkFailed : Type 0) (kept store : PlainStore) (s : ℕ) (verb : Verb) (payload : List ℕ) (clock : Option ℕ) (r : Result PlainStore Stop) (reply : Reply) (o p : Option (List ℕ))
-    → ((began : ℕ) (st : State) → StandsBeside began kept first st → HasEnough st → (next : State) × CommandStep kept.limits st s verb reply next × Changes clock st.store next.store payload × StandsBeside began store left next)
+    → ((began : ℕ) (st : State) → StandsBeside began kept first st → IsEnoughFor verb st → (next : State) × CommandStep kept.limits st s verb reply next × Changes clock st.store next.store payload × StandsBeside began store left next)
     → WhereTold o p (PutsReply store reply r) → WhereTold o p (CommandReplies first left SinkFailed kept s verb payload clock r)
 command-told first left SinkFailed kept store s verb payload clock r reply o p does h =
     WhereTold-map o p (PutsReply store reply r) (CommandReplies first left SinkFailed kept s verb payload clock r)
@@ -367,7 +367,7 @@ drops-does first left k reply kept s asked e drops =
 -- its one line is put
 pub brief-told : (first left : List Mirror) (SinkFailed : Type 0) (old new : PlainStore) (s : ℕ) (verb : Verb) (r : Result PlainStore Stop) (reply : Reply) (o p : Option (List ℕ)) → DoesBeside first left old new s verb reply
     → WhereTold o p (PutsReply new reply r) → WhereTold o p (CommandReplies first left SinkFailed old s verb [] None r)
-brief-told first left SinkFailed old new s verb r reply o p does put = command-told first left SinkFailed old new s verb [] None r reply o p does put
+brief-told first left SinkFailed old new s verb r reply o p does put = command-told first left SinkFailed old new s verb [] None r reply o p (λ began st h enough. does began st h (enough.0, enough.1)) put
 
 -- ---- what each line does
 pub line-of-command : (first left : List Mirror) (SinkFailed : Type 0) (kept : PlainStore) (s : ℕ) (verb : Verb) (line payload : List ℕ) (clock : Option ℕ) (r : Result PlainStore Stop) (before now : List ℕ) → SpellsCommand line s verb → is_too_long line ≡ false → is_silent line ≡ false
@@ -376,7 +376,8 @@ line-of-command first left SinkFailed kept s verb line payload clock r before no
     inr (
       silent,
       replies-map SinkFailed began left st (CommandStep kept.limits st s verb) payload clock (Step kept.limits st line) r before now
-          (λ reply next. command-step kept.limits st line s verb reply next spells short) (h began st stands enough),
+          (λ reply next. command-step kept.limits st line s verb reply next spells short)
+          (h began st stands (enough.0, enough.1, λ e. enough.2 s (subst (SpellsCommand line s) e spells))),
     )
 
 -- a line that changes nothing

@@ -49,7 +49,7 @@ use Rattle.dag_run.specs.Seen.{seen}
 use Rattle.dag_run.specs.Ends.{OpensRun, LoadPuts}
 use Rattle.dag_run.specs.Stops.{IsLoadStop}
 use Rattle.dag_run.proofs.Seeing.{Each, seen-each, same-told}
-use Rattle.dag_run.proofs.Going.{prefixes, fresh-prefixes, stays-line, read-on, run-on, step-as}
+use Rattle.dag_run.proofs.Going.{prefixes, fresh-prefixes, stays-line, read-on, rests, run-on, step-as}
 use Rattle.dag_run.proofs.Staying.{stopped-there, stopped-loaded, stopped-loading, stopped-short, short-sure, bytes-now, log-of}
 
 -- what a run ends as means what a run has to
@@ -258,7 +258,7 @@ module _ (limits : Limits) (fair : AreLimits limits) (w : World Name) (payloads 
       pub going-stop : (Here : Type 0) → (Here → SinkFailed) → (stop : Stop) → ((l : List ℕ) → IsLine kind new.text l → LineReplies left now Here store l payload clock (Err stop) mid.taken after.taken)
           → LineLeaves store payload clock (Err stop) mid.disk after.disk → RunMeans limits w payloads room mirrors now SinkFailed (Err stop) (changes_with changes clock) before after
       going-stop Here since stop told leaves = ⊎_elim (λ passed. absurd passed) (λ d. by_stop stop (d.0, failed-since Here SinkFailed since (length payloads) now h.last (Step store.limits h.last line.0) payload clock stop mid.taken after.taken d.1) leaves)
-          (told line.0 line.1 (length payloads) h.last h.stands h.enough)
+          (told line.0 line.1 (length payloads) h.last h.stands (rests limits fair w payloads room mirrors left now before mid after begins store changes old new kind payload clock same h line read))
         where
           by_stop : (s : Stop) → (is_silent line.0 ≡ false) × Replies SinkFailed (length payloads) now h.last (Step store.limits h.last line.0) payload clock (Err s) mid.taken after.taken
               → LineLeaves store payload clock (Err s) mid.disk after.disk → RunMeans limits w payloads room mirrors now SinkFailed (Err s) (changes_with changes clock) before after

@@ -1,12 +1,14 @@
 -- What holds from line to line of a run.
-use Rattle.std.proofs.Common.{ℕ, ◌≡◌, ⊎_elim, false, List, [], ◌∷◌, ◌++◌, length, map, refl, sym, ◌∙◌, ap, subst, append_assoc, append-nil, Option, Some, None, Ok}
+use Rattle.std.proofs.Common.{ℕ, ◌≡◌, ⊎_elim, inl, false, List, [], ◌∷◌, ◌++◌, length, map, refl, sym, ◌∙◌, ap, subst, append_assoc, append-nil, Option, Some, None, Ok}
 use Rattle.id_groups.specs.Name.{Name}
 use Rattle.commit_graph.specs.World.{World}
 use Rattle.disk_trait.specs.Images.{Told}
 use Rattle.disk_trait.specs.Since.{SureSince}
 use Rattle.gated_log.specs.Load.{IsSureOf}
-use Rattle.line_io.specs.Lines.{is_silent}
-use Rattle.line_io.specs.Reading.{Reading, new_reading}
+use Rattle.id_groups.specs.Lists.{IsIn}
+use Rattle.commit_graph.proofs.Down.{in-left, in-right}
+use Rattle.line_io.specs.Lines.{is_silent, lines_of}
+use Rattle.line_io.specs.Reading.{Reading, lines_left, new_reading}
 use Rattle.line_io.specs.Next.{NextLine, IsLine, IsReadOut}
 use Rattle.line_io.specs.declared.lines.Line.{Line}
 use Rattle.batch_codec.specs.Payload.{Payload}
@@ -26,9 +28,10 @@ use Rattle.dag_store.specs.Loading.{IsLoadedStore}
 use Rattle.dag_run.specs.Seen.{Seen}
 use Rattle.dag_run.specs.Ends.{Begins}
 use Rattle.dag_run.specs.Between.{Reads, Stays, Going}
+use Rattle.dag_run.specs.Enough.{IsEnoughOn}
 use Rattle.dag_run.specs.Lines.{changes_with, Changes, Replies, IsPassed, LineReplies, LineLeaves, StoresOn}
 use Rattle.dag_run.proofs.Reading.{reads-start, reads-line}
-use Rattle.dag_run.proofs.Mirrors.{enough-sound, line-enough, start-beside, start-enough}
+use Rattle.dag_run.proofs.Mirrors.{enough-sound, line-begun, line-enough, start-begun, start-beside, start-enough}
 use Rattle.dag_run.proofs.Runs.{output-append, run-silent, run-step}
 use Rattle.dag_run.proofs.Staying.{stays-start, stays-stored, stays-same, log-of}
 
@@ -63,6 +66,7 @@ module _ (limits : Limits) (fair : AreLimits limits) (w : World Name) (payloads 
     out = taken ∙ sym (append-nil before.taken);
     stands = start-beside limits.log before.disk.bytes w payloads room mirrors store begins.0.read begins.1 cache stands;
     enough = start-enough limits.log before.disk.bytes w payloads room mirrors begins.0.read begins.1;
+    begun = start-begun limits.log before.disk.bytes w payloads room mirrors (lines_of limits.input before.left) begins.0.read begins.1 begins.2;
     stays = stays-start limits w payloads store before.disk after.disk fresh-prefixes holds (log-of limits.log before.disk.bytes w payloads begins.0.read) is_sure loaded same stands.texts;
   }
 
@@ -94,6 +98,14 @@ module _ (limits : Limits) (fair : AreLimits limits) (w : World Name) (payloads 
   pub read-on : Reads limits.input (h.lines ++ line.0 ∷ []) before.left new after.left
   read-on = reads-line limits.input h.lines before.left old new mid.left after.left kind h.reads line read
 
+  -- the line is one of the input's
+  pub here : IsIn line.0 (lines_of limits.input before.left)
+  here = subst (IsIn line.0) (sym read-on.all) (in-left line.0 (h.lines ++ line.0 ∷ []) (lines_left new after.left) (in-right line.0 h.lines (line.0 ∷ []) (inl refl)))
+
+  -- what its step rests on
+  pub rests : IsEnoughOn line.0 h.last
+  rests = (h.enough.0, h.enough.1, λ s spells. (h.begun (line.0, s, here, spells)).each)
+
   pub step-as : (reply : Reply) (next : State) → Step store.limits h.last line.0 reply next → Step limits h.last line.0 reply next
   step-as reply next step = subst (λ m. Step m h.last line.0 reply next) same step
 
@@ -102,7 +114,7 @@ module _ (limits : Limits) (fair : AreLimits limits) (w : World Name) (payloads 
 
   pub going-line : (next : PlainStore) (SinkFailed : Type 0) → ((l : List ℕ) → IsLine kind new.text l → LineReplies left now SinkFailed store l payload clock (Ok next) mid.taken after.taken)
       → LineLeaves store payload clock (Ok next) mid.disk after.disk → Going limits w payloads room mirrors now next (changes_with changes clock) new before after
-  going-line next SinkFailed told leaves = ⊎_elim passed replied (told line.0 line.1 (length payloads) h.last h.stands h.enough)
+  going-line next SinkFailed told leaves = ⊎_elim passed replied (told line.0 line.1 (length payloads) h.last h.stands rests)
     where
       passed : IsPassed (length payloads) now h.last line.0 clock (Ok next) mid.taken after.taken → Going limits w payloads room mirrors now next (changes_with changes clock) new before after
       passed p = record {
@@ -114,6 +126,7 @@ module _ (limits : Limits) (fair : AreLimits limits) (w : World Name) (payloads 
         out = p.3 ∙ h.out;
         stands = p.2;
         enough = h.enough;
+        begun = h.begun;
         stays = subst (λ c. Stays limits w payloads (changes_with changes c) h.last.store before.disk after.disk) (sym p.1)
             (subst (λ t. Stays limits w payloads changes h.last.store before.disk t) (sym (subst (λ c. StoresOn store payload c mid.disk after.disk) p.1 (on-disk store next payload clock mid.disk after.disk leaves))) h.stays);
       }
@@ -128,6 +141,7 @@ module _ (limits : Limits) (fair : AreLimits limits) (w : World Name) (payloads 
         out = put-more before.taken mid.taken after.taken h.replies reply h.out put;
         stands = stands;
         enough = line-enough limits (length payloads) store next left now h.last st h.stands stands h.enough line.0 reply (step-as reply st step);
+        begun = λ has. line-begun limits (length payloads) store next left now h.last st h.stands stands (lines_of limits.input before.left) (h.begun has) line.0 here reply (step-as reply st step);
         stays = stays-line limits fair w payloads room mirrors before begins store changes payload clock h.lines (h.lines ++ line.0 ∷ []) h.replies (h.replies ++ reply ∷ []) h.last st mid.disk after.disk same h.run (run-on reply st silent step) h.stands.stored h.stays changed
             (on-disk store next payload clock mid.disk after.disk leaves);
       }

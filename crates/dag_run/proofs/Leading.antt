@@ -26,7 +26,9 @@ use Rattle.demo_input.proofs.Lengths.{ancestors-short}
 use Rattle.dag_store.specs.Kept.{PlainStore}
 use Rattle.dag_store.specs.Stands.{Stands, StandsBeside}
 use Rattle.dag_store.specs.Loading.{Opens}
-use Rattle.dag_run.specs.Enough.{AreEnough, HasEnough}
+use Rattle.change_rules.specs.Tables.{cloned_count}
+use Rattle.remote_rules.specs.Serving.{BeginsWith}
+use Rattle.dag_run.specs.Enough.{AreEnough, HasEnough, IsEnoughOn}
 use Rattle.dag_run.specs.Demo.{RunsAfresh, IsReady, IsBehind, IsAnswered, LeadsOn, AllAnswered, AreLastReplies, DemoMeans}
 use Rattle.dag_run.specs.Lines.{LineReplies, LineLeaves}
 use Rattle.dag_run.specs.declared.stops.Stop.{Stop}
@@ -74,6 +76,12 @@ none-of Was (m ∷ left) (suc p ∷ places, d, z) = absurd (true≢false (sym (a
 afresh-none : (lines : List (List ℕ)) (replies : List Reply) (last : State) → RunsAfresh lines replies last → last.outside.mirrors ≡ []
 afresh-none lines replies last run = none-of IsLater last.outside.mirrors (run-matched standard lines (at_start empty_world [] 1 []) last replies run [] ([], tt, tt)).0
 
+-- the step of a line
+afresh-on : (line : List ℕ) (lines : List (List ℕ)) (replies : List Reply) (last : State) → RunsAfresh lines replies last → IsEnoughOn line last
+afresh-on line lines replies last run =
+    let enough = afresh-enough lines replies last run in
+    (enough.0, enough.1, λ s spells. subst (λ ms. AllByRecursion (BeginsWith (cloned_count last.store.payloads) last.store.stored) ms) (sym (afresh-none lines replies last run)) tt)
+
 -- one line
 pub leads-on : (left : List Mirror) (SinkFailed : Type 0) (line : List ℕ) (store next : PlainStore) (payload : List ℕ) (clock : Option ℕ) (before now : List ℕ) → store.limits ≡ standard
     → LineReplies [] left SinkFailed store line payload clock (Ok next) before now → LeadsOn line store next before now
@@ -100,7 +108,7 @@ leads-on left SinkFailed line store next payload clock before now same told = λ
       },
       replied.1.5 ∙ ap (λ t. before ++ t) (sym (append-nil (reply_text replied.1.0))),
     ))
-    (told 0 h.last h.stands (afresh-enough lines replies h.last h.run))
+    (told 0 h.last h.stands (afresh-on line lines replies h.last h.run))
 
 -- the last lines get replies
 answered : (line : List ℕ) → length line ≤ 128 → is_empty_or_comment line ≡ false → IsAnswered line

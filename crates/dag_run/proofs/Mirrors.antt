@@ -1,11 +1,12 @@
 -- Which mirrors a run may have, at its start and from line to line.
-use Rattle.std.proofs.Common.{◌≡◌, ◌<◌, ◌+◌, ℕ, zero, suc, Bool, true, false, inl, inr, ◌⊎◌, ⊎_elim, List, [], ◌∷◌, ◌++◌, length, take, nat_lt, Option, Some, None, is_some, MatchOption, refl, sym, ap, subst, subst₂, ◌∙◌, arith, zero-le, true≢false, length-append, le_refl, if◌then◌else◌}
+use Rattle.std.proofs.Common.{◌≡◌, ◌<◌, ◌≤◌, ◌+◌, ℕ, zero, suc, Bool, true, false, inl, inr, ◌⊎◌, ⊎_elim, List, [], ◌∷◌, ◌++◌, length, take, nat_lt, Option, Some, None, is_some, MatchOption, refl, sym, ap, subst, subst₂, ◌∙◌, arith, zero-le, true≢false, length-append, le_refl, if◌then◌else◌}
 use Rattle.std.specs.Prelude.{IsTrue}
 use Rattle.std.specs.Bool.{MatchBool}
 use Rattle.std.specs.List.{AllByRecursion}
 use Rattle.std.proofs.lemmas.Bool.{lt-ltb}
 use Rattle.std.proofs.lemmas.List.{length-map, take_all}
-use Rattle.id_groups.specs.Name.{Name}
+use Rattle.id_groups.specs.Lists.{IsIn}
+use Rattle.id_groups.specs.Name.{Name, same_name}
 use Rattle.commit_graph.specs.World.{Row, World, rows_of}
 use Rattle.line_io.specs.Lines.{is_too_long}
 use Rattle.batch_codec.specs.Payload.{Payload}
@@ -17,14 +18,20 @@ use Rattle.change_rules.specs.Lawful.{AreLawful}
 use Rattle.change_rules.proofs.Changes.{count-last, last-of}
 use Rattle.remote_rules.specs.CloneData.{KnownName}
 use Rattle.remote_rules.specs.Mirror.{Mirror}
+use Rattle.remote_rules.specs.Known.{master_world}
+use Rattle.remote_rules.specs.declared.MirrorFault.{MirrorFault}
+use Rattle.change_rules.specs.Pull.{pulled}
+use Rattle.flush_rebuild.proofs.HonestTold.{cloned-within}
 use Rattle.remote_rules.specs.Honest.{IsSound}
 use Rattle.step_rules.specs.declared.Refusal.{Refusal}
 use Rattle.step_rules.specs.declared.Refusal.TheVariants as why
 use Rattle.step_rules.specs.State.{State, Stored, IsState, at_start, start, with_stored, on_newest}
 use Rattle.step_rules.specs.Verb.{Verb, Add, Flush, Reload, Discard, Query, Count, IdOf, Status, Levels, Clone, Pull, Strip, CountMirrors, Drop}
-use Rattle.step_rules.specs.Reply.{Reply, Dropped, Refused, LongLine}
+use Rattle.step_rules.specs.Reply.{Reply, Dropped, Pulled, Refused, LongLine}
 use Rattle.step_rules.specs.Tests.{first_some, has_pending, refused_first, tests}
-use Rattle.step_rules.specs.Step.{Answers, CommandStep, GoesOutside, IsRefused, MayWantMemory, without}
+use Rattle.step_rules.specs.Asking.{refusal_for}
+use Rattle.step_rules.specs.Worlds.{after_flush}
+use Rattle.step_rules.specs.Step.{Answered, Answers, CommandStep, GoesOutside, IsRefused, MayWantMemory, Pulls, pull_tests, without}
 use Rattle.step_rules.specs.Served.{IsServed}
 use Rattle.step_rules.specs.Plain.{IsInside}
 use Rattle.step_rules.proofs.Plain.{all-tried, command-back}
@@ -32,12 +39,15 @@ use Rattle.step_rules.proofs.Served.{step-served}
 use Rattle.step_rules.proofs.Kept.{start-is}
 use Rattle.step_rules.proofs.Sessions.{IsPlaced, Shape, command-shape, newest-now}
 use Rattle.run_rules.specs.Built.{is_built}
+use Rattle.run_rules.specs.Grammar.{SpellsCommand}
+use Rattle.run_rules.specs.Premises.{AllBegin, HasCommand}
 use Rattle.run_rules.specs.Run.{Commands, IsNoCommand, IsUnread, Step}
 use Rattle.run_rules.proofs.Starts.{served-sound, start-served}
 use Rattle.dag_store.specs.Kept.{PlainStore}
 use Rattle.dag_store.specs.Stands.{Stands, StandsBeside, IsOutsideOf}
-use Rattle.dag_run.specs.Enough.{AreEnough, HasEnough}
-use Rattle.dag_run.proofs.Named.{IsNamed, named-session, plain-named}
+use Rattle.dag_run.specs.Enough.{AreEnough, HasBegun, HasEnough}
+use Rattle.dag_run.proofs.Named.{IsNamed, named-flush, named-session, plain-named}
+use Rattle.dag_run.proofs.Begun.{step-begun}
 
 -- ---- at the start
 pub enough-sound : (payloads : List Payload) (w : World Name) (mirrors : List Mirror) → AreEnough payloads w mirrors → AllByRecursion IsSound mirrors
@@ -61,6 +71,24 @@ start-beside limit log w payloads room mirrors store hold enough cache stands = 
     outside = (start-is w payloads room mirrors hold.hold.world (enough-sound payloads w mirrors enough)).outside;
   });
 }
+
+-- what its lines ask for where they pull
+pub start-begun : (limit : ℕ) (log : List ℕ) (w : World Name) (payloads : List Payload) (room : ℕ) (mirrors : List Mirror) (lines : List (List ℕ)) → HoldAs limit log payloads w → AreEnough payloads w mirrors
+    → (HasCommand Pull lines → AllBegin (cloned_count payloads) w mirrors lines) → HasCommand Pull lines → HasBegun lines (at_start w payloads room mirrors)
+start-begun limit log w payloads room mirrors lines hold enough begin has =
+    let b = begin has in
+    record {
+      cloned = cloned-within payloads w hold.hold;
+      each = b.each;
+      first_clone = λ clones none. ⊎_elim (λ le. inl le) (λ order. ⊎_elim (λ le. inl le) (λ settled. inr (settled, order)) (settled-there enough none)) (b.first_clone clones none);
+    }
+  where
+    no-master : length (rows_of w) ≡ 0 → length w.master ≡ 0
+    no-master none = let l = length-append w.master w.others in omega (arith, none, l)
+
+    settled-there : AreEnough payloads w mirrors → length (rows_of w) ≡ 0 → (length mirrors ≤ 1) ⊎ AllByRecursion (λ (m : Mirror). m.settled ≡ true) mirrors
+    settled-there (inl serve) none = ⊎_elim (λ le. inl le) (λ alike. inr alike.0) (serve.first_clone (no-master none))
+    settled-there (inr (named, some, sound)) none = absurd (omega (arith, some, none))
 
 -- ---- commands that leave what is stored
 abbrev Ends : Limits → State → ℕ → Verb → List Mirror → List KnownName → Reply → State → Option Refusal → Type 0
@@ -97,6 +125,28 @@ clone-same limits st s reply st' some (verdict, mirrors, found, tries, ends) =
     by_verdict None (inl v) a = absurd (true≢false (sym (ap is_some (v ∙ refused))))
     by_verdict None (inr m) a = absurd (true≢false (sym (ap is_some m.1)))
     by_verdict (Some refusal) v a = a.0.1
+
+-- a pull over a log that has a name for each commit
+pulls-named : (limits : Limits) (st : State) (s : ℕ) (reply : Reply) (st' : State) → IsNamed st.store → CommandStep limits st s Pull reply st' → IsNamed st'.store
+pulls-named limits st s reply st' named (verdict, mirrors, found, tries, ends) = by_verdict verdict ends
+  where
+    by_tests : (r : World Name) (o : Option Refusal)
+        → MatchOption o ((reply ≡ Pulled (length (pulled same_name st.store.stored r).master) (length (pulled same_name st.store.stored r).others)) × (st'.store ≡ after_flush st.store s (pulled same_name st.store.stored r))) (λ refusal. IsRefused st.store refusal reply st'.store)
+        → IsNamed st'.store
+    by_tests r None g = subst IsNamed (sym g.1) (named-flush st.store s (pulled same_name st.store.stored r) named)
+    by_tests r (Some x) g = subst IsNamed (sym g.1) named
+
+    makes : (r : World Name) → Pulls limits st.store s r reply st'.store → IsNamed st'.store
+    makes r (inl g) = by_tests r (first_some (pull_tests limits st.store r)) g
+    makes r (inr m) = subst IsNamed (sym m.1) named
+
+    by_end : (new : List Mirror) (o : Option MirrorFault) → MatchOption o ((rows : List (Row Name)) × Answered new rows × Pulls limits st.store s (master_world rows) reply st'.store) (λ fault. IsRefused st.store (refusal_for fault) reply st'.store) → IsNamed st'.store
+    by_end new None g = makes (master_world g.0) g.2
+    by_end new (Some x) g = subst IsNamed (sym g.1) named
+
+    by_verdict : (o : Option Refusal) → Ends limits st s Pull mirrors found reply st' o → IsNamed st'.store
+    by_verdict None (end, new, asks, out, taken) = by_end new end taken
+    by_verdict (Some refusal) a = subst IsNamed (sym a.0.1) named
 
 -- ---- the last row never goes
 -- what a payload stores has a commit
@@ -164,7 +214,7 @@ module _ (limits : Limits) (began : ℕ) (old new : PlainStore) (first left : Li
   named-next s Status reply some built named step = inside s Status reply tt named step
   named-next s Levels reply some built named step = inside s Levels reply tt named step
   named-next s Clone reply some built named step = same (sym (clone-same limits st s reply next some step)) named
-  named-next s Pull reply some built named step = cc built
+  named-next s Pull reply some built named step = pulls-named limits st s reply next named step
   named-next s (Strip names) reply some built named step = inside s (Strip names) reply tt named step
   named-next s CountMirrors reply some built named step = same (sym (counts-same limits st s reply next step)) named
   named-next s (Drop n) reply some built named step = same (sym (drops-same limits st s n reply next step)) named
@@ -188,3 +238,22 @@ module _ (limits : Limits) (began : ℕ) (old new : PlainStore) (first left : Li
       by_test false (inl c) = command-enough c.0 c.1 reply c.2.1.1 c.3
       by_test false (inr (inl g)) = subst HasEnough (sym g.2) enough
       by_test false (inr (inr u)) = subst HasEnough (sym u.2) enough
+
+  -- what the lines ask for where they pull
+  pub line-begun : (lines : List (List ℕ)) → HasBegun lines st → (line : List ℕ) → IsIn line lines → (reply : Reply) → Step limits st line reply next → HasBegun lines next
+  line-begun lines begun line there reply step = by_test (is_too_long line) step
+    where
+      command : (s : ℕ) (verb : Verb) → SpellsCommand line s verb → CommandStep limits st s verb reply next → HasBegun lines next
+      command s verb spells step =
+          let b = step-begun limits st s state (HasCommand Clone lines) (begun.cloned, begun.each) begun.first_clone verb reply next (λ e. (line, s, there, subst (SpellsCommand line s) e spells)) step in
+          record {
+            cloned = b.0.0;
+            each = b.0.1;
+            first_clone = λ clones none. b.1 clones (shape-rows began new st.store s next.store k.stored (command-shape limits st s placed verb reply next step) none);
+          }
+
+      by_test : (b : Bool) → MatchBool b ((reply ≡ LongLine) × (next ≡ st)) (Commands limits st line reply next ⊎ (IsNoCommand st line reply next ⊎ IsUnread st line reply next)) → HasBegun lines next
+      by_test true g = subst (HasBegun lines) (sym g.1) begun
+      by_test false (inl c) = command c.0 c.1 c.2 c.3
+      by_test false (inr (inl g)) = subst (HasBegun lines) (sym g.2) begun
+      by_test false (inr (inr u)) = subst (HasBegun lines) (sym u.2) begun

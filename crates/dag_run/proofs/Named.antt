@@ -99,7 +99,7 @@ named-session st s is none = record {
       (subst (GrowsMaster (base_of st s)) (newest-now st) (is.grows (session st s).base (length st.past) (is.sessions s).base (le_refl _))) none;
 }
 
-named-flush : (st : Stored) (s : ℕ) (new : World Name) → IsNamed st → IsNamed (after_flush st s new)
+pub named-flush : (st : Stored) (s : ℕ) (new : World Name) → IsNamed st → IsNamed (after_flush st s new)
 named-flush st s new all = by_test (same_world new st.stored) refl
   where
     stored : has_lazy (st.payloads ++ flush_change st.stored new ∷ []) new ≡ false

@@ -17,7 +17,7 @@ use Rattle.run_rules.specs.Ends.{disk_text}
 use Rattle.dag_store.specs.Kept.{PlainStore}
 use Rattle.dag_store.specs.Stands.{StandsBeside}
 use Rattle.dag_store.specs.Flushes.{HasRoom, HasStored, CutShort}
-use Rattle.dag_run.specs.Enough.{HasEnough}
+use Rattle.dag_run.specs.Enough.{HasEnough, IsEnoughFor, IsEnoughOn}
 use Rattle.dag_run.specs.declared.stops.Stop.{Stop}
 use Rattle.dag_run.specs.declared.stops.Stop.TheVariants.{Sink, NotStored}
 
@@ -63,7 +63,7 @@ Replies SinkFailed began left st Does payload clock (Err _) before now = ⊥
 -- of a session's command beside these mirrors, of which those are left
 abbrev pub CommandReplies : List Mirror → List Mirror → Type 0 → PlainStore → ℕ → Verb → List ℕ → Option ℕ → Result PlainStore Stop → List ℕ → List ℕ → Type 0
 CommandReplies first left SinkFailed kept s verb payload clock result before now =
-    (began : ℕ) (st : State) → StandsBeside began kept first st → HasEnough st → Replies SinkFailed began left st (CommandStep kept.limits st s verb) payload clock result before now
+    (began : ℕ) (st : State) → StandsBeside began kept first st → IsEnoughFor verb st → Replies SinkFailed began left st (CommandStep kept.limits st s verb) payload clock result before now
 
 -- a command that is answered by one line and leaves the disk
 abbrev pub IsBrief : Verb → Type 0
@@ -95,7 +95,7 @@ IsPassed began left st line clock (Err _) before now = ⊥
 -- what a line is told beside these mirrors, of which those are left
 abbrev pub LineReplies : List Mirror → List Mirror → Type 0 → PlainStore → List ℕ → List ℕ → Option ℕ → Result PlainStore Stop → List ℕ → List ℕ → Type 0
 LineReplies first left SinkFailed kept line payload clock result before now =
-    (began : ℕ) (st : State) → StandsBeside began kept first st → HasEnough st
+    (began : ℕ) (st : State) → StandsBeside began kept first st → IsEnoughOn line st
     → IsPassed began left st line clock result before now
     ⊎ ((is_silent line ≡ false) × Replies SinkFailed began left st (Step kept.limits st line) payload clock result before now)
 

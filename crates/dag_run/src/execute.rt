@@ -7,7 +7,7 @@ ghost use Rattle.disk_trait.specs.Calls.{Goes};
 ghost use Rattle.gated_log.specs.Holding.{IsOnDisk};
 ghost use Rattle.line_io.specs.Next.{IsLine};
 ghost use Rattle.line_io.specs.Lines.{is_empty_or_comment};
-ghost use Rattle.step_rules.specs.Verb.{Clone as ToClone, Flush as ToFlush, Strip as ToStrip};
+ghost use Rattle.step_rules.specs.Verb.{Clone as ToClone, Flush as ToFlush, Pull as ToPull, Strip as ToStrip};
 ghost use Rattle.run_rules.specs.Grammar.{SpellsCommand};
 ghost use Rattle.dag_store.specs.Flushes.{HasRoom};
 ghost use Rattle.command_lines.specs.Meant.{meant, HasRightCount};
@@ -172,6 +172,45 @@ fn take_clone<D: Disk, O: Sink>(
     }
 }
 
+/// Stores the new rows of a mirror's master. The memory for the change's moment is taken before.
+fn take_pull<D: Disk, O: Sink>(
+    store: Store,
+    log: &mut D,
+    mirrors: &mut Mirrors,
+    changes: &mut Vec<u64>,
+    s: u8,
+    output: &mut O,
+) -> Result<Store, Stop>
+    requires session { s < 16 }
+    requires begins { IfSome (D.told log.old) (IsOnDisk store.log) }
+    ensures step { let first = map (λ b. (⟦<dyn Remote as Remote>⟧ b.vtable).shown b.value) mirrors.old.list.items in let left = map (λ b. (⟦<dyn Remote as Remote>⟧ b.vtable).shown b.value) mirrors.new.list.items in
+        (payload : List ℕ) × (clock : Option ℕ) × (changes.new.items ≡ changes_with changes.old.items clock)
+        × Goes (LineLeaves store payload clock result) (D.told log.old) (D.told log.new)
+        × WhereTold (O.taken output.old) (O.taken output.new) (CommandReplies first left (Rose (O.faults output.old) (O.faults output.new)) store s ToPull payload clock result) }
+    ensures limits { IfOk result (λ next. next.limits ≡ store.limits) }
+    ensures stop { IfErr result IsLineStop }
+    ensures disk { result ≡ Err Stop.NotStored → Rose (D.faults log.old) (D.faults log.new) }
+    ensures disk_later { D.faults log.old ≤ D.faults log.new }
+    ensures sink { result ≡ Err Stop.Sink → Rose (O.faults output.old) (O.faults output.new) }
+    ensures sink_later { O.faults output.old ≤ O.faults output.new }
+{
+    if changes.try_reserve(1).is_err() {
+        return tell(store, &Reply::Refused(Refusal::Memory), output);
+    }
+    let _limit = store.log_limit();
+    match store.take_pull(log, s, mirrors) {
+        Flushed::Done(store, counts, stored) => {
+            note(changes, stored);
+            tell(store, &Reply::Pulled(counts), output)
+        }
+        Flushed::Refused(store, refusal) => tell(store, &Reply::Refused(refusal), output),
+        Flushed::Disk(_) => {
+            tell_fault(output);
+            Err(Stop::NotStored)
+        }
+    }
+}
+
 /// Drops the mirror at this place, and gives the reply.
 fn drop_mirror(mirrors: &mut Mirrors, place: u64) -> Reply
     ensures { DropsAt place (map (λ b. (⟦<dyn Remote as Remote>⟧ b.vtable).shown b.value) mirrors.old.list.items) (map (λ b. (⟦<dyn Remote as Remote>⟧ b.vtable).shown b.value) mirrors.new.list.items) (told result) }
@@ -202,7 +241,9 @@ fn reply_of(store: &mut Store, mirrors: &mut Mirrors, s: u8, verb: &Verb) -> Rep
         Verb::Levels => Reply::LevelSizes(store.levels()),
         Verb::Mirrors => Reply::Counted(u64::from(mirrors.len())),
         Verb::DropAt(place) => drop_mirror(mirrors, *place),
-        Verb::Flush(_) | Verb::Strip(_) | Verb::Clone | Verb::Query(_) => unreachable!(),
+        Verb::Flush(_) | Verb::Strip(_) | Verb::Clone | Verb::Pull | Verb::Query(_) => {
+            unreachable!()
+        }
     }
 }
 
@@ -235,6 +276,7 @@ fn execute_command<D: Disk, O: Sink>(
         Verb::Flush(heads) => flush(store, log, mirrors, changes, s, heads.names(), output),
         Verb::Strip(names) => strip(store, log, mirrors, changes, s, names.names(), output),
         Verb::Clone => take_clone(store, log, mirrors, changes, s, output),
+        Verb::Pull => take_pull(store, log, mirrors, changes, s, output),
         Verb::Query(expr) => list(store, mirrors, s, expr, output),
         verb => {
             let reply = reply_of(&mut store, mirrors, s, verb);

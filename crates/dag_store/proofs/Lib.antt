@@ -58,3 +58,7 @@ pub mod StripLooks
 pub mod StripTests
 pub mod StripSteps
 pub mod FlushLeading
+pub mod PullPlans
+pub mod PullTold
+pub mod PullSteps
+pub mod PullAgrees

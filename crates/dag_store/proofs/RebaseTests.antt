@@ -41,6 +41,7 @@ told-plan payloads w (faults.Lost name) = tt
 told-plan payloads w (faults.Emptied n) = tt
 told-plan payloads w (faults.Full what limit) = tt
 told-plan payloads w (faults.BadClone at) = tt
+told-plan payloads w (faults.BadRow id) = tt
 told-plan payloads w faults.Memory = tt
 
 abbrev is_memory : Refusal → Bool
@@ -55,6 +56,7 @@ plan-memory (faults.Lost name) = inr (λ e. true≢false (sym (ap is_memory e)))
 plan-memory (faults.Emptied n) = inr (λ e. true≢false (sym (ap is_memory e)))
 plan-memory (faults.Full what limit) = inr (λ e. true≢false (sym (ap is_memory e)))
 plan-memory (faults.BadClone at) = inr (λ e. true≢false (sym (ap is_memory e)))
+plan-memory (faults.BadRow id) = inr (λ e. true≢false (sym (ap is_memory e)))
 plan-memory faults.Memory = inl refl
 
 -- what a rebase is refused for is one of both, or neither is there

@@ -118,6 +118,7 @@ refusal_of (faults.Lost name) = why.Lost name
 refusal_of (faults.Emptied n) = why.Emptied n
 refusal_of (faults.Full what limit) = why.Full what limit
 refusal_of (faults.BadClone at) = why.MismatchClone at
+refusal_of (faults.BadRow id) = why.MismatchRow id
 refusal_of faults.Memory = why.Memory
 
 -- the refusal is that of a plan

@@ -13,3 +13,4 @@ pub mod Strips
 pub mod Clones
 pub mod Finishes
 pub mod Shown
+pub mod Pulls

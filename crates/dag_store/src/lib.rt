@@ -12,6 +12,7 @@ mod loading;
 mod lookup;
 mod names;
 mod planning;
+mod pulling;
 mod query;
 mod replies;
 mod session;

@@ -40,6 +40,7 @@ pub(crate) fn refusal_of(fault: PlanFault) -> Refusal
         PlanFault::Emptied(count) => Refusal::Emptied(count),
         PlanFault::Full(what, limit) => Refusal::Full(what, limit),
         PlanFault::BadClone(at) => Refusal::MismatchClone(at),
+        PlanFault::BadRow(id) => Refusal::MismatchRow(id),
         PlanFault::Memory => Refusal::Memory,
     }
 }

@@ -1,17 +1,22 @@
-//! A flush over a fresh disk and a strip over a log, stopped behind each call of the disk or failing at one: what each crash leaves is
+//! A flush over a fresh disk, and a strip and a pull over a log, stopped behind each call of the disk or failing at one: what each crash leaves is
 //! the world from before or the one after, and only what the moment allows.
 
 ghost use Rattle.std.specs.Prelude.{◌≤◌};
 
-use crate::answers::{FLUSH, LOG, are_answered};
+use crate::answers::{FLUSH, LOG, are_answered, are_answered_beside};
+use commit_graph::{Row, World as Rows};
 use disk_memory::{Choice, Fill, MemoryDisk};
 use disk_trait::Disk;
+use id_groups::Name;
+use remote_memory::MemoryRemote;
+use remote_trait::Remote;
 use std::alloc::{AllocError, Global};
 
 /// What asks for a whole world.
 const ALL: &str = "0 query all\n0 status\n";
 
-/// What it is answered over the empty one, over that of the two commits, and over that of the first alone.
+/// What it is answered over the empty one, over that of the two commits, over that of the first alone, and over that of both with the
+/// first in master.
 const NOTHING: &str = "ok 0\nok 0 0 0\n";
 
 const BOTH: &str = "00000000000000000000000000000000000000b1
@@ -25,6 +30,12 @@ ok 1
 ok 0 1 0
 ";
 
+const MOVED: &str = "00000000000000000000000000000000000000b1
+00000000000000000000000000000000000000a1
+ok 2
+ok 1 1 0
+";
+
 /// What is answered where the disk fails while the store is loaded.
 const NOT_LOADED: &str = "err disk\n";
 
@@ -35,6 +46,8 @@ enum Change {
     Flush,
     /// A strip of the second over their log.
     Strip,
+    /// A pull over their log, of a mirror that has the first.
+    Pull,
 }
 
 impl Change {
@@ -42,7 +55,7 @@ impl Change {
     fn start(self) -> &'static [u8] {
         match self {
             Change::Flush => &[],
-            Change::Strip => &LOG,
+            Change::Strip | Change::Pull => &LOG,
         }
     }
 
@@ -51,6 +64,7 @@ impl Change {
         match self {
             Change::Flush => FLUSH,
             Change::Strip => "0 strip 00000000000000000000000000000000000000b1\n",
+            Change::Pull => "0 pull\n",
         }
     }
 
@@ -59,6 +73,7 @@ impl Change {
         match self {
             Change::Flush => "ok added N0\nok added N1\nok flushed 0 2\n",
             Change::Strip => "ok stripped 0 1\n",
+            Change::Pull => "ok pulled 1 1\n",
         }
     }
 
@@ -66,7 +81,7 @@ impl Change {
     fn not_stored(self) -> &'static str {
         match self {
             Change::Flush => "ok added N0\nok added N1\nerr disk\n",
-            Change::Strip => "err disk\n",
+            Change::Strip | Change::Pull => "err disk\n",
         }
     }
 
@@ -74,7 +89,7 @@ impl Change {
     fn before(self) -> &'static str {
         match self {
             Change::Flush => NOTHING,
-            Change::Strip => BOTH,
+            Change::Strip | Change::Pull => BOTH,
         }
     }
 
@@ -83,6 +98,7 @@ impl Change {
         match self {
             Change::Flush => BOTH,
             Change::Strip => FIRST,
+            Change::Pull => MOVED,
         }
     }
 
@@ -92,7 +108,7 @@ impl Change {
     {
         match self {
             Change::Flush => 4,
-            Change::Strip => 3,
+            Change::Strip | Change::Pull => 3,
         }
     }
 
@@ -108,8 +124,37 @@ impl Change {
         match self {
             Change::Flush => &[0, 1, 50, 109, 110],
             Change::Strip => &[110, 111, 150, 198, 199],
+            Change::Pull => &[110, 111, 150, 220, 221],
         }
     }
+}
+
+/// The mirrors beside a change: a pull has one, whose master is the first commit.
+fn beside(alloc: Global, change: Change) -> Result<Vec<Box<dyn Remote>>, AllocError> {
+    let mut list: Vec<Box<dyn Remote>> = Vec::new(alloc);
+    match change {
+        Change::Flush | Change::Strip => {}
+        Change::Pull => list.push(Box::new(alloc, mirror(alloc)?)?)?,
+    }
+    Ok(list)
+}
+
+/// The name of the first commit.
+fn first() -> Name {
+    let mut bytes = [0; 20];
+    bytes[19] = 0xa1;
+    Name::from_bytes(bytes)
+}
+
+/// A mirror whose master is the first commit.
+fn mirror(alloc: Global) -> Result<MemoryRemote, AllocError> {
+    let mut rows = Vec::new(alloc);
+    rows.push(Row::new(first(), &[]))?;
+    let world = Rows::of_master(alloc, rows)?.ok_or(AllocError)?;
+    if world.master_count() > 16 {
+        return Err(AllocError);
+    }
+    MemoryRemote::new(alloc, world, &[])
 }
 
 /// The world that a disk has.
@@ -231,7 +276,8 @@ fn ends_at(
     call: u64,
 ) -> Result<bool, AllocError> {
     let (wanted, replies) = end_at(change, call);
-    are_answered(alloc, disk, change.lines(), wanted, replies)
+    let list = beside(alloc, change)?;
+    are_answered_beside(alloc, disk, list, change.lines(), wanted, replies)
 }
 
 /// Whether the change over a disk that stops behind so many calls ends as it should, and each crash at each moment leaves what it may.
@@ -274,6 +320,17 @@ fn failure_is_right(alloc: Global, change: Change, call: u64) -> Result<bool, Al
 }
 
 #[test]
+fn a_pull_stops_behind_each_call(rt: HostRuntime) -> Result<(), AllocError> {
+    for calls in 0..8u8 {
+        assert!(rt;
+            stop_is_right(rt.alloc(), Change::Pull, u64::from(calls))?,
+            "behind {calls}"
+        );
+    }
+    Ok(())
+}
+
+#[test]
 fn a_flush_fails_at_each_call(rt: HostRuntime) -> Result<(), AllocError> {
     for call in 1..9u8 {
         assert!(rt;
@@ -295,14 +352,26 @@ fn a_strip_fails_at_each_call(rt: HostRuntime) -> Result<(), AllocError> {
     Ok(())
 }
 
+#[test]
+fn a_pull_fails_at_each_call(rt: HostRuntime) -> Result<(), AllocError> {
+    for call in 1..8u8 {
+        assert!(rt;
+            failure_is_right(rt.alloc(), Change::Pull, u64::from(call))?,
+            "at {call}"
+        );
+    }
+    Ok(())
+}
+
 /// The world that a crash leaves while the gate is written, with what was there before or with what is written.
 fn left_by_gate(alloc: Global, change: Change, fill: Fill) -> Result<World, AllocError> {
     let mut disk = MemoryDisk::new(alloc, change.start(), &[], None)?;
-    if !are_answered(alloc, &mut disk, change.lines(), (0, 1), change.stored())? {
+    let list = beside(alloc, change)?;
+    if !are_answered_beside(alloc, &mut disk, list, change.lines(), (0, 1), change.stored())? {
         return Ok(World::Wrong);
     }
     let moment = change.closed() + 2;
-    let size = 199;
+    let size = 221;
     world_left(alloc, change, &disk, &Choice { moment, fill, size })
 }
 
@@ -317,5 +386,6 @@ fn leaves_either(alloc: Global, change: Change) -> Result<bool, AllocError> {
 fn either_world_is_left_while_the_gate_is_written(rt: HostRuntime) -> Result<(), AllocError> {
     assert!(rt; leaves_either(rt.alloc(), Change::Flush)?);
     assert!(rt; leaves_either(rt.alloc(), Change::Strip)?);
+    assert!(rt; leaves_either(rt.alloc(), Change::Pull)?);
     Ok(())
 }

@@ -23,6 +23,35 @@ const TEN: [Spelled; 10] = [
     (0x19, &[0x18]),
 ];
 
+/// The same, and two more.
+const TWELVE: [Spelled; 12] = [
+    (0x10, &[]),
+    (0x11, &[0x10]),
+    (0x12, &[0x11]),
+    (0x13, &[0x12]),
+    (0x14, &[0x13]),
+    (0x15, &[0x14]),
+    (0x16, &[0x15]),
+    (0x17, &[0x16]),
+    (0x18, &[0x17]),
+    (0x19, &[0x18]),
+    (0x1a, &[0x19]),
+    (0x1b, &[0x1a]),
+];
+
+/// The first nine of them.
+const NINE: [Spelled; 9] = [
+    (0x10, &[]),
+    (0x11, &[0x10]),
+    (0x12, &[0x11]),
+    (0x13, &[0x12]),
+    (0x14, &[0x13]),
+    (0x15, &[0x14]),
+    (0x16, &[0x15]),
+    (0x17, &[0x16]),
+    (0x18, &[0x17]),
+];
+
 /// Six commits, of which two stand on the second, and the last is a merge. They stand in the order of their ids in master.
 const SIX: [Spelled; 6] = [
     (0x01, &[]),
@@ -109,6 +138,8 @@ pub enum Beside {
 fn named(alloc: Global, word: &str, fails: &[u64]) -> Result<Option<Beside>, AllocError> {
     let one = match word {
         "ten" => Beside::Honest(honest(alloc, &TEN, fails)?),
+        "twelve" => Beside::Honest(honest(alloc, &TWELVE, fails)?),
+        "nine" => Beside::Honest(honest(alloc, &NINE, fails)?),
         "six" => Beside::Honest(honest(alloc, &SIX, fails)?),
         "far" => Beside::Liar(liar(alloc, Some(too_far()))?),
         "silent" => Beside::Liar(liar(alloc, None)?),

@@ -21,7 +21,7 @@ is_built (Drop k) = true
 is_built Clone = true
 is_built Levels = true
 is_built (Strip names) = true
-is_built Pull = false
+is_built Pull = true
 
 -- the session's command is built
 abbrev pub IsBuilt : ℕ → Verb → Type 0

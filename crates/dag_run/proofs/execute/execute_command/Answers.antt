@@ -2,7 +2,7 @@ use Rattle.std.proofs.Common.{[], None, refl, sym, ap, subst, ◌∙◌}
 use Rattle.std.specs.Prelude.{◌≢◌}
 use Rattle.outside.specs.Counts.{Rose}
 use Rattle.set_expr.specs.Whole.{tree_of}
-use Rattle.step_rules.specs.Verb.{Clone, Flush, Query, Strip}
+use Rattle.step_rules.specs.Verb.{Clone, Flush, Pull, Query, Strip}
 use Rattle.command_lines.specs.Meant.{meant, HasRightCount}
 use Rattle.command_lines.specs.Told.{told}
 use Rattle.dag_run.proofs.Doing.{kept-goes, still-goes, told-as, brief-told}
@@ -39,6 +39,16 @@ returns-in-Clone-clause-step g c =
       step.2,
       step.3,
       told-as _ _ (Rose (g.O.Sink.faults c.args.output.now) (g.O.Sink.faults c.take_clone.new.output)) c.args.store c.args.command.now.session Clone (meant c.args.command.now.verb) step.0 step.1 c.take_clone.result (g.O.Sink.taken c.args.output.now) (g.O.Sink.taken c.take_clone.new.output) (ap meant c.in-Clone.is) step.4,
+    )
+
+pub returns-in-Pull-clause-step : goal.returns-in-Pull-clause-step
+returns-in-Pull-clause-step g c =
+    let step = c.take_pull.ensures.step in (
+      step.0,
+      step.1,
+      step.2,
+      step.3,
+      told-as _ _ (Rose (g.O.Sink.faults c.args.output.now) (g.O.Sink.faults c.take_pull.new.output)) c.args.store c.args.command.now.session Pull (meant c.args.command.now.verb) step.0 step.1 c.take_pull.result (g.O.Sink.taken c.args.output.now) (g.O.Sink.taken c.take_pull.new.output) (ap meant c.in-Pull.is) step.4,
     )
 
 pub returns-in-Query-clause-step : goal.returns-in-Query-clause-step

@@ -13,7 +13,8 @@ returns c = λ limits left taken. (
         subst (λ bytes. HoldBytes limits.log bytes empty_world) (sym none) ([], held limits.log);
     read = held limits.log;
     serve = record { each = tt; first_clone = λ none. inl zero-le };
-    begin = λ h. absurd (cc h.3.1.1);
+    begin = λ h. record { each = tt; first_clone = λ c none. inl zero-le };
   },
   none-enough,
+  λ h. record { each = tt; first_clone = λ c none. inl zero-le },
 )

@@ -1,0 +1,66 @@
+use Rattle.std.proofs.Common.{◌<◌, ◌^◌, sym, subst, IfSome}
+use Rattle.gated_log.specs.Held.{Held}
+use Rattle.gated_log.specs.Holding.{IsOnDisk}
+use Rattle.payload_tables.specs.Kept.{PlainTables}
+use Rattle.dag_store.specs.Kept.{PlainSession, PlainStore, IsKept, IsSessionOf}
+use Rattle.dag_store.specs.Flushes.{LeavesStore}
+use Rattle.dag_store.specs.Changes.{IsOn}
+use Rattle.dag_store.proofs.Standing.{session-there}
+use Rattle.dag_store.proofs.FlushStored.{over-of, on-of}
+use Rattle.dag_store.proofs.FlushDisk.{leaves-ends, leaves-room, made-of}
+use Rattle.dag_store.proofs.PullAgrees.{agrees}
+use Rattle.dag_store.proofs.PullSteps.{pull-ends}
+use Rattle.dag_store.proofs.store.Store.take_pull.Goals as goal
+
+pub invariant_of-mirrors : goal.invariant_of-mirrors
+invariant_of-mirrors g c = record { few = subst (λ n. n < 2 ^ 32) (sym c.prepare_pull-next.ensures.len) c.args.mirrors.now.few }
+
+pub finish-requires-clause-begins : goal.finish-requires-clause-begins
+finish-requires-clause-begins g c =
+    subst (λ (l : Held). IfSome (g.D.Disk.told c.args.disk.now) (IsOnDisk l)) (sym c.prepare_pull-next.ensures.room)
+    (subst (λ (q : PlainStore). IfSome (g.D.Disk.told c.args.disk.now) (IsOnDisk q.log)) (sym c.self.view_is) c.requires.begins)
+
+pub finish-requires-clause-made : goal.finish-requires-clause-made
+finish-requires-clause-made g c =
+    let i = c.self.inside in
+    let items = i.sessions.items in
+    let k = subst (λ (t : PlainTables). IsKept i.log t i.sessions.items i.limits) (sym c.deref_mut.ensures.value) c.self.invariant in
+    let s = c.args.s in
+    let small = c.requires.session in
+    let there = session-there items s c.from-at.result c.index.result.now _ small k.count c.from-at.ensures c.index.ensures in
+    let of = subst (IsSessionOf k.added) (sym there) (k.each s small) in (
+      i.log,
+      c.deref_mut.result.now,
+      record {
+        kept = k;
+        place = subst (λ n. n < 16) (sym c.from-at.ensures) small;
+        room = c.prepare_pull-next.ensures.room;
+        made = made-of c.prepare_pull-next.result _ _ (c.prepare_pull-next.ensures.ready k.added (over-of i.log c.deref_mut.result.now items i.limits k)) c.prepare_pull-next.ensures.refused;
+      },
+    )
+
+pub returns-clause-step : goal.returns-clause-step
+returns-clause-step g c =
+    let i = c.self.inside in
+    let items = i.sessions.items in
+    let kept : PlainStore = record { log = i.log; sessions = items; limits = i.limits; cache = i.names } in
+    let k = subst (λ (t : PlainTables). IsKept i.log t i.sessions.items i.limits) (sym c.deref_mut.ensures.value) c.self.invariant in
+    let s = c.args.s in
+    let small = c.requires.session in
+    let there = session-there items s c.from-at.result c.index.result.now _ small k.count c.from-at.ensures c.index.ensures in
+    let over = over-of i.log c.deref_mut.result.now items i.limits k in
+    let of = subst (IsSessionOf k.added) (sym there) (k.each s small) in
+    let told = g.D.Disk.told c.args.disk.now in
+    let then = g.D.Disk.told c.finish.new.disk in
+    pull-ends kept c.args.self c.self.view_is c.deref_mut.result.now k s small _ _ (λ began st h. let o = on-of i.log c.deref_mut.result.now items i.limits k began st h s small in agrees k.added st o.payloads o.hold) c.prepare_pull-next.new.log c.prepare_pull-next.ensures.room told then c.prepare_pull-next.new.tables c.prepare_pull-next.result
+    (made-of c.prepare_pull-next.result _ _ (c.prepare_pull-next.ensures.ready k.added over) c.prepare_pull-next.ensures.refused)
+    (λ began st h. c.prepare_pull-next.ensures.asks began s k.added st over (subst (λ (y : PlainSession). IsOn began k.added y st s) (sym there) (on-of i.log c.deref_mut.result.now items i.limits k began st h s small)))
+    c.from-at.result c.from-at.ensures c.finish.result c.finish.ensures.ends
+    (leaves-room kept c.prepare_pull-next.new.log c.prepare_pull-next.ensures.room items i.names _ c.finish.result told then c.finish.ensures.leaves)
+
+pub returns-clause-leaves : goal.returns-clause-leaves
+returns-clause-leaves g c =
+    let i = c.self.inside in
+    let kept : PlainStore = record { log = i.log; sessions = i.sessions.items; limits = i.limits; cache = i.names } in
+    subst (λ (q : PlainStore). LeavesStore q c.args.s c.finish.result) c.self.view_is
+    (leaves-ends kept c.prepare_pull-next.new.log c.prepare_pull-next.ensures.room i.names c.args.s c.from-at.result c.from-at.ensures c.prepare_pull-next.result c.finish.result c.finish.ensures.ends)
