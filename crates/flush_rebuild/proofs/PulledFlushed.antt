@@ -80,7 +80,7 @@ module _ {N : Type 0} (same : N → N → Bool) (exact : (x y : N) → same x y 
           let at : row_named same (rows_of w) q.name ≡ Some k.0 = subst (λ x. row_named same (rows_of w) x ≡ Some k.0) k.2 (row-found same exact self [] (rows_of w) k.0 whole k.1) in
           let known : is_in same q.name (names_of (rows_of w)) ≡ true = there same exact self q.name (names_of (rows_of w)) j in
           let fits : not (pointwise same k.0.parents q.parents) ≡ false =
-              sym (ap₂ (λ b (o : Option (Row N)). b && not (has_parents same o q.parents)) known at) ∙ subst (λ (z : Row N). conflicts same w z ≡ false) eq f in
+          sym (ap₂ (λ b (o : Option (Row N)). b && not (has_parents same o q.parents)) known at) ∙ subst (λ (z : Row N). conflicts same w z ≡ false) eq f in
           subst (λ z. IsIn z (rows_of w)) (ap₂ (λ n ps. record { name = n; parents = ps }) k.2 (are-same k.0.parents q.parents (pick (pointwise same k.0.parents q.parents) fits))) k.1
         where
           pick : (b : Bool) → not b ≡ false → b ≡ true
@@ -186,8 +186,8 @@ module _ {N : Type 0} (same : N → N → Bool) (exact : (x y : N) → same x y 
     left-new q i =
         let k = passed (λ row. not (is_in same row.name (names_of (rows_of w)))) q r.master i in
         let out : is_in same q.name (names_of w.master) ≡ false =
-            absent q.name (names_of w.master) (λ j. missing same exact self q.name (names_of (rows_of w)) (not-false (is_in same q.name (names_of (rows_of w))) k.1)
-            (subst (IsIn q.name) (sym (map-append (λ p. p.name) w.master w.others)) (in-left q.name (names_of w.master) (names_of w.others) j))) in
+        absent q.name (names_of w.master) (λ j. missing same exact self q.name (names_of (rows_of w)) (not-false (is_in same q.name (names_of (rows_of w))) k.1)
+        (subst (IsIn q.name) (sym (map-append (λ p. p.name) w.master w.others)) (in-left q.name (names_of w.master) (names_of w.others) j))) in
         there same exact self q.name (names_of (w.master ++ new-rows))
         (name-in q (w.master ++ new-rows) (in-right q w.master new-rows (passes (λ row. not (is_in same row.name (names_of w.master))) q r.master k.0 (ap not out))))
 
@@ -203,6 +203,6 @@ module _ {N : Type 0} (same : N → N → Bool) (exact : (x y : N) → same x y 
     pub pulled-flushed : pulled same w r ≡ flushed same (with_pending w (left_of same w r.master)) (names_of r.master)
     unfolding seen new-rows
     pulled-flushed = sym (
-      ap (λ order. record { master = rows_named same (rows_of seen) order; others = rows_outside same seen.others order }) order-is
-          ∙ ap₂ (λ m o. record { master = m; others = o }) master-is others-are
-    )
+        ap (λ order. record { master = rows_named same (rows_of seen) order; others = rows_outside same seen.others order }) order-is
+        ∙ ap₂ (λ m o. record { master = m; others = o }) master-is others-are
+        )

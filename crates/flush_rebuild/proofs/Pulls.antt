@@ -120,9 +120,9 @@ module _ (tables : PlainTables) (bytes ids : List ℕ) (left : PlainPending) (w 
   masters [] f = tt
   masters (r ∷ some) f = (
     (let at = at-name w.master r.name (name-in r w.master (f r (inl refl))) in
-      let lt = under w.master at.0 at.1 at.2 in let s = small in
-      let e = ap (id_in same_name view) (sym at.3) ∙ id-in-master same_name same_name-exact same_name-self view view-is at.0 at.1 at.2 in
-      let k : 16777216 ≤ 2 ^ 56 = lit≤ tt in omega (arith, e, lt, s, k)),
+        let lt = under w.master at.0 at.1 at.2 in let s = small in
+        let e = ap (id_in same_name view) (sym at.3) ∙ id-in-master same_name same_name-exact same_name-self view view-is at.0 at.1 at.2 in
+        let k : 16777216 ≤ 2 ^ 56 = lit≤ tt in omega (arith, e, lt, s, k)),
     masters some (λ q i. f q (inr i)),
   )
 
