@@ -1,11 +1,9 @@
 -- Lists of ids that rise, of known names, and of what stands in both.
-use Rattle.std.proofs.Common.{◌≡◌, ◌≤◌, ◌<◌, ◌+◌, ℕ, zero, suc, Bool, true, false, cond, List, [], ◌∷◌, ◌++◌, map, filter, flat_map, length, get_or, Option, Some, None, slice_get, is_some, refl, sym, ap, ◌∙◌, inl, inr, ⊎_elim, true≢false, arith}
+use Rattle.std.proofs.Common.{◌≡◌, ◌≤◌, ◌<◌, ◌+◌, ℕ, zero, suc, Bool, true, false, cond, List, [], ◌∷◌, ◌++◌, map, filter, flat_map, length, get_or, Option, Some, None, slice_get, is_some, refl, sym, ap, ◌∙◌, inl, inr, true≢false, arith}
 use Rattle.std.specs.List.{AllByRecursion}
 use Rattle.std.proofs.lemmas.List.{map-append}
 use Rattle.id_groups.specs.Lists.{IsIn}
 use Rattle.id_groups.specs.Name.{Name}
-use Rattle.commit_graph.proofs.Down.{in-left, in-right}
-use Rattle.commit_graph.proofs.Histories.{in-append}
 use Rattle.batch_codec.specs.Payload.{Payload, Known, known_ids, known_names}
 use Rattle.batch_codec.specs.Reading.{ids_ascend}
 use Rattle.batch_codec.specs.Grammar.{IsPayload}

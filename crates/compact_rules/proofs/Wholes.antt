@@ -1,13 +1,12 @@
 -- The payload of a whole store is in the grammar, comes first, and holds the world.
-use Rattle.std.proofs.Common.{◌≡◌, ◌≢◌, ◌≤◌, ◌<◌, ◌+◌, ◌⊎◌, ◌^◌, ℕ, List, [], ◌∷◌, ◌++◌, length, map, flat_map, Option, Some, None, slice_get, refl, sym, ap, ap₂, subst, ◌∙◌, inl, inr, ⊎_elim, arith, append-nil, length-append, zero-le}
+use Rattle.std.proofs.Common.{◌≡◌, ◌≢◌, ◌≤◌, ◌<◌, ◌⊎◌, ◌^◌, ℕ, List, [], ◌∷◌, ◌++◌, length, map, flat_map, Some, None, slice_get, refl, sym, ap, ap₂, subst, ◌∙◌, inl, inr, ⊎_elim, arith, append-nil, length-append, zero-le}
 use Rattle.std.specs.List.{AllByRecursion}
-use Rattle.std.specs.List.Sorted.{IsStrictlyIncreasing}
 use Rattle.std.proofs.lemmas.Bool.{cases_lt, eqb-false}
 use Rattle.std.proofs.lemmas.Grind.{flat_map-append}
 use Rattle.std.proofs.lemmas.List.{map-append}
 use Rattle.id_groups.specs.Lists.{IsIn, AreAllIn, AreDistinct}
 use Rattle.id_groups.specs.Name.{Name, IsName, same_name}
-use Rattle.commit_graph.specs.World.{World, IsNamedWorld, empty_world, rows_of, names_of}
+use Rattle.commit_graph.specs.World.{World, empty_world, rows_of, names_of}
 use Rattle.commit_graph.specs.Ids.{parent_ids}
 use Rattle.commit_graph.proofs.Down.{in-left, in-right}
 use Rattle.commit_graph.proofs.Naming.{each, all-each, name-of}
@@ -18,7 +17,7 @@ use Rattle.segment_rules.specs.NewLevels.{new_levels}
 use Rattle.segment_rules.proofs.Flats.{flat-keeps}
 use Rattle.segment_levels.proofs.Coming.{new-all}
 use Rattle.batch_codec.specs.Payload.{Payload, Known, known_ids, known_names}
-use Rattle.batch_codec.specs.Grammar.{AscendByLevel, IsOfLevel, IsPayload, KnowsCloned, merge_parents, count_after, cut_below, heads_among, cloned_head_names}
+use Rattle.batch_codec.specs.Grammar.{AscendByLevel, IsOfLevel, IsPayload, KnowsCloned, merge_parents, cut_below, heads_among, cloned_head_names}
 use Rattle.batch_codec.proofs.Ascending.{ascend-increasing}
 use Rattle.change_rules.specs.Change.{flush_change}
 use Rattle.change_rules.specs.Holding.{HoldPayloads}

@@ -1,5 +1,5 @@
 -- The payload of a whole store, which alone holds what a log held.
-use Rattle.std.specs.Prelude.{◌^◌, ℕ, List, [], ◌∷◌, length}
+use Rattle.std.specs.Prelude.{◌^◌, List, length}
 use Rattle.id_groups.specs.Name.{Name, same_name}
 use Rattle.commit_graph.specs.World.{World, names_of}
 use Rattle.commit_graph.specs.Ids.{parent_ids}
