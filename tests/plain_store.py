@@ -1,16 +1,20 @@
 #!/usr/bin/env python3
 """The store as its definitions have it: plain worlds, walks of rows, one world for each session.
 
-Reads command lines and prints the reply to each, as the program does over a log that no clone began. It is slow and shares no
-code and no idea with the program, so that the two can be compared. `plain_store.py LOG < LINES` goes on from the world of LOG, if
+Reads command lines and prints the reply to each, as the program does. It is slow and shares no code and no idea with
+the program, so that the two can be compared. `plain_store.py LOG [REMOTE]... < LINES` goes on from the world of LOG, if
 there is such a file, and writes the log afterwards.
+
+Each REMOTE is a log that is a mirror. Every commit has its name here: where LOG stores none, it is taken from the first
+mirror that is there at the beginning. Mirrors are asked where the definitions say so, and those that fail go to the
+back. Of names that were found it is kept which they are, as if there were room for all.
 """
 import os
 import re
 import sys
 
 OTHER = 1 << 56
-LIMITS = {"pending": 65536, "others": 65536, "master": 16777216, "log": 1 << 30, "answer": 1048576}
+LIMITS = {"pending": 65536, "others": 65536, "master": 16777216, "log": 1 << 30, "heads": 65535, "answer": 1048576}
 NAME = re.compile(r"[0-9a-fA-F]{40}")
 NUMBER = re.compile(r"0|[1-9][0-9]*")
 ONE = {"parents", "children", "ancestors", "descendants", "heads", "roots", "tips", "merges", "common", "gca"}
@@ -241,33 +245,65 @@ def record(segment, level=0):
     return head + variable(len(parents)) + b"".join(variable(p) for p in parents)
 
 
+def ids_of(world, rows):
+    """The parents' ids of these rows of a world."""
+    return [[world.ids[p] for p in parents] for _, parents in rows]
+
+
 def payload(old, new):
-    """The payload of the change from one world to the next, of version 2."""
+    """The payload of the change from one world to the next by a flush, a strip or a pull."""
     before = len(old.master)
-    ids = lambda rows: [[new.ids[p] for p in parents] for _, parents in rows]
-    masters = flat_segments(before, ids(new.master[before:]))
-    levels = new_levels(flat_segments(0, ids(new.master[:before])), flat_segments(0, ids(new.master)))
-    others = flat_segments(OTHER, ids(new.others))
+    masters = flat_segments(before, ids_of(new, new.master[before:]))
+    levels = new_levels(flat_segments(0, ids_of(new, new.master[:before])), flat_segments(0, ids_of(new, new.master)))
     known = list(enumerate((name for name, _ in new.master[before:]), before))
+    return spelled(1, before, len(new.master), masters, levels, known, [], new)
+
+
+def clone_payload(new):
+    """The payload of a clone of this master."""
+    segments, known, heads = clone_data(new.master)
+    return spelled(2, 0, len(new.master), segments, new_levels([], segments), known, heads, new)
+
+
+def spelled(kind, before, after, masters, levels, known, heads, new):
+    """A payload of version 2, with all others of the new world. Of a clone all ids are cloned."""
+    others = flat_segments(OTHER, ids_of(new, new.others))
     return b"".join(
         [
-            b"\2\1",
+            bytes([2, kind]),
             before.to_bytes(8, "big"),
-            len(new.master).to_bytes(8, "big"),
-            bytes(8),
+            after.to_bytes(8, "big"),
+            (after if kind == 2 else 0).to_bytes(8, "big"),
             len(masters).to_bytes(4, "big"),
             *map(record, masters),
             len(levels).to_bytes(4, "big"),
             *(record(segment, level) for level, segment in levels),
             len(known).to_bytes(4, "big"),
             *(i.to_bytes(8, "big") + bytes.fromhex(name) for i, name in known),
-            b"\0\0",
+            len(heads).to_bytes(2, "big"),
+            *map(bytes.fromhex, heads),
             len(new.others).to_bytes(4, "big"),
             len(others).to_bytes(4, "big"),
             *map(record, others),
             *(bytes.fromhex(name) for name, _ in new.others),
         ]
     )
+
+
+def clone_data(rows):
+    """What is told to who clones this master: its flat segments; the names of the segments' highest ids and of the
+    parents of merges, with their ids; and the heads' names."""
+    world = World(rows, [])
+    segments = flat_segments(0, ids_of(world, rows))
+    below = {p for parents in ids_of(world, rows) for p in parents}
+    ids = {high for _, high, _ in segments} | {p for _, _, parents in segments if len(parents) > 1 for p in parents}
+    heads = [name for i, (name, _) in enumerate(rows) if i not in below]
+    return segments, [(i, rows[i][0]) for i in sorted(ids)], heads
+
+
+def cut_below(end, segments):
+    """The segments' parts below an id."""
+    return [[low, min(high, end - 1), parents] for low, high, parents in segments if low < end]
 
 
 def read_variable(data, at):
@@ -312,41 +348,116 @@ def log_of(payloads):
 
 
 def first_version(data):
-    """A flush of version 2 in version 1, which has no cloned count and no level segments."""
+    """A flush or a clone of version 2 in version 1, which has no cloned count and no level segments."""
     _, levels = read_records(data, 26)
     _, known = read_records(data, levels)
     return b"\1" + data[1:18] + data[26:levels] + data[known:]
 
 
-def read_log(data):
-    """The payloads of a log of flushes, of either version, and its world. Segments of levels are passed over."""
+def read_payload(data):
+    """Of a payload of either version: how many ids were cloned, the parents of the new master ids, the names of those
+    that have one by their ids, and the others' parents and names. Segments of levels are passed over."""
+    is_second = data[0] == 2
+    after = int.from_bytes(data[10:18], "big")
+    cloned = int.from_bytes(data[18:26], "big") if is_second else after * (data[1] == 2)
+    masters, at = read_records(data, 26 if is_second else 18)
+    if is_second:
+        _, at = read_records(data, at)
+    count, at = int.from_bytes(data[at : at + 4], "big"), at + 4
+    names = {int.from_bytes(data[k : k + 8], "big"): data[k + 8 : k + 28].hex() for k in range(at, at + 28 * count, 28)}
+    at += 28 * count
+    at += 2 + 20 * int.from_bytes(data[at : at + 2], "big")
+    count, at = int.from_bytes(data[at : at + 4], "big"), at + 4
+    others, at = read_records(data, at)
+    return cloned, masters, names, others, [data[at + 20 * j : at + 20 * j + 20].hex() for j in range(count)]
+
+
+def read_log(data, served=()):
+    """The payloads of a log, of either version, and its world. A cloned commit without a stored name has the one to
+    which the served rows lead from the commit above it, or where these don't have it, a `?` and its id."""
     payloads = read_payloads(data)
-    parents, names, others, other_names = [], [], [], []
+    parents, names, others, other_names = [], {}, [], []
     for data in payloads:
-        is_second = data[0] == 2
-        rows, at = read_records(data, 26 if is_second else 18)
-        parents += rows
-        if is_second:
-            _, at = read_records(data, at)
-        count, at = int.from_bytes(data[at : at + 4], "big"), at + 4
-        for _ in range(count):
-            names.append(data[at + 8 : at + 28].hex())
-            at += 28
-        at += 2
-        count, at = int.from_bytes(data[at : at + 4], "big"), at + 4
-        others, at = read_records(data, at)
-        other_names = [data[at + 20 * j : at + 20 * j + 20].hex() for j in range(count)]
+        _, masters, known, others, other_names = read_payload(data)
+        parents += masters
+        names.update(known)
+    rows = dict(served)
+    for i in reversed(range(len(parents))):
+        if i not in names:
+            names[i] = (rows.get(names[i + 1]) or [f"?{i}"])[0]
     name = lambda i: names[i] if i < OTHER else other_names[i - OTHER]
-    rows = lambda list_, own: [(own[k], [name(p) for p in ids]) for k, ids in enumerate(list_)]
-    return payloads, World(rows(parents, names), rows(others, other_names))
+    named = lambda own, list_: [(own[k], [name(p) for p in ids]) for k, ids in enumerate(list_)]
+    return payloads, World(named(names, parents), named(other_names, others))
+
+
+class Mirror:
+    """A log that is asked for its master. It fails where there is none, where it is damaged, and where some commit of
+    it has no name. What it read it keeps, up to a refresh or a fault."""
+
+    def __init__(self, path):
+        self.path = path
+        self.rows = None
+
+    def read(self):
+        """The master rows that its log has now, or nothing."""
+        try:
+            with open(self.path, "rb") as log:
+                master = read_log(log.read())[1].master
+        except (OSError, IndexError):
+            return None
+        return None if any(name.startswith("?") for name, _ in master) else master
+
+    def answers(self):
+        if self.rows is None:
+            self.rows = self.read()
+        return self.rows is not None
+
+    def refresh(self):
+        self.rows = None
+        return self.answers()
 
 
 class Store:
-    def __init__(self, data, limits):
-        self.payloads, world = read_log(data)
+    def __init__(self, data, limits, mirrors=()):
+        self.mirrors = list(mirrors)
+        served = next((rows for rows in (mirror.read() for mirror in self.mirrors) if rows is not None), ())
+        self.payloads, world = read_log(data, served)
         self.worlds = [world]
         self.limits = limits
         self.sessions = [[0, []] for _ in range(16)]
+        self.note_cloned()
+
+    def note_cloned(self):
+        """What is stored of the cloned ids: how many they are, the names of some, and the names of the others, which
+        aren't stored. No name of these was found yet."""
+        first = read_payload(self.payloads[0]) if self.payloads else (0, [], {}, [], [])
+        self.cloned = first[0]
+        self.named = {i: name for i, name in first[2].items() if i < self.cloned}
+        master = self.worlds[-1].master
+        self.lazy = {master[i][0] for i in range(self.cloned) if i not in self.named}
+        self.found = set()
+
+    def ask(self, call):
+        """The mirror that answers a call; each one that fails goes to the back."""
+        for _ in range(len(self.mirrors)):
+            if call(self.mirrors[0]):
+                return self.mirrors[0]
+            self.mirrors.append(self.mirrors.pop(0))
+        raise Refused(f"err remote {len(self.mirrors)}" if self.mirrors else "err no-remote")
+
+    def ask_for(self, names):
+        """Asks for the names of commits. A mirror that answers has to have served when the log was read."""
+        self.ask(Mirror.answers)
+        if any(name.startswith("?") for name in self.lazy):
+            sys.exit("plain_store: a mirror is asked for names that wasn't there at the beginning, or hasn't the clone")
+        self.found |= self.lazy.intersection(names)
+
+    def ask_name(self, world, name, pending=()):
+        """Asks for a name that is looked up in a world, where the world has commits without stored names, and it is
+        neither a stored name there nor that of a pending row."""
+        is_stored = name in world.ids and name not in self.lazy
+        if self.lazy and world.master and not is_stored and name not in (row[0] for row in pending):
+            self.ask_for([name])
 
     def log_length(self):
         return 1 + sum(9 + len(p) for p in self.payloads)
@@ -365,7 +476,11 @@ class Store:
 
     def rebased(self, s):
         world, left = self.worlds[-1], []
-        for name, parents in self.sessions[s][1]:
+        base, pending = self.sessions[s]
+        if base != len(self.worlds) - 1:
+            for name, _ in pending:
+                self.ask_name(world, name)
+        for name, parents in pending:
             if name not in world.ids:
                 left.append((name, parents))
             elif world.parents[name] != parents:
@@ -378,11 +493,11 @@ class Store:
             known.add(name)
         return left
 
-    def store(self, s, new):
-        """Another world is stored, where it is another, and the session is on it."""
+    def store(self, s, new, text=None):
+        """Another world is stored, where it is another, by this payload or a flush's, and the session is on it."""
         world = self.worlds[-1]
         if not new.same(world):
-            text = payload(world, new)
+            text = text or payload(world, new)
             self.check("log", self.log_length() + 9 + len(text))
             self.payloads.append(text)
             self.worlds.append(new)
@@ -394,10 +509,18 @@ class Store:
             raise Refused(f"err unknown {name}")
         return world.ids[name]
 
+    def look_up(self, s, name):
+        """The id of a name that the session sees."""
+        base, pending = self.sessions[s]
+        self.ask_name(self.worlds[base], name, pending)
+        return self.find(self.view(s), name)
+
     def add(self, s, name, parents):
-        view = self.view(s)
+        base, pending = self.sessions[s]
+        self.ask_name(self.worlds[base], name, pending)
         for p in parents:
-            self.find(view, p)
+            self.look_up(s, p)
+        view = self.view(s)
         for i, p in enumerate(parents):
             if p in parents[:i]:
                 raise Refused(f"err twice {p}")
@@ -413,6 +536,7 @@ class Store:
         world = self.worlds[-1]
         known = World(world.master, world.others + [r for r in self.sessions[s][1] if r[0] not in world.ids])
         for head in heads:
+            self.ask_name(world, head, self.sessions[s][1])
             self.find(known, head)
         view = World(world.master, world.others + self.rebased(s))
         order = [name for name, _ in view.master]
@@ -441,6 +565,7 @@ class Store:
         if pending:
             raise Refused(f"err pending {len(pending)}")
         for name in names:
+            self.ask_name(world, name)
             if self.find(world, name) < OTHER:
                 raise Refused(f"err master {name}")
         new = World(world.master, [row for row in world.others if not world.reached([row[0]]) & set(names)])
@@ -459,19 +584,81 @@ class Store:
         return [f"ok discarded {count}"]
 
     def clone(self, s):
-        """A clone where there is no mirror."""
+        """The mirror's master, where nothing is stored."""
         world = self.worlds[-1]
         if world.master or world.others:
             raise Refused(f"err not-empty {len(world.master)} {len(world.others)}")
         if self.sessions[s][1]:
             raise Refused(f"err pending {len(self.sessions[s][1])}")
-        raise Refused("err no-remote")
+        new = World(self.ask(Mirror.refresh).rows, [])
+        self.check("heads", len(clone_data(new.master)[2]))
+        self.check("master", len(new.master))
+        self.store(s, new, clone_payload(new))
+        self.note_cloned()
+        return [f"ok cloned {len(new.master)}"]
+
+    def pull(self, s):
+        """The mirror's new master rows, behind the ones that are there."""
+        world, pending = self.worlds[-1], self.sessions[s][1]
+        if pending:
+            raise Refused(f"err pending {len(pending)}")
+        rows = self.told_rows(self.ask(Mirror.refresh).rows)
+        for name, parents in rows:
+            if name in world.ids and world.parents[name] != parents:
+                raise Refused(f"err conflict {name}")
+        there = {name for name, _ in world.master}
+        master = world.master + [row for row in rows if row[0] not in there]
+        there = {name for name, _ in master}
+        new = World(master, [row for row in world.others if row[0] not in there])
+        self.check("master", len(new.master))
+        return ["ok pulled " + self.store(s, new)]
+
+    def told_rows(self, rows):
+        """The master that a mirror with these rows tells to who pulls: the cloned rows are the stored ones, since
+        neither their names nor their parents are taken from it. It is refused where what it tells of them is unlike
+        what is stored, or where the name of a row behind them is a stored name of theirs."""
+        data = clone_data(rows)
+        at = self.first_unlike(data)
+        if at is not None:
+            raise Refused(f"err mismatch clone {at}")
+        cloned, fetched = self.worlds[-1].master[: self.cloned], [name for name, _ in rows[self.cloned :]]
+        for i, name in enumerate(fetched, self.cloned):
+            if name in self.named.values():
+                raise Refused(f"err mismatch row {i}")
+        names = [name for name, _ in cloned] + fetched
+        if len(set(names)) < len(names):
+            sys.exit("plain_store: a mirror gave a new row the name of a commit whose name isn't stored")
+        ids = ids_of(World(rows, []), rows)
+        return [(name, [names[p] for p in ids[i]]) for i, name in enumerate(names)]
+
+    def first_unlike(self, data):
+        """The number of the first item of clone data, segments and then names, that is unlike what is stored of the
+        cloned ids; where segments are wanting, how many items there are."""
+        segments, known, heads = data
+        world = self.worlds[-1]
+        stored = cut_below(self.cloned, flat_segments(0, ids_of(world, world.master)))
+        told = cut_below(self.cloned, segments)
+        for i, segment in enumerate(told):
+            if stored[i : i + 1] != [segment]:
+                return i
+        if len(told) < len(stored):
+            return len(segments) + len(known) + len(heads)
+        for i, (number, name) in enumerate(known, len(segments)):
+            if self.named.get(number, name) != name:
+                return i
+        return None
+
+    def drop(self, place):
+        if place >= len(self.mirrors):
+            raise Refused("err no-remote")
+        del self.mirrors[place]
+        return [f"ok dropped {len(self.mirrors)}"]
 
     def answer(self, s, expr):
         tree, names = expr
-        view = self.view(s)
         for name in names:
-            self.find(view, name)
+            self.look_up(s, name)
+        view = self.view(s)
         found = members(view, tree)
         return [name for name in view.down() if name in found]
 
@@ -479,6 +666,9 @@ class Store:
         names = self.answer(s, expr)
         if len(names) > self.limits["answer"]:
             raise Refused(f"err answer {len(names)}")
+        wanted = self.lazy.intersection(names) - self.found
+        if wanted:
+            self.ask_for(wanted)
         return names + [f"ok {len(names)}"]
 
     def count(self, s, expr):
@@ -515,26 +705,26 @@ class Store:
             if verb in ("query", "count") and expr:
                 return getattr(self, verb)(s, expr)
             if verb == "id" and names and len(names) == 1:
-                return [f"ok {print_id(self.find(self.view(s), names[0]))}"]
+                return [f"ok {print_id(self.look_up(s, names[0]))}"]
             if verb == "mirrors" and not args:
-                return ["ok 0"]
-            if verb == "clone" and not args:
-                return self.clone(s)
+                return [f"ok {len(self.mirrors)}"]
+            if verb in ("clone", "pull") and not args:
+                return getattr(self, verb)(s)
             if verb == "drop" and len(args) == 1 and NUMBER.fullmatch(args[0]) and int(args[0]) < 1 << 64:
-                return ["err no-remote"]
+                return self.drop(int(args[0]))
         except Refused as refusal:
             return [str(refusal)]
         return ["err syntax"]
 
 
 def main():
-    path = sys.argv[1]
+    path, *remotes = sys.argv[1:]
     data = open(path, "rb").read() if os.path.exists(path) else b""
-    store = Store(data, LIMITS)
+    store = Store(data, LIMITS, map(Mirror, remotes))
     for line in sys.stdin.buffer:
         text = re.sub(r"\r?\n\Z", "", line.decode("latin-1"))
         if text and not text.startswith("#"):
-            print("\n".join(store.line(text)))
+            print("\n".join(store.line(text)), flush=True)
     with open(path, "wb") as log:
         log.write(store.log())
 

@@ -1,5 +1,6 @@
 #!/bin/sh
 # Drawn command lines, answered by the built program and by the plain definitions in Python: the replies and the logs' bytes agree.
+# Over logs alone, over clones beside the logs that they were made of, and over logs that pull from others which grow.
 set -eu
 cd "$(dirname "$0")/.."
 program=crates/segdag/out/segdag

@@ -166,6 +166,81 @@ def clones():
     os.remove(LOG)
 
 
+def knows_pull():
+    done = subprocess.run([PROGRAM, LOG, "--", "run"], input=b"0 pull\n", stdout=subprocess.PIPE, timeout=60)
+    os.remove(LOG)
+    return done.stdout != b"err syntax\n"
+
+
+def pulls():
+    """As who keeps a clone has it: the log grows that was cloned, and the clone pulls."""
+    there, here = LOG + ".there", LOG
+
+    def grow(what, lines, replies):
+        os.rename(here, here + ".aside")
+        os.rename(there, here)
+        check(what, lines, replies)
+        os.rename(here, there)
+        os.rename(here + ".aside", here)
+
+    ten = "".join(f"0 add [{i:02x}]" + (f" [{i - 1:02x}]" if i > 1 else "") + "; " for i in range(1, 11))
+    fresh("ten commits to be pulled from", ten + "0 flush [0a]", added(10) + "ok flushed 10 0")
+    os.rename(here, there)
+    check("their clone", "0 clone; 0 pull", "ok cloned 10; ok pulled 10 0", size=118, mirrors=[there])
+    grow("two more", "0 add [0b] [0a]; 0 add [0c] [0b]; 0 flush [0c]", "ok added N0; ok added N1; ok flushed 12 0")
+    check(
+        "a pull, and the new names without a mirror",
+        "0 pull; 0 query top(all,3); 0 id [0b]; 1 status; 1 reload; 1 status; 0 pull",
+        "ok pulled 12 0; [0c]; [0b]; [0a]; ok 3; ok 10; ok 10 0 0; ok reloaded 0; ok 12 0 0; ok pulled 12 0",
+        size=244,
+        mirrors=[there],
+    )
+    replies = "[0c]; [0b]; [0a]; ok 3; ok 10; err no-remote"
+    check("the run after it", "0 query top(all,3); 0 id [0b]; 0 id [05]", replies)
+    check(
+        "rows of one's own, of which the remote gets one",
+        "0 add [0d] [0c]; 0 add [20] [0c]; 0 flush; 0 pull",
+        "ok added N0; ok added N1; ok flushed 12 2; ok pulled 12 2",
+        mirrors=[there],
+    )
+    grow(
+        "it comes there behind another one",
+        "0 add [0e] [0c]; 0 add [0d] [0c]; 0 flush [0e] [0d]",
+        "ok added N0; ok added N1; ok flushed 14 0",
+    )
+    check(
+        "it moves to master, where the remote has it",
+        "0 add [21] [20]; 0 pull; 0 discard; 0 pull; 0 query top(all,4); 0 id [0d]; 0 levels",
+        "ok added N2; err pending 1; ok discarded 1; ok pulled 14 1; [20]; [0d]; [0e]; [0c]; ok 4; ok 13; ok 2",
+        mirrors=[there],
+    )
+    grow("one that was added here with another parent", "0 add [20] [0d]; 0 flush [20]", "ok added N0; ok flushed 15 0")
+    check(
+        "a conflict, and its commit taken out",
+        "0 pull; 0 status; 0 strip [20]; 0 pull; 0 query top(all,2)",
+        "err conflict [20]; ok 14 1 0; ok stripped 14 0; ok pulled 15 0; [20]; [0d]; ok 2",
+        mirrors=[there],
+    )
+    size = os.path.getsize(here)
+    os.rename(there, there + ".gone")
+    check("the mirror is away", "0 pull; 0 status", "err remote 1; ok 15 0 0", size=size, mirrors=[there])
+    check("no mirror", "0 pull; 0 status", "err no-remote; ok 15 0 0", size=size)
+    os.rename(there + ".gone", there)
+    both = [there + ".not", there]
+    check("it is back, behind one that isn't", "0 pull; 0 mirrors", "ok pulled 15 0; ok 2", size=size, mirrors=both)
+    os.rename(here, here + ".aside")
+    fresh("another history", ten.replace("[0a]", "[1a]") + "0 flush [1a]", added(10) + "ok flushed 10 0")
+    other = here + ".other"
+    os.rename(here, other)
+    replies = "ok pulled 10 0; [1a]; [09]; ok 2; ok 1"
+    fresh("a pull over a new log", "0 pull; 0 query top(all,2); 0 levels", replies, mirrors=[other])
+    os.rename(here + ".aside", here)
+    replies = "err mismatch clone 1; err syntax; ok 15 0 0"
+    check("which isn't the one that was cloned", "0 pull; 0 pull 1; 0 status", replies, size=size, mirrors=[other])
+    for path in (here, there, other):
+        os.remove(path)
+
+
 def drawn(size, start):
     """Each commit's name with its parents' names."""
     x, rows = start, []
@@ -206,6 +281,10 @@ def demonstrate(size, start, wanted):
 
 os.remove(LOG)
 clones()
+if knows_pull():
+    pulls()
+else:
+    print("whole_runs: the program doesn't know pull, so pulls are left out")
 for size, start in [(1, 0), (2, 0), (3, 0), (3, 5), (3, 10), (64, 3), (999, 10), (1000, 0), (1001, (1 << 64) - 1)]:
     demonstrate(size, start, plainly(drawn(size, start), by_lines=True))
 many = plainly(drawn(20_000, 5), by_lines=False)

@@ -1,11 +1,11 @@
 -- The rows of a bundle are the master of a world.
-use Rattle.std.proofs.Common.{◌≡◌, ℕ, zero, suc, ◌+◌, ◌-◌, ◌<◌, ◌≤◌, List, [], ◌∷◌, ◌++◌, length, map, refl, sym, ap, ap₂, subst, ◌∙◌, arith, inl, inr, append_assoc, append-nil, length-append}
+use Rattle.std.proofs.Common.{◌≡◌, ℕ, zero, suc, ◌+◌, ◌-◌, ◌<◌, ◌≤◌, List, [], ◌∷◌, ◌++◌, length, map, refl, sym, ap, subst, ◌∙◌, arith, inl, inr, append_assoc, length-append}
 use Rattle.std.specs.Prelude.{slice_index_or}
 use Rattle.std.specs.List.{AllByRecursion}
 use Rattle.std.proofs.lemmas.List.{length-map}
 use Rattle.id_groups.specs.Lists.{IsIn, AreAllIn, AreDistinct}
 use Rattle.id_groups.specs.Name.{Name}
-use Rattle.commit_graph.specs.World.{Row, IsNext, IsHistory}
+use Rattle.commit_graph.specs.World.{IsHistory}
 use Rattle.segment_codec.specs.Record.{Segment, HasLevelsParents}
 use Rattle.segment_codec.specs.Table.{Follow}
 use Rattle.segment_rules.specs.Flat.{followers, segment_parents, parents_listed}

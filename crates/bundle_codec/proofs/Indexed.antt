@@ -1,11 +1,11 @@
 -- The names of a bundle by their places.
-use Rattle.std.proofs.Common.{◌≡◌, ℕ, zero, suc, ◌+◌, ◌*◌, ◌≤◌, List, [], ◌∷◌, ◌++◌, length, map, take, refl, sym, ap, subst, ◌∙◌, arith, length-append, append_assoc}
+use Rattle.std.proofs.Common.{◌≡◌, ℕ, zero, suc, ◌+◌, ◌*◌, List, [], ◌∷◌, ◌++◌, length, take, refl, ap, subst, ◌∙◌, arith, length-append, append_assoc}
 use Rattle.std.specs.List.{AllByRecursion, flat_map}
 use Rattle.std.specs.Int.{w32, to_be_bytes}
 use Rattle.std.proofs.lemmas.List.{take_at, drop_at}
 use Rattle.id_groups.specs.Name.{Name, IsName}
 use Rattle.segment_codec.specs.Record.{segment_bytes}
-use Rattle.name_index.specs.Named.{NamedPlace, names_in, places_in, StandsAt, Stand}
+use Rattle.name_index.specs.Named.{names_in, places_in, Stand}
 use Rattle.batch_codec.specs.Payload.{names_bytes}
 use Rattle.bundle_codec.specs.Bundle.{Contents, bundle_bytes, mark}
 use Rattle.bundle_codec.specs.Places.{named_from, names_start, places_from}

@@ -3,17 +3,17 @@ use Rattle.std.proofs.Common.{◌≡◌, ◌<◌, ◌≤◌, ◌+◌, ◌^◌, �
 use Rattle.std.specs.List.{AllByRecursion}
 use Rattle.std.proofs.lemmas.List.{length-map}
 use Rattle.id_groups.specs.Name.{Name, IsName, same_name}
-use Rattle.commit_graph.specs.World.{Row, World, IsNamedWorld, IsHistory, names_of, rows_of as all_rows}
+use Rattle.commit_graph.specs.World.{Row, World, IsNamedWorld, IsHistory, names_of}
 use Rattle.commit_graph.specs.Ids.{id_in, parent_ids}
 use Rattle.commit_graph.proofs.Places.{below-master, world-master}
-use Rattle.segment_codec.specs.Record.{Segment, IsSegment}
+use Rattle.segment_codec.specs.Record.{IsSegment}
 use Rattle.segment_codec.specs.Table.{Follow}
 use Rattle.batch_codec.specs.Grammar.{AreFlat}
 use Rattle.remote_rules.specs.Known.{master_world}
 use Rattle.change_rules.proofs.Alone.{segments-cover, segments-maximal}
 use Rattle.change_rules.proofs.Spans.{Span, flat_segments, flat_record, same-segments}
 use Rattle.change_rules.proofs.Lawful.{MayHave, IsSpanOf, master-from, flat-spans, all-records, history-distinct}
-use Rattle.bundle_codec.specs.Bundle.{Contents, IsBundle, IsBundled, StandsFor, bundle_bytes, contents_of, rows_of, most_rows}
+use Rattle.bundle_codec.specs.Bundle.{Contents, IsBundle, IsBundled, StandsFor, contents_of, rows_of, most_rows}
 use Rattle.bundle_codec.proofs.Format.{one-bundle}
 use Rattle.bundle_codec.proofs.Bundled.{rows-back}
 
@@ -57,7 +57,7 @@ module _ (w : World Name) (h : IsBundled w) where
   flat : AreFlat (contents_of w.master).segments
   flat =
       let size : 0 + length parents ≡ length w.master =
-          (let e = length-map w.master (λ (row : Row Name). map (id_in same_name (master_world w.master)) row.parents) in omega (arith, e)) in
+      (let e = length-map w.master (λ (row : Row Name). map (id_in same_name (master_world w.master)) row.parents) in omega (arith, e)) in
       subst AreFlat (sym (same-segments 0 parents))
       (all-records (IsSpanOf MayHave (length w.master)) (λ s. IsSegment s × (s.level ≡ 0)) (flat_segments 0 parents) record-is
       (flat-spans MayHave (length w.master) 0 parents size (master-from (master_world w.master) (λ x i. absurd i) [] w.master refl history)))

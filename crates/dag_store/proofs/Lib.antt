@@ -62,3 +62,4 @@ pub mod PullPlans
 pub mod PullTold
 pub mod PullSteps
 pub mod PullAgrees
+pub mod WholeLemmas

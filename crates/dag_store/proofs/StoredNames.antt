@@ -110,13 +110,25 @@ module _ (added : List Placed) (w : World Name) (stand : StandFor (payloads_of a
       (sym stand.names)
       ∙ ap (λ l. l ++ other_names_in (newest (payloads_of added))) (names-known (payloads_of added)) ∙ sym (stored-names added)
 
+  -- where each id has a stored name, each of the master ids is known
+  pub known-name : has_lazy (payloads_of added) w ≡ false → (id : ℕ) → id < length w.master → (k : Known) × IsIn k (known_of added) × (id ≡ k.id)
+  known-name none id lt = by_test (is_in nat_eq id (map (λ (k : Known). k.id) (known_in (payloads_of added)))) refl
+    where
+      by_test : (b : Bool) → is_in nat_eq id (map (λ (k : Known). k.id) (known_in (payloads_of added))) ≡ b → (k : Known) × IsIn k (known_of added) × (id ≡ k.id)
+      by_test true e =
+          let r = map-in-back (λ (k : Known). k.id) id (known_in (payloads_of added)) (found nat_eq same-exact same-self id (map (λ (k : Known). k.id) (known_in (payloads_of added))) e) in
+          (r.0, subst (IsIn r.0) (sym (known-all added)) r.1, r.2)
+      by_test false e =
+          let lazy : is_lazy (payloads_of added) w id ≡ true = ap₂ (λ a b. a && not b) (lt-ltb id (length w.master) lt) e in
+          absurd (true≢false (sym (in-any (is_lazy (payloads_of added) w) (range_with_len 0 (length w.master)) id (in-range 0 (length w.master) id zero-le (omega (arith, lt))) lazy) ∙ none))
+
   -- where each id has a stored name, each name of the world is stored
   pub all-stored : has_lazy (payloads_of added) w ≡ false → (x : Name) → IsIn x (names_of (rows_of w)) → IsStored added x
   all-stored none x i = ⊎_elim
       (λ j.
       let t = at-name w.master x j in
       let lt = get-below w.master t.0 t.1 t.2 in
-      let named = known-name t.0 lt in
+      let named = known-name none t.0 lt in
       let k = named.0 in
       let same : k.name ≡ x = one-some k.name x (sym (ap (slice_get (names_of w.master)) named.2 ∙ known-row k named.1) ∙ name-of w.master t.0 t.1 t.2 ∙ ap Some t.3) in
       subst (IsStored added) same (in-map (λ (q : Known). q.name) k (stored_in added) (in-left k (known_of added) (known_from (2 ^ 56) (other_names_in (newest (payloads_of added)))) named.1)))
@@ -124,17 +136,6 @@ module _ (added : List Placed) (w : World Name) (stand : StandFor (payloads_of a
       subst (IsIn x) (sym (stored-names added))
       (in-right x (flat_map known_names (payloads_of added)) (other_names_in (newest (payloads_of added))) (subst (IsIn x) (sym stand.names) j)))
       (in-append x (names_of w.master) (names_of w.others) (subst (IsIn x) (map-append (λ (r : Row Name). r.name) w.master w.others) i))
-    where
-      known-name : (id : ℕ) → id < length w.master → (k : Known) × IsIn k (known_of added) × (id ≡ k.id)
-      known-name id lt = by_test (is_in nat_eq id (map (λ (k : Known). k.id) (known_in (payloads_of added)))) refl
-        where
-          by_test : (b : Bool) → is_in nat_eq id (map (λ (k : Known). k.id) (known_in (payloads_of added))) ≡ b → (k : Known) × IsIn k (known_of added) × (id ≡ k.id)
-          by_test true e =
-              let r = map-in-back (λ (k : Known). k.id) id (known_in (payloads_of added)) (found nat_eq same-exact same-self id (map (λ (k : Known). k.id) (known_in (payloads_of added))) e) in
-              (r.0, subst (IsIn r.0) (sym (known-all added)) r.1, r.2)
-          by_test false e =
-              let lazy : is_lazy (payloads_of added) w id ≡ true = ap₂ (λ a b. a && not b) (lt-ltb id (length w.master) lt) e in
-              absurd (true≢false (sym (in-any (is_lazy (payloads_of added) w) (range_with_len 0 (length w.master)) id (in-range 0 (length w.master) id zero-le (omega (arith, lt))) lazy) ∙ none))
 
   module _ (rows : List (Row Name)) (whole : IsWorld (with_pending w rows)) where
     abbrev view : World Name

@@ -14,3 +14,4 @@ pub mod Clones
 pub mod Finishes
 pub mod Shown
 pub mod Pulls
+pub mod Whole

@@ -18,6 +18,7 @@ mod replies;
 mod session;
 mod store;
 mod stripping;
+mod whole;
 
 pub use change_rules::{Limit, Limits};
 pub use high_segments::LevelCounts;
@@ -28,3 +29,4 @@ pub use replies::{Added, Counts, Flushed, LoadFault};
 pub use set_query::{Answer, Expr};
 pub use step_rules::{Refusal, isolation_law};
 pub use store::Store;
+pub use whole::{Segments, Whole};

@@ -46,11 +46,7 @@ fn refusal_for(fault: FreshFault) -> Refusal
 }
 
 /// What one of the mirrors tells of its master, with the names of its rows from this id on.
-fn ask_told<R: Remote>(
-    alloc: Global,
-    mirrors: &mut Vec<R>,
-    from: u64,
-) -> Result<Fresh, Refusal>
+fn ask_told<R: Remote>(alloc: Global, mirrors: &mut Vec<R>, from: u64) -> Result<Fresh, Refusal>
     requires { length mirrors.old.items < 2 ^ 32 }
     ensures asks { MatchResult result
         (λ fresh. AsksFresh from (map R.shown mirrors.old.items) (map R.shown mirrors.new.items) (Ok fresh))

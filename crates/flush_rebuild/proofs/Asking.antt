@@ -22,6 +22,7 @@ use Rattle.payload_tables.specs.Kept.{PlainTables, AreTablesOf}
 use Rattle.payload_tables.specs.Pending.{IdRow, PlainPending, HoldsRows, segments_from}
 use Rattle.payload_tables.specs.Bases.{id_row, stored_in}
 use Rattle.payload_tables.proofs.Lists.{names-length}
+use Rattle.payload_tables.proofs.Naming.{whole-names}
 use Rattle.flush_rebuild.specs.Asked.{others_count, IsFoundIn, HaveParents, MayStore, MayPlan}
 use Rattle.flush_rebuild.specs.Plans.{MayLook, MayMove}
 use Rattle.flush_rebuild.proofs.Numbered.{AllRows, Behind}
@@ -59,7 +60,8 @@ fit-of : (added : List Placed) (pending : PlainPending) (s : MayStore pending ad
 fit-of added pending s = record {
   parents = rows-fit (count_after 0 (payloads_of added)) (others_count added) (other_id pending.first) 0 (ap other_id s.first) s.rows s.held.section.flat s.parents;
   distinct = s.distinct;
-  few = (let f = s.held.few in let k : 16777216 ≤ 2 ^ 32 = lit≤ tt in omega (arith, f, k));
+  whole = whole-names s.rows s.held.whole;
+  few = s.held.few;
   new = λ x i d. s.fresh x i (subst (IsIn x) (sym (stored-names added))
       (⊎_elim (λ j. in-left x (flat_map known_names (payloads_of added)) (other_names_in (newest (payloads_of added))) j)
       (λ j. in-right x (flat_map known_names (payloads_of added)) (other_names_in (newest (payloads_of added))) j) d));

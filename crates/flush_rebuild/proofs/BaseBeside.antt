@@ -1,5 +1,5 @@
 -- The flat segments of the newest base, cut at the cloned count: those of the payloads' master ids.
-use Rattle.std.proofs.Common.{◌≡◌, ◌≤◌, ◌+◌, ◌-◌, ◌^◌, ℕ, Bool, true, false, List, [], ◌∷◌, ◌++◌, length, flat_map, min, nat_lt, nat_le, Option, Some, None, refl, sym, ap, ap₂, subst, ◌∙◌, arith, lit≤, append-nil, if◌then◌else◌}
+use Rattle.std.proofs.Common.{◌≡◌, ◌≤◌, ◌+◌, ◌-◌, ◌^◌, ℕ, Bool, true, false, List, [], ◌∷◌, ◌++◌, length, flat_map, min, nat_lt, nat_le, Option, Some, None, refl, sym, ap, ap₂, subst, ◌∙◌, arith, lit≤, zero-le, append-nil, if◌then◌else◌}
 use Rattle.std.specs.List.{AllByRecursion}
 use Rattle.id_groups.specs.Name.{Name, same_name}
 use Rattle.commit_graph.specs.World.{World, IsWorld}
@@ -59,7 +59,7 @@ module _ (tables : PlainTables) (bytes : List ℕ) (none : PlainPending) (held :
   view-may b = no-rows-viewed b added none (first ∙ tables-count tables bytes added t stand) held
 
   some-stands : Stands (payloads_of added) []
-  some-stands = some-world (payloads_of added) t.lawful [] (record { parents = tt; distinct = tt; whole = tt; few = (let z : 0 ≤ 65536 = lit≤ tt in z); new = λ x i d. absurd i })
+  some-stands = some-world (payloads_of added) t.lawful [] (record { parents = tt; distinct = tt; whole = tt; few = zero-le; new = λ x i d. absurd i })
 
   none-behind : (w : World Name) → StandFor (payloads_of added) w → IsWorld w → ArePending w none []
   none-behind w s world = record {

@@ -101,7 +101,7 @@ all-more : (xs ys : List Name) (x : Name) → AreAllIn xs ys → IsIn x ys → A
 all-more [] ys x all i = (i, tt)
 all-more (y ∷ xs) ys x all i = (all.0, all-more xs ys x all.1 i)
 
-others-more : (xs : List Node) (x : Node) → others_of (xs ++ x ∷ []) ≡ others_of xs ++ others_of (x ∷ [])
+pub others-more : (xs : List Node) (x : Node) → others_of (xs ++ x ∷ []) ≡ others_of xs ++ others_of (x ∷ [])
 others-more [] x = refl
 others-more (Placed ∷ xs) x = others-more xs x
 others-more (Other k ∷ xs) x = ap (λ l. k ∷ l) (others-more xs x)

@@ -50,7 +50,7 @@ pub count-small : (n : ℕ) (payloads : List Payload) → n ≤ 16777216 → InT
 count-small n [] le h = le
 count-small n (p ∷ more) le h = count-small p.after more h.0.counts.master h.2
 
-abbrev known_in : List Payload → List Known
+abbrev pub known_in : List Payload → List Known
 known_in payloads = flat_map (λ p. p.known) payloads
 
 -- the known ids of a payload ascend
@@ -96,7 +96,7 @@ known-few n (p ∷ more) h =
     let r = known-few p.after more h.2 in let l = length-append p.known (known_in more) in let m = length-map p.known (λ (k : Known). k.id) in
     let s = ascend-length p.before p.after (known_ids p) (ascends p h.0) in let e = h.1 in let g = h.0.counts.grows in omega (arith, r, l, m, s, e, g)
 
-known-named : (payloads : List Payload) → map (λ (k : Known). k.name) (known_in payloads) ≡ flat_map known_names payloads
+pub known-named : (payloads : List Payload) → map (λ (k : Known). k.name) (known_in payloads) ≡ flat_map known_names payloads
 known-named [] = refl
 known-named (p ∷ more) = map-append (λ (k : Known). k.name) p.known (known_in more) ∙ ap (λ l. known_names p ++ l) (known-named more)
 
@@ -130,7 +130,7 @@ masters-flat n (p ∷ more) h = all-append (λ s. IsSegment s × (s.level ≡ 0)
 
 -- ---- the parents of ids, row by row
 
-abbrev AllFrom : (ℕ → List ℕ → Type 0) → ℕ → List (List ℕ) → Type 0
+abbrev pub AllFrom : (ℕ → List ℕ → Type 0) → ℕ → List (List ℕ) → Type 0
 AllFrom Q k [] = Unit {0}
 AllFrom Q k (ps ∷ more) = Q k ps × AllFrom Q (k + 1) more
 
@@ -152,7 +152,7 @@ listed-long first end (s ∷ more) h =
     let r = listed-long (s.high + 1) end more h.2 in let l = length-append (segment_parents s) (parents_in more) in let m = followers-long s.low (s.high - s.low) in
     let e = h.0 in let le = h.1 in omega (arith, r, l, m, e, le)
 
-listed-from : (Q : ℕ → List ℕ → Type 0) (base : ℕ) → ((k : ℕ) → Q (k + 1) ((base + k) ∷ [])) → (k end : ℕ) (segments : List Segment) → Follow (base + k) end segments
+pub listed-from : (Q : ℕ → List ℕ → Type 0) (base : ℕ) → ((k : ℕ) → Q (k + 1) ((base + k) ∷ [])) → (k end : ℕ) (segments : List Segment) → Follow (base + k) end segments
     → AllByRecursion (λ s. (j : ℕ) → s.low ≡ base + j → Q j s.parents) segments → AllFrom Q k (parents_in segments)
 listed-from Q base f k end [] h own = tt
 listed-from Q base f k end (s ∷ more) h own =
@@ -230,10 +230,18 @@ others-own m (s ∷ more) h g =
     ((λ j e. let o = flat-own s h.0 in (subst (λ n. AllByRecursion (λ p. (p < m) ⊎ ((2 ^ 56 ≤ p) × (p < n))) s.parents) e g.0, o.1, o.2)), others-own m more h.1 g.1)
 
 -- rows behind so many others, whose parents lie before them
-pub record FitBehind (payloads : List Payload) (rows : List IdRow) : Type 0 where
+pub record FitAmong (payloads : List Payload) (rows : List IdRow) : Type 0 where
   pub parents : AllRows (Behind (count_after 0 payloads)) (length (other_names_in (newest payloads))) rows
   pub distinct : AreDistinct (row_names rows)
   pub few : length rows ≤ 2 ^ 32
+  pub new : (x : Name) → IsIn x (row_names rows) → IsIn x (flat_map known_names payloads) ⊎ IsIn x (other_names_in (newest payloads)) → ⊥
+
+-- the same of rows that may be pending
+pub record FitBehind (payloads : List Payload) (rows : List IdRow) : Type 0 where
+  pub parents : AllRows (Behind (count_after 0 payloads)) (length (other_names_in (newest payloads))) rows
+  pub distinct : AreDistinct (row_names rows)
+  pub whole : AllByRecursion IsName (row_names rows)
+  pub few : length rows ≤ 16777216
   pub new : (x : Name) → IsIn x (row_names rows) → IsIn x (flat_map known_names payloads) ⊎ IsIn x (other_names_in (newest payloads)) → ⊥
 
 -- a world for which payloads stand, and the rows of a session that sees it
@@ -245,7 +253,7 @@ pub record Stands (payloads : List Payload) (rows : List IdRow) : Type 0 where
   pub view : IsWorld (with_pending of_world pending)
   pub rows_are : rows ≡ map (id_row (with_pending of_world pending)) pending
 
-module _ (payloads : List Payload) (lawful : AreLawful [] payloads) (rows : List IdRow) (fit : FitBehind payloads rows) where
+module _ (payloads : List Payload) (lawful : AreLawful [] payloads) (rows : List IdRow) (fit : FitAmong payloads rows) where
   turn : InTurn 0 payloads
   turn = in-turn [] payloads lawful
 
@@ -443,8 +451,8 @@ module _ (payloads : List Payload) (lawful : AreLawful [] payloads) (rows : List
       (all-named name (upward 0 (count_after 0 payloads)) (name-whole t known room known_apart ids_apart used found.2 known_used (subst (AllByRecursion IsName) (sym (known-named payloads)) (known-whole 0 payloads turn))))
       facts.whole)
 
-  pub some-world : Stands payloads rows
-  some-world = record {
+  pub world-among : Stands payloads rows
+  world-among = record {
     of_world = of_world;
     pending = pending;
     stand = record {
@@ -458,3 +466,6 @@ module _ (payloads : List Payload) (lawful : AreLawful [] payloads) (rows : List
     view = view;
     rows_are = rows-again rows (λ x i. in-bs x (in-right x os rows i));
   }
+
+pub some-world : (payloads : List Payload) → AreLawful [] payloads → (rows : List IdRow) → FitBehind payloads rows → Stands payloads rows
+some-world payloads lawful rows fit = world-among payloads lawful rows (record { parents = fit.parents; distinct = fit.distinct; few = (let f = fit.few in let k : 16777216 ≤ 2 ^ 32 = lit≤ tt in omega (arith, f, k)); new = fit.new })

@@ -30,6 +30,13 @@ pub mod Stripped
 pub mod Spreading
 pub mod StripFacts
 pub mod StripMeans
+pub mod ToldRows
+pub mod Agreed
+pub mod Taking
+pub mod Walking
+pub mod SomeTold
+pub mod PulledFlushed
+pub mod Pulls
 pub mod Beside
 pub mod StoredBeside
 pub mod BaseBeside

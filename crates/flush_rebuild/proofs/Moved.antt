@@ -21,7 +21,7 @@ use Rattle.payload_tables.specs.declared.base.BaseRef.{BaseRef}
 use Rattle.payload_tables.specs.Bases.{IsBaseOf, stored_in}
 use Rattle.payload_tables.proofs.Basing.{following-front, base-others}
 use Rattle.payload_tables.proofs.Rows.{get-below}
-use Rattle.flush_rebuild.specs.Asked.{others_count}
+use Rattle.flush_rebuild.specs.Asked.{IsStored, others_count}
 use Rattle.flush_rebuild.specs.Rebasing.{IsOtherName, IsMoved, IsLost, IsAt, IsNowhere}
 use Rattle.flush_rebuild.proofs.Rebased.{known-from-at}
 
@@ -86,6 +86,17 @@ some-is x y e = ap some_or e
     some_or : Option Name → Name
     some_or None = x
     some_or (Some a) = a
+
+-- a name that the base finds nowhere isn't stored in it
+pub not-stored : (newer : BaseRef) (added : List Placed) → IsBaseOf newer added → (name : Name) → IsIdOf (stored_in added) name (2 ^ 57) None → IsStored added name → ⊥
+not-stored newer added n name h s =
+    let k = stored-of (stored_in added) name s in
+    h k.0.id (small k.0 k.1) (subst (λ z. IsIn {X = Known} (record { id = k.0.id; name = z }) (stored_in added)) k.2 k.1)
+  where
+    small : (k : Known) → IsIn k (stored_in added) → k.id < 2 ^ 57
+    small k j =
+        let facts = base-others newer.bytes.now newer.tables.now newer.others.now newer.below added n in
+        ⊎_elim (λ a. let s = facts.small in let l : 16777216 ≤ 2 ^ 57 = lit≤ tt in omega (arith, a, s, l)) (λ d. let f = facts.few in let up = d.1 in let l : 2 ^ 56 + 65536 ≤ 2 ^ 57 = lit≤ tt in omega (arith, f, up, l)) (stored-bound newer added n k j)
 
 -- an other id of the base, by its name in the newer base
 module _ (newer base : BaseRef) (added before : List Placed) (n : IsBaseOf newer added) (b : IsBaseOf base before) (parent : ℕ) (name : Name)

@@ -42,7 +42,7 @@ known-from-at id [] k i = absurd i
 known-from-at id (x ∷ names) k (inl e) = (0, (let z = ap (λ (q : Known). q.id) e in omega (arith, z)), ap Some (sym (ap (λ (q : Known). q.name) e)))
 known-from-at id (x ∷ names) k (inr i) = let r = known-from-at (id + 1) names k i in (suc r.0, (let z = r.1 in omega (arith, z)), r.2)
 
-row-at-name : (rows : List (Row Name)) (i : ℕ) (x : Name) → slice_get (names_of rows) i ≡ Some x → (r : Row Name) × (slice_get rows i ≡ Some r) × (r.name ≡ x)
+pub row-at-name : (rows : List (Row Name)) (i : ℕ) (x : Name) → slice_get (names_of rows) i ≡ Some x → (r : Row Name) × (slice_get rows i ≡ Some r) × (r.name ≡ x)
 row-at-name [] i x e = absurd (true≢false (sym (ap is_some e)))
 row-at-name (r ∷ rows) zero x e = (r, refl, ap some_or e)
   where
@@ -51,7 +51,7 @@ row-at-name (r ∷ rows) zero x e = (r, refl, ap some_or e)
     some_or (Some a) = a
 row-at-name (r ∷ rows) (suc i) x e = row-at-name rows i x e
 
-get-name-of : (rows : List (Row Name)) (i : ℕ) (r : Row Name) → slice_get rows i ≡ Some r → slice_get (names_of rows) i ≡ Some r.name
+pub get-name-of : (rows : List (Row Name)) (i : ℕ) (r : Row Name) → slice_get rows i ≡ Some r → slice_get (names_of rows) i ≡ Some r.name
 get-name-of [] i r e = absurd (true≢false (sym (ap is_some e)))
 get-name-of (q ∷ rows) zero r e = ap name_or e
   where
@@ -60,7 +60,7 @@ get-name-of (q ∷ rows) zero r e = ap name_or e
     name_or (Some x) = Some x.name
 get-name-of (q ∷ rows) (suc i) r e = get-name-of rows i r e
 
-get-mapped : (f : Name → ℕ) (xs : List Name) (i : ℕ) (x : Name) → slice_get xs i ≡ Some x → slice_get (map f xs) i ≡ Some (f x)
+pub get-mapped : (f : Name → ℕ) (xs : List Name) (i : ℕ) (x : Name) → slice_get xs i ≡ Some x → slice_get (map f xs) i ≡ Some (f x)
 get-mapped f [] i x e = absurd (true≢false (sym (ap is_some e)))
 get-mapped f (y ∷ xs) zero x e = ap name_or e
   where
@@ -79,7 +79,7 @@ row-of-name [] x i = absurd i
 row-of-name (r ∷ rows) x (inl e) = (r, inl refl, sym e)
 row-of-name (r ∷ rows) x (inr i) = let q = row-of-name rows x i in (q.0, inr q.1, q.2)
 
-known-all : (added : List Placed) → known_of added ≡ flat_map (λ p. p.known) (payloads_of added)
+pub known-all : (added : List Placed) → known_of added ≡ flat_map (λ p. p.known) (payloads_of added)
 known-all [] = refl
 known-all (a ∷ added) = ap (λ l. a.payload.known ++ l) (known-all added)
 
@@ -195,10 +195,10 @@ module _ (added before : List Placed) (w old : World Name) (rows : List (Row Nam
   pub front-world : (front more : List (Row Name)) → rows ≡ front ++ more → first_lost same_name w front ≡ None → IsWorld (new_at front)
   front-world front more e lossless = rebase-lossless same_name same_name-exact same_name-self w old front hw (front-seen front more e) lossless
 
-  w-id : (front : List (Row Name)) (x : Name) → IsIn x (names_of (rows_of w)) → new_id front x ≡ id_in same_name w x
+  pub w-id : (front : List (Row Name)) (x : Name) → IsIn x (names_of (rows_of w)) → new_id front x ≡ id_in same_name w x
   w-id front x i = seen-id w (left_of same_name w front) x i
 
-  in-new : (front : List (Row Name)) (x : Name) → IsIn x (names_of (rows_of w)) → IsIn x (names_of (rows_of (new_at front)))
+  pub in-new : (front : List (Row Name)) (x : Name) → IsIn x (names_of (rows_of w)) → IsIn x (names_of (rows_of (new_at front)))
   in-new front x i = subst (λ l. IsIn x (names_of l)) (append_assoc w.master w.others (left_of same_name w front))
       (subst (IsIn x) (sym (map-append (λ (r : Row Name). r.name) (rows_of w) (left_of same_name w front))) (in-left x (names_of (rows_of w)) (names_of (left_of same_name w front)) i))
 
@@ -216,7 +216,7 @@ module _ (added before : List Placed) (w old : World Name) (rows : List (Row Nam
   new-names : (front : List (Row Name)) → names_of (rows_of (new_at front)) ≡ names_of (rows_of w) ++ names_of (left_of same_name w front)
   new-names front = ap names_of (sym (append_assoc w.master w.others (left_of same_name w front))) ∙ map-append (λ (r : Row Name). r.name) (rows_of w) (left_of same_name w front)
 
-  pending-there : (front : List (Row Name)) (x : Name) → IsIn x (names_of front) → IsIn x (names_of (rows_of (new_at front)))
+  pub pending-there : (front : List (Row Name)) (x : Name) → IsIn x (names_of front) → IsIn x (names_of (rows_of (new_at front)))
   pending-there front x i = by_test (is_in same_name x (names_of (rows_of w))) refl
     where
       by_test : (b : Bool) → is_in same_name x (names_of (rows_of w)) ≡ b → IsIn x (names_of (rows_of (new_at front)))
@@ -475,10 +475,10 @@ module _ (added before : List Placed) (w old : World Name) (rows : List (Row Nam
       name_or d (Some x) = x.name
 
   module _ (v : World Name) (whole : IsWorld v) (few : length v.master ≤ 16777216) where
-    abbrev IsPlaced : Name → Type 0
+    abbrev pub IsPlaced : Name → Type 0
     IsPlaced x = ((i : ℕ) × (r : Row Name) × (slice_get v.master i ≡ Some r) × (r.name ≡ x) × (id_in same_name v x ≡ i)) ⊎ ((i : ℕ) × (r : Row Name) × (slice_get v.others i ≡ Some r) × (r.name ≡ x) × (id_in same_name v x ≡ other_id i))
 
-    placed : (x : Name) → IsIn x (names_of (rows_of v)) → IsPlaced x
+    pub placed : (x : Name) → IsIn x (names_of (rows_of v)) → IsPlaced x
     placed x i = ⊎_elim
         (λ j. let t = at-name v.master x j in inl (t.0, t.1, t.2, t.3, ap (id_in same_name v) (sym t.3) ∙ id-in-master same_name same_name-exact same_name-self v whole t.0 t.1 t.2))
         (λ j. let t = at-name v.others x j in inr (t.0, t.1, t.2, t.3, ap (id_in same_name v) (sym t.3) ∙ id-in-others same_name same_name-exact same_name-self v whole t.0 t.1 t.2))
@@ -587,7 +587,7 @@ module _ (added before : List Placed) (w old : World Name) (rows : List (Row Nam
         ((λ q i. ⊎_elim (λ e. subst (λ z. IsIn z (names_of (rows_of w))) (sym e) one.0) (λ j. others.0 q j) i), ap₂ (λ a b. a ∷ b) one.1 others.1)
 
     module _ (flats : List Segment) (segs : AreSegmentsOf w flats) where
-      record Stored (x : Name) : Type 0 where
+      pub record Stored (x : Name) : Type 0 where
         pub row : Row Name
         pub row_is : row_named same_name (rows_of w) x ≡ Some row
         pub parents_are : parents_at flats (id_in same_name w x) ≡ map (id_in same_name w) row.parents
@@ -596,7 +596,7 @@ module _ (added before : List Placed) (w old : World Name) (rows : List (Row Nam
       parents-of : (q : Row Name) → IsIn q (rows_of w) → (p : Name) → IsIn p q.parents → IsIn p (names_of (rows_of w))
       parents-of q i p j = in-all p q.parents (names_of (rows_of w)) j (parents-known [] (rows_of w) hw q i)
 
-      stored-row : (x : Name) → IsIn x (names_of (rows_of w)) → Stored x
+      pub stored-row : (x : Name) → IsIn x (names_of (rows_of w)) → Stored x
       stored-row x i = ⊎_elim
           (λ j.
           let t = at-name w.master x j in

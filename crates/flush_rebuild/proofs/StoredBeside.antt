@@ -1,5 +1,5 @@
 -- What tables store of names, beside those that a remote told.
-use Rattle.std.proofs.Common.{◌≡◌, ◌≤◌, ◌<◌, ◌+◌, ◌&&◌, ◌||◌, not, cond, ℕ, zero, suc, Bool, true, false, inl, inr, List, [], ◌∷◌, ◌++◌, length, map, filter, take, drop, nat_eq, nat_lt, Option, Some, None, is_some, refl, sym, ap, ap₂, subst, ◌∙◌, ⊎_elim, true≢false, arith, lit≤, if◌then◌else◌}
+use Rattle.std.proofs.Common.{◌≡◌, ◌≤◌, ◌<◌, ◌+◌, ◌&&◌, ◌||◌, not, cond, ℕ, zero, suc, Bool, true, false, inl, inr, List, [], ◌∷◌, ◌++◌, map, filter, take, drop, nat_eq, nat_lt, Option, Some, None, is_some, refl, sym, ap, ap₂, subst, ◌∙◌, ⊎_elim, true≢false, arith, lit≤, zero-le, if◌then◌else◌}
 use Rattle.std.specs.Prelude.{slice_get, IsTrue, ◌↔◌}
 use Rattle.std.proofs.lemmas.Bool.{ltb-true, lt-ltb, le-ltb, eq-eqb}
 use Rattle.std.proofs.lemmas.Map.Views.{exact_unsigned_eq}
@@ -69,14 +69,10 @@ is-cloned cloned name added o h = cloned-named cloned name (known_of added) o h 
 
 -- ---- the name of an id
 
-some-or : Name → Option Name → Name
-some-or x None = x
-some-or x (Some y) = y
-
 -- an id has one name
 pub one-name : (tables : PlainTables) (added : List Placed) → AreTablesOf tables added → (a b : Known) → IsIn a (known_in (payloads_of added)) → IsIn b (known_in (payloads_of added)) → a.id ≡ b.id → a.name ≡ b.name
 one-name tables added t a b i j e =
-    let fit : FitBehind (payloads_of added) [] = record { parents = tt; distinct = tt; whole = tt; few = (let z : 0 ≤ 65536 = lit≤ tt in z); new = λ x i d. absurd i } in
+    let fit : FitBehind (payloads_of added) [] = record { parents = tt; distinct = tt; whole = tt; few = zero-le; new = λ x i d. absurd i } in
     let st = some-world (payloads_of added) t.lawful [] fit in
     let names = names_of st.of_world.master in
     let at = each (λ (k : Known). slice_get names k.id ≡ Some k.name) (known_in (payloads_of added)) st.stand.known in
@@ -149,15 +145,6 @@ module _ (known : List Known) (told : List KnownName) (below first i : ℕ) (so_
   pub name-past : AscendFrom 0 told → (k : KnownName) → slice_get told i ≡ Some k → below ≤ k.id → unlike_name told known below first ≡ None
   name-past h k e le = so_far ∙ past-all known below (first + i) k.id (drop i told) le (ascend-behind 0 told i k h e)
 
-  pub name-end : length told ≤ i → unlike_name told known below first ≡ None
-  name-end le = so_far ∙ ap (λ l. first_false (first + i) (name_tests known below l)) (none-left told i le)
-    where
-      none-left : (ks : List KnownName) (j : ℕ) → length ks ≤ j → drop j ks ≡ []
-      none-left [] zero h = refl
-      none-left [] (suc j) h = refl
-      none-left (k ∷ ks) zero h = absurd (omega (arith, h))
-      none-left (k ∷ ks) (suc j) h = none-left ks j (omega (arith, h))
-
 -- ---- fetched names, in turn
 
 pub cloned-small : (tables : PlainTables) (added : List Placed) → AreTablesOf tables added → cloned_count (payloads_of added) ≤ 16777216
@@ -197,15 +184,6 @@ module _ (stored names : List Name) (told : CloneData) (cloned i : ℕ) (so_far 
   pub row-other : (name : Name) → slice_get names i ≡ Some name → true ≡ not (is_in same_name name (take i names)) → false ≡ (not (is_in same_name name stored) && is_told told (cloned + i) name)
       → first_false cloned (rows_fit stored [] told cloned names) ≡ Some (cloned + i)
   row-other name e n m = at-row name e true false n m
-
-  pub row-end : length names ≤ i → first_false cloned (rows_fit stored [] told cloned names) ≡ None
-  row-end le = so_far ∙ ap (λ l. first_false (cloned + i) (rows_fit stored (take i names) told (cloned + i) l)) (none-left names i le)
-    where
-      none-left : (ks : List Name) (j : ℕ) → length ks ≤ j → drop j ks ≡ []
-      none-left [] zero h = refl
-      none-left [] (suc j) h = refl
-      none-left (k ∷ ks) zero h = absurd (omega (arith, h))
-      none-left (k ∷ ks) (suc j) h = none-left ks j (omega (arith, h))
 
 -- the first bad row, as the fault that names it
 pub bad-row : (payloads : List Payload) (all cloned : ℕ) (told : CloneData) (names : List Name) (k : ℕ) → cloned ≡ all

@@ -94,7 +94,7 @@ names-for w whole (id ∷ ids) h =
 pub strip-asked : (tables : PlainTables) (bytes ids : List ℕ) (added : List Placed) → MayStripOn tables bytes ids added
     → (w : World Name) × (given : List Name) × (s : MayStrip tables bytes ids w given) × (s.added ≡ added)
 strip-asked tables bytes ids added m =
-    let fit : FitBehind (payloads_of added) [] = record { parents = tt; distinct = tt; few = (let z : 0 ≤ 2 ^ 32 = omega arith in z); new = λ x i d. absurd i } in
+    let fit : FitBehind (payloads_of added) [] = record { parents = tt; distinct = tt; whole = tt; few = (let z : 0 ≤ 16777216 = lit≤ tt in z); new = λ x i d. absurd i } in
     let st = some-world (payloads_of added) m.tables_of.lawful [] fit in
     let w = st.of_world in
     let count : others_count added ≡ length w.others = ap (length {A = Name}) st.stand.names ∙ names-length w.others in

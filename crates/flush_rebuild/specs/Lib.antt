@@ -10,3 +10,4 @@ pub mod Cloning
 pub mod Sections
 pub mod Stripping
 pub mod Pulling
+pub mod Taken

@@ -1,6 +1,6 @@
 #![tactic(auto)]
 
-//! What a flush, a strip and a clone make of a world: the payload, and the tables that follow.
+//! What a flush, a strip, a clone and a pull make of a world: the payload, and the tables that follow.
 
 mod agreeing;
 mod building;
@@ -11,6 +11,8 @@ mod graph;
 mod laws;
 mod numbers;
 mod plan;
+mod pull;
+mod pulled;
 mod rebasing;
 mod runs;
 mod strip;
@@ -23,5 +25,6 @@ pub use flush::{Plan, plan_flush};
 pub use laws::{honest_pulls_are_told, payloads_stand_for_a_world};
 pub use payload_tables::{BaseRef, OthersTable, PendingRows, TableFault, Tables};
 pub use plan::{Change, Payload, plan_change};
+pub use pull::{plan_pull, plan_pull_change};
 pub use rebasing::rebase;
 pub use strip::{plan_strip, plan_strip_change};

@@ -203,7 +203,7 @@ fn change_of(
 }
 
 /// The plan where all heads are there, by the numbers of those that aren't in master.
-fn plan_moves<'x>(
+pub(crate) fn plan_moves<'x>(
     alloc: Global,
     tables: &mut Tables,
     bytes: &'x [u8],
@@ -251,7 +251,7 @@ fn head_id(pending: &PendingRows, head: &Name, found: Option<Id>) -> Option<Id>
 }
 
 /// Adds the number of an id that isn't in master.
-fn add_number(numbers: &mut Vec<u32>, id: Id) -> Result<(), AllocError>
+pub(crate) fn add_number(numbers: &mut Vec<u32>, id: Id) -> Result<(), AllocError>
     requires { id < 2 ^ 56 + 2 ^ 32 }
     ensures { OnOk result (numbers.new.items ≡ numbers.old.items ++ others_of (node_of id ∷ [])) }
 {

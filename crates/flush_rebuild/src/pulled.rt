@@ -1,150 +1,272 @@
-//! The rows of a remote from the cloned ones on, by the ids that they have beside the others of a world.
+//! The rows of a remote from the cloned ones on, beside the newest world: their ids there, and those of them that it doesn't have.
 
-ghost use Rattle.std.specs.Prelude.{◌≡◌, ◌<◌, ◌≤◌, ◌+◌, ◌++◌, ◌∷◌, [], List, None, Some, ℕ, length, IfOk, OnOk, MatchResult};
+ghost use Rattle.std.specs.Prelude.{◌≡◌, ◌<◌, ◌≤◌, ◌+◌, ◌^◌, ◌⊎◌, ◌++◌, ◌∷◌, [], List, None, Some, ℕ, length, map, take, drop, max, slice_get, nat_eq, if◌then◌else◌, IfOk, OnOk, MatchResult};
+ghost use Rattle.std.specs.List.{AllByRecursion};
+ghost use Rattle.id_groups.specs.Lists.{IsIn, AreDistinct};
+ghost use Rattle.id_groups.specs.Name.{Name as NameBytes, same_name};
+ghost use Rattle.id_groups.specs.Id.{other_id};
+ghost use Rattle.commit_graph.specs.World.{Row, World, names_of, with_pending};
+ghost use Rattle.commit_graph.specs.Ids.{id_in};
+ghost use Rattle.segment_codec.specs.Record.{Segment};
+ghost use Rattle.high_segments.specs.Views.{flats_in};
+ghost use Rattle.name_map.specs.Added.{Placed, payloads_of};
+ghost use Rattle.change_rules.specs.Rebase.{first_conflict, left_of};
+ghost use Rattle.change_rules.specs.Tables.{cloned_count};
+ghost use Rattle.mirror_set.specs.Fresh.{PlainFresh};
+ghost use Rattle.payload_tables.specs.Bases.{IsBaseOf, ArePending};
+ghost use Rattle.payload_tables.specs.Pending.{IdRow, HoldsRows, row_names};
+ghost use Rattle.flush_rebuild.specs.declared.fault.PlanFault.TheVariants.{Memory};
+ghost use Rattle.flush_rebuild.specs.Plans.{conflict_fault};
+ghost use Rattle.flush_rebuild.specs.Rebasing.{IsKept};
+ghost use Rattle.flush_rebuild.specs.Pulling.{MayPullOn, mismatch};
+ghost use Rattle.flush_rebuild.specs.Taken.{beside, IsBeside, IsOther, AreTaken, Beside, MayAdd, MayWalk, MayTake};
 
+use crate::agreeing::check_fresh;
 use crate::fault::PlanFault;
-use crate::graph::{Rows, add_ids};
-use crate::numbers::parents_of;
+use crate::rebasing::{add_id, has_parents};
 use high_segments::View;
-use id_groups::{FIRST_OTHER, Id, Name};
+use id_groups::{Id, Name};
 use mirror_set::Fresh;
-use payload_tables::BaseRef;
-use segment_codec::Steps;
+use payload_tables::{BaseRef, PendingRows, Tables};
+use remote_trait::{CloneData, CloneSegment};
 use std::alloc::{AllocError, Global};
 
-/// What the rows of a remote from the cloned count on are beside a world: their ids, those of the others that move into master in
-/// their order, and the names of those that are new. New rows have the other ids behind the world's.
-#[derive(Drop)]
-pub(crate) struct Pulled {
-    /// The first id of the remote's that isn't cloned.
-    first: u64,
-    /// How many others the world has.
-    count: u32,
-    /// The id beside the world of each row so far.
-    ids: Vec<Id>,
-    /// The numbers of those that aren't in master, in the remote's order.
-    pub(crate) order: Vec<u32>,
-    /// The names of the new ones.
-    pub(crate) names: Vec<u8>,
+/// For how many rows there is room behind a world's others.
+const MOST_ROWS: u32 = 16_777_216;
+
+/// The id beside the world of one of the remote's: the cloned ones stay, and the others have these ids.
+fn id_beside(ids: &[Id], cloned: u64, number: u64) -> Id
+    requires small { cloned ≤ 2 ^ 56 }
+    requires there { number < cloned + length ids.now }
+    ensures { result ≡ beside cloned ids.now number }
+{
+    if number < cloned {
+        return Id::master(number);
+    }
+    ids[(number - cloned) as usize]
 }
 
-impl Pulled {
-    /// No rows yet, of a remote whose first ids, so many, were cloned, beside a world with so many others.
-    pub(crate) fn none(alloc: Global, first: u64, count: u32) -> Pulled {
-        Pulled {
-            first,
-            count,
-            ids: Vec::new(alloc),
-            order: Vec::new(alloc),
-            names: Vec::new(alloc),
-        }
-    }
-
-    /// How many rows are new.
-    pub(crate) fn more(&self) -> u32 {
-        (self.names.len() / 20) as u32
-    }
-
-    /// The id beside the world of one of the remote's: the cloned ones stay.
-    fn id(&self, number: u64) -> Id {
-        if number < self.first {
-            return Id::from_number(number);
-        }
-        self.ids[(number - self.first) as usize]
-    }
-
-    /// These parents, by their ids beside the world.
-    fn parents(&self, alloc: Global, numbers: &[u64]) -> Result<Vec<Id>, AllocError> {
-        let mut parents = Vec::with_capacity(alloc, numbers.len())?;
-        'numbers: for number in numbers {
-            parents.push(self.id(*number))?;
-        }
-        Ok(parents)
-    }
-
-    /// Puts a new row behind the others, with these parents.
-    fn add_new(&mut self, rows: &mut Rows, name: &Name, parents: &[Id]) -> Result<(), AllocError> {
-        let number = self.count + self.more();
-        add_ids(rows, parents)?;
-        self.names.extend_from_slice(name.lend().bytes)?;
-        self.order.push(number)?;
-        self.ids.push(Id::other(u64::from(number)))?;
-        Ok(())
-    }
-
-    /// Goes on by a row that the world has: one of its others moves.
-    fn add_known(&mut self, id: Id) -> Result<(), AllocError> {
-        if id.number() >= FIRST_OTHER {
-            self.order.push(id.place() as u32)?;
-        }
-        self.ids.push(id)?;
-        Ok(())
-    }
-}
-
-/// A world whose rows are looked up by name.
-#[derive(Clone, Copy)]
-pub(crate) struct Beside<'a> {
-    pub(crate) base: &'a BaseRef<'a>,
-    pub(crate) view: &'a View<'a>,
-}
-
-/// Goes on by the row with this name and these parents. `Conflict` names it where the world has it with others.
-fn add_row(
+/// These parents of a row of the remote's, by their ids beside the world.
+fn parents_beside(
     alloc: Global,
-    world: &Beside<'_>,
-    pulled: &mut Pulled,
-    rows: &mut Rows,
-    name: &Name,
+    ids: &[Id],
+    cloned: u64,
     numbers: &[u64],
-) -> Result<(), PlanFault> {
-    let parents = pulled.parents(alloc, numbers)?;
-    let Some(id) = world.base.id(name.lend()) else {
-        pulled.add_new(rows, name, &parents)?;
-        return Ok(());
+) -> Result<Vec<Id>, AllocError>
+    requires small { cloned ≤ 2 ^ 56 }
+    requires there { AllByRecursion (λ n. n < cloned + length ids.now) numbers.now }
+    ensures { IfOk result (λ parents. parents.items ≡ map (beside cloned ids.now) numbers.now) }
+{
+    let mut parents = Vec::with_capacity(alloc, numbers.len())?;
+    'numbers: for number in numbers {
+        parents.push(id_beside(ids, cloned, *number))?;
+    }
+    Ok(parents)
+}
+
+/// Puts a row that isn't there behind those that are left, with these parents. The answer is its id. Where there is no room for
+/// one more, that counts as want of memory.
+fn add_new(name: &Name, parents: &[Id], left: &mut PendingRows) -> Result<Id, PlanFault>
+    requires rows { (rows : List IdRow) × HoldsRows left.old rows }
+    requires new { (rows : List IdRow) → HoldsRows left.old rows → IsIn name.now (row_names rows) → ⊥ }
+    requires few { length parents.now ≤ 8 }
+    requires distinct { AreDistinct parents.now }
+    requires below { AllByRecursion (λ p. p < other_id (left.old.first + length left.old.places)) parents.now }
+    ensures { MatchResult result (IsKept left.old left.new name.now parents.now) (λ fault. fault ≡ Memory) }
+{
+    if left.len() >= MOST_ROWS {
+        return Err(PlanFault::Memory);
+    }
+    let id = Id::other(left.first() + u64::from(left.len()));
+    left.push_new(name, parents)?;
+    Ok(id)
+}
+
+/// The id beside the world of the row with this name and these parents. Where the world doesn't have it, it is put behind those that
+/// are left; `Conflict` names it where the world has it with others.
+fn row_beside(
+    alloc: Global,
+    newest: &BaseRef<'_>,
+    view: &View<'_>,
+    name: &Name,
+    parents: &[Id],
+    left: &mut PendingRows,
+) -> Result<Id, PlanFault>
+    requires newest { (added : List Placed) × IsBaseOf newest.now added }
+    requires rows { (rows : List IdRow) × HoldsRows left.old rows }
+    requires new { (rows : List IdRow) → HoldsRows left.old rows → IsIn name.now (row_names rows) → ⊥ }
+    requires few { length parents.now ≤ 8 }
+    requires distinct { AreDistinct parents.now }
+    requires below { AllByRecursion (λ p. p < other_id (left.old.first + length left.old.places)) parents.now }
+    ensures { (added : List Placed) → IsBaseOf newest.now added → MatchResult result
+        (IsBeside added (flats_in view.now) name.now parents.now left.old left.new)
+        (λ fault. (fault ≡ Memory) ⊎ IsOther added (flats_in view.now) name.now parents.now fault) }
+{
+    let Some(id) = newest.id(name.lend()) else {
+        return add_new(name, parents, left);
     };
-    let stored = parents_of(alloc, world.view, id, &mut Steps::new())?;
-    if stored.as_slice() != parents.as_slice() {
+    let same = has_parents(alloc, view, id, parents)?;
+    if !same {
         return Err(PlanFault::Conflict(*name));
     }
-    pulled.add_known(id)?;
+    Ok(id)
+}
+
+/// Goes on by the row with this name and the parents with these numbers.
+fn add_row(
+    alloc: Global,
+    newest: &BaseRef<'_>,
+    view: &View<'_>,
+    cloned: u64,
+    name: &Name,
+    numbers: &[u64],
+    ids: &mut Vec<Id>,
+    left: &mut PendingRows,
+) -> Result<(), PlanFault>
+    requires few { length numbers.now ≤ 8 }
+    requires row { (w : World NameBytes) × (rows front rest : List (Row NameBytes)) × (row : Row NameBytes)
+        × MayAdd newest.now (flats_in view.now) cloned ids.old.items left.old name.now numbers.now w rows front rest row }
+    ensures { (w : World NameBytes) (rows front rest : List (Row NameBytes)) (row : Row NameBytes)
+        → MayAdd newest.now (flats_in view.now) cloned ids.old.items left.old name.now numbers.now w rows front rest row
+        → MatchResult result
+        (λ done. AreTaken w cloned (front ++ row ∷ []) ids.new.items left.new)
+        (λ fault. (fault ≡ Memory) ⊎ (conflict_fault (first_conflict same_name w rows) ≡ Some fault)) }
+{
+    let parents = parents_beside(alloc, ids, cloned, numbers)?;
+    let id = row_beside(alloc, newest, view, name, &parents, left)?;
+    add_id(ids, id)?;
     Ok(())
 }
 
-/// Goes on by the rows of a segment from the cloned count on.
+/// The numbers of the parents of an id of the segment, where `previous` has the number before it alone.
+fn parents_in<'a>(segment: &'a CloneSegment, id: u64, previous: &'a [u64]) -> &'a [u64]
+    requires { length previous.now ≤ 8 }
+    ensures parents { result.now ≡ (if nat_eq id segment.now.low then segment.now.parents else previous.now) }
+    ensures few { length result.now ≤ 8 }
+{
+    if id == segment.low {
+        return segment.parents.numbers();
+    }
+    previous
+}
+
+/// Goes on by the rows of a segment from the cloned ones on.
 fn add_segment(
     alloc: Global,
-    world: &Beside<'_>,
-    pulled: &mut Pulled,
-    rows: &mut Rows,
+    newest: &BaseRef<'_>,
+    view: &View<'_>,
+    cloned: u64,
     fresh: &Fresh,
-    k: u32,
-) -> Result<(), PlanFault> {
-    let segment = fresh.cloned.segments.at(k);
-    let mut id = segment.low.max(pulled.first);
+    segment: &CloneSegment,
+    ids: &mut Vec<Id>,
+    left: &mut PendingRows,
+) -> Result<(), PlanFault>
+    requires names { length fresh.now.names < 2 ^ 31 }
+    requires rows { (w : World NameBytes) × (rows : List (Row NameBytes)) × MayWalk newest.now (flats_in view.now) cloned fresh.now w rows
+        × IsIn segment.now fresh.now.cloned.segments × AreTaken w cloned (take (max cloned segment.now.low) rows) ids.old.items left.old }
+    ensures { (w : World NameBytes) (rows : List (Row NameBytes)) → MayWalk newest.now (flats_in view.now) cloned fresh.now w rows
+        → IsIn segment.now fresh.now.cloned.segments → AreTaken w cloned (take (max cloned segment.now.low) rows) ids.old.items left.old
+        → MatchResult result
+        (λ done. AreTaken w cloned (take (max cloned (segment.now.high + 1)) rows) ids.new.items left.new)
+        (λ fault. (fault ≡ Memory) ⊎ (conflict_fault (first_conflict same_name w rows) ≡ Some fault)) }
+{
+    let mut id = cloned.max(segment.low);
     'ids: while id <= segment.high {
-        let name = fresh.names.at((id - pulled.first) as u32);
-        if id == segment.low {
-            add_row(alloc, world, pulled, rows, name, segment.parents.numbers())?;
-        } else {
-            add_row(alloc, world, pulled, rows, name, &[id - 1])?;
-        }
+        let name = fresh.names.at((id - cloned) as u32);
+        let previous = [id.saturating_sub(1)];
+        let numbers = parents_in(segment, id, &previous);
+        add_row(alloc, newest, view, cloned, name, numbers, ids, left)?;
         id += 1;
     }
     Ok(())
 }
 
-/// Goes on by all rows of the remote from the cloned count on, and puts those that the world doesn't have behind its own. `Conflict` names
-/// the first that the world has with other parents.
-pub(crate) fn add_pulled(
+/// Goes on by all rows from the cloned ones on; `told` is what was told of their ids and parents.
+fn add_rows(
     alloc: Global,
-    world: &Beside<'_>,
-    pulled: &mut Pulled,
-    rows: &mut Rows,
+    newest: &BaseRef<'_>,
+    view: &View<'_>,
+    cloned: u64,
     fresh: &Fresh,
-) -> Result<(), PlanFault> {
-    'segments: for k in 0..fresh.cloned.segments.len() {
-        add_segment(alloc, world, pulled, rows, fresh, k)?;
+    told: &CloneData,
+    ids: &mut Vec<Id>,
+    left: &mut PendingRows,
+) -> Result<(), PlanFault>
+    requires names { length fresh.now.names < 2 ^ 31 }
+    requires told { told.now ≡ fresh.now.cloned }
+    requires rows { (w : World NameBytes) × (rows : List (Row NameBytes)) × MayWalk newest.now (flats_in view.now) cloned fresh.now w rows
+        × (left.old.first ≡ length w.others) }
+    requires ids { ids.old.items ≡ [] }
+    requires left { HoldsRows left.old [] }
+    ensures { (w : World NameBytes) (rows : List (Row NameBytes)) → MayWalk newest.now (flats_in view.now) cloned fresh.now w rows
+        → left.old.first ≡ length w.others
+        → MatchResult result
+        (λ done. AreTaken w cloned rows ids.new.items left.new)
+        (λ fault. (fault ≡ Memory) ⊎ (conflict_fault (first_conflict same_name w rows) ≡ Some fault)) }
+{
+    'segments: for k in 0..told.segments.len() {
+        let segment = told.segments.at(k);
+        add_segment(alloc, newest, view, cloned, fresh, segment, ids, left)?;
     }
     Ok(())
+}
+
+/// No segment has more parents than a row may have: their type has no room for more.
+fn count_parents(told: &CloneData)
+    ensures { AllByRecursion (λ (s : Segment). length s.parents ≤ 8) told.now.segments }
+{
+    'segments: for k in 0..told.segments.len() {
+        let segment = told.segments.at(k);
+        let _numbers = segment.parents.numbers();
+    }
+}
+
+/// What was taken of a remote beside the newest world.
+#[derive(Drop)]
+pub(crate) struct Taken {
+    /// The id of each row that wasn't cloned.
+    pub(crate) ids: Vec<Id>,
+    /// The rows that the world doesn't have.
+    pub(crate) left: PendingRows,
+}
+
+/// Takes the rows that a remote told, where they agree with what is stored of the cloned ones; `none` has no rows. `Conflict` names the
+/// first that the world has with other parents.
+pub(crate) fn taken_of(
+    alloc: Global,
+    tables: &Tables,
+    bytes: &[u8],
+    none: &PendingRows,
+    fresh: &Fresh,
+) -> Result<Taken, PlanFault>
+    requires none { HoldsRows none.now [] × (none.now.first ≡ tables.now.others.count) }
+    requires tables { (added : List Placed) × MayPullOn tables.now bytes.now fresh.now added }
+    ensures mismatch { (added : List Placed) → MayPullOn tables.now bytes.now fresh.now added
+        → MatchResult result (λ taken. mismatch added fresh.now ≡ None)
+        (λ fault. (fault ≡ Memory) ⊎ ((mismatch added fresh.now ≡ None) ⊎ (mismatch added fresh.now ≡ Some fault))) }
+    ensures worlds { (w : World NameBytes) (rows : List (Row NameBytes)) (m : MayTake tables.now bytes.now fresh.now w rows)
+        → MatchResult result
+        (λ taken. (mismatch m.added fresh.now ≡ None) × AreTaken w (cloned_count (payloads_of m.added)) rows taken.ids.items taken.left)
+        (λ fault. (fault ≡ Memory) ⊎ ((mismatch m.added fresh.now ≡ Some fault) ⊎ ((mismatch m.added fresh.now ≡ None) × (conflict_fault (first_conflict same_name w rows) ≡ Some fault)))) }
+    ensures some { (added : List Placed) → MayPullOn tables.now bytes.now fresh.now added
+        → IfOk result (λ taken. (w : World NameBytes) × (rows : List (Row NameBytes)) × (m : MayTake tables.now bytes.now fresh.now w rows) × (m.added ≡ added)) }
+{
+    check_fresh(alloc, tables, bytes, fresh)?;
+    count_parents(&fresh.cloned);
+    let newest = tables.newest(bytes);
+    let view = newest.view(none);
+    let count = fresh.names.len();
+    let mut ids = Vec::with_capacity(alloc, count as usize)?;
+    let mut left = PendingRows::empty(alloc, none.first());
+    add_rows(
+        alloc,
+        &newest,
+        &view,
+        tables.cloned(),
+        fresh,
+        &fresh.cloned,
+        &mut ids,
+        &mut left,
+    )?;
+    Ok(Taken { ids, left })
 }

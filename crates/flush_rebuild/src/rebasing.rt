@@ -78,7 +78,12 @@ fn stored_parents(
 }
 
 /// Whether the id of the view has these parents, in order.
-fn has_parents(alloc: Global, view: &View<'_>, id: Id, parents: &[Id]) -> Result<bool, AllocError>
+pub(crate) fn has_parents(
+    alloc: Global,
+    view: &View<'_>,
+    id: Id,
+    parents: &[Id],
+) -> Result<bool, AllocError>
     ensures { IfOk result (λ same. same ≡ pointwise nat_eq (parents_at (flats_in view.now) id) parents.now) }
 {
     let stored = parents_of(alloc, view, id, &mut Steps::new())?;
@@ -327,7 +332,7 @@ fn left_row(
 }
 
 /// Adds an id.
-fn add_id(ids: &mut Vec<Id>, id: Id) -> Result<(), AllocError>
+pub(crate) fn add_id(ids: &mut Vec<Id>, id: Id) -> Result<(), AllocError>
     ensures { OnOk result (ids.new.items ≡ ids.old.items ++ id ∷ []) }
 {
     ids.push(id)?;

@@ -1,12 +1,13 @@
 //! Clone data that break a rule, as a table of cases.
 
 use crate::cloned::name;
+use crate::pulls::refusal_of;
 use remote_trait::CloneData;
 use std::alloc::{AllocError, Global};
 use std::test::Fail;
 
 /// The lowest and the highest id of a segment, and its parents.
-type Segment = (u64, u64, &'static [u64]);
+pub type Segment = (u64, u64, &'static [u64]);
 
 /// A fork with a merge: the ids 0 to 4, 5 and 6 from id 2, and a merge, 7, of both.
 const FORK: [Segment; 3] = [(0, 4, &[]), (5, 6, &[2]), (7, 7, &[4, 6])];
@@ -171,24 +172,35 @@ fn push_names(given: &mut CloneData, names: &[(u64, u8)], heads: &[u8]) -> Resul
     Ok(())
 }
 
-/// The number of the first item of a case that breaks its rule.
-fn first_broken(
+/// Clone data with these segments, names and heads.
+pub fn given_of(
     alloc: Global,
     segments: &[Segment],
     names: &[(u64, u8)],
     heads: &[u8],
-) -> Result<Option<u64>, AllocError> {
+) -> Result<CloneData, AllocError> {
     let mut given = CloneData::empty(alloc);
     push_segments(&mut given, segments)?;
     push_names(&mut given, names, heads)?;
-    given.first_broken(alloc)
+    Ok(given)
+}
+
+/// The clone data of the fork.
+pub fn fork_data(alloc: Global) -> Result<CloneData, AllocError> {
+    given_of(alloc, &FORK, &NAMES, &[0x17])
+}
+
+/// Whether this is the number of the first item that breaks its rule, and a pull is refused by it.
+fn is_broken(alloc: Global, given: CloneData, want: Option<u64>) -> Result<bool, AllocError> {
+    Ok(given.first_broken(alloc)? == want && refusal_of(alloc, given)? == want)
 }
 
 /// The first of the cases in which another item is told.
 fn first_wrong(alloc: Global, cases: &[Case]) -> Result<Option<&'static str>, AllocError> {
     for case in cases {
         let (what, segments, names, heads, want) = *case;
-        if first_broken(alloc, segments, names, heads)? != want {
+        let given = given_of(alloc, segments, names, heads)?;
+        if !is_broken(alloc, given, want)? {
             return Ok(Some(what));
         }
     }

@@ -49,7 +49,7 @@ impl Draws {
 }
 
 /// The row of a merge of two commits, and of a commit on the one, if they are the same.
-fn merge(own: Name, first: Name, second: Name) -> Row {
+pub fn merge(own: Name, first: Name, second: Name) -> Row {
     if first.is(&second) {
         Row::new(own, &[first])
     } else {

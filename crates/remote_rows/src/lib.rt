@@ -19,4 +19,6 @@ mod mirrors;
 #[cfg(test)]
 mod plain;
 #[cfg(test)]
+mod pulls;
+#[cfg(test)]
 mod worlds;

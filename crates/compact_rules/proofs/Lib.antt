@@ -1,0 +1,4 @@
+pub mod Lists
+pub mod Cutting
+pub mod Behind
+pub mod Wholes

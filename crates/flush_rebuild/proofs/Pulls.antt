@@ -1,0 +1,288 @@
+-- A pull is a flush of what was taken of a remote, put behind the world's others.
+use Rattle.std.proofs.Common.{◌≡◌, ◌<◌, ◌≤◌, ◌+◌, ◌-◌, ◌^◌, ℕ, Bool, true, false, not, ◌⊎◌, inl, inr, List, [], ◌∷◌, ◌++◌, length, map, take, drop, filter, nat_lt, Option, Some, None, is_some, slice_get, refl, sym, ap, ap₂, subst, ◌∙◌, ⊎_elim, if◌then◌else◌, arith, true≢false, length-append, lit≤}
+use Rattle.std.specs.Prelude.{Result, Ok, Err, IfOk, MatchResult}
+use Rattle.std.specs.List.{AllByRecursion}
+use Rattle.std.proofs.lemmas.List.{map-append, length-map, take-append-drop}
+use Rattle.std.proofs.lemmas.Bool.{le-ltb}
+use Rattle.id_groups.specs.Lists.{IsIn, is_in, AreAllIn}
+use Rattle.id_groups.specs.Name.{Name, same_name}
+use Rattle.id_groups.specs.Id.{is_master_id, other_id}
+use Rattle.id_groups.proofs.Names.{same_name-exact, same_name-self}
+use Rattle.commit_graph.specs.World.{Row, World, IsWorld, IsHistory, IsNamedWorld, empty_world, names_of, rows_of, with_pending}
+use Rattle.commit_graph.specs.Ids.{id_in}
+use Rattle.commit_graph.proofs.Down.{in-left, in-right}
+use Rattle.commit_graph.proofs.Naming.{named-by, name-of}
+use Rattle.commit_graph.proofs.Places.{at-name, name-at, place-left, world-master, below-master, chosen, id-in-master}
+use Rattle.batch_codec.specs.Payload.{Payload, payload_bytes}
+use Rattle.assign_ids.specs.declared.graph.Node.{Node}
+use Rattle.assign_ids.specs.declared.graph.Node.TheVariants.{Placed as InMaster, Other}
+use Rattle.assign_ids.specs.Numbers.{others_of}
+use Rattle.name_map.specs.Added.{Placed, payloads_of, AllStand}
+use Rattle.remote_rules.specs.Known.{master_world}
+use Rattle.change_rules.specs.declared.Limits.{Limits}
+use Rattle.change_rules.specs.declared.Limit.{Limit}
+use Rattle.change_rules.specs.declared.Limit.TheVariants.{Others, Master, Log}
+use Rattle.change_rules.specs.Change.{flush_change}
+use Rattle.change_rules.specs.Lawful.{MayFollow}
+use Rattle.change_rules.specs.Rebase.{left_of, first_conflict}
+use Rattle.change_rules.specs.Flush.{flushed, rows_outside}
+use Rattle.change_rules.specs.Pull.{pulled}
+use Rattle.change_rules.specs.Tables.{StandFor, cloned_count}
+use Rattle.change_rules.proofs.Changed.{pull-world, pull-names}
+use Rattle.change_rules.proofs.Changes.{change-stands}
+use Rattle.change_rules.proofs.Flushes.{rebase-world, name-in}
+use Rattle.change_rules.proofs.Lawful.{change-follows}
+use Rattle.mirror_set.specs.Fresh.{PlainFresh}
+use Rattle.payload_tables.specs.Kept.{PlainTables, AreTablesOf}
+use Rattle.payload_tables.specs.Pending.{PlainPending, HoldsRows}
+use Rattle.payload_tables.specs.Bases.{ArePending, id_row}
+use Rattle.flush_rebuild.specs.declared.plan.Change.{Change}
+use Rattle.flush_rebuild.specs.declared.fault.PlanFault.{PlanFault}
+use Rattle.flush_rebuild.specs.declared.fault.PlanFault.TheVariants.{Memory, Full}
+use Rattle.flush_rebuild.specs.Moves.{node_of}
+use Rattle.flush_rebuild.specs.Plans.{over, first_of, length_with, conflict_fault, size_refusal, MayMove, IsPlanOf, IsChangeOf, IsStorable, MayComeNext, MayBeStored}
+use Rattle.flush_rebuild.specs.Following.{with_payload, FollowChange, StandForNext}
+use Rattle.flush_rebuild.specs.Pulling.{MayPull, mismatch, pull_refusal}
+use Rattle.flush_rebuild.specs.Taken.{AreTaken, MayTake, MayPut, pull_sizes, any_others}
+use Rattle.flush_rebuild.proofs.Planning.{flush-small}
+use Rattle.flush_rebuild.proofs.Marking.{filter-short}
+use Rattle.flush_rebuild.proofs.PulledFlushed.{pulled-flushed}
+use Rattle.flush_rebuild.proofs.Rebased.{pending-there, w-id, placed}
+use Rattle.flush_rebuild.proofs.SomeTold.{rows-same}
+use Rattle.flush_rebuild.proofs.Stepping.{under}
+
+-- ---- lists
+
+all-there : (xs ys : List Name) → ((x : Name) → IsIn x xs → IsIn x ys) → AreAllIn xs ys
+all-there [] ys f = tt
+all-there (x ∷ xs) ys f = (f x (inl refl), all-there xs ys (λ y i. f y (inr i)))
+
+others-join : (xs ys : List Node) → others_of (xs ++ ys) ≡ others_of xs ++ others_of ys
+others-join [] ys = refl
+others-join (InMaster ∷ xs) ys = others-join xs ys
+others-join (Other k ∷ xs) ys = ap (λ l. k ∷ l) (others-join xs ys)
+
+masters-alone : (ids : List ℕ) → AllByRecursion (λ id. id < 2 ^ 56) ids → others_of (map node_of ids) ≡ []
+masters-alone [] h = refl
+masters-alone (id ∷ ids) h =
+    ap (λ n. others_of (n ∷ map node_of ids)) (chosen (is_master_id id) InMaster (Other (id - 2 ^ 56)) (below-master id h.0)) ∙ masters-alone ids h.1
+
+-- ---- what was taken may move
+
+module _ (tables : PlainTables) (bytes ids : List ℕ) (left : PlainPending) (w : World Name) (rows : List (Row Name)) (p : MayPut tables bytes ids left w rows) where
+  abbrev cloned : ℕ
+  cloned = cloned_count (payloads_of p.added)
+
+  abbrev view : World Name
+  view = with_pending w (left_of same_name w rows)
+
+  theirs : IsHistory [] rows
+  theirs = world-master rows p.theirs
+
+  of_none : StandFor (payloads_of []) (empty_world {N = Name})
+  of_none = record { count = refl; master = refl; known = tt; others = refl; names = refl }
+
+  small : length w.master ≤ 16777216
+  small = flush-small tables bytes p.added w p.tables_of p.stand p.stand_for
+
+  view-is : IsWorld view
+  view-is = rebase-world same_name same_name-exact same_name-self w empty_world rows p.world.world theirs (λ x i. absurd i)
+
+  pub pending-is : ArePending w left (left_of same_name w rows)
+  pending-is = record { first = p.taken.first; held = p.taken.held; view = view-is }
+
+  there : (x : Name) → IsIn x (names_of rows) → IsIn x (names_of (rows_of view))
+  there x i = pending-there p.added [] w empty_world rows p.stand_for p.world.world small of_none theirs (w.master, refl) (λ name i j. absurd i) rows x i
+
+  few : length w.others ≤ 65536
+  few = let r = p.taken.held.room in let f = p.taken.first in omega (arith, r, f)
+
+  -- the ids are those of 32 bits in their group
+  pub ids-fit : AllByRecursion (λ id. id < 2 ^ 56 + 2 ^ 32) ids
+  ids-fit = subst (AllByRecursion (λ id. id < 2 ^ 56 + 2 ^ 32)) (sym p.taken.ids_are)
+      (each (names_of (drop cloned rows)) (λ x i. there x (subst (λ l. IsIn x (names_of l)) (take-append-drop cloned rows)
+      (subst (IsIn x) (sym (map-append (λ (r : Row Name). r.name) (take cloned rows) (drop cloned rows))) (in-right x (names_of (take cloned rows)) (names_of (drop cloned rows)) i)))))
+    where
+      bound : (x : Name) → IsIn x (names_of (rows_of view)) → id_in same_name view x < 2 ^ 56 + 2 ^ 32
+      bound x i =
+          let long = length-map (left_of same_name w rows) (id_row view) in let l = length-append w.others (left_of same_name w rows) in let held = p.taken.held.few in
+          ⊎_elim
+          (λ m. let e = m.4 in let lt = under w.master m.0 m.1 m.2 in let s = small in let k : 16777216 ≤ 2 ^ 56 = lit≤ tt in omega (arith, e, lt, s, k))
+          (λ o. let e = o.4 in let lt = under (w.others ++ left_of same_name w rows) o.0 o.1 o.2 in let f = few in let k : 65536 + 16777216 ≤ 2 ^ 32 = lit≤ tt in omega (arith, e, lt, long, l, held, f, k))
+          (placed p.added [] w empty_world rows p.stand_for p.world.world small of_none theirs (w.master, refl) (λ name i j. absurd i) view view-is small x i)
+
+      each : (xs : List Name) → ((x : Name) → IsIn x xs → IsIn x (names_of (rows_of view))) → AllByRecursion (λ id. id < 2 ^ 56 + 2 ^ 32) (map (id_in same_name view) xs)
+      each [] f = tt
+      each (x ∷ xs) f = (bound x (f x (inl refl)), each xs (λ y i. f y (inr i)))
+
+  -- the cloned rows are in master
+  masters : (some : List (Row Name)) → ((r : Row Name) → IsIn r some → IsIn r w.master) → AllByRecursion (λ id. id < 2 ^ 56) (map (id_in same_name view) (names_of some))
+  masters [] f = tt
+  masters (r ∷ some) f = (
+    (let at = at-name w.master r.name (name-in r w.master (f r (inl refl))) in
+        let lt = under w.master at.0 at.1 at.2 in let s = small in
+        let e = ap (id_in same_name view) (sym at.3) ∙ id-in-master same_name same_name-exact same_name-self view view-is at.0 at.1 at.2 in
+        let k : 16777216 ≤ 2 ^ 56 = lit≤ tt in omega (arith, e, lt, s, k)),
+    masters some (λ q i. f q (inr i)),
+  )
+
+  numbers-are : others_of (map node_of ids) ≡ others_of (map node_of (map (id_in same_name view) (names_of rows)))
+  numbers-are =
+      let front = map (id_in same_name view) (names_of (take cloned rows)) in
+      let back = map (id_in same_name view) (names_of (drop cloned rows)) in
+      let parts : map (id_in same_name view) (names_of rows) ≡ front ++ back =
+      ap (λ l. map (id_in same_name view) (names_of l)) (sym (take-append-drop cloned rows))
+      ∙ ap (map (id_in same_name view)) (map-append (λ (r : Row Name). r.name) (take cloned rows) (drop cloned rows))
+      ∙ map-append (id_in same_name view) (names_of (take cloned rows)) (names_of (drop cloned rows)) in
+      ap (λ l. others_of (map node_of l)) p.taken.ids_are
+      ∙ ap (λ l. l ++ others_of (map node_of back)) (sym (masters-alone front (masters (take cloned rows) (λ r i. in-taken cloned w.master r (subst (IsIn r) p.cloned_rows i)))))
+      ∙ sym (others-join (map node_of front) (map node_of back))
+      ∙ ap others_of (sym (map-append node_of front back))
+      ∙ ap (λ l. others_of (map node_of l)) (sym parts)
+    where
+      in-taken : (n : ℕ) (xs : List (Row Name)) (r : Row Name) → IsIn r (take n xs) → IsIn r xs
+      in-taken n xs r i = subst (IsIn r) (take-append-drop n xs) (in-left r (take n xs) (drop n xs) i)
+
+  pub may-move : (numbers : List ℕ) → numbers ≡ others_of (map node_of ids) → (m : MayMove tables bytes left numbers w (left_of same_name w rows) (names_of rows)) × (m.added ≡ p.added)
+  may-move numbers e = (
+    record {
+      added = p.added;
+      tables_of = p.tables_of;
+      stand = p.stand;
+      stand_for = p.stand_for;
+      world = p.world;
+      pending_rows = pending-is;
+      known = all-there (names_of rows) (names_of (rows_of view)) there;
+      numbers_are = e ∙ numbers-are;
+    },
+    refl,
+  )
+
+  abbrev new : World Name
+  new = pulled same_name w (master_world rows)
+
+  pub new-is : flushed same_name view (names_of rows) ≡ new
+  new-is = sym (pulled-flushed same_name same_name-exact same_name-self w (master_world rows) p.world.world theirs p.taken.calm)
+
+  others-few : length new.others ≤ 65536
+  others-few = let s = filter-short (λ (r : Row Name). not (is_in same_name r.name (names_of new.master))) w.others in let f = few in omega (arith, s, f)
+
+  sizes-are : (limits : Limits) (log : ℕ) (payload : List ℕ) → size_refusal (any_others limits) log new payload ≡ pull_sizes limits log new payload
+  sizes-are limits log payload = ap (λ b. first_of (if b then Some (Full Others 65536) else None) (pull_sizes limits log new payload)) (le-ltb 65536 (length new.others) others-few)
+
+  -- what the move answers is what the pull does
+  pub pull-means : (limits wide : Limits) → wide ≡ any_others limits → (log : ℕ) (payload : List ℕ) (r : Result Change PlanFault)
+      → MatchResult r (λ change. (size_refusal wide log (flushed same_name view (names_of rows)) payload ≡ None) × IsPlanOf change w (flushed same_name view (names_of rows)) payload)
+      (λ fault. (fault ≡ Memory) ⊎ (size_refusal wide log (flushed same_name view (names_of rows)) payload ≡ Some fault))
+      → MatchResult r (λ change. (pull_sizes limits log new payload ≡ None) × IsPlanOf change w new payload) (λ fault. (fault ≡ Memory) ⊎ (pull_sizes limits log new payload ≡ Some fault))
+  pull-means limits wide e log payload r h =
+      subst (λ z. MatchResult r (λ change. (z ≡ None) × IsPlanOf change w new payload) (λ fault. (fault ≡ Memory) ⊎ (z ≡ Some fault)))
+      (ap (λ l. size_refusal l log new payload) e ∙ sizes-are limits log payload)
+      (subst (λ v. MatchResult r (λ change. (size_refusal wide log v payload ≡ None) × IsPlanOf change w v payload) (λ fault. (fault ≡ Memory) ⊎ (size_refusal wide log v payload ≡ Some fault))) new-is h)
+
+  pub change-of-flush : (payload : List ℕ) → IsChangeOf w new payload → IsChangeOf w (flushed same_name view (names_of rows)) payload
+  change-of-flush payload h = subst (λ v. IsChangeOf w v payload) (sym new-is) h
+
+-- the log's limit is the same
+storable : (limits : Limits) (log : ℕ) (added : List Placed) (change : Change) → MayBeStored 1 (any_others limits) log added change → MayComeNext 1 limits log added change
+storable limits log added change h = record {
+  stays = h.next.stays;
+  changes = λ e. let s = h.next.changes e in (
+    s.0,
+    record { payload = s.1.payload; follows = s.1.follows; kind_is = s.1.kind_is; master = s.1.master; others = s.1.others; fits = s.1.fits },
+  );
+}
+
+pub stored-next : (limits wide : Limits) → wide ≡ any_others limits → (log : ℕ) (added : List Placed) (r : Result Change PlanFault) → IfOk r (MayBeStored 1 wide log added) → IfOk r (MayComeNext 1 limits log added)
+stored-next limits wide e log added (Ok change) h = storable limits log added change (subst (λ l. MayBeStored 1 l log added change) e h)
+stored-next limits wide e log added (Err fault) h = h
+
+-- ---- from what was told to what was taken
+
+pub taken-put : (tables : PlainTables) (bytes : List ℕ) (fresh : PlainFresh) (ids : List ℕ) (left : PlainPending) (w : World Name) (rows : List (Row Name)) (t : MayTake tables bytes fresh w rows) → mismatch t.added fresh ≡ None
+    → AreTaken w (cloned_count (payloads_of t.added)) rows ids left → (p : MayPut tables bytes ids left w rows) × (p.added ≡ t.added)
+taken-put tables bytes fresh ids left w rows t none taken = (
+  record {
+    added = t.added;
+    tables_of = t.may.tables_of;
+    stand = t.may.stand;
+    stand_for = t.stand_for;
+    world = t.world;
+    theirs = t.theirs;
+    cloned_rows = rows-same tables bytes fresh w rows t none;
+    taken = taken;
+  },
+  refl,
+)
+
+-- ---- what a pull is refused for
+
+pub pull-fault : (limits : Limits) (log : ℕ) (added : List Placed) (fresh : PlainFresh) (w : World Name) (rows : List (Row Name)) (new : World Name) (payload : List ℕ) (fault : PlanFault)
+    → (fault ≡ Memory) ⊎ ((mismatch added fresh ≡ Some fault) ⊎ ((mismatch added fresh ≡ None) × (conflict_fault (first_conflict same_name w rows) ≡ Some fault)))
+    → (fault ≡ Memory) ⊎ (pull_refusal limits log added fresh w rows new payload ≡ Some fault)
+pull-fault limits log added fresh w rows new payload fault (inl e) = inl e
+pull-fault limits log added fresh w rows new payload fault (inr (inl e)) = inr (ap (λ o. first_of o (first_of (conflict_fault (first_conflict same_name w rows)) (pull_sizes limits log new payload))) e)
+pull-fault limits log added fresh w rows new payload fault (inr (inr e)) =
+    inr (ap (λ o. first_of o (first_of (conflict_fault (first_conflict same_name w rows)) (pull_sizes limits log new payload))) e.0 ∙ ap (λ o. first_of o (pull_sizes limits log new payload)) e.1)
+
+pub sizes-alone : (limits : Limits) (log : ℕ) (added : List Placed) (fresh : PlainFresh) (w : World Name) (rows : List (Row Name)) (new : World Name) (payload : List ℕ)
+    → mismatch added fresh ≡ None → first_conflict same_name w rows ≡ None → pull_refusal limits log added fresh w rows new payload ≡ pull_sizes limits log new payload
+sizes-alone limits log added fresh w rows new payload none calm =
+    ap (λ o. first_of o (first_of (conflict_fault (first_conflict same_name w rows)) (pull_sizes limits log new payload))) none
+    ∙ ap (λ o. first_of (conflict_fault o) (pull_sizes limits log new payload)) calm
+
+-- ---- the tables that follow
+
+pub pull-next : (tables : PlainTables) (bytes : List ℕ) (fresh : PlainFresh) (w : World Name) (rows : List (Row Name)) (m : MayPull tables bytes fresh w rows) (limits : Limits) (some : List Placed) (change : Change) (payload : List ℕ) (after : PlainTables)
+    → MayComeNext 1 limits (length bytes) some change → IsPlanOf change w (pulled same_name w (master_world rows)) payload → IsChangeOf w (pulled same_name w (master_world rows)) payload
+    → FollowChange after (length bytes) m.added change → StandForNext after (length bytes) m.added w (pulled same_name w (master_world rows))
+pull-next tables bytes fresh w rows m limits some change payload after stored plan is tables_after = by_same change.same refl
+  where
+    theirs : IsHistory [] rows
+    theirs = world-master rows m.theirs.world
+
+    new-named : IsNamedWorld (pulled same_name w (master_world rows))
+    new-named = named-by (pulled same_name w (master_world rows)) (pull-world same_name same_name-exact same_name-self w (master_world rows) m.world.world theirs)
+        (λ x i. ⊎_elim (λ j. name-of w m.world x j)
+        (λ j. name-of (master_world rows) m.theirs x (subst (IsIn x) (sym (map-append (λ (r : Row Name). r.name) rows [])) (in-left x (names_of rows) [] j)))
+        (pull-names same_name same_name-exact same_name-self w (master_world rows) m.world.world theirs x i))
+
+    rest : List (Row Name)
+    rest = rows_outside same_name rows (names_of w.master)
+
+    may-follow : (last : Payload) → IsStorable 1 limits (length bytes) some change last → MayFollow (payloads_of m.added) (flush_change w (pulled same_name w (master_world rows)))
+    may-follow last p =
+        let c = p.follows.whole.counts in
+        let cm = c.master in let co = c.others in let sm = p.master in let so = p.others in let ma = plan.master in let ot = plan.others in
+        let l = length-append (pulled same_name w (master_world rows)).master (pulled same_name w (master_world rows)).others in
+        change-follows (payloads_of m.added) w (pulled same_name w (master_world rows)) m.may.tables_of.lawful m.stand_for m.world.world new-named (rows_outside same_name rows (names_of w.master)) refl
+        (omega (arith, cm, sm, ma)) (omega (arith, co, so, ot))
+        (⊎_elim
+        (λ flush. ⊎_elim (λ a. omega (arith, a, sm, ma, l)) (λ b. omega (arith, b, so, ot, l)) flush.something)
+        (λ kinds. ⊎_elim (λ clone. let a = clone.something in omega (arith, a, sm, ma, l))
+        (λ store. ⊎_elim (λ a. omega (arith, a, sm, ma, l)) (λ b. omega (arith, b, so, ot, l)) store.something) kinds)
+        p.follows.whole.by_kind)
+
+    by_same : (b : Bool) → change.same ≡ b → StandForNext after (length bytes) m.added w (pulled same_name w (master_world rows))
+    by_same true e =
+        let stay : pulled same_name w (master_world rows) ≡ w = plan.same.0 e in
+        record {
+          after = m.added;
+          stays = λ t. refl;
+          changes = λ h. absurd (h stay);
+          tables_of = tables_after.stays e;
+          stand_for = subst (StandFor (payloads_of m.added)) (sym stay) m.stand_for;
+        }
+    by_same false e =
+        let h : pulled same_name w (master_world rows) ≡ w → ⊥ = λ t. true≢false (sym (plan.same.1 t) ∙ e) in
+        let last = stored.changes e in
+        let may = may-follow last.0 last.1 in
+        record {
+          after = with_payload (length bytes) m.added (flush_change w (pulled same_name w (master_world rows)));
+          stays = λ t. absurd (h t);
+          changes = λ d. refl;
+          tables_of = tables_after.changes e (flush_change w (pulled same_name w (master_world rows))) may.whole (plan.payload_is ∙ is.some h);
+          stand_for = subst (λ l. StandFor l (pulled same_name w (master_world rows)))
+              (sym (map-append (λ (a : Placed). a.payload) m.added (record { at = length bytes + 8; payload = flush_change w (pulled same_name w (master_world rows)) } ∷ [])))
+              (change-stands (payloads_of m.added) w (pulled same_name w (master_world rows)) m.world.world m.stand_for (rows_outside same_name rows (names_of w.master), refl));
+        }
