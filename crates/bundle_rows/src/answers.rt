@@ -1,0 +1,211 @@
+//! What a bundle on a disk in memory answers, beside a mirror in memory of the same commits.
+
+use crate::bundles::FORK;
+use crate::bundles::name;
+use crate::digits::bytes_of;
+use commit_graph::{Row, World};
+use disk_memory::MemoryDisk;
+use id_groups::Name;
+use remote_bundle::BundleRemote;
+use remote_memory::MemoryRemote;
+use remote_trait::{CloneData, Remote, RemoteFault};
+use std::alloc::{AllocError, Global};
+use std::test::Fail;
+
+/// The commits of the fork by their last bytes, with their parents.
+const ROWS: [(u8, &[u8]); 6] = [
+    (1, &[]),
+    (2, &[1]),
+    (3, &[2]),
+    (4, &[2]),
+    (5, &[4]),
+    (6, &[3, 5]),
+];
+
+/// A row.
+fn row_of(last: u8, parents: &[u8]) -> Row {
+    match parents {
+        [] => Row::new(name(last), &[]),
+        [one] => Row::new(name(last), &[name(*one)]),
+        [one, two, ..] => Row::new(name(last), &[name(*one), name(*two)]),
+    }
+}
+
+/// The fork's rows.
+fn rows(alloc: Global) -> Result<Vec<Row>, AllocError> {
+    let mut rows = Vec::new(alloc);
+    for (last, parents) in &ROWS {
+        rows.push(row_of(*last, parents))?;
+    }
+    Ok(rows)
+}
+
+/// A mirror of the fork.
+fn plain(alloc: Global) -> Result<MemoryRemote, AllocError> {
+    let rows = rows(alloc)?;
+    if rows.len() > 6 {
+        return Err(AllocError);
+    }
+    let world = World::of_master(alloc, rows)?.ok_or(AllocError)?;
+    if world.master_count() > 6 {
+        return Err(AllocError);
+    }
+    MemoryRemote::new(alloc, world, &[])
+}
+
+/// The bundle of the fork on a disk whose calls with these numbers fail.
+fn bundled(alloc: Global, fails: &[u64], limit: u64) -> Result<BundleRemote<MemoryDisk>, AllocError> {
+    let bytes = bytes_of(alloc, FORK)?;
+    let disk = MemoryDisk::new(alloc, &bytes, fails, None)?;
+    Ok(BundleRemote::new(disk, limit))
+}
+
+/// The last bytes of the names that `back` first parents lead to, and one more, up to five.
+fn line<R: Remote>(alloc: Global, remote: &mut R, last: u8, back: u64) -> Result<[u8; 5], RemoteFault> {
+    let mut out = [name(0); 5];
+    let count = remote.names_of(alloc, &name(last), back, &mut out)?;
+    let mut lasts = [0; 5];
+    for k in 0..count as usize {
+        if k < 5 {
+            lasts[k] = last_byte(&out[k]);
+        }
+    }
+    Ok(lasts)
+}
+
+fn last_byte(name: &Name) -> u8 {
+    match name.lend().bytes {
+        [.., last] => *last,
+        [] => 0,
+    }
+}
+
+/// The first pair of a name and a distance at which both give other names.
+fn first_unlike<R: Remote, S: Remote>(
+    alloc: Global,
+    one: &mut R,
+    two: &mut S,
+) -> Result<Option<(u8, u64)>, RemoteFault> {
+    for last in 0..8 {
+        for back in 0..6 {
+            if line(alloc, one, last, back)? != line(alloc, two, last, back)? {
+                return Ok(Some((last, back)));
+            }
+        }
+    }
+    Ok(None)
+}
+
+/// The last name of the way's start, and how long it is; zeros where there is no way.
+fn way<R: Remote>(alloc: Global, remote: &mut R, heads: &[Name], last: u8) -> Result<(u8, u64), RemoteFault> {
+    match remote.path_of(alloc, heads, &name(last))? {
+        Some(path) => Ok((last_byte(&path.x), path.n)),
+        None => Ok((0, 0)),
+    }
+}
+
+/// Ways of the fork: heads, a name, and what is answered.
+type Way = (&'static [u8], u8, (u8, u64));
+
+const WAYS: [Way; 12] = [
+    (&[6], 6, (6, 0)),
+    (&[6], 3, (3, 0)),
+    (&[6], 2, (3, 1)),
+    (&[6], 1, (3, 2)),
+    (&[6], 4, (5, 1)),
+    (&[5], 1, (5, 3)),
+    (&[5], 3, (0, 0)),
+    (&[4], 2, (4, 1)),
+    (&[2], 1, (2, 1)),
+    (&[], 1, (0, 0)),
+    (&[9], 1, (0, 0)),
+    (&[3, 9, 5], 1, (3, 2)),
+];
+
+fn names_of(alloc: Global, lasts: &[u8]) -> Result<Vec<Name>, AllocError> {
+    let mut names = Vec::new(alloc);
+    for last in lasts {
+        names.push(name(*last))?;
+    }
+    Ok(names)
+}
+
+/// The number of the first way that isn't answered so.
+fn first_lost<R: Remote>(alloc: Global, remote: &mut R) -> Result<usize, RemoteFault> {
+    for i in 0..WAYS.len() {
+        let (heads, last, wanted) = &WAYS[i];
+        let heads = names_of(alloc, heads)?;
+        if way(alloc, remote, &heads, *last)? != *wanted {
+            return Ok(i);
+        }
+    }
+    Ok(WAYS.len())
+}
+
+/// Whether the clone data are those of the fork.
+fn is_clone(told: &CloneData) -> bool {
+    told.segments.len() == 3
+        && told.segments.at(1).low == 3
+        && told.segments.at(1).high == 4
+        && told.segments.at(2).parents.numbers() == [2, 4].as_slice()
+        && told.names.len() == 3
+        && told.names.at(0).id == 2
+        && told.names.at(1).id == 4
+        && told.names.at(2).id == 5
+        && told.heads.len() == 1
+        && told.heads.at(0).is(&name(6))
+}
+
+#[test]
+fn a_bundle_answers_as_its_world(rt: HostRuntime) -> Result<(), AllocError> {
+    let mut bundle = bundled(rt.alloc(), &[], 175)?;
+    let mut plain = plain(rt.alloc())?;
+    assert!(rt; first_unlike(rt.alloc(), &mut bundle, &mut plain) == Ok(None));
+    Ok(())
+}
+
+#[test]
+fn a_bundle_leads_to_its_commits(rt: HostRuntime) -> Result<(), AllocError> {
+    let mut bundle = bundled(rt.alloc(), &[], 175)?;
+    assert!(rt; first_lost(rt.alloc(), &mut bundle) == Ok(WAYS.len()));
+    Ok(())
+}
+
+/// Whether the remote gives the fork's clone data.
+fn gives_clone<R: Remote>(alloc: Global, remote: &mut R) -> bool {
+    match remote.clone_data(alloc) {
+        Ok(told) => is_clone(&told),
+        Err(_) => false,
+    }
+}
+
+#[test]
+fn a_bundle_is_cloned(rt: HostRuntime) -> Result<(), AllocError> {
+    let mut bundle = bundled(rt.alloc(), &[], 175)?;
+    assert!(rt; gives_clone(rt.alloc(), &mut bundle));
+    Ok(())
+}
+
+/// How the first four refreshes end: whether each is fine.
+fn refreshes<R: Remote>(alloc: Global, remote: &mut R) -> [bool; 4] {
+    [
+        remote.refresh(alloc).is_ok(),
+        remote.refresh(alloc).is_ok(),
+        remote.refresh(alloc).is_ok(),
+        remote.refresh(alloc).is_ok(),
+    ]
+}
+
+#[test]
+fn a_file_is_read_until_it_was(rt: HostRuntime) -> Result<(), AllocError> {
+    let mut bundle = bundled(rt.alloc(), &[1, 3], 175)?;
+    assert!(rt; refreshes(rt.alloc(), &mut bundle) == [false, false, true, true]);
+    Ok(())
+}
+
+#[test]
+fn a_file_above_the_limit_is_none(rt: HostRuntime) -> Result<(), AllocError> {
+    let mut bundle = bundled(rt.alloc(), &[], 174)?;
+    assert!(rt; refreshes(rt.alloc(), &mut bundle) == [false, false, false, false]);
+    Ok(())
+}
