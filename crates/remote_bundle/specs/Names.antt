@@ -19,4 +19,4 @@ pub record ArePlaced (n : PlainNames) (names : List Name) : Type 0 where
   pub index : IsIndexOf n.index (named_from n.start names)
   pub size : n.start + 20 * length names ≡ length n.bytes
   pub few : length names ≤ most_rows
-  pub fits : length n.bytes < 2 ^ 64
+  pub fits : length n.bytes < 2 ^ 63

@@ -1,0 +1,6 @@
+pub mod Placing
+pub mod Mastering
+pub mod Tabling
+pub mod Fitting
+pub mod Mirroring
+pub mod Sound
