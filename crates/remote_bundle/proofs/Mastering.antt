@@ -1,5 +1,5 @@
 -- The rows of a bundle are a master, whose segments are the bundle's.
-use Rattle.std.proofs.Common.{◌≡◌, ℕ, suc, ◌+◌, ◌-◌, ◌<◌, ◌≤◌, ◌^◌, inl, inr, List, [], ◌∷◌, ◌++◌, Option, Some, None, length, map, refl, sym, ap, subst, ◌∙◌, arith, append-nil, ⊎_elim}
+use Rattle.std.proofs.Common.{◌≡◌, ℕ, zero, suc, ◌+◌, ◌-◌, ◌<◌, ◌≤◌, ◌^◌, inl, inr, List, [], ◌∷◌, ◌++◌, Option, Some, None, length, map, refl, sym, ap, subst, ◌∙◌, arith, append-nil, ⊎_elim}
 use Rattle.std.specs.Prelude.{slice_get}
 use Rattle.std.proofs.lemmas.List.{length-map}
 use Rattle.std.proofs.lemmas.Option.{slice_get_within}
@@ -40,7 +40,7 @@ listed-at ss end f id lt =
 
 map-get : {X Y : Type 0} (f : X → Y) (xs : List X) (i : ℕ) (x : X) → slice_get xs i ≡ Some x → slice_get (map f xs) i ≡ Some (f x)
 map-get f [] i x e = cc
-map-get f (y ∷ xs) 0 x e = ap (λ z. Some (f z)) (same y x e)
+map-get f (y ∷ xs) zero x e = ap (λ z. Some (f z)) (same y x e)
   where
     same : (a b : X) → ◌≡◌ {A = Option X} (Some a) (Some b) → a ≡ b
     same a b e = cc

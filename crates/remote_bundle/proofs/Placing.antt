@@ -1,5 +1,5 @@
 -- Names by their places.
-use Rattle.std.proofs.Common.{◌≡◌, ℕ, zero, suc, ◌+◌, ◌-◌, ◌*◌, ◌/◌, ◌<◌, ◌≤◌, ◌^◌, List, [], ◌∷◌, Option, Some, None, length, take, drop, inl, inr, refl, sym, ap, subst, ◌∙◌, arith}
+use Rattle.std.proofs.Common.{◌≡◌, ℕ, zero, suc, ◌+◌, ◌-◌, ◌*◌, ◌/◌, ◌<◌, List, [], ◌∷◌, Option, Some, None, length, take, drop, inl, inr, refl, sym, ap, subst, ◌∙◌, arith}
 use Rattle.std.specs.Prelude.{slice_get}
 use Rattle.std.proofs.Math.Nat.{mul-div_cancel_left}
 use Rattle.std.proofs.lemmas.List.{length-map}
@@ -62,13 +62,6 @@ pub rows-named : (rows : List (Row Name)) → length (names_of rows) ≡ length 
 rows-named rows = length-map rows (λ (r : Row Name). r.name)
 
 module _ (n : PlainNames) (rows : List (Row Name)) (h : ArePlaced n (names_of rows)) where
-  -- the place of an id's name
-  pub place-fits : (id : ℕ) → id < length rows → n.start + 20 * id + 20 < 2 ^ 63
-  place-fits id lt = let l = rows-named rows in let size = h.size in let fits = h.fits in omega (arith, lt, l, size, fits)
-
-  pub place-within : (id : ℕ) → id < length rows → n.start + 20 * id + 20 ≤ length n.bytes
-  place-within id lt = let l = rows-named rows in let size = h.size in omega (arith, lt, l, size)
-
   -- the name at an id's place is its name
   pub named-there : (id : ℕ) → id < length rows → IsNamed rows id (take 20 (drop (n.start + 20 * id) n.bytes))
   named-there id lt =
@@ -84,3 +77,12 @@ module _ (n : PlainNames) (rows : List (Row Name)) (h : ArePlaced n (names_of ro
   id-found name place i =
       let p = place-of n.start (names_of rows) place name i in
       subst (λ id. IsNamed rows id name) (sym (number-back n.start place p.number p.place_is)) (row-named rows p.number name p.there)
+
+-- there are as many names for whom ever they are
+pub same-long : (n : PlainNames) (rows others : List (Row Name)) → ArePlaced n (names_of rows) → ArePlaced n (names_of others) → length rows ≡ length others
+same-long n rows others h g =
+    let a = h.size in
+    let b = g.size in
+    let l = rows-named rows in
+    let m = rows-named others in
+    omega (arith, a, b, l, m)

@@ -1,5 +1,5 @@
 -- The table of a bundle's records.
-use Rattle.std.proofs.Common.{◌≡◌, ℕ, zero, suc, ◌+◌, ◌-◌, ◌<◌, ◌≤◌, ◌^◌, Bool, true, false, not, cond, List, [], ◌∷◌, ◌++◌, length, drop, filter, min, refl, sym, ap, ap₂, subst, ◌∙◌, arith, lit≤, length-append, append_assoc, nat_lt}
+use Rattle.std.proofs.Common.{◌≡◌, ℕ, zero, suc, ◌+◌, ◌-◌, ◌*◌, ◌<◌, ◌≤◌, ◌^◌, Bool, true, false, not, cond, List, [], ◌∷◌, ◌++◌, length, drop, filter, min, refl, sym, ap, ap₂, subst, ◌∙◌, arith, lit≤, length-append, append_assoc, nat_lt}
 use Rattle.std.specs.List.{AllByRecursion, flat_map}
 use Rattle.std.specs.Int.{w32, to_be_bytes}
 use Rattle.std.proofs.lemmas.Bool.{lt-ltb}
@@ -21,7 +21,12 @@ use Rattle.batch_codec.specs.Payload.{names_bytes}
 use Rattle.batch_codec.proofs.Turns.{stand-in-turn}
 use Rattle.batch_codec.proofs.Entries.{names-size}
 use Rattle.bundle_codec.specs.Bundle.{Contents, IsBundle, bundle_bytes, mark}
-use Rattle.bundle_codec.specs.Places.{records_start, names_start}
+use Rattle.bundle_codec.specs.Places.{records_start, names_start, named_from}
+use Rattle.bundle_codec.proofs.Indexed.{bundle-names}
+use Rattle.name_index.specs.Index.{IsIndexOf}
+use Rattle.name_index.specs.Named.{Stand as StandAt}
+use Rattle.remote_bundle.specs.Names.{ArePlaced}
+use Rattle.remote_bundle.specs.Held.{PlainRead, IsReadOf}
 
 -- ---- the bytes
 
@@ -126,3 +131,14 @@ flats-are c h table t =
     ∙ ap (λ (ss : List Segment). cut table.end (up_to table.end ss)) (filter-all c.segments (all-begin 0 c.segments (in-turn c h)))
     ∙ ap (cut table.end) (follow-up_to 0 table.end c.segments follow)
     ∙ cut-all 0 table.end c.segments follow
+
+-- ---- the names
+
+pub placed-names : (r : PlainRead) (c : Contents) → IsReadOf r c → (bytes : List ℕ) → bytes ≡ r.bytes → ArePlaced (record { bytes = bytes; start = r.start; index = r.index }) c.names
+placed-names r c h bytes e =
+    let is = e ∙ h.spelled in record {
+      stand = subst (λ (at : ℕ). StandAt bytes (named_from at c.names)) (sym h.start) (subst (λ (l : List ℕ). StandAt l (named_from (names_start c) c.names)) (sym is) (bundle-names c h.bundle.names));
+      index = subst (λ (at : ℕ). IsIndexOf r.index (named_from at c.names)) (sym h.start) h.index;
+      size = (let s = size c h.bundle in let l = ap (length {A = ℕ}) is in let at = h.start in omega (arith, s, l, at));
+      few = h.bundle.few;
+    }

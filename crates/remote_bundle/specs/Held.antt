@@ -1,5 +1,5 @@
 -- What is kept of a bundle that was read.
-use Rattle.std.specs.Prelude.{◌≡◌, ◌<◌, ◌^◌, ◌⊎◌, ℕ, List, Option, None, length, Result, Ok, Err, ⊤}
+use Rattle.std.specs.Prelude.{◌≡◌, ◌⊎◌, ℕ, List, Option, None, Result, Ok, Err, ⊤}
 use Rattle.std.specs.Option.{option_map}
 use Rattle.id_groups.specs.Name.{Name}
 use Rattle.outside.specs.Counts.{Rose}
@@ -30,7 +30,6 @@ pub record IsReadOf (read : PlainRead) (c : Contents) : Type 0 where
   pub start : read.start ≡ names_start c
   pub table : IsTableOf read.table (placed records_start c.segments)
   pub index : IsIndexOf read.index (named_from (names_start c) c.names)
-  pub fits : length read.bytes < 2 ^ 63
 
 -- a bundle was read, and what is reached is so in its rows
 abbrev pub IsHeld : PlainRead → Reached → Type 0

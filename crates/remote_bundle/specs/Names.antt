@@ -1,5 +1,5 @@
 -- Names that stand one behind another in bytes, with an index of their places.
-use Rattle.std.specs.Prelude.{◌≡◌, ◌≤◌, ◌<◌, ◌+◌, ◌*◌, ◌^◌, ℕ, List, length}
+use Rattle.std.specs.Prelude.{◌≡◌, ◌≤◌, ◌+◌, ◌*◌, ℕ, List, length}
 use Rattle.id_groups.specs.Name.{Name}
 use Rattle.name_index.specs.Index.{IsIndexOf}
 use Rattle.name_index.specs.Named.{Stand}
@@ -19,4 +19,3 @@ pub record ArePlaced (n : PlainNames) (names : List Name) : Type 0 where
   pub index : IsIndexOf n.index (named_from n.start names)
   pub size : n.start + 20 * length names ≡ length n.bytes
   pub few : length names ≤ most_rows
-  pub fits : length n.bytes < 2 ^ 63
