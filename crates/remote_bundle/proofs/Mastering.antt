@@ -39,12 +39,12 @@ listed-at ss end f id lt =
     (le_or_lt id s.low)
 
 map-get : {X Y : Type 0} (f : X → Y) (xs : List X) (i : ℕ) (x : X) → slice_get xs i ≡ Some x → slice_get (map f xs) i ≡ Some (f x)
-map-get f [] i x e = cc
-map-get f (y ∷ xs) zero x e = ap (λ z. Some (f z)) (same y x e)
+map-get {X} {Y} f [] i x e = cc
+map-get {X} {Y} f (y ∷ xs) zero x e = ap (λ z. Some (f z)) (same y x e)
   where
     same : (a b : X) → ◌≡◌ {A = Option X} (Some a) (Some b) → a ≡ b
     same a b e = cc
-map-get f (y ∷ xs) (suc i) x e = map-get f xs i x e
+map-get {X} {Y} f (y ∷ xs) (suc i) x e = map-get f xs i x e
 
 same-ids : (a b : List ℕ) → Some a ≡ Some b → a ≡ b
 same-ids a b e = cc
