@@ -1,5 +1,5 @@
 -- What contracts see of a bundle as a remote.
-use Rattle.std.specs.Prelude.{Bool, true, ◌≡◌, ◌≤◌, ◌⊎◌, ℕ, List, Option, None, Result, Ok, Err, IfSome, option_and_then, ⊤}
+use Rattle.std.specs.Prelude.{Bool, true, false, ◌≡◌, ◌≤◌, ◌⊎◌, ℕ, List, Option, None, Result, Ok, Err, IfSome, option_and_then, ⊤}
 use Rattle.std.specs.Option.{option_map}
 use Rattle.commit_graph.specs.World.{Row}
 use Rattle.id_groups.specs.Name.{Name}
@@ -51,15 +51,25 @@ pub record Reads (before now : PlainRemote) : Type 0 where
   pub disk_faults : before.disk_faults ≤ now.disk_faults
   pub asked : now.asked ≡ before.asked
 
+-- Once the file was read, it is kept, and no further call of the disk is made.
+abbrev pub ReadsOnce : PlainRemote → PlainRemote → Type 0
+ReadsOnce before now = before.is_kept ≡ true → (now.is_kept ≡ true) × (now.disk_faults ≡ before.disk_faults)
+
+-- An answer comes of a file that is kept. A call fails only where none was, and then the next call reads it anew.
+abbrev pub KeepsFile : {T : Type 0} → PlainRemote → PlainRemote → Result T RemoteFault → Type 0
+KeepsFile before now (Ok answer) = ReadsOnce before now × (now.is_kept ≡ true)
+KeepsFile before now (Err Failed) = (before.is_kept ≡ false) × (now.is_kept ≡ false)
+KeepsFile before now (Err Memory) = ReadsOnce before now
+
 -- the count of the disk's faults rose, or the bytes that it tells are unfit
 abbrev pub IsCause : PlainRemote → PlainRemote → Type 0
 IsCause before now = IfSome before.bytes (λ bytes. Rose before.disk_faults now.disk_faults ⊎ IsUnfit before.limit bytes)
 
--- The file was read, or was kept, and its bytes are fit; or the count of failures rose, since one of the disk's calls failed or the bytes
+-- The file's bytes are fit; or the count of failures rose, since one of the disk's calls failed or the bytes
 -- are unfit.
 abbrev pub KeepsBundle : {T : Type 0} → PlainRemote → PlainRemote → Result T RemoteFault → Type 0
 KeepsBundle before now (Ok done) =
-    Reads before now × (now.faults ≡ before.faults) × (now.is_kept ≡ true) × IfSome before.bytes (λ bytes. IsUnfit before.limit bytes → ⊥)
+    Reads before now × (now.faults ≡ before.faults) × IfSome before.bytes (λ bytes. IsUnfit before.limit bytes → ⊥)
 KeepsBundle before now (Err Failed) = Reads before now × Rose before.faults now.faults × (before.faults ≤ now.faults) × IsCause before now
 KeepsBundle before now (Err Memory) = Reads before now × (now.faults ≡ before.faults)
 

@@ -7,7 +7,7 @@ ghost use Rattle.remote_trait.specs.Honest.{AreNamesOf, IsPathOf};
 ghost use Rattle.remote_rules.specs.Clones.{IsCloneOf};
 ghost use Rattle.remote_rules.specs.Known.{master_world};
 ghost use Rattle.remote_rules.specs.Honest.{clone_data_of};
-ghost use Rattle.remote_bundle.specs.Remote.{mirror_of, rows_told, KeepsBundle, HasBundleCause};
+ghost use Rattle.remote_bundle.specs.Remote.{mirror_of, rows_told, KeepsBundle, KeepsFile, HasBundleCause};
 
 use crate::held::Held;
 use crate::reading::peek;
@@ -56,7 +56,9 @@ impl<D: Disk + Drop> BundleRemote<D> {
 
     /// Reads the file. A failure is counted.
     fn load(&mut self, alloc: Global) -> Result<(), RemoteFault>
-        ensures { KeepsBundle self.old self.new result }
+        requires { self.old.is_kept ≡ false }
+        ensures left { KeepsBundle self.old self.new result }
+        ensures once { KeepsFile self.old self.new result }
     {
         match peek(alloc, &mut self.disk, self.limit) {
             Ok(held) => {
@@ -73,7 +75,8 @@ impl<D: Disk + Drop> BundleRemote<D> {
 
     /// Reads the file, if nothing is kept of it.
     fn keep(&mut self, alloc: Global) -> Result<(), RemoteFault>
-        ensures { KeepsBundle self.old self.new result }
+        ensures left { KeepsBundle self.old self.new result }
+        ensures once { KeepsFile self.old self.new result }
     {
         if self.kept.is_some() {
             return Ok(());
@@ -124,6 +127,7 @@ impl<D: Disk + Drop> Remote for BundleRemote<D> {
         ensures left { Refreshes (mirror_of self.old) (mirror_of self.new) }
         ensures failed { IsErrOf result FaultFailed → Fails (mirror_of self.old) (mirror_of self.new) }
         ensures cause { HasBundleCause self.old self.new result }
+        ensures once { KeepsFile self.old self.new result }
     {
         self.keep(alloc)
     }
@@ -134,6 +138,7 @@ impl<D: Disk + Drop> Remote for BundleRemote<D> {
         ensures told { IfOk result (λ given. IfSome (mirror_of self.old).cloned (λ told. given ≡ told)) }
         ensures honest { IfOk result (λ given. IfSome (mirror_of self.old).master (λ rows. IsCloneOf rows given)) }
         ensures cause { HasBundleCause self.old self.new result }
+        ensures once { KeepsFile self.old self.new result }
     {
         self.keep(alloc)?;
         Ok(self.kept_clone(alloc)?)
@@ -152,6 +157,7 @@ impl<D: Disk + Drop> Remote for BundleRemote<D> {
         ensures failed { IsErrOf result FaultFailed → Fails (mirror_of self.old) (mirror_of self.new) }
         ensures honest { IfOk result (λ n. IfSome (mirror_of self.old).master (λ rows. AreNamesOf rows x.now back (length out.old) (take n out.new))) }
         ensures cause { HasBundleCause self.old self.new result }
+        ensures once { KeepsFile self.old self.new result }
     {
         self.asked = self.asked.saturating_add(out.len() as u64);
         self.keep(alloc)?;
@@ -168,6 +174,7 @@ impl<D: Disk + Drop> Remote for BundleRemote<D> {
         ensures failed { IsErrOf result FaultFailed → Fails (mirror_of self.old) (mirror_of self.new) }
         ensures honest { IfOk result (λ found. IfSome (mirror_of self.old).master (λ rows. IsPathOf rows heads.now name.now found)) }
         ensures cause { HasBundleCause self.old self.new result }
+        ensures once { KeepsFile self.old self.new result }
     {
         self.asked = self.asked.saturating_add(1);
         self.keep(alloc)?;
