@@ -1,11 +1,11 @@
 -- Files that are fit, and those that aren't.
-use Rattle.std.proofs.Common.{◌≡◌, ◌<◌, ◌≤◌, ℕ, Bool, true, false, List, Option, Some, None, IfSome, length, refl, sym, ap, subst, ◌∙◌, arith, cond, nat_le, if◌then◌else◌}
+use Rattle.std.proofs.Common.{◌≡◌, ◌<◌, ◌≤◌, ℕ, Bool, true, false, List, Option, Some, None, IfSome, length, refl, sym, ap, subst, ◌∙◌, arith, nat_le, if◌then◌else◌}
 use Rattle.std.specs.Option.{option_map}
 use Rattle.std.proofs.lemmas.Bool.{le-leb, leb-true, false_from_ne_true}
 use Rattle.commit_graph.specs.World.{Row}
 use Rattle.id_groups.specs.Name.{Name}
 use Rattle.bundle_codec.specs.Bundle.{Contents, IsBundle, bundle_bytes, rows_of}
-use Rattle.bundle_codec.specs.Reading.{bundle_at, bundle_within, rows_within}
+use Rattle.bundle_codec.specs.Reading.{bundle_at, rows_within}
 use Rattle.bundle_codec.proofs.Format.{bundle_again}
 use Rattle.remote_bundle.specs.Held.{rows_in, IsUnfit}
 

@@ -1,6 +1,6 @@
 -- What the calls of a bundle's remote leave and answer, by what it tells.
 use Rattle.std.proofs.Common.{◌≡◌, ◌≤◌, ℕ, List, [], Option, Some, None, IfSome, IfOk, Result, Ok, Err, refl, sym, ap, subst, ◌∙◌, arith, append-nil, is_some}
-use Rattle.std.specs.Prelude.{option_and_then, MatchOption, true}
+use Rattle.std.specs.Prelude.{option_and_then, MatchOption}
 use Rattle.std.specs.Option.{option_map}
 use Rattle.outside.specs.Counts.{Rose}
 use Rattle.id_groups.specs.Name.{Name}
@@ -12,7 +12,7 @@ use Rattle.remote_trait.specs.Calls.{Leaves, Refreshes, Fails, ToldSo, AreGrown,
 use Rattle.remote_trait.specs.declared.fault.RemoteFault.{RemoteFault}
 use Rattle.remote_trait.specs.declared.fault.RemoteFault.TheVariants.{Failed, Memory}
 use Rattle.bundle_codec.specs.Reading.{rows_within}
-use Rattle.remote_bundle.specs.Held.{rows_in, IsUnfit, Peeks}
+use Rattle.remote_bundle.specs.Held.{rows_in}
 use Rattle.remote_bundle.specs.Remote.{PlainRemote, rows_told, mirror_of, IsKeptOf, Reads, KeepsBundle}
 use Rattle.remote_bundle.proofs.Fitting.{within-so}
 

@@ -1,5 +1,5 @@
 -- Names by their places.
-use Rattle.std.proofs.Common.{◌≡◌, ℕ, zero, suc, ◌+◌, ◌-◌, ◌*◌, ◌/◌, ◌<◌, List, [], ◌∷◌, Option, Some, None, length, take, drop, inl, inr, refl, sym, ap, subst, ◌∙◌, arith}
+use Rattle.std.proofs.Common.{◌≡◌, ℕ, zero, suc, ◌+◌, ◌-◌, ◌*◌, ◌/◌, ◌<◌, List, [], ◌∷◌, Some, None, length, take, drop, inl, inr, refl, sym, ap, subst, ◌∙◌, arith}
 use Rattle.std.specs.Prelude.{slice_get}
 use Rattle.std.proofs.Math.Nat.{mul-div_cancel_left}
 use Rattle.std.proofs.lemmas.List.{length-map}
@@ -8,7 +8,7 @@ use Rattle.id_groups.specs.Name.{Name}
 use Rattle.commit_graph.specs.World.{Row, names_of}
 use Rattle.commit_graph.proofs.Places.{same-row}
 use Rattle.name_index.specs.Index.{Finds}
-use Rattle.name_index.specs.Named.{NamedPlace, Stand, names_in}
+use Rattle.name_index.specs.Named.{NamedPlace, Stand}
 use Rattle.bundle_codec.specs.Places.{named_from}
 use Rattle.bundle_codec.proofs.Indexed.{names-are}
 use Rattle.remote_trait.specs.Honest.{IsNamed}

@@ -3,7 +3,6 @@ use Rattle.std.proofs.Common.{◌≡◌, ◌≤◌, ℕ, Bool, true, false, List
 use Rattle.std.specs.Prelude.{option_and_then, MatchOption}
 use Rattle.std.specs.Option.{option_map}
 use Rattle.hex.specs.Hex.{IsBytes}
-use Rattle.id_groups.specs.Lists.{AreDistinct}
 use Rattle.id_groups.specs.Name.{Name}
 use Rattle.commit_graph.specs.World.{Row, World, IsNamedWorld}
 use Rattle.remote_rules.specs.CloneData.{CloneData}

@@ -1,5 +1,5 @@
 -- The table of a bundle's records.
-use Rattle.std.proofs.Common.{◌≡◌, ℕ, zero, suc, ◌+◌, ◌-◌, ◌*◌, ◌<◌, ◌≤◌, ◌^◌, Bool, true, false, not, cond, List, [], ◌∷◌, ◌++◌, length, drop, filter, min, refl, sym, ap, ap₂, subst, ◌∙◌, arith, lit≤, length-append, append_assoc, nat_lt}
+use Rattle.std.proofs.Common.{◌≡◌, ℕ, zero, suc, ◌+◌, ◌-◌, ◌*◌, ◌<◌, ◌≤◌, ◌^◌, false, not, cond, List, [], ◌∷◌, ◌++◌, length, filter, min, refl, sym, ap, ap₂, subst, ◌∙◌, arith, length-append, append_assoc}
 use Rattle.std.specs.List.{AllByRecursion, flat_map}
 use Rattle.std.specs.Int.{w32, to_be_bytes}
 use Rattle.std.proofs.lemmas.Bool.{lt-ltb}
@@ -10,7 +10,7 @@ use Rattle.segment_codec.specs.Turns.{goes_on, MayStandAt, StandInTurn, IsFirstB
 use Rattle.segment_codec.proofs.Tables.{follow-ends}
 use Rattle.segment_codec.proofs.Turns.{none-broken}
 use Rattle.flat_segments.specs.Maximal.{maximal, cut, up_to}
-use Rattle.flat_segments.specs.Placed.{Placed, placed, segments_of, Stand, AreRecords, MasterMayStandAt}
+use Rattle.flat_segments.specs.Placed.{placed, segments_of, Stand, AreRecords, MasterMayStandAt}
 use Rattle.flat_segments.specs.Kept.{Kept, IsTableOf, MayExtend}
 use Rattle.flat_segments.proofs.Adding.{placed-segments}
 use Rattle.flat_segments.proofs.Callers.{placed-stand, follow-few}

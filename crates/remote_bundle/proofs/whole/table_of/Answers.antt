@@ -1,4 +1,4 @@
-use Rattle.std.proofs.Common.{◌≡◌, Err, ap, subst, ◌∙◌, arith, []}
+use Rattle.std.proofs.Common.{Err, ap, subst, ◌∙◌, arith, []}
 use Rattle.flat_segments.specs.Kept.{IsTableOf}
 use Rattle.flat_segments.specs.Placed.{placed}
 use Rattle.bundle_codec.specs.Bundle.{Contents}

@@ -1,4 +1,4 @@
-use Rattle.std.proofs.Common.{◌≡◌, ◌<◌, ◌^◌, None, sym, subst, arith}
+use Rattle.std.proofs.Common.{◌<◌, ◌^◌, None, sym, subst, arith}
 use Rattle.commit_graph.specs.World.{names_of}
 use Rattle.bundle_codec.specs.Places.{named_from}
 use Rattle.remote_trait.specs.Honest.{IsNamed}

@@ -1,4 +1,4 @@
-use Rattle.std.proofs.Common.{◌≡◌, ◌+◌, ◌*◌, ◌<◌, take, drop, length, sym, ap, subst, ◌∙◌, arith}
+use Rattle.std.proofs.Common.{◌+◌, ◌*◌, take, drop, sym, ap, subst, ◌∙◌, arith}
 use Rattle.commit_graph.specs.World.{names_of}
 use Rattle.remote_trait.specs.Honest.{IsNamed}
 use Rattle.remote_bundle.specs.Names.{PlainNames, ArePlaced}

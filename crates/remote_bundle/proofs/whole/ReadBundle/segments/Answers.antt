@@ -1,4 +1,4 @@
-use Rattle.std.proofs.Common.{◌≡◌, ap, sym, subst, ◌∙◌}
+use Rattle.std.proofs.Common.{ap, sym, subst, ◌∙◌}
 use Rattle.flat_segments.specs.Maximal.{maximal, cut}
 use Rattle.flat_segments.specs.Placed.{placed, segments_of, Stand}
 use Rattle.bundle_codec.specs.Bundle.{rows_of}
