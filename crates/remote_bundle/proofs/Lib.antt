@@ -2,5 +2,4 @@ pub mod Placing
 pub mod Mastering
 pub mod Tabling
 pub mod Fitting
-pub mod Mirroring
 pub mod Sound

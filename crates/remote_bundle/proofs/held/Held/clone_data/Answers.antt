@@ -8,7 +8,7 @@ use Rattle.change_rules.proofs.Relation.{clones-are}
 use Rattle.bundle_codec.specs.Bundle.{rows_of}
 use Rattle.remote_bundle.specs.Held.{rows_in}
 use Rattle.remote_bundle.proofs.Fitting.{told-so}
-use Rattle.remote_bundle.proofs.Mirroring.{ok-map}
+use Rattle.remote_bundle.proofs.Fitting.{ok-map}
 use Rattle.remote_bundle.proofs.held.Held.clone_data.Goals as goal
 
 pub returns : goal.returns
