@@ -1,7 +1,6 @@
 //! What a bundle on a disk in memory answers, beside a mirror in memory of the same commits.
 
-use crate::bundles::FORK;
-use crate::bundles::name;
+use crate::bundles::{FORK, NONE, name};
 use crate::digits::bytes_of;
 use commit_graph::{Row, World};
 use disk_memory::MemoryDisk;
@@ -53,15 +52,29 @@ fn plain(alloc: Global) -> Result<MemoryRemote, AllocError> {
     MemoryRemote::new(alloc, world, &[])
 }
 
+/// A disk with these bytes, whose calls with these numbers fail.
+fn disk_of(alloc: Global, digits: &str, fails: &[u64]) -> Result<MemoryDisk, AllocError> {
+    let bytes = bytes_of(alloc, digits)?;
+    MemoryDisk::new(alloc, &bytes, fails, None)
+}
+
 /// The bundle of the fork on a disk whose calls with these numbers fail.
-fn bundled(alloc: Global, fails: &[u64], limit: u64) -> Result<BundleRemote<MemoryDisk>, AllocError> {
-    let bytes = bytes_of(alloc, FORK)?;
-    let disk = MemoryDisk::new(alloc, &bytes, fails, None)?;
+fn bundled(
+    alloc: Global,
+    fails: &[u64],
+    limit: u64,
+) -> Result<BundleRemote<MemoryDisk>, AllocError> {
+    let disk = disk_of(alloc, FORK, fails)?;
     Ok(BundleRemote::new(disk, limit))
 }
 
 /// The last bytes of the names that `back` first parents lead to, and one more, up to five.
-fn line<R: Remote>(alloc: Global, remote: &mut R, last: u8, back: u64) -> Result<[u8; 5], RemoteFault> {
+fn line<R: Remote>(
+    alloc: Global,
+    remote: &mut R,
+    last: u8,
+    back: u64,
+) -> Result<[u8; 5], RemoteFault> {
     let mut out = [name(0); 5];
     let count = remote.names_of(alloc, &name(last), back, &mut out)?;
     let mut lasts = [0; 5];
@@ -73,6 +86,7 @@ fn line<R: Remote>(alloc: Global, remote: &mut R, last: u8, back: u64) -> Result
     Ok(lasts)
 }
 
+/// The last byte of a name.
 fn last_byte(name: &Name) -> u8 {
     match name.lend().bytes {
         [.., last] => *last,
@@ -97,7 +111,12 @@ fn first_unlike<R: Remote, S: Remote>(
 }
 
 /// The last name of the way's start, and how long it is; zeros where there is no way.
-fn way<R: Remote>(alloc: Global, remote: &mut R, heads: &[Name], last: u8) -> Result<(u8, u64), RemoteFault> {
+fn way<R: Remote>(
+    alloc: Global,
+    remote: &mut R,
+    heads: &[Name],
+    last: u8,
+) -> Result<(u8, u64), RemoteFault> {
     match remote.path_of(alloc, heads, &name(last))? {
         Some(path) => Ok((last_byte(&path.x), path.n)),
         None => Ok((0, 0)),
@@ -122,6 +141,7 @@ const WAYS: [Way; 12] = [
     (&[3, 9, 5], 1, (3, 2)),
 ];
 
+/// The names with these last bytes.
 fn names_of(alloc: Global, lasts: &[u8]) -> Result<Vec<Name>, AllocError> {
     let mut names = Vec::new(alloc);
     for last in lasts {
@@ -207,5 +227,33 @@ fn a_file_is_read_until_it_was(rt: HostRuntime) -> Result<(), AllocError> {
 fn a_file_above_the_limit_is_none(rt: HostRuntime) -> Result<(), AllocError> {
     let mut bundle = bundled(rt.alloc(), &[], 174)?;
     assert!(rt; refreshes(rt.alloc(), &mut bundle) == [false, false, false, false]);
+    Ok(())
+}
+
+/// Whether a file with these bytes fails when it is asked for clone data.
+fn fails(alloc: Global, digits: &str) -> Result<bool, AllocError> {
+    let disk = disk_of(alloc, digits, &[])?;
+    let mut bundle = BundleRemote::new(disk, 1 << 30);
+    match bundle.clone_data(alloc) {
+        Err(RemoteFault::Failed) => Ok(true),
+        Err(RemoteFault::Memory) => Err(AllocError),
+        Ok(_) => Ok(false),
+    }
+}
+
+/// The number of the first file that is answered of, though it is no bundle.
+fn first_answered(alloc: Global) -> Result<usize, AllocError> {
+    for i in 0..NONE.len() {
+        let (_, digits) = &NONE[i];
+        if !fails(alloc, digits)? {
+            return Ok(i);
+        }
+    }
+    Ok(NONE.len())
+}
+
+#[test]
+fn files_that_are_no_bundles_fail(rt: HostRuntime) -> Result<(), AllocError> {
+    assert_eq!(rt; first_answered(rt.alloc())?, NONE.len());
     Ok(())
 }

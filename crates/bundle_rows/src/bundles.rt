@@ -7,35 +7,32 @@ use std::alloc::{AllocError, Global};
 use std::test::Fail;
 
 /// What a case is, and its bytes in hexadecimal digits.
-type Case = (&'static str, &'static str);
+pub type Case = (&'static str, &'static str);
+
+/// The bundle of no commits.
+pub const NOTHING: &str = "534547424e444c310000000000000000";
 
 /// The fork of six commits: the ids 0 to 2, 3 and 4 from 1, and 5 from 2 and 4.
-pub const FORK: &str = "534547424e444c310000000600000003010000000000000000020200000000000000000000040101010000000000000000000500020204000000000000000000000000000000000000000100000000000000000000000000000000000000020000000000000000000000000000000000000003000000000000000000000000000000000000000400000000000000000000000000000000000000050000000000000000000000000000000000000006";
+pub const FORK: &str =
+    "534547424e444c310000000600000003010000000000000000020200000000000000000000040101010000000000000000000500020204000000000000000000000000000000000000000100000000000000000000000000000000000000020000000000000000000000000000000000000003000000000000000000000000000000000000000400000000000000000000000000000000000000050000000000000000000000000000000000000006";
 
+/// Bundles.
 const BUNDLES: [Case; 4] = [
-    (
-        "nothing",
-        "534547424e444c310000000000000000",
-    ),
+    ("nothing", NOTHING),
     (
         "one row",
         "534547424e444c3100000001000000010100000000000000000000000000000000000000000000000000000000000001",
     ),
-    (
-        "the fork",
-        "534547424e444c310000000600000003010000000000000000020200000000000000000000040101010000000000000000000500020204000000000000000000000000000000000000000100000000000000000000000000000000000000020000000000000000000000000000000000000003000000000000000000000000000000000000000400000000000000000000000000000000000000050000000000000000000000000000000000000006",
-    ),
+    ("the fork", FORK),
     (
         "two roots",
         "534547424e444c31000000020000000201000000000000000000000001000000000000000001000000000000000000000000000000000000000000010000000000000000000000000000000000000002",
     ),
 ];
 
-const NONE: [Case; 16] = [
-    (
-        "no bytes",
-        "",
-    ),
+/// Files that are no bundle, each but the first made of a bundle by one change.
+pub const NONE: [Case; 16] = [
+    ("no bytes", ""),
     (
         "another mark",
         "534547424e444c320000000600000003010000000000000000020200000000000000000000040101010000000000000000000500020204000000000000000000000000000000000000000100000000000000000000000000000000000000020000000000000000000000000000000000000003000000000000000000000000000000000000000400000000000000000000000000000000000000050000000000000000000000000000000000000006",
@@ -98,7 +95,7 @@ const NONE: [Case; 16] = [
     ),
 ];
 
-/// Whether the bytes are a bundle, which is built again byte by byte where they are the fork.
+/// Whether the bytes are a bundle.
 fn is_bundle(alloc: Global, digits: &str) -> Result<bool, AllocError> {
     let bytes = bytes_of(alloc, digits)?;
     match Bundle::read(alloc, &bytes) {
@@ -142,7 +139,11 @@ pub fn name(last: u8) -> Name {
 fn add_records(build: &mut BundleBuild) -> Result<(), AllocError> {
     build.segment(Id::master(0), Id::master(2), &[])?;
     build.segment(Id::master(3), Id::master(4), &[Id::master(1)])?;
-    build.segment(Id::master(5), Id::master(5), &[Id::master(2), Id::master(4)])?;
+    build.segment(
+        Id::master(5),
+        Id::master(5),
+        &[Id::master(2), Id::master(4)],
+    )?;
     Ok(())
 }
 
@@ -163,15 +164,33 @@ fn build_fork(alloc: Global) -> Result<Vec<u8>, AllocError> {
     build.finish()
 }
 
-/// Whether what is built is the fork.
+/// The bundle of nothing, built.
+fn build_nothing(alloc: Global) -> Result<Vec<u8>, AllocError> {
+    let build = BundleBuild::new(alloc, 0)?;
+    build.finish()
+}
+
+/// Whether these are the bytes.
+fn are_bytes(alloc: Global, built: &[u8], digits: &str) -> Result<bool, AllocError> {
+    let wanted = bytes_of(alloc, digits)?;
+    Ok(built == wanted.as_slice())
+}
+
+/// Whether what is built of the fork is its bundle.
 fn is_fork(alloc: Global) -> Result<bool, AllocError> {
     let built = build_fork(alloc)?;
-    let wanted = bytes_of(alloc, FORK)?;
-    Ok(built == wanted)
+    are_bytes(alloc, &built, FORK)
+}
+
+/// Whether what is built of nothing is its bundle.
+fn is_nothing(alloc: Global) -> Result<bool, AllocError> {
+    let built = build_nothing(alloc)?;
+    are_bytes(alloc, &built, NOTHING)
 }
 
 #[test]
-fn a_bundle_is_built(rt: HostRuntime) -> Result<(), AllocError> {
+fn bundles_are_built(rt: HostRuntime) -> Result<(), AllocError> {
     assert!(rt; is_fork(rt.alloc())?);
+    assert!(rt; is_nothing(rt.alloc())?);
     Ok(())
 }
