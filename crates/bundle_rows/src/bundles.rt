@@ -1,5 +1,10 @@
 //! Bundles byte by byte: what is built, what is read, and what is none.
 
+ghost use Rattle.std.specs.Prelude.{◌≡◌, [], length, OnOk};
+ghost use Rattle.bundle_codec.specs.Bundle.{Contents, IsBundle};
+ghost use Rattle.bundle_codec.specs.Building.{IsBuilt, no_contents, with_name};
+ghost use Rattle.bundle_rows.specs.Fork.{name_to, fork_names};
+
 use crate::digits::bytes_of;
 use id_groups::{Id, Name};
 use remote_bundle::{Bundle, BundleBuild, BundleFault};
@@ -129,38 +134,54 @@ fn others_are_no_bundles(rt: HostRuntime) -> Result<(), AllocError> {
 }
 
 /// The name of 19 zero bytes and this one.
-pub fn name(last: u8) -> Name {
+pub fn name(last: u8) -> Name
+    ensures { result ≡ name_to last }
+{
     let mut bytes = [0; 20];
     bytes[19] = last;
     Name::from_bytes(bytes)
 }
 
-/// Adds the records of the fork.
-fn add_records(build: &mut BundleBuild) -> Result<(), AllocError> {
+/// Adds the records and the names of the fork.
+fn put_fork(build: &mut BundleBuild) -> Result<(), AllocError>
+    requires { IsBuilt build.old no_contents }
+    ensures built { OnOk result ((c : Contents) × IsBundle c × IsBuilt build.new c × (length c.names ≡ 6)) }
+    ensures rows { build.new.rows ≡ build.old.rows }
+{
     build.segment(Id::master(0), Id::master(2), &[])?;
     build.segment(Id::master(3), Id::master(4), &[Id::master(1)])?;
-    build.segment(
-        Id::master(5),
-        Id::master(5),
-        &[Id::master(2), Id::master(4)],
-    )?;
+    build.segment(Id::master(5), Id::master(5), &[Id::master(2), Id::master(4)])?;
+    put_names(build)?;
     Ok(())
 }
 
 /// Adds the names of the fork.
-fn add_names(build: &mut BundleBuild) -> Result<(), AllocError> {
-    for last in 1..7 {
-        let own = name(last);
-        build.name(own.lend())?;
-    }
+fn put_names(build: &mut BundleBuild) -> Result<(), AllocError>
+    ensures built { OnOk result ((c : Contents) → IsBuilt build.old c → c.names ≡ [] → IsBuilt build.new (record c { names = fork_names })) }
+    ensures rows { build.new.rows ≡ build.old.rows }
+{
+    put_name(build, 1)?;
+    put_name(build, 2)?;
+    put_name(build, 3)?;
+    put_name(build, 4)?;
+    put_name(build, 5)?;
+    put_name(build, 6)?;
     Ok(())
+}
+
+/// Adds the name with this last byte.
+fn put_name(build: &mut BundleBuild, last: u8) -> Result<(), AllocError>
+    ensures built { OnOk result ((c : Contents) → IsBuilt build.old c → IsBuilt build.new (with_name c (name_to last))) }
+    ensures rows { build.new.rows ≡ build.old.rows }
+{
+    let own = name(last);
+    build.name(own.lend())
 }
 
 /// The fork, built.
 fn build_fork(alloc: Global) -> Result<Vec<u8>, AllocError> {
     let mut build = BundleBuild::new(alloc, 6)?;
-    add_records(&mut build)?;
-    add_names(&mut build)?;
+    put_fork(&mut build)?;
     build.finish()
 }
 
