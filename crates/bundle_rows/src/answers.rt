@@ -67,13 +67,14 @@ fn disk_of(alloc: Global, digits: &str, fails: &[u64]) -> Result<MemoryDisk, All
     MemoryDisk::new(alloc, &bytes, fails, None)
 }
 
-/// The bundle of the fork on a disk whose calls with these numbers fail.
-fn bundled(
+/// The remote of a disk with these bytes, whose calls with these numbers fail.
+fn remote_of(
     alloc: Global,
+    digits: &str,
     fails: &[u64],
     limit: u64,
 ) -> Result<BundleRemote<MemoryDisk>, AllocError> {
-    let disk = disk_of(alloc, FORK, fails)?;
+    let disk = disk_of(alloc, digits, fails)?;
     Ok(BundleRemote::new(disk, limit))
 }
 
@@ -186,18 +187,36 @@ fn is_clone(told: &CloneData) -> bool {
         && told.heads.at(0).is(&name(6))
 }
 
+/// The same of a bundle and a mirror of the fork.
+fn unlike_plain(
+    alloc: Global,
+    bundle: &mut BundleRemote<MemoryDisk>,
+) -> Result<Option<(u8, u64)>, AllocError> {
+    let mut plain = plain(alloc)?;
+    Ok(first_unlike(alloc, bundle, &mut plain))
+}
+
+/// The same of the fork's bundle.
+fn unlike(alloc: Global) -> Result<Option<(u8, u64)>, AllocError> {
+    let mut bundle = remote_of(alloc, FORK, &[], 175)?;
+    unlike_plain(alloc, &mut bundle)
+}
+
 #[test]
 fn a_bundle_answers_as_its_world(rt: HostRuntime) -> Result<(), AllocError> {
-    let mut bundle = bundled(rt.alloc(), &[], 175)?;
-    let mut plain = plain(rt.alloc())?;
-    assert!(rt; first_unlike(rt.alloc(), &mut bundle, &mut plain).is_none());
+    assert_eq!(rt; unlike(rt.alloc())?, None);
     Ok(())
+}
+
+/// The same of the fork's bundle.
+fn lost(alloc: Global) -> Result<Result<usize, RemoteFault>, AllocError> {
+    let mut bundle = remote_of(alloc, FORK, &[], 175)?;
+    Ok(first_lost(alloc, &mut bundle))
 }
 
 #[test]
 fn a_bundle_leads_to_its_commits(rt: HostRuntime) -> Result<(), AllocError> {
-    let mut bundle = bundled(rt.alloc(), &[], 175)?;
-    assert!(rt; first_lost(rt.alloc(), &mut bundle) == Ok(WAYS.len()));
+    assert_eq!(rt; lost(rt.alloc())?, Ok(WAYS.len()));
     Ok(())
 }
 
@@ -209,10 +228,15 @@ fn gives_clone<R: Remote>(alloc: Global, remote: &mut R) -> bool {
     }
 }
 
+/// Whether the fork's bundle does.
+fn is_cloned(alloc: Global) -> Result<bool, AllocError> {
+    let mut bundle = remote_of(alloc, FORK, &[], 175)?;
+    Ok(gives_clone(alloc, &mut bundle))
+}
+
 #[test]
 fn a_bundle_is_cloned(rt: HostRuntime) -> Result<(), AllocError> {
-    let mut bundle = bundled(rt.alloc(), &[], 175)?;
-    assert!(rt; gives_clone(rt.alloc(), &mut bundle));
+    assert!(rt; is_cloned(rt.alloc())?);
     Ok(())
 }
 
@@ -226,29 +250,39 @@ fn refreshes<R: Remote>(alloc: Global, remote: &mut R) -> [bool; 4] {
     ]
 }
 
+/// The same of the fork's bundle on a disk whose calls with these numbers fail.
+fn refreshed(alloc: Global, fails: &[u64], limit: u64) -> Result<[bool; 4], AllocError> {
+    let mut bundle = remote_of(alloc, FORK, fails, limit)?;
+    Ok(refreshes(alloc, &mut bundle))
+}
+
 #[test]
 fn a_file_is_read_until_it_was(rt: HostRuntime) -> Result<(), AllocError> {
-    let mut bundle = bundled(rt.alloc(), &[1, 3], 175)?;
-    assert!(rt; refreshes(rt.alloc(), &mut bundle) == [false, false, true, true]);
+    assert_eq!(rt;
+        refreshed(rt.alloc(), &[1, 3], 175)?,
+        [false, false, true, true]
+    );
     Ok(())
 }
 
 #[test]
 fn a_file_above_the_limit_is_none(rt: HostRuntime) -> Result<(), AllocError> {
-    let mut bundle = bundled(rt.alloc(), &[], 174)?;
-    assert!(rt; refreshes(rt.alloc(), &mut bundle) == [false, false, false, false]);
+    assert_eq!(rt;
+        refreshed(rt.alloc(), &[], 174)?,
+        [false, false, false, false]
+    );
     Ok(())
 }
 
-/// Whether a file with these bytes fails when it is asked for clone data.
+/// Whether the remote fails when it is asked for clone data.
+fn is_failing(alloc: Global, remote: &mut BundleRemote<MemoryDisk>) -> bool {
+    remote.clone_data(alloc).err() == Some(RemoteFault::Failed)
+}
+
+/// Whether a file with these bytes does.
 fn fails(alloc: Global, digits: &str) -> Result<bool, AllocError> {
-    let disk = disk_of(alloc, digits, &[])?;
-    let mut bundle = BundleRemote::new(disk, 1 << 30);
-    match bundle.clone_data(alloc) {
-        Err(RemoteFault::Failed) => Ok(true),
-        Err(RemoteFault::Memory) => Err(AllocError),
-        Ok(_) => Ok(false),
-    }
+    let mut remote = remote_of(alloc, digits, &[], 1 << 30)?;
+    Ok(is_failing(alloc, &mut remote))
 }
 
 /// The number of the first file that is answered of, though it is no bundle.

@@ -150,7 +150,11 @@ fn put_fork(build: &mut BundleBuild) -> Result<(), AllocError>
 {
     build.segment(Id::master(0), Id::master(2), &[])?;
     build.segment(Id::master(3), Id::master(4), &[Id::master(1)])?;
-    build.segment(Id::master(5), Id::master(5), &[Id::master(2), Id::master(4)])?;
+    build.segment(
+        Id::master(5),
+        Id::master(5),
+        &[Id::master(2), Id::master(4)],
+    )?;
     put_names(build)?;
     Ok(())
 }
