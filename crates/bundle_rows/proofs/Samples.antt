@@ -1,8 +1,8 @@
 -- The fork is a bundle.
-use Rattle.std.proofs.Common.{◌≡◌, ℕ, zero, suc, ◌+◌, ◌<◌, ◌≤◌, ◌++◌, List, [], ◌∷◌, inl, inr, ap, refl, replicate, lit≤, arith}
+use Rattle.std.proofs.Common.{◌≡◌, ℕ, zero, suc, ◌<◌, ◌++◌, List, [], ◌∷◌, inl, inr, ap, refl, replicate, lit≤, arith}
 use Rattle.id_groups.specs.Lists.{IsIn}
 use Rattle.std.specs.List.{AllByRecursion}
-use Rattle.id_groups.specs.Name.{Name, IsName}
+use Rattle.id_groups.specs.Name.{IsName}
 use Rattle.segment_codec.specs.Record.{Segment, IsSegment}
 use Rattle.bundle_codec.specs.Bundle.{Contents, IsBundle}
 use Rattle.bundle_codec.proofs.Format.{apart-distinct}

@@ -1,18 +1,17 @@
 -- The rows that the bytes of a file tell.
-use Rattle.std.proofs.Common.{◌≡◌, ◌<◌, ◌≤◌, ℕ, Bool, true, false, List, Option, Some, None, IfSome, IfOk, Result, Ok, Err, length, refl, sym, ap, subst, ◌∙◌, arith, nat_le, if◌then◌else◌}
+use Rattle.std.proofs.Common.{◌≡◌, ◌≤◌, ℕ, List, None, IfSome, IfOk, Result, Ok, Err, length, sym, ap, subst, ◌∙◌, if◌then◌else◌}
 use Rattle.std.specs.Option.{option_map}
-use Rattle.std.proofs.lemmas.Bool.{le-leb, leb-true, false_from_ne_true}
+use Rattle.std.proofs.lemmas.Bool.{le-leb}
 use Rattle.commit_graph.specs.World.{Row}
 use Rattle.id_groups.specs.Name.{Name}
 use Rattle.bundle_codec.specs.Bundle.{Contents, IsBundle, bundle_bytes, rows_of}
 use Rattle.bundle_codec.specs.Reading.{bundle_at, rows_within}
 use Rattle.bundle_codec.proofs.Format.{bundle_again}
-use Rattle.remote_bundle.specs.Held.{rows_in, IsUnfit}
+use Rattle.remote_bundle.specs.Held.{rows_in}
 
+-- within the limit the rows are those of the bytes
 pub within-rows : (limit : ℕ) (bytes : List ℕ) → length bytes ≤ limit → rows_within limit bytes ≡ rows_in bytes
 within-rows limit bytes le = ap (λ b. option_map rows_of (if b then bundle_at bytes else None)) (le-leb (length bytes) limit le)
-
--- ---- what is told
 
 -- what holds of a bundle's rows holds of those that its bytes tell
 pub told-so : (c : Contents) → IsBundle c → (bytes : List ℕ) → bytes ≡ bundle_bytes c → (P : List (Row Name) → Type 0) → P (rows_of c) → IfSome (rows_in bytes) P
