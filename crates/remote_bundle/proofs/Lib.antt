@@ -1,0 +1,5 @@
+pub mod Placing
+pub mod Mastering
+pub mod Tabling
+pub mod Fitting
+pub mod Sound

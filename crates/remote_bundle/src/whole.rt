@@ -1,0 +1,95 @@
+//! A bundle that was read.
+
+ghost use Rattle.std.specs.Prelude.{◌≡◌, ◌<◌, ◌^◌, Err, IfErr, IfOk, OnOk, None, length};
+ghost use Rattle.commit_graph.specs.World.{names_of};
+ghost use Rattle.flat_segments.specs.Kept.{IsTableOf};
+ghost use Rattle.flat_segments.specs.Placed.{placed};
+ghost use Rattle.flat_segments.specs.Views.{view_flats};
+ghost use Rattle.bundle_codec.specs.Bundle.{Contents, IsBundle, bundle_bytes, rows_of};
+ghost use Rattle.bundle_codec.specs.Lent.{contents_of_lent};
+ghost use Rattle.bundle_codec.specs.Places.{records_start};
+ghost use Rattle.bundle_codec.specs.Reading.{bundle_at};
+ghost use Rattle.bundle_codec.specs.declared.fault.BundleFault.{BundleFault as Fault};
+ghost use Rattle.remote_answers.specs.Master.{IsMasterIn};
+ghost use Rattle.remote_bundle.specs.Names.{ArePlaced};
+ghost use Rattle.remote_bundle.specs.Held.{IsReadOf};
+
+use crate::names::BundleNames;
+use bundle_codec::{Bundle, BundleFault};
+use flat_segments::{FlatFault, FlatTable, FlatView};
+use name_index::NameIndex;
+use std::alloc::Global;
+use std::marker::Model;
+
+/// A bundle that was read: its bytes, where its names stand, the table of its segments, and the index of its names.
+#[derive(Drop)]
+pub(crate) struct ReadBundle {
+    bytes: Vec<u8>,
+    start: u64,
+    table: FlatTable,
+    index: NameIndex,
+}
+
+impl Model for ReadBundle {
+    ghost use Rattle.bundle_codec.specs.Bundle.{Contents};
+    ghost use Rattle.remote_bundle.specs.Held.{PlainRead, IsReadOf};
+
+    ghost Value = { PlainRead };
+
+    ghost view = { λ b. record { bytes = b.bytes.items; start = b.start; table = b.table; index = b.index } };
+
+    ghost invariant = { λ b. (c : Contents) × IsReadOf (record { bytes = b.bytes.items; start = b.start; table = b.table; index = b.index }) c };
+}
+
+/// The table of a bundle's records.
+fn table_of(alloc: Global, bytes: &[u8], bundle: &Bundle<'_>) -> Result<FlatTable, BundleFault>
+    requires bundle { IsBundle (contents_of_lent bundle.now) }
+    requires spelled { bytes.now ≡ bundle_bytes (contents_of_lent bundle.now) }
+    requires fits { length bytes.now < 2 ^ 63 }
+    ensures table { IfOk result (λ table. IsTableOf table (placed records_start (contents_of_lent bundle.now).segments)) }
+    ensures memory { IfErr result (λ fault. fault ≡ Fault.Memory) }
+{
+    let mut table = FlatTable::empty(alloc);
+    match table.extend(bytes, bundle.records(), bundle.records_start()) {
+        Ok(()) => Ok(table),
+        Err(FlatFault::Memory) => Err(BundleFault::Memory),
+        Err(FlatFault::BadSegment(_)) => unreachable!(),
+    }
+}
+
+impl ReadBundle {
+    /// The bundle that the bytes are. `Bad` comes exactly where they are none.
+    pub(crate) fn read(alloc: Global, bytes: Vec<u8>) -> Result<ReadBundle, BundleFault>
+        ensures bytes { IfOk result (λ b. b.bytes ≡ bytes.items) }
+        ensures fit { OnOk result (bundle_at bytes.items ≡ None → ⊥) }
+        ensures bad { result ≡ Err Fault.Bad → bundle_at bytes.items ≡ None }
+    {
+        let (bundle, index) = Bundle::read_indexed(alloc, &bytes)?;
+        let table = table_of(alloc, &bytes, &bundle)?;
+        let start = bundle.names_start();
+        Ok(ReadBundle {
+            bytes,
+            start,
+            table,
+            index,
+        })
+    }
+
+    /// Its segments.
+    pub(crate) fn segments(&self) -> FlatView<'_>
+        ensures { (c : Contents) → IsReadOf self.now c → (view_flats result ≡ c.segments) × IsMasterIn (view_flats result) (rows_of c) }
+    {
+        self.table.view(&self.bytes, self.table.count())
+    }
+
+    /// The names of its rows.
+    pub(crate) fn names(&self) -> BundleNames<'_>
+        ensures { (c : Contents) → IsReadOf self.now c → ArePlaced result (names_of (rows_of c)) }
+    {
+        BundleNames {
+            bytes: &self.bytes,
+            start: self.start,
+            index: &self.index,
+        }
+    }
+}
