@@ -34,7 +34,7 @@ the-one f (x ∷ y ∷ xs) e = absurd (omega (arith, e))
 pub unserved : (limit status : ℕ) → status ≡ 7 → (first : List Mirror) → (m : Mirror) × (first ≡ m ∷ []) → (i o : Option (List ℕ))
     → WhereTold (ports i o) (ports i o) (λ before after. ServeMeans limit status (streams before after) first first)
 unserved limit status seven first one i o =
-    WhereTold-same (ports i o) _ (λ x. (served.Memory, seven, (one.0, one.0, one.1, one.1, refl, refl, refl)))
+    WhereTold-same (ports i o) _ (λ x. (served.Memory, seven, (one.0, one.0, one.1, one.1, (refl, refl, refl))))
 
 -- words that end it at once
 pub once-serves : (words : List (List ℕ)) (status limit : ℕ) → EndsAtOnce words status → IsUsageOf Serve words → (first : List Mirror) → (m : Mirror) × (first ≡ m ∷ []) → (i o : Option (List ℕ))
@@ -47,4 +47,4 @@ once-one words status count once of =
     (λ e. absurd (omega (arith, e, seven)), λ h. inr seven)
 
 pub once-served : (words : List (List ℕ)) (status : ℕ) → EndsAtOnce words status → IsUsageOf Serve words → IsServeStatus status
-once-served words status once of = subst IsServeStatus (sym (only-memory words status of.0 once of.1)) tt
+once-served words status once of = subst IsServeStatus (sym (only-memory words status of.0 once of.1)) refl
