@@ -367,7 +367,14 @@ fn a_pull_fails_at_each_call(rt: HostRuntime) -> Result<(), AllocError> {
 fn left_by_gate(alloc: Global, change: Change, fill: Fill) -> Result<World, AllocError> {
     let mut disk = MemoryDisk::new(alloc, change.start(), &[], None)?;
     let list = beside(alloc, change)?;
-    if !are_answered_beside(alloc, &mut disk, list, change.lines(), (0, 1), change.stored())? {
+    if !are_answered_beside(
+        alloc,
+        &mut disk,
+        list,
+        change.lines(),
+        (0, 1),
+        change.stored(),
+    )? {
         return Ok(World::Wrong);
     }
     let moment = change.closed() + 2;

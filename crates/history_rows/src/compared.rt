@@ -81,7 +81,11 @@ fn has_parents<T: SegmentTable>(
 }
 
 /// Whether the table has the rows of the world, and no others.
-fn has_rows<T: SegmentTable>(alloc: Global, table: &T, world: &World) -> Result<bool, AllocError> {
+pub fn has_rows<T: SegmentTable>(
+    alloc: Global,
+    table: &T,
+    world: &World,
+) -> Result<bool, AllocError> {
     let mut steps = Steps::new();
     for (place, row) in world.rows.iter().enumerate() {
         let id = id_at(world.masters, place);

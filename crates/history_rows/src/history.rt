@@ -44,7 +44,7 @@ pub struct History {
 }
 
 /// The standard limits with these for the others, the master rows and the log's bytes.
-fn limits_of(others: u64, master: u64, log: u64) -> Limits
+pub fn limits_of(others: u64, master: u64, log: u64) -> Limits
     ensures { AreLimits result }
 {
     Limits {

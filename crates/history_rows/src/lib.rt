@@ -15,6 +15,8 @@ mod names;
 #[cfg(test)]
 mod plain;
 #[cfg(test)]
+mod pulls;
+#[cfg(test)]
 mod rows;
 #[cfg(test)]
 mod tests;

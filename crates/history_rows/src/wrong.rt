@@ -1,6 +1,7 @@
 //! What a drawn history may come upon.
 
 use flush_rebuild::{PlanFault, TableFault};
+use id_groups::Name;
 use std::alloc::AllocError;
 
 /// Where a history doesn't go as the plain worlds do.
@@ -16,6 +17,12 @@ pub enum Wrong {
     Payload,
     /// The base of so many payloads has other rows.
     Base(usize),
+    /// A mirror isn't made, or doesn't answer.
+    Remote,
+    /// A pull is answered otherwise.
+    Pull,
+    /// A pull meets a commit with this name and other parents.
+    Conflict(Name),
     /// There was no memory.
     Memory,
 }

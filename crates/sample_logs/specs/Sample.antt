@@ -1,9 +1,11 @@
 -- A log in memory with the tables of its payloads, and the bases of some of its fronts.
-use Rattle.std.specs.Prelude.{◌≡◌, ◌<◌, ◌≤◌, ◌^◌, ◌++◌, ◌∷◌, [], ℕ, List, length}
+use Rattle.std.specs.Prelude.{◌≡◌, ◌<◌, ◌≤◌, ◌^◌, ◌++◌, ◌∷◌, [], None, ℕ, List, length}
 use Rattle.std.specs.List.{AllByRecursion}
 use Rattle.id_groups.specs.Id.{other_id}
 use Rattle.batch_codec.specs.Grammar.{count_after}
 use Rattle.name_map.specs.Added.{Placed, AllStand, payloads_of}
+use Rattle.remote_rules.specs.CloneData.{first_broken}
+use Rattle.mirror_set.specs.Fresh.{PlainFresh, count_from}
 use Rattle.payload_tables.specs.declared.base.BaseRef.{BaseRef}
 use Rattle.payload_tables.specs.Kept.{PlainTables, PlainOthers, AreTablesOf}
 use Rattle.payload_tables.specs.Pending.{PlainPending, HoldsRows}
@@ -64,3 +66,8 @@ pub record MayFlushIn (bytes : List ℕ) (tables : PlainTables) (pending : Plain
 -- an other id of the base of these payloads
 abbrev pub IsOtherIn : List Placed → ℕ → Type 0
 IsOtherIn added id = (2 ^ 56 ≤ id) × (id < other_id (others_count added))
+
+-- what was taken of a remote, where so many commits were cloned: it breaks no rule, and has a name for each id from there on
+pub record MayPullBehind (tables : PlainTables) (fresh : PlainFresh) : Type 0 where
+  pub unbroken : first_broken fresh.cloned ≡ None
+  pub count : length fresh.names ≡ count_from tables.cloned fresh.cloned

@@ -1,17 +1,19 @@
 //! A log with its tables and bases.
 
-ghost use Rattle.std.specs.Prelude.{List, IfOk, IfSome};
+ghost use Rattle.std.specs.Prelude.{◌≡◌, ◌<◌, ◌^◌, List, length, IfOk, IfSome};
 ghost use Rattle.name_map.specs.Added.{Placed};
 ghost use Rattle.change_rules.specs.Standard.{AreLimits};
 ghost use Rattle.payload_tables.specs.Bases.{IsBaseOf};
-ghost use Rattle.sample_logs.specs.Sample.{MayFlushIn};
+ghost use Rattle.sample_logs.specs.Sample.{MayFlushIn, MayPullBehind};
 
 use crate::base::KeptBase;
-use crate::stages::{add_payload, change_of, keep_base, left_of, strip_of};
+use crate::stages::{add_payload, change_of, clone_of, keep_base, left_of, pull_of, strip_of};
 use commit_graph::Row;
 use flush_rebuild::{BaseRef, Change, Limits, PendingRows, PlanFault, TableFault, Tables};
 use high_segments::View;
 use id_groups::Name;
+use mirror_set::{Fresh, FreshFault, ask_fresh};
+use remote_trait::{CloneData, Remote};
 use std::alloc::{AllocError, Global};
 use std::marker::Model;
 
@@ -114,6 +116,40 @@ impl LogSample {
         requires { AreLimits limits }
     {
         strip_of(self.alloc, &self.bytes, &self.tables, names, limits)
+    }
+
+    /// How many commits were cloned.
+    pub fn cloned(&self) -> u64
+        ensures { result ≡ self.now.tables.cloned }
+    {
+        self.tables.cloned()
+    }
+
+    /// The change of a clone of what a remote told, over the log without payloads.
+    pub fn clone_change(
+        alloc: Global,
+        told: &CloneData,
+        limits: Limits,
+    ) -> Result<Change, PlanFault>
+        requires { AreLimits limits }
+    {
+        clone_of(alloc, told, limits)
+    }
+
+    /// What a pull takes of the first of these remotes that answers.
+    pub fn taken<R: Remote>(&self, mirrors: &mut Vec<R>) -> Result<Fresh, FreshFault>
+        requires { length mirrors.old.items < 2 ^ 32 }
+        ensures { IfOk result (λ fresh. MayPullBehind self.now.tables fresh) }
+    {
+        ask_fresh(self.alloc, mirrors, self.tables.cloned())
+    }
+
+    /// The change of a pull of what was taken of a remote.
+    pub fn pull(&self, fresh: &Fresh, limits: Limits) -> Result<Change, PlanFault>
+        requires limits { AreLimits limits }
+        requires fresh { MayPullBehind self.now.tables fresh.now }
+    {
+        pull_of(self.alloc, &self.bytes, &self.tables, fresh, limits)
     }
 
     /// The log with a payload more behind it.

@@ -1,4 +1,4 @@
-//! The stages of a flush, and a strip.
+//! The stages of a flush, a strip, a clone and a pull.
 
 ghost use Rattle.std.specs.Prelude.{◌≡◌, ◌≤◌, ◌+◌, ◌^◌, List, ℕ, [], length, IfOk, IfSome, OnOk};
 ghost use Rattle.std.specs.List.{AllByRecursion, AllZip};
@@ -8,6 +8,7 @@ ghost use Rattle.payload_tables.specs.Bases.{IsBaseOf};
 ghost use Rattle.change_rules.specs.Standard.{AreLimits};
 ghost use Rattle.flush_rebuild.specs.Asked.{IsFoundIn, MayStore};
 ghost use Rattle.sample_logs.specs.Sample.{AreIn, IsBaseIn, IsBaseOn, IsSample, IsFramed, MayFlushIn, IsOtherIn};
+ghost use Rattle.flush_rebuild.specs.Pulling.{MayPullOn};
 
 use crate::base::KeptBase;
 use crate::rows::push_rows;
@@ -15,9 +16,11 @@ use batch_codec::BatchRef;
 use commit_graph::Row;
 use flush_rebuild::{
     BaseRef, Change, Limit, Limits, PendingRows, Plan, PlanFault, TableFault, Tables, plan_change,
-    plan_strip, rebase,
+    plan_clone_change, plan_pull, plan_strip, rebase,
 };
 use id_groups::{FIRST_OTHER, Id, Name, NameRef};
+use mirror_set::Fresh;
+use remote_trait::CloneData;
 use std::alloc::{AllocError, Global};
 
 /// How many bytes a log or a payload may have.
@@ -201,6 +204,32 @@ pub(crate) fn strip_of(
     let newest = tables.newest(bytes);
     let ids = others_in(alloc, &newest, names)?;
     let plan = plan_strip(alloc, tables, bytes, &ids, limits)?;
+    Ok(change_in(plan))
+}
+
+/// The change of a clone of what a remote told, over a log without payloads.
+pub(crate) fn clone_of(alloc: Global, told: &CloneData, limits: Limits) -> Result<Change, PlanFault>
+    requires { AreLimits limits }
+{
+    let mut tables = Tables::empty(alloc);
+    plan_clone_change(alloc, &mut tables, &[0], told, limits)
+}
+
+/// The change of a pull of what was taken of a remote.
+pub(crate) fn pull_of(
+    alloc: Global,
+    bytes: &[u8],
+    tables: &Tables,
+    fresh: &Fresh,
+    limits: Limits,
+) -> Result<Change, PlanFault>
+    requires limits { AreLimits limits }
+    requires fresh { (added : List Placed) × MayPullOn tables.now bytes.now fresh.now added }
+{
+    if bytes.len() > MOST_BYTES {
+        return Err(PlanFault::Full(Limit::Log, MOST_BYTES as u64));
+    }
+    let plan = plan_pull(alloc, tables, bytes, fresh, limits)?;
     Ok(change_in(plan))
 }
 
