@@ -9,7 +9,7 @@ ghost use Rattle.segment_codec.specs.Lent.{segment_of, parents_left};
 ghost use Rattle.high_segments.specs.Views.{flats_in};
 ghost use Rattle.batch_codec.specs.Payload.{Payload as PlainPayload, Known, names_bytes, payload_bytes};
 ghost use Rattle.batch_codec.specs.Grammar.{IsPayload};
-ghost use Rattle.batch_codec.specs.Building.{IsBuilt};
+ghost use Rattle.batch_codec.specs.Building.{IsBuilt, empty_payload};
 ghost use Rattle.name_map.specs.Added.{Placed, payloads_of, known_of, AllStand};
 ghost use Rattle.name_map.specs.Map.{IsMapOf};
 ghost use Rattle.change_rules.specs.Lawful.{levels_with};
@@ -211,6 +211,26 @@ fn add_others(build: &mut BatchBuild, tables: &Tables, bytes: &[u8]) -> Result<(
     Ok(())
 }
 
+/// Adds all sections of the whole store that the tables are of, whose payloads stand in the bytes.
+fn add_sections(
+    alloc: Global,
+    build: &mut BatchBuild,
+    tables: &Tables,
+    bytes: &[u8],
+) -> Result<(), AllocError>
+    requires { (added : List Placed) × (w : World NameBytes) × StandsWhole tables.now bytes.now added w × IsBuilt build.old (empty_payload 3 0 tables.now.flat.end tables.now.cloned) }
+    ensures built { OnOk result ((added : List Placed) (w : World NameBytes) → StandsWhole tables.now bytes.now added w
+        → IsBuilt build.old (empty_payload 3 0 tables.now.flat.end tables.now.cloned) → IsBuilt build.new (whole_change (payloads_of added) w)) }
+    ensures count { OnOk result ((added : List Placed) (w : World NameBytes) → StandsWhole tables.now bytes.now added w
+        → build.new.other_count ≡ length (whole_change (payloads_of added) w).other_names) }
+{
+    add_segments(alloc, build, tables, bytes)?;
+    add_levels(alloc, build)?;
+    add_master_names(build, tables, bytes)?;
+    add_others(build, tables, bytes)?;
+    Ok(())
+}
+
 /// The payload of the whole store that the tables are of, whose payloads stand in the bytes.
 pub(crate) fn whole_payload(
     alloc: Global,
@@ -224,9 +244,6 @@ pub(crate) fn whole_payload(
     let masters = tables.master_count();
     let cloned = tables.cloned();
     let mut build = BatchBuild::new(alloc, WHOLE, 0, masters, cloned)?;
-    add_segments(alloc, &mut build, tables, bytes)?;
-    add_levels(alloc, &mut build)?;
-    add_master_names(&mut build, tables, bytes)?;
-    add_others(&mut build, tables, bytes)?;
+    add_sections(alloc, &mut build, tables, bytes)?;
     build.finish()
 }
