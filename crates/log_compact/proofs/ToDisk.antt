@@ -53,7 +53,6 @@ commit-done log new clock text a b none one ans = goes-map (HasNew new clock) (H
 pub same-moments : (limit : ℕ) (text : List ℕ) (a : Option Told) → Goes (KeepsNoneOrNew limit text) a a
 same-moments limit text a = goes-same (KeepsNoneOrNew limit text) a (λ x has. started (λ moment. IsNoneOrNew limit text) x (λ image left. inl (has image left)))
 
-
 pub same-text : (log : Held) (text : List ℕ) (a : Option Told) → log.payloads ≡ [] → text ≡ [] → IfSome a (λ t. HasPayloads log.limit t log.payloads) → Goes (HasText log.limit text) a a
 same-text log text a none empty h = goes-from (λ x y. y ≡ x) (HasText log.limit text) (λ t. HasPayloads log.limit t log.payloads) a a
     (λ x y has e. subst (λ t. HasPayloads log.limit t (batch_of text)) (sym e) (subst (HasPayloads log.limit x) (none ∙ ap batch_of (sym empty)) has)) h
