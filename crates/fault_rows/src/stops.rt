@@ -124,7 +124,7 @@ impl Change {
         match self {
             Change::Flush => &[0, 1, 50, 109, 110],
             Change::Strip => &[110, 111, 150, 198, 199],
-            Change::Pull => &[110, 111, 150, 220, 221],
+            Change::Pull => &[110, 111, 150, 239, 240],
         }
     }
 }
@@ -367,11 +367,18 @@ fn a_pull_fails_at_each_call(rt: HostRuntime) -> Result<(), AllocError> {
 fn left_by_gate(alloc: Global, change: Change, fill: Fill) -> Result<World, AllocError> {
     let mut disk = MemoryDisk::new(alloc, change.start(), &[], None)?;
     let list = beside(alloc, change)?;
-    if !are_answered_beside(alloc, &mut disk, list, change.lines(), (0, 1), change.stored())? {
+    if !are_answered_beside(
+        alloc,
+        &mut disk,
+        list,
+        change.lines(),
+        (0, 1),
+        change.stored(),
+    )? {
         return Ok(World::Wrong);
     }
     let moment = change.closed() + 2;
-    let size = 221;
+    let size = 240;
     world_left(alloc, change, &disk, &Choice { moment, fill, size })
 }
 
