@@ -13,3 +13,4 @@ pub mod Statuses
 pub mod Usages
 pub mod Leading
 pub mod Over
+pub mod Served

@@ -8,3 +8,4 @@ pub mod Ends
 pub mod Between
 pub mod Demo
 pub mod Modes
+pub mod Serving

@@ -82,4 +82,4 @@ IsDemoStatus status = IsTrue (list_any (λ known. known == status) (0 ∷ 6 ∷ 
 
 -- the statuses of the program, with that of words that aren't a usage
 abbrev pub IsStatus : ℕ → Type 0
-IsStatus status = IsTrue (list_any (λ known. known == status) (0 ∷ 2 ∷ 3 ∷ 4 ∷ 5 ∷ 6 ∷ 7 ∷ 8 ∷ []))
+IsStatus status = IsTrue (list_any (λ known. known == status) (0 ∷ 2 ∷ 3 ∷ 4 ∷ 5 ∷ 6 ∷ 7 ∷ 8 ∷ 11 ∷ 12 ∷ []))

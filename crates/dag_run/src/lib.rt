@@ -8,6 +8,7 @@ mod laws;
 mod program;
 mod replies;
 mod report;
+mod serving;
 mod stops;
 mod words;
 

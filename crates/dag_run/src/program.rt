@@ -25,10 +25,13 @@ ghost use Rattle.dag_run.specs.Lines.{PutsFault};
 ghost use Rattle.dag_run.specs.Demo.{DemoMeans};
 ghost use Rattle.dag_run.specs.Ends.{Begins, OpensRun, LoadPuts, LoadRefuses, RunRefuses, EndRefuses, StatusMeans, StatusRefuses};
 ghost use Rattle.dag_run.specs.Between.{Going, TurnMeans};
+ghost use Rattle.dag_run.specs.Serving.{IsServeStatus, ServeMeans, WantsOne};
+ghost use Rattle.remote_serve.specs.Steps.{ports, streams as served_streams};
 
 use crate::demo::demo;
 use crate::execute::execute;
 use crate::replies::tell_fault;
+use crate::serving::serve_mirror;
 use crate::stops::Stop;
 use crate::{Limits, Moments, Report};
 use dag_store::{LoadFault, Store};
@@ -322,9 +325,9 @@ fn usage_of(alloc: Global, words: &[String]) -> Result<Usage, u8>
 }
 
 /// Runs the program over the words behind the `--`: answers the lines of the input over the log, within the program's limits, or
-/// those of a demonstration in memory, of which the last four replies are put. The mirrors are asked as the lines say, and as many of
-/// the names that they give are kept as the words say. The spare disk isn't touched, and no disk, nor the mirrors or the input, by a
-/// demonstration.
+/// those of a demonstration in memory, of which the last four replies are put, or the framed requests of the input over the one
+/// mirror. The mirrors are asked as the lines say, and as many of the names that they give are kept as the words say. The spare disk
+/// isn't touched, nor is any disk by a demonstration or by serving, nor the mirrors or the input by a demonstration.
 pub fn top<D: Disk, I: Source, O: Sink>(
     alloc: Global,
     words: &[String],
@@ -349,8 +352,13 @@ pub fn top<D: Disk, I: Source, O: Sink>(
         → WhereTold (O.taken output.old) (O.taken output.new) (DemoMeans size start result.status) }
     ensures aside { IsUsageOf Mode.Demo (map string_bytes words.now)
         → IsDemoStatus result.status × (log.new ≡ log.old) × (mirrors.new ≡ mirrors.old) × (input.new ≡ input.old) × (result.changes ≡ []) }
+    ensures serves { let first = map (λ b. (⟦<dyn Remote as Remote>⟧ b.vtable).shown b.value) mirrors.old.list.items in let left = map (λ b. (⟦<dyn Remote as Remote>⟧ b.vtable).shown b.value) mirrors.new.list.items in
+        IsUsageOf Mode.Serve (map string_bytes words.now) → length mirrors.old.list.items ≡ 1 → WhereTold (ports (I.left input.old) (O.taken output.old)) (ports (I.left input.new) (O.taken output.new))
+        (λ before after. ServeMeans standard.input result.status (served_streams before after) first left) }
+    ensures one { IsUsageOf Mode.Serve (map string_bytes words.now) → WantsOne (length mirrors.old.list.items) result.status }
+    ensures beside { IsUsageOf Mode.Serve (map string_bytes words.now) → IsServeStatus result.status × (log.new ≡ log.old) × (result.changes ≡ []) }
     ensures unwritten { result.status ≡ 4 → Goes IsUntouched (D.told log.old) (D.told log.new) × (input.new ≡ input.old) × (output.new ≡ output.old) × (mirrors.new ≡ mirrors.old) }
-    ensures quiet { (result.status ≡ 2) ⊎ (result.status ≡ 7) → (input.new ≡ input.old) × (output.new ≡ output.old) × (mirrors.new ≡ mirrors.old) }
+    ensures quiet { (result.status ≡ 2) ⊎ ((result.status ≡ 7) ⊎ (result.status ≡ 11)) → (input.new ≡ input.old) × (output.new ≡ output.old) × (mirrors.new ≡ mirrors.old) }
     ensures untouched { result.status ≡ 2 → log.new ≡ log.old }
     ensures disk { result.status ≡ 3 → Rose (D.faults log.old) (D.faults log.new) }
     ensures source { result.status ≡ 5 → Rose (I.faults input.old) (I.faults input.new) }
@@ -367,5 +375,9 @@ pub fn top<D: Disk, I: Source, O: Sink>(
             run_lines(alloc, limits, usage.cache, log, mirrors, input, output)
         }
         Mode::Demo => Report::idle(alloc, demo(alloc, usage.size, usage.start, output)),
+        Mode::Serve => {
+            let limit = Limits::standard().input;
+            Report::idle(alloc, serve_mirror(alloc, limit, mirrors, input, output))
+        }
     }
 }

@@ -48,7 +48,8 @@ impl Moments {
 pub struct Report {
     /// 0: the input was read to its end and all replies were written. 2: the words aren't a usage. 3: the disk failed.
     /// 4: the disk's bytes are no log. 5: the source failed. 6: the sink failed. 7: want of memory before the first line, or in
-    /// a demonstration. 8: the input is longer than its limit.
+    /// a demonstration, or before the first frame. 8: the input is longer than its limit. 11: the mirrors aren't one, for
+    /// serving. 12: a frame's length is 0 or too long, or the input ends within a frame.
     pub status: u8,
     /// One moment for each stored change.
     pub changes: Moments,

@@ -68,7 +68,8 @@ fit-of : (added : List Placed) (pending : PlainPending) (s : MayStore pending ad
 fit-of added pending s = record {
   parents = rows-fit (count_after 0 (payloads_of added)) (others_count added) (other_id pending.first) 0 (ap other_id s.first) s.rows s.held.section.flat s.parents;
   distinct = s.distinct;
-  few = (let n = s.held.few in omega (arith, n));
+  whole = whole-names s.rows s.held.whole;
+  few = s.held.few;
   new = λ x i d. s.fresh x i (subst (IsIn x) (sym (stored-names added))
       (⊎_elim (λ j. in-left x (flat_map known_names (payloads_of added)) (other_names_in (newest (payloads_of added))) j)
       (λ j. in-right x (flat_map known_names (payloads_of added)) (other_names_in (newest (payloads_of added))) j) d));

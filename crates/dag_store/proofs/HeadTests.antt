@@ -44,7 +44,7 @@ use Rattle.dag_store.proofs.Lines.{all-there}
 -- lawful payloads stand for some world
 pub world-of : (added : List Placed) → AreLawful [] (payloads_of added) → (w : World Name) × StandFor (payloads_of added) w × IsNamedWorld w
 world-of added lawful =
-    let st = some-world (payloads_of added) lawful [] (record { parents = tt; distinct = tt; few = zero-le; new = λ x i d. absurd i }) in
+    let st = some-world (payloads_of added) lawful [] (record { parents = tt; distinct = tt; whole = tt; few = zero-le; new = λ x i d. absurd i }) in
     (st.of_world, st.stand, st.named)
 
 pub sees-none : (newest : BaseRef) (none : PlainPending) (added : List Placed) (w : World Name) → IsBaseOf newest added → HoldsRows none [] → none.first ≡ others_count added → StandFor (payloads_of added) w → IsNamedWorld w

@@ -5,14 +5,19 @@ use Rattle.std.specs.Prelude.{slice_index, unwrap_or}
 use Rattle.clap.specs.Words.{Text}
 use Rattle.program_words.specs.Usage.{WritesNumber, AreTexts, IsUsage, IsNoUsage, mode_text}
 use Rattle.program_words.specs.declared.usage.Mode.{Mode}
-use Rattle.program_words.specs.declared.usage.Mode.TheVariants.{Run, Demo}
+use Rattle.program_words.specs.declared.usage.Mode.TheVariants.{Run, Demo, Serve}
 use Rattle.program_words.specs.declared.usage.Usage.{Usage}
 
 one-mode : (a b : Mode) → mode_text a ≡ mode_text b → a ≡ b
 one-mode Run Run e = refl
 one-mode Demo Demo e = refl
+one-mode Serve Serve e = refl
 one-mode Run Demo e = absurd (eqb-false 114 100 refl (ap (λ (t : Text). slice_index t 0) e))
 one-mode Demo Run e = absurd (eqb-false 100 114 refl (ap (λ (t : Text). slice_index t 0) e))
+one-mode Run Serve e = absurd (eqb-false 114 115 refl (ap (λ (t : Text). slice_index t 0) e))
+one-mode Serve Run e = absurd (eqb-false 115 114 refl (ap (λ (t : Text). slice_index t 0) e))
+one-mode Demo Serve e = absurd (eqb-false 100 115 refl (ap (λ (t : Text). slice_index t 0) e))
+one-mode Serve Demo e = absurd (eqb-false 115 100 refl (ap (λ (t : Text). slice_index t 0) e))
 
 one-number : (low high : ℕ) (o : Option Text) (m n : ℕ) → WritesNumber low high o m → WritesNumber low high o n → m ≡ n
 one-number low high None m n a b = absurd a

@@ -13,6 +13,8 @@ pub enum Mode {
     Run,
     /// Answer lines that the program makes itself.
     Demo,
+    /// Answer the framed requests of the input over the one mirror.
+    Serve,
 }
 
 /// How the program is used. What its mode doesn't use is there all the same.
@@ -45,6 +47,9 @@ fn mode_of(word: &str) -> Option<Mode>
     }
     if word == "demo" {
         return Some(Mode::Demo);
+    }
+    if word == "serve" {
+        return Some(Mode::Serve);
     }
     None
 }

@@ -15,6 +15,8 @@ ghost use Rattle.dag_store.specs.Loading.{IsUntouched};
 ghost use Rattle.dag_run.specs.Seen.{seen};
 ghost use Rattle.dag_run.specs.Ends.{Begins, StatusMeans, StatusRefuses};
 ghost use Rattle.dag_run.specs.Demo.{DemoMeans};
+ghost use Rattle.dag_run.specs.Serving.{IsServeStatus, ServeMeans, WantsOne};
+ghost use Rattle.remote_serve.specs.Steps.{ports, streams as served_streams};
 ghost use Rattle.dag_run.specs.Stops.{IsDemoStatus, IsOverBy, IsStatus};
 ghost use Rattle.segdag.specs.Usage.{IsDemo, IsRun, IsUsage, Refuses};
 
@@ -47,8 +49,8 @@ const NO_MEMORY: u8 = 7;
 /// The status where the log was never opened.
 const NOT_OPENED: u8 = 9;
 
-/// Answers the lines of the input over the log, or those of a demonstration, where the words, the program's own name in front, are a
-/// usage, and gives the status. The mirrors are asked as the lines say, and the caller keeps those that are left.
+/// Answers the lines of the input over the log, or those of a demonstration, or serves the one mirror, where the words, the program's
+/// own name in front, are a usage, and gives the status. The mirrors are asked as the lines say, and the caller keeps those that are left.
 fn answer<D: Disk, I: Source, O: Sink>(
     alloc: Global,
     words: &[String],
@@ -71,7 +73,12 @@ fn answer<D: Disk, I: Source, O: Sink>(
     ensures unwritten { result ≡ 4 → Goes IsUntouched (D.told log.old) (D.told log.new) × (input.new ≡ input.old) × (output.new ≡ output.old) × (mirrors.new ≡ mirrors.old) }
     ensures demo { (size start : ℕ) → IsDemo size start (map string_bytes words.now) → WhereTold (O.taken output.old) (O.taken output.new) (DemoMeans size start result) }
     ensures aside { IsUsage Mode.Demo (map string_bytes words.now) → IsDemoStatus result × (log.new ≡ log.old) × (mirrors.new ≡ mirrors.old) × (input.new ≡ input.old) }
-    ensures quiet { (result ≡ 2) ⊎ (result ≡ 7) → (input.new ≡ input.old) × (output.new ≡ output.old) × (mirrors.new ≡ mirrors.old) }
+    ensures serves { let first = map (λ b. (⟦<dyn Remote as Remote>⟧ b.vtable).shown b.value) mirrors.old.list.items in let left = map (λ b. (⟦<dyn Remote as Remote>⟧ b.vtable).shown b.value) mirrors.new.list.items in
+        IsUsage Mode.Serve (map string_bytes words.now) → length mirrors.old.list.items ≡ 1 → WhereTold (ports (I.left input.old) (O.taken output.old)) (ports (I.left input.new) (O.taken output.new))
+        (λ before after. ServeMeans standard.input result (served_streams before after) first left) }
+    ensures one { IsUsage Mode.Serve (map string_bytes words.now) → WantsOne (length mirrors.old.list.items) result }
+    ensures beside { IsUsage Mode.Serve (map string_bytes words.now) → IsServeStatus result × (log.new ≡ log.old) }
+    ensures quiet { (result ≡ 2) ⊎ ((result ≡ 7) ⊎ (result ≡ 11)) → (input.new ≡ input.old) × (output.new ≡ output.old) × (mirrors.new ≡ mirrors.old) }
     ensures untouched { result ≡ 2 → log.new ≡ log.old }
     ensures disk { result ≡ 3 → Rose (D.faults log.old) (D.faults log.new) }
     ensures source { result ≡ 5 → Rose (I.faults input.old) (I.faults input.new) }

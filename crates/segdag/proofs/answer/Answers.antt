@@ -3,7 +3,7 @@ use Rattle.std.specs.Prelude.{MatchOption}
 use Rattle.outside.proofs.ToldLemmas.{WhereTold-map}
 use Rattle.dag_run.specs.Modes.{IsUsageOf, IsRunOf, IsDemoOf, RefusesWords}
 use Rattle.dag_run.specs.Seen.{seen}
-use Rattle.program_words.specs.declared.usage.Mode.TheVariants.{Run, Demo}
+use Rattle.program_words.specs.declared.usage.Mode.TheVariants.{Run, Demo, Serve}
 use Rattle.segdag.proofs.answer.Goals as goal
 
 pub returns-clause-usage : goal.returns-clause-usage
@@ -31,3 +31,14 @@ returns-clause-aside g c = λ used.
 
 pub returns-clause-over : goal.returns-clause-over
 returns-clause-over g c = λ used. c.top.ensures.over (subst (λ mode. MatchOption mode ⊥ (IsUsageOf Run)) c.in-Some.ensures used)
+
+pub returns-clause-serves : goal.returns-clause-serves
+returns-clause-serves g c = λ used one. c.top.ensures.serves (subst (λ mode. MatchOption mode ⊥ (IsUsageOf Serve)) c.in-Some.ensures used) one
+
+pub returns-clause-one : goal.returns-clause-one
+returns-clause-one g c = λ used. c.top.ensures.one (subst (λ mode. MatchOption mode ⊥ (IsUsageOf Serve)) c.in-Some.ensures used)
+
+pub returns-clause-beside : goal.returns-clause-beside
+returns-clause-beside g c = λ used.
+    let beside = c.top.ensures.beside (subst (λ mode. MatchOption mode ⊥ (IsUsageOf Serve)) c.in-Some.ensures used) in
+    (beside.0, beside.1)
