@@ -124,7 +124,7 @@ impl Change {
         match self {
             Change::Flush => &[0, 1, 50, 109, 110],
             Change::Strip => &[110, 111, 150, 198, 199],
-            Change::Pull => &[110, 111, 150, 220, 221],
+            Change::Pull => &[110, 111, 150, 239, 240],
         }
     }
 }
@@ -378,7 +378,7 @@ fn left_by_gate(alloc: Global, change: Change, fill: Fill) -> Result<World, Allo
         return Ok(World::Wrong);
     }
     let moment = change.closed() + 2;
-    let size = 221;
+    let size = 240;
     world_left(alloc, change, &disk, &Choice { moment, fill, size })
 }
 
