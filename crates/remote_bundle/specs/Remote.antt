@@ -51,11 +51,11 @@ pub record Reads (before now : PlainRemote) : Type 0 where
   pub disk_faults : before.disk_faults ≤ now.disk_faults
   pub asked : now.asked ≡ before.asked
 
--- Once the file was read, it is kept, and no further call of the disk is made.
+-- Once the file was read, it is kept, and the count of the disk's faults stays.
 abbrev pub ReadsOnce : PlainRemote → PlainRemote → Type 0
 ReadsOnce before now = before.is_kept ≡ true → (now.is_kept ≡ true) × (now.disk_faults ≡ before.disk_faults)
 
--- An answer comes of a file that is kept. A call fails only where none was, and then the next call reads it anew.
+-- An answer comes of a file that is kept. A call fails only where none was, and none is then, so that the next one reads it anew.
 abbrev pub KeepsFile : {T : Type 0} → PlainRemote → PlainRemote → Result T RemoteFault → Type 0
 KeepsFile before now (Ok answer) = ReadsOnce before now × (now.is_kept ≡ true)
 KeepsFile before now (Err Failed) = (before.is_kept ≡ false) × (now.is_kept ≡ false)
