@@ -1,5 +1,5 @@
 -- What is kept of a bundle that was read.
-use Rattle.std.specs.Prelude.{◌≡◌, ◌⊎◌, ℕ, List, Option, None, Result, Ok, Err, ⊤}
+use Rattle.std.specs.Prelude.{◌≡◌, ◌<◌, ◌⊎◌, ℕ, List, Option, None, length, Result, Ok, Err}
 use Rattle.std.specs.Option.{option_map}
 use Rattle.id_groups.specs.Name.{Name}
 use Rattle.outside.specs.Counts.{Rose}
@@ -43,8 +43,9 @@ rows_in bytes = option_map rows_of (bundle_at bytes)
 abbrev pub IsUnfit : ℕ → List ℕ → Type 0
 IsUnfit limit bytes = rows_within limit bytes ≡ None
 
--- what reading answers over these bytes: they are kept; or a failure, since they are unfit or the count of the disk's faults rose
+-- what reading answers over these bytes: they are kept; or a failure, since they are unfit or the count of the disk's faults rose; or that
+-- memory was wanting, which isn't so of too many bytes
 abbrev pub Peeks : ℕ → List ℕ → ℕ → ℕ → Result (List ℕ) RemoteFault → Type 0
 Peeks limit bytes before now (Ok held) = (held ≡ bytes) × (IsUnfit limit bytes → ⊥)
 Peeks limit bytes before now (Err Failed) = Rose before now ⊎ IsUnfit limit bytes
-Peeks limit bytes before now (Err Memory) = ⊤
+Peeks limit bytes before now (Err Memory) = limit < length bytes → ⊥

@@ -1,5 +1,5 @@
 -- What contracts see of a bundle as a remote.
-use Rattle.std.specs.Prelude.{Bool, true, false, ◌≡◌, ◌≤◌, ◌⊎◌, ℕ, List, Option, None, Result, Ok, Err, IfSome, option_and_then, ⊤}
+use Rattle.std.specs.Prelude.{Bool, true, false, ◌≡◌, ◌<◌, ◌≤◌, ◌⊎◌, ℕ, List, Option, None, Result, Ok, Err, IfSome, option_and_then, length}
 use Rattle.std.specs.Option.{option_map}
 use Rattle.commit_graph.specs.World.{Row}
 use Rattle.id_groups.specs.Name.{Name}
@@ -51,11 +51,11 @@ pub record Reads (before now : PlainRemote) : Type 0 where
   pub disk_faults : before.disk_faults ≤ now.disk_faults
   pub asked : now.asked ≡ before.asked
 
--- Once the file was read, it is kept, and no further call of the disk is made.
+-- Once the file was read, it is kept, and the count of the disk's faults stays.
 abbrev pub ReadsOnce : PlainRemote → PlainRemote → Type 0
 ReadsOnce before now = before.is_kept ≡ true → (now.is_kept ≡ true) × (now.disk_faults ≡ before.disk_faults)
 
--- An answer comes of a file that is kept. A call fails only where none was, and then the next call reads it anew.
+-- An answer comes of a file that is kept. A call fails only where none was, and none is then, so that the next one reads it anew.
 abbrev pub KeepsFile : {T : Type 0} → PlainRemote → PlainRemote → Result T RemoteFault → Type 0
 KeepsFile before now (Ok answer) = ReadsOnce before now × (now.is_kept ≡ true)
 KeepsFile before now (Err Failed) = (before.is_kept ≡ false) × (now.is_kept ≡ false)
@@ -65,16 +65,20 @@ KeepsFile before now (Err Memory) = ReadsOnce before now
 abbrev pub IsCause : PlainRemote → PlainRemote → Type 0
 IsCause before now = IfSome before.bytes (λ bytes. Rose before.disk_faults now.disk_faults ⊎ IsUnfit before.limit bytes)
 
+-- the file has no more bytes than the limit, where the disk tells them
+abbrev pub IsNotTooLarge : PlainRemote → Type 0
+IsNotTooLarge r = IfSome r.bytes (λ bytes. r.limit < length bytes → ⊥)
+
 -- The file's bytes are fit; or the count of failures rose, since one of the disk's calls failed or the bytes
 -- are unfit.
 abbrev pub KeepsBundle : {T : Type 0} → PlainRemote → PlainRemote → Result T RemoteFault → Type 0
 KeepsBundle before now (Ok done) =
     Reads before now × (now.faults ≡ before.faults) × IfSome before.bytes (λ bytes. IsUnfit before.limit bytes → ⊥)
 KeepsBundle before now (Err Failed) = Reads before now × Rose before.faults now.faults × (before.faults ≤ now.faults) × IsCause before now
-KeepsBundle before now (Err Memory) = Reads before now × (now.faults ≡ before.faults)
+KeepsBundle before now (Err Memory) = Reads before now × (now.faults ≡ before.faults) × IsNotTooLarge before
 
--- why a call failed, and that none answers of a file that is unfit
+-- Why a call failed, and that none answers of a file that is unfit. A file that is too large takes no memory: each call fails of it.
 abbrev pub HasBundleCause : {T : Type 0} → PlainRemote → PlainRemote → Result T RemoteFault → Type 0
 HasBundleCause before now (Ok answer) = IfSome before.bytes (λ bytes. IsUnfit before.limit bytes → ⊥)
 HasBundleCause before now (Err Failed) = IsCause before now
-HasBundleCause before now (Err Memory) = ⊤
+HasBundleCause before now (Err Memory) = IsNotTooLarge before

@@ -2,7 +2,7 @@
 
 ghost use Rattle.std.specs.Prelude.{◌≡◌, ◌≤◌, ◌<◌, ◌⊎◌, ◌↔◌, IfOk, IfSome, IsErrOf, length};
 ghost use Rattle.outside.specs.Counts.{Rose};
-ghost use Rattle.remote_trait.specs.declared.fault.RemoteFault.TheVariants.{Failed as FaultFailed};
+ghost use Rattle.remote_trait.specs.declared.fault.RemoteFault.TheVariants.{Failed as FaultFailed, Memory as FaultMemory};
 ghost use Rattle.remote_bundle.specs.Held.{Peeks};
 
 use crate::held::Held;
@@ -43,6 +43,7 @@ fn read_file<D: Disk>(alloc: Global, disk: &mut D, limit: u64) -> Result<Vec<u8>
     ensures later { D.faults disk.old ≤ D.faults disk.new }
     ensures read { IfOk result (λ bytes. IfSome (D.bytes disk.old) (λ told. (bytes.items ≡ told) × (length told ≤ limit))) }
     ensures cause { IsErrOf result FaultFailed → IfSome (D.bytes disk.old) (λ told. Rose (D.faults disk.old) (D.faults disk.new) ⊎ (limit < length told)) }
+    ensures memory { IsErrOf result FaultMemory → IfSome (D.bytes disk.old) (λ told. limit < length told → ⊥) }
 {
     let Ok(size) = disk.size() else {
         return Err(RemoteFault::Failed);
