@@ -15,12 +15,7 @@ use payload_tables::{TableFault, Tables};
 use std::alloc::Global;
 
 /// Adds the log's payload whose bytes these are, at its place `at`.
-fn read_batch(
-    tables: &mut Tables,
-    bytes: &[u8],
-    payload: &[u8],
-    at: u64,
-) -> Result<(), TableFault>
+fn read_batch(tables: &mut Tables, bytes: &[u8], payload: &[u8], at: u64) -> Result<(), TableFault>
     requires tables { (added : List Placed) × AreTablesOf tables.old added × AllStand bytes.now added }
     requires room { at + length payload.now < 2 ^ 63 }
     ensures added { (added : List Placed) → AreTablesOf tables.old added → AllStand bytes.now added
