@@ -1,8 +1,8 @@
 -- What is read and what is written, together.
-use Rattle.std.proofs.Common.{◌≡◌, ◌≢◌, ◌≤◌, ◌<◌, ◌+◌, ◌⊎◌, inl, inr, ⊎_elim, ℕ, List, [], ◌∷◌, length, map, Option, Result, Ok, Err, refl, sym, ap, ap₂, subst, ◌∙◌}
+use Rattle.std.proofs.Common.{◌≡◌, ◌≢◌, ◌≤◌, ◌<◌, ◌+◌, ◌⊎◌, inl, inr, ⊎_elim, ℕ, List, [], ◌∷◌, length, map, Option, Ok, Err, refl, sym, ap, ap₂, subst, ◌∙◌}
 use Rattle.id_groups.specs.Name.{Name}
 use Rattle.commit_graph.specs.World.{World}
-use Rattle.disk_trait.specs.Images.{Told, IsImage, moment_of}
+use Rattle.disk_trait.specs.Images.{Told, IsImage}
 use Rattle.disk_trait.specs.Calls.{Goes}
 use Rattle.disk_trait.proofs.Moments.{weakened, started}
 use Rattle.disk_trait.proofs.Telling.{goes-map, goes-same}
@@ -14,14 +14,13 @@ use Rattle.batch_codec.specs.Payload.{Payload}
 use Rattle.change_rules.specs.Change.{text_of}
 use Rattle.change_rules.specs.Tables.{known_in, cloned_count, remote_heads}
 use Rattle.change_rules.specs.Holding.{HoldPayloads, HoldAs}
-use Rattle.change_rules.specs.Unlawful.{IsNoLog}
 use Rattle.change_rules.proofs.Refusals.{held-is-log}
 use Rattle.compact_rules.specs.Whole.{whole_change}
 use Rattle.compact_rules.proofs.Wholes.{whole-held, whole-same, held-some}
 use Rattle.log_compact.specs.declared.answer.Shrunk.{Shrunk}
 use Rattle.log_compact.specs.declared.answer.Compacted.{Compacted}
 use Rattle.log_compact.specs.declared.answer.Compacted.TheVariants.{Done, FromDisk, FromBad, ToDisk, NotFresh, Full, Memory}
-use Rattle.log_compact.specs.Compacts.{PlainWhole, whole_list, batch_of, HoldsWhole, IsNoneOrWhole, KeepsNoneOrWhole, HasWhole, shrunk_of, Shrinks, IsReadAs, IsWrittenAs, IsOfReading, IsWholeOf, ReadsWhole, StoresWhole, AnswersWhole, WritesWhole, IsNoneOrNew, KeepsNoneOrNew, HasText, written_to}
+use Rattle.log_compact.specs.Compacts.{PlainWhole, whole_list, batch_of, HoldsWhole, IsNoneOrWhole, KeepsNoneOrWhole, HasWhole, shrunk_of, Shrinks, IsReadAs, IsWrittenAs, IsOfReading, IsWholeOf, ReadsWhole, AnswersWhole, WritesWhole, IsNoneOrNew, KeepsNoneOrNew, HasText, written_to}
 use Rattle.log_compact.proofs.FromLog.{lawful-log, held-same, spelled-so}
 
 -- ---- where the log that is read refuses

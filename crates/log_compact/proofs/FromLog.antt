@@ -1,15 +1,15 @@
 -- The log that is read: what is made of it, and what its disk holds.
-use Rattle.std.proofs.Common.{◌≡◌, ◌≢◌, ◌≤◌, ◌<◌, ◌+◌, ◌⊎◌, inl, inr, ⊎_elim, ℕ, List, [], ◌∷◌, length, map, Option, Some, None, Result, Ok, Err, IfSome, refl, sym, ap, ap₂, subst, ◌∙◌, arith, zero-le, append-nil}
+use Rattle.std.proofs.Common.{◌≡◌, ◌≢◌, ◌≤◌, ◌<◌, inl, inr, ⊎_elim, ℕ, List, [], ◌∷◌, length, map, Option, Some, None, Result, Ok, Err, IfSome, refl, sym, ap, ap₂, subst, ◌∙◌, arith, zero-le, append-nil}
 use Rattle.std.specs.Prelude.{IfOk}
 use Rattle.id_groups.specs.Name.{Name}
-use Rattle.commit_graph.specs.World.{World, names_of}
+use Rattle.commit_graph.specs.World.{World}
 use Rattle.disk_trait.specs.Images.{Told, IsImage, IsSound}
 use Rattle.disk_trait.specs.Calls.{Goes}
 use Rattle.disk_trait.proofs.Loss.{last-append}
 use Rattle.disk_trait.proofs.Moments.{weakened}
 use Rattle.disk_trait.proofs.Telling.{goes-from}
-use Rattle.gated_log.specs.Log.{IsLog, log_length}
-use Rattle.gated_log.specs.Held.{Held, log_bytes}
+use Rattle.gated_log.specs.Log.{IsLog}
+use Rattle.gated_log.specs.Held.{Held}
 use Rattle.gated_log.specs.Load.{Loads, IsLogOf, LeavesOldOrFresh}
 use Rattle.gated_log.specs.declared.LoadLog.{LoadLog}
 use Rattle.gated_log.specs.declared.LoadLog.TheVariants as logs
@@ -21,7 +21,7 @@ use Rattle.batch_codec.proofs.Payloads.{payload_again}
 use Rattle.name_map.specs.Added.{Placed, payloads_of, AllStand}
 use Rattle.change_rules.specs.Change.{text_of}
 use Rattle.change_rules.specs.Lawful.{AreLawful}
-use Rattle.change_rules.specs.Tables.{newest, other_names_in}
+use Rattle.change_rules.specs.Tables.{newest}
 use Rattle.change_rules.specs.Holding.{AreSpelled, HoldPayloads, HoldAs, HoldBytes, HoldsNow}
 use Rattle.change_rules.specs.Unlawful.{IsFirstUnlawful, IsNoLog}
 use Rattle.change_rules.proofs.Refusals.{all-stand}
@@ -34,7 +34,7 @@ use Rattle.flush_rebuild.proofs.Invented.{some-world}
 use Rattle.compact_rules.specs.Whole.{whole_change}
 use Rattle.log_compact.specs.declared.answer.Compacted.{Compacted}
 use Rattle.log_compact.specs.declared.answer.Compacted.TheVariants.{Done, FromDisk, FromBad, ToDisk, NotFresh, Full, Memory}
-use Rattle.log_compact.specs.Compacts.{PlainWhole, whole_list, batch_of, IsWholeOf, IsMadeOf, MakesWhole, ReadsWhole, IsOfReading, KeepsHolding, from_answer}
+use Rattle.log_compact.specs.Compacts.{PlainWhole, whole_list, batch_of, MakesWhole, ReadsWhole, IsOfReading, KeepsHolding, from_answer}
 use Rattle.log_compact.specs.Sections.{StandsWhole}
 
 -- ---- the texts of payloads

@@ -1,12 +1,10 @@
 -- Names by their ids, and names one after another.
-use Rattle.std.proofs.Common.{◌≡◌, ◌<◌, ◌≤◌, ◌+◌, ◌*◌, ◌++◌, ◌∷◌, [], inl, inr, ℕ, List, Bool, true, false, cond, filter, nat_lt, map, length, take, drop, get_or, Some, None, refl, sym, ap, ap₂, subst, ◌∙◌, append_assoc, append-nil, arith, ⊎_elim}
-use Rattle.std.specs.Prelude.{slice_get, Option}
+use Rattle.std.proofs.Common.{◌≡◌, ◌<◌, ◌≤◌, ◌+◌, ◌*◌, ◌++◌, ◌∷◌, [], inl, inr, ℕ, List, false, cond, nat_lt, map, length, take, drop, get_or, Some, None, refl, sym, ap, ap₂, subst, ◌∙◌, append_assoc, arith, ⊎_elim}
 use Rattle.std.specs.List.{AllByRecursion}
 use Rattle.std.proofs.lemmas.Bool.{lt-ltb, le-ltb, cases_lt}
 use Rattle.std.proofs.lemmas.List.{take_more}
 use Rattle.id_groups.specs.Lists.{IsIn}
 use Rattle.id_groups.specs.Name.{Name, IsName}
-use Rattle.id_groups.specs.declared.name.NameRef.{NameRef}
 use Rattle.batch_codec.specs.Payload.{Payload, Known, names_bytes}
 use Rattle.batch_codec.specs.Building.{Building, IsBuilt}
 use Rattle.name_map.specs.Map.{IsNameOf}

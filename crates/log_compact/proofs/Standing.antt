@@ -1,12 +1,10 @@
 -- Tables of payloads that hold a world, and the payload of the whole.
-use Rattle.std.proofs.Common.{◌≡◌, ◌≤◌, ◌<◌, ◌+◌, ◌*◌, ◌^◌, ◌++◌, ◌∷◌, [], ℕ, List, length, map, flat_map, take, drop, refl, sym, ap, subst, subst₂, ◌∙◌, append-nil, arith, lit≤}
-use Rattle.std.specs.List.{AllByRecursion}
-use Rattle.id_groups.specs.Name.{Name, IsName}
-use Rattle.commit_graph.specs.World.{World, IsHistory, names_of, rows_of}
+use Rattle.std.proofs.Common.{◌≡◌, ◌≤◌, ◌+◌, ◌*◌, ◌^◌, ◌++◌, ◌∷◌, [], ℕ, List, length, take, drop, refl, sym, ap, subst, subst₂, ◌∙◌, append-nil, arith, lit≤}
+use Rattle.id_groups.specs.Name.{Name}
+use Rattle.commit_graph.specs.World.{World, IsHistory, names_of}
 use Rattle.segment_codec.specs.Record.{Segment}
-use Rattle.segment_codec.specs.Table.{Follow}
-use Rattle.batch_codec.specs.Payload.{Payload, Known, names_bytes}
-use Rattle.batch_codec.specs.Grammar.{IsPayload, count_after}
+use Rattle.batch_codec.specs.Payload.{Payload, names_bytes}
+use Rattle.batch_codec.specs.Grammar.{count_after}
 use Rattle.batch_codec.specs.Building.{Building, IsBuilt}
 use Rattle.batch_codec.proofs.Entries.{names-size}
 use Rattle.name_map.specs.Added.{Placed, payloads_of, known_of, AllStand}
@@ -14,7 +12,7 @@ use Rattle.change_rules.specs.Lawful.{MayFollow, levels_with}
 use Rattle.change_rules.specs.Tables.{known_in, newest, other_names_in, cloned_count}
 use Rattle.payload_tables.specs.Kept.{PlainTables, PlainOthers, AreTablesOf}
 use Rattle.payload_tables.specs.Pending.{PlainPending, HoldsRows}
-use Rattle.payload_tables.specs.Bases.{MayView, ArePending, IsBaseOf, flat_segments_in}
+use Rattle.payload_tables.specs.Bases.{MayView, ArePending, flat_segments_in}
 use Rattle.payload_tables.specs.declared.base.BaseRef.{BaseRef}
 use Rattle.payload_tables.proofs.Basing.{OthersFacts, base-others, table-end}
 use Rattle.payload_tables.proofs.Lists.{names-length}

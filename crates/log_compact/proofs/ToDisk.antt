@@ -1,23 +1,21 @@
 -- The log that is written: what is answered, and what its disk has.
-use Rattle.std.proofs.Common.{◌≡◌, ◌≢◌, ◌≤◌, ◌<◌, ◌+◌, ◌⊎◌, inl, inr, ⊎_elim, ℕ, List, [], ◌∷◌, ◌++◌, length, map, Option, Some, None, Result, Ok, Err, IfSome, refl, sym, ap, ap₂, subst, subst₂, ◌∙◌, arith, length-append}
-use Rattle.disk_trait.specs.Images.{Told, IsImage, IsSound, moment_of}
-use Rattle.disk_trait.specs.Since.{SureNow, SureSince}
+use Rattle.std.proofs.Common.{◌≡◌, ◌≢◌, ◌≤◌, ◌⊎◌, inl, inr, ⊎_elim, ℕ, List, [], ◌∷◌, ◌++◌, length, Option, Err, IfSome, refl, sym, ap, subst, subst₂, ◌∙◌, arith}
+use Rattle.disk_trait.specs.Images.{Told, moment_of}
 use Rattle.disk_trait.specs.Calls.{Goes}
 use Rattle.disk_trait.proofs.Moments.{weakened, joined, started}
 use Rattle.disk_trait.proofs.Telling.{goes-map, goes-both, goes-from, goes-then, goes-same, goes-new}
 use Rattle.segment_codec.proofs.Tables.{le_or_lt}
 use Rattle.gated_log.specs.Log.{IsLog, log_length, batches}
-use Rattle.gated_log.specs.Held.{Held, log_bytes, longer}
+use Rattle.gated_log.specs.Held.{Held, log_bytes}
 use Rattle.gated_log.specs.Holding.{IsLogWithin, HasPayloads, IsOldOrNew, KeepsOldOrNew, HasNew, IsOnDisk}
 use Rattle.gated_log.specs.Commit.{Answers}
-use Rattle.gated_log.specs.Load.{Loads, IsLogOf, IsLoaded, LeavesOldOrFresh, IsUnwritten, KeepsBytes, KeepsImages, KeepsPayloads}
+use Rattle.gated_log.specs.Load.{Loads, IsLogOf, IsLoaded, IsUnwritten, KeepsBytes, KeepsImages, KeepsPayloads}
 use Rattle.gated_log.specs.declared.LoadLog.{LoadLog}
 use Rattle.gated_log.specs.declared.LoadLog.TheVariants as logs
 use Rattle.gated_log.specs.declared.Committed.TheVariants as ends
-use Rattle.gated_log.proofs.LoadCalls.{kept-same}
 use Rattle.log_compact.specs.declared.answer.Compacted.{Compacted}
 use Rattle.log_compact.specs.declared.answer.Compacted.TheVariants.{Done, FromDisk, FromBad, ToDisk, NotFresh, Full, Memory}
-use Rattle.log_compact.specs.Compacts.{PlainWhole, batch_of, IsTaken, IsUntouched, IsUnstored, StoresWhole, AnswersWhole, WritesWhole, IsNoneOrNew, KeepsNoneOrNew, HasText, to_answer, written_to}
+use Rattle.log_compact.specs.Compacts.{PlainWhole, batch_of, IsUntouched, IsUnstored, StoresWhole, AnswersWhole, WritesWhole, IsNoneOrNew, KeepsNoneOrNew, HasText, to_answer, written_to}
 
 -- ---- what a commit does
 

@@ -1,4 +1,4 @@
-use Rattle.std.proofs.Common.{◌≡◌, ◌≤◌, ◌∙◌, ◌++◌, length, take, refl, subst, arith, append-nil, sym, ap, subst₂}
+use Rattle.std.proofs.Common.{◌∙◌, ◌++◌, take, refl, subst, arith, append-nil, sym, subst₂}
 use Rattle.std.proofs.lemmas.List.{take_all}
 use Rattle.commit_graph.proofs.Places.{item-at}
 use Rattle.segment_codec.specs.Lent.{segment_of}

@@ -1,4 +1,4 @@
-use Rattle.std.proofs.Common.{◌≡◌, ◌≤◌, ◌∙◌, ◌++◌, subst, sym, ap, append-nil, arith, refl}
+use Rattle.std.proofs.Common.{◌∙◌, ◌++◌, subst, sym, ap, append-nil, arith, refl}
 use Rattle.batch_codec.specs.Building.{IsBuilt}
 use Rattle.name_map.specs.Added.{known_of}
 use Rattle.log_compact.specs.Sections.{known_below, IsKnownOf}

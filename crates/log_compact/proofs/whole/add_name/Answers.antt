@@ -1,4 +1,4 @@
-use Rattle.std.proofs.Common.{◌++◌, ◌∷◌, [], Some, sym, subst, append-nil}
+use Rattle.std.proofs.Common.{◌∷◌, [], Some, sym, subst, append-nil}
 use Rattle.batch_codec.specs.Building.{IsBuilt}
 use Rattle.name_map.specs.Added.{known_of}
 use Rattle.name_map.specs.Map.{IsNameOf}

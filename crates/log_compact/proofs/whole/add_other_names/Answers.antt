@@ -1,4 +1,4 @@
-use Rattle.std.proofs.Common.{◌≡◌, ◌≤◌, ◌<◌, ◌∙◌, ◌++◌, ◌*◌, ◌+◌, length, take, drop, subst, sym, ap, append-nil, arith, refl}
+use Rattle.std.proofs.Common.{◌∙◌, ◌++◌, take, subst, arith}
 use Rattle.std.proofs.lemmas.List.{take_all}
 use Rattle.batch_codec.specs.Building.{IsBuilt}
 use Rattle.log_compact.proofs.Naming.{built-name}

@@ -1,4 +1,4 @@
-use Rattle.std.proofs.Common.{◌≡◌, ◌∙◌, refl}
+use Rattle.std.proofs.Common.{refl}
 use Rattle.name_map.specs.Added.{payloads_of}
 use Rattle.compact_rules.specs.Whole.{whole_change}
 use Rattle.log_compact.proofs.Standing.{may-first, built-whole}

@@ -1,4 +1,4 @@
-use Rattle.std.proofs.Common.{◌≡◌, ◌≤◌, ◌∙◌, ◌++◌, [], ap, sym, subst, subst₂}
+use Rattle.std.proofs.Common.{◌≤◌, ◌∙◌, ◌++◌, [], ap, sym, subst, subst₂}
 use Rattle.batch_codec.specs.Building.{IsBuilt}
 use Rattle.high_segments.specs.Views.{flats_in}
 use Rattle.payload_tables.specs.Kept.{PlainOthers}

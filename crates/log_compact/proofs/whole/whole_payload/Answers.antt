@@ -1,4 +1,4 @@
-use Rattle.std.proofs.Common.{◌≡◌, subst₂}
+use Rattle.std.proofs.Common.{subst₂}
 use Rattle.batch_codec.specs.Building.{IsBuilt, empty_payload}
 use Rattle.name_map.specs.Added.{payloads_of}
 use Rattle.compact_rules.specs.Whole.{whole_change}
