@@ -33,7 +33,8 @@ fn with_source(alloc: Global, fails: u64) -> Result<(Served, usize), AllocError>
 
 /// What `with_source` has to answer: the source fails at that of its calls, each of which gives seven bytes.
 fn wanted_of_source(fails: u64) -> (Served, usize) {
-    let given = 7 * fails.min(10).wrapping_sub(1);
+    let calls = fails.clamp(1, 10);
+    let given = 7 * (calls - 1);
     if given < FRAMES[0] {
         return (Served::SourceFault, 0);
     }
