@@ -1,6 +1,6 @@
 //! Pulls from a remote that grows, over a log that began as its clone, against plain worlds.
 
-ghost use Rattle.std.specs.Prelude.{List, IfOk};
+ghost use Rattle.std.specs.Prelude.{◌<◌, ◌^◌, List, length, IfOk};
 ghost use Rattle.name_map.specs.Added.{Placed};
 ghost use Rattle.payload_tables.specs.Bases.{IsBaseOf};
 ghost use Rattle.change_rules.specs.Standard.{AreLimits};
@@ -100,7 +100,9 @@ fn cloned(alloc: Global, rows: &[Commit]) -> Result<LogSample, Wrong> {
 }
 
 /// A list of a mirror alone.
-fn alone(alloc: Global, mirror: MemoryRemote) -> Result<Vec<MemoryRemote>, AllocError> {
+fn alone(alloc: Global, mirror: MemoryRemote) -> Result<Vec<MemoryRemote>, AllocError>
+    ensures { IfOk result (λ mirrors. length mirrors.items < 2 ^ 32) }
+{
     let mut mirrors = Vec::new(alloc);
     mirrors.push(mirror)?;
     Ok(mirrors)
@@ -118,21 +120,39 @@ fn fresh_of(alloc: Global, sample: &LogSample, rows: &[Commit]) -> Result<Fresh,
     }
 }
 
+/// Why a pull is refused.
+fn wrong_of(fault: PlanFault) -> Wrong {
+    match fault {
+        PlanFault::Conflict(name) => Wrong::Conflict(name),
+        _ => Wrong::Pull,
+    }
+}
+
 /// The change of a pull of a mirror of these commits.
 fn pull_of(alloc: Global, sample: &LogSample, rows: &[Commit]) -> Result<Change, Wrong> {
     let fresh = fresh_of(alloc, sample, rows)?;
     match sample.pull(&fresh, all_limits()) {
         Ok(change) => Ok(change),
-        Err(PlanFault::Conflict(name)) => Err(Wrong::Conflict(name)),
-        Err(_) => Err(Wrong::Pull),
+        Err(fault) => Err(wrong_of(fault)),
     }
 }
 
-/// Nothing is stored where the conflict is this one.
-fn refused(answer: Result<Change, Wrong>, number: u32) -> Result<Option<Change>, Wrong> {
+/// A conflict is to be with this commit.
+fn check_conflict(wrong: Wrong, number: u32) -> Result<(), Wrong> {
+    let Wrong::Conflict(name) = wrong else {
+        return Err(wrong);
+    };
+    if !name.is(&name_of(number)) {
+        return Err(Wrong::Pull);
+    }
+    Ok(())
+}
+
+/// A pull is to be refused for a conflict with this commit.
+fn check_refused(answer: Result<Change, Wrong>, number: u32) -> Result<(), Wrong> {
     match answer {
-        Err(Wrong::Conflict(name)) if name.is(&name_of(number)) => Ok(None),
-        _ => Err(Wrong::Pull),
+        Ok(_change) => Err(Wrong::Pull),
+        Err(wrong) => check_conflict(wrong, number),
     }
 }
 
@@ -427,7 +447,8 @@ impl Pulls {
         let answer = pull_of(self.alloc, sample, &self.remote);
         if let Some(number) = first_conflict(&self.world, &self.remote) {
             self.counts.conflicts = self.counts.conflicts.saturating_add(1);
-            return refused(answer, number);
+            check_refused(answer, number)?;
+            return Ok(None);
         }
         let change = answer?;
         self.take(&change)?;
