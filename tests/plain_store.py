@@ -374,17 +374,20 @@ def read_payload(data):
 
 def read_log(data, served=()):
     """The payloads of a log, of either version, and its world. A cloned commit without a stored name has the one to
-    which the served rows lead from the commit above it, or where these don't have it, a `?` and its id."""
+    which the served rows lead from the commit above it, or where these don't have it or it is another's, a `?` and its
+    id."""
     payloads = read_payloads(data)
     parents, names, others, other_names = [], {}, [], []
     for data in payloads:
         _, masters, known, others, other_names = read_payload(data)
         parents += masters
         names.update(known)
-    rows = dict(served)
+    rows, taken = dict(served), {*names.values(), *other_names}
     for i in reversed(range(len(parents))):
         if i not in names:
-            names[i] = (rows.get(names[i + 1]) or [f"?{i}"])[0]
+            led_to = (rows.get(names[i + 1]) or [f"?{i}"])[0]
+            names[i] = f"?{i}" if led_to in taken else led_to
+            taken.add(names[i])
     name = lambda i: names[i] if i < OTHER else other_names[i - OTHER]
     named = lambda own, list_: [(own[k], [name(p) for p in ids]) for k, ids in enumerate(list_)]
     return payloads, World(named(names, parents), named(other_names, others))
