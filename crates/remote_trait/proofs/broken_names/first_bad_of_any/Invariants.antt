@@ -1,7 +1,7 @@
 use Rattle.std.proofs.Common.{◌≡◌, ◌+◌, [], take, drop}
 use Rattle.remote_rules.specs.CloneData.{first_false, names_fit}
 use Rattle.remote_trait.specs.Broken.{HasSeen}
-use Rattle.remote_trait.proofs.broken_names.first_bad_name.Given as goal
+use Rattle.remote_trait.proofs.broken_names.first_bad_of_any.Given as goal
 
 abbrev pub invariant-names : goal.invariant-names
 invariant-names l =

@@ -2,7 +2,7 @@ use Rattle.std.proofs.Common.{◌∙◌, ◌+◌, [], List, take, ap, subst, sym
 use Rattle.remote_rules.specs.CloneData.{first_false, names_fit, KnownName}
 use Rattle.remote_trait.specs.Broken.{HasSeen}
 use Rattle.remote_trait.proofs.Items.{before, name-next, name-bad, names-end}
-use Rattle.remote_trait.proofs.broken_names.first_bad_name.Goals as goal
+use Rattle.remote_trait.proofs.broken_names.first_bad_of_any.Goals as goal
 
 pub names-init : goal.names-init
 names-init c = (c.new-seen.ensures, let same : c.args.first ≡ c.args.first + 0 = omega arith in ap (λ n. first_false n (names_fit c.args.end [] c.args.names.now)) same)
