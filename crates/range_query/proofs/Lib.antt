@@ -1,4 +1,5 @@
 pub mod Rows
+pub mod Bounds
 pub mod Pieces
 pub mod ChildLemmas
 pub mod RisingLemmas

@@ -7,6 +7,7 @@ mod child_walk;
 mod cut;
 mod downward;
 mod ends;
+mod ladder;
 mod merge_walk;
 mod place;
 mod rising;
