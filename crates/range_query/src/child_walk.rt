@@ -58,7 +58,7 @@ fn add_moved(
 }
 
 /// Whether a parent of the segment's lowest id is a member.
-fn has_parent_in(set: &IdSet, segment: SegmentRef<'_>) -> bool
+pub(crate) fn has_parent_in(set: &IdSet, segment: SegmentRef<'_>) -> bool
     ensures { IsTrue result ↔ HasParentIn set.now (segment_of segment.entry) }
 {
     let mut rest = segment.parents();
