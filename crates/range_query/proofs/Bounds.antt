@@ -1,10 +1,10 @@
 -- Which ids a table holds, by its bounds.
-use Rattle.std.proofs.Common.{◌≡◌, ℕ, zero, suc, ◌+◌, ◌<◌, ◌≤◌, ◌^◌, ◌⊎◌, inl, inr, List, [], ◌∷◌, ◌++◌, Some, None, refl, sym, subst, ◌∙◌, arith, ⊎_elim}
+use Rattle.std.proofs.Common.{◌≡◌, ℕ, zero, suc, ◌+◌, ◌<◌, ◌≤◌, ◌^◌, ◌⊎◌, inl, inr, List, [], ◌∷◌, ◌++◌, Some, None, sym, subst, ◌∙◌, arith, ⊎_elim}
 use Rattle.std.specs.Prelude.{◌↔◌}
 use Rattle.id_groups.specs.Lists.{IsIn}
 use Rattle.commit_graph.proofs.Histories.{in-append}
 use Rattle.segment_codec.specs.Record.{Segment}
-use Rattle.segment_codec.specs.Table.{segment_at, IsHeld, Cover, IsLawful}
+use Rattle.segment_codec.specs.Table.{IsHeld, Cover, IsLawful}
 use Rattle.segment_codec.proofs.Tables.{found-head, found-behind, head-or-behind, segment-in, follow-held, follow-within}
 use Rattle.ancestor_query.proofs.Graphs.{held-bound}
 

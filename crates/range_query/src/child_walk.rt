@@ -1,8 +1,9 @@
 //! The children of the members of a set.
 
-ghost use Rattle.std.specs.Prelude.{◌≡◌, ℕ, ◌<◌, ◌≤◌, ◌^◌, ◌⊎◌, ◌↔◌, [], length, take, drop, slice_index_or, IfOk, OnOk, IfSome, IsTrue, ◌-◌, min};
+ghost use Rattle.std.specs.Prelude.{◌≡◌, true, ℕ, ◌<◌, ◌≤◌, ◌^◌, ◌⊎◌, ◌↔◌, [], length, take, drop, slice_index_or, IfOk, OnOk, IfSome, IsTrue, ◌-◌, min};
 ghost use Rattle.commit_graph.specs.Sets as sets;
 ghost use Rattle.segment_codec.specs.Lent.{segment_of};
+ghost use Rattle.segment_codec.specs.Reading.{ascend_from};
 ghost use Rattle.segment_codec.specs.Table.{IsHeld};
 ghost use Rattle.span_set.specs.Members.{IsMember, IsCanonical};
 ghost use Rattle.ancestor_query.specs.Graph.{table_graph};
@@ -82,6 +83,51 @@ fn add_lowest(answer: &mut IdSet, set: &IdSet, segment: SegmentRef<'_>) -> Resul
     Ok(())
 }
 
+/// Whether a parent of the segment is a member, where its parents ascend. All members lie between these ids.
+fn has_parent_between(set: &IdSet, lowest: Id, greatest: Id, segment: SegmentRef<'_>) -> bool
+    requires ascending { ascend_from 0 (segment_of segment).parents ≡ true }
+    requires lowest { (x : ℕ) → IsMember set.now x → lowest ≤ x }
+    requires greatest { (x : ℕ) → IsMember set.now x → x ≤ greatest }
+    ensures { IsTrue result ↔ HasParentIn set.now (segment_of segment.entry) }
+{
+    let mut rest = segment.parents();
+    'parents: while let Some(parent) = rest.next() {
+        if parent.number() > greatest.number() {
+            return false;
+        }
+        if is_member_from(set, lowest, parent) {
+            return true;
+        }
+    }
+    false
+}
+
+/// Whether the id is a member, none of which lies below `lowest`.
+#[inline(always)]
+fn is_member_from(set: &IdSet, lowest: Id, id: Id) -> bool
+    requires { (x : ℕ) → IsMember set.now x → lowest ≤ x }
+    ensures { IsTrue result ↔ IsMember set.now id }
+{
+    if id.number() < lowest.number() {
+        return false;
+    }
+    set.contains(id)
+}
+
+/// The same, whatever the members.
+fn has_parent_among(set: &IdSet, segment: SegmentRef<'_>) -> bool
+    requires { ascend_from 0 (segment_of segment).parents ≡ true }
+    ensures { IsTrue result ↔ HasParentIn set.now (segment_of segment.entry) }
+{
+    let Some(greatest) = set.greatest() else {
+        return false;
+    };
+    let Some(lowest) = lowest_of(set.spans()) else {
+        return false;
+    };
+    has_parent_between(set, lowest, greatest, segment)
+}
+
 /// Whether all spans from the place on lie below the id.
 fn are_below(spans: &[IdSpan], at: usize, id: Id) -> bool
     requires { IsCanonical spans.now }
@@ -93,17 +139,18 @@ fn are_below(spans: &[IdSpan], at: usize, id: Id) -> bool
     spans[at].high.number() < id.number()
 }
 
-/// Whether the segment has no member below its highest id, and none of its parents is one. The first `at` spans of the set
+/// Whether the segment, whose parents ascend, has no member below its highest id, and none of its parents is one. The first `at` spans of the set
 /// stand from its highest id on.
 fn is_apart(set: &IdSet, at: usize, segment: SegmentRef<'_>) -> bool
     requires within { at ≤ length set.now }
     requires passed { StandFrom (segment_of segment).high (take at set.now) }
+    requires ascending { ascend_from 0 (segment_of segment).parents ≡ true }
     ensures { IsTrue result → IsApart set.now (segment_of segment.entry) }
 {
     if !are_below(set.spans(), at, segment.low()) {
         return false;
     }
-    !has_parent_in(set, segment)
+    !has_parent_among(set, segment)
 }
 
 /// A segment above the flat ones that ends at the id and none of whose ids has a parent in the set: the first that the
@@ -125,10 +172,12 @@ fn childless_ending<'a, T: SegmentTable>(
         match table.ending(ladder.level(), id, steps) {
             None => ladder.go_down(),
             Some(segment) => {
-                if is_apart(set, at, segment) {
-                    return Some(segment);
+                if !ladder.rise() {
+                    if is_apart(set, at, segment) {
+                        return Some(segment);
+                    }
+                    ladder.go_into(segment.low().number());
                 }
-                ladder.go_into(segment.low().number());
             }
         }
     }

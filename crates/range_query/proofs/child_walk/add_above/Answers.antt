@@ -1,5 +1,4 @@
 use Rattle.std.proofs.Common.{arith, inl, inr}
-use Rattle.std.proofs.Common.{ℕ, ◌≤◌, ◌<◌}
 use Rattle.range_query.proofs.Bounds.{cover-held, cover-room}
 use Rattle.range_query.proofs.ChildLemmas.{both-whole}
 use Rattle.range_query.proofs.child_walk.add_above.Goals as goal

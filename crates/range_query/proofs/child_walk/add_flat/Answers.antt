@@ -1,4 +1,4 @@
-use Rattle.std.proofs.Common.{◌≡◌, ℕ, ◌⊎◌, ◌↔◌, ◌<◌, ◌≤◌, ◌^◌, take, drop, arith, ap, sym, subst, ◌∙◌}
+use Rattle.std.proofs.Common.{◌⊎◌, ◌↔◌, ◌<◌, ◌^◌, take, drop, arith, ap, sym, subst}
 use Rattle.segment_codec.specs.Record.{Segment}
 use Rattle.segment_codec.specs.Lent.{segment_of}
 use Rattle.span_set.specs.Members.{IsMember}

@@ -1,4 +1,4 @@
-use Rattle.std.proofs.Common.{arith, inl, ⊎_elim, subst, sym}
+use Rattle.std.proofs.Common.{arith}
 use Rattle.range_query.proofs.ChildLemmas.{lacks-none}
 use Rattle.range_query.proofs.child_walk.add_next.Goals as goal
 

@@ -1,4 +1,4 @@
-use Rattle.std.proofs.Common.{◌≤◌, ◌-◌, ◌^◌, min}
+use Rattle.std.proofs.Common.{◌≤◌, ◌+◌, ◌*◌, ◌-◌, ◌^◌, min}
 use Rattle.range_query.proofs.child_walk.childless_ending.Given as goal
 
 abbrev pub invariant-levels : goal.invariant-levels
@@ -7,4 +7,4 @@ invariant-levels g l = record {
 }
 
 abbrev pub decreases-levels : goal.decreases-levels
-decreases-levels g l = l.ladder.level
+decreases-levels g l = 16 * (8 - l.ladder.top) + l.ladder.level

@@ -1,10 +1,8 @@
-use Rattle.std.proofs.Common.{arith, ℕ, ◌^◌, ◌+◌, ◌<◌, ◌≤◌, sym, subst, refl}
-use Rattle.id_groups.specs.declared.span.IdSpan.{IdSpan}
+use Rattle.std.proofs.Common.{arith, ℕ, ◌^◌, ◌+◌, ◌<◌, sym, subst}
 use Rattle.span_set.specs.Members.{IsMember, IsCanonical}
 use Rattle.span_set.proofs.MemberLemmas.{span-read}
 use Rattle.ancestor_query.proofs.Graphs.{held-bound}
-use Rattle.range_query.specs.Ends.{HeadsFrom}
-use Rattle.range_query.proofs.EndLemmas.{PartedAt, span-inside, heads-begin, heads-gap, heads-whole, parted-gap, parted-next}
+use Rattle.range_query.proofs.EndLemmas.{span-inside, heads-begin, heads-gap, heads-whole, parted-gap, parted-next}
 use Rattle.range_query.proofs.head_walk.add_all_heads.Goals as goal
 
 pub spans-init : goal.spans-init

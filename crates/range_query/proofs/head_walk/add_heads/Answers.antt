@@ -1,9 +1,9 @@
-use Rattle.std.proofs.Common.{arith, sym, subst}
+use Rattle.std.proofs.Common.{arith, subst}
 use Rattle.segment_codec.specs.Lent.{segment_of}
 use Rattle.ancestor_query.proofs.Best.{found-at, looked-up}
 use Rattle.range_query.specs.Ends.{HeadsFrom}
 use Rattle.range_query.proofs.ChildLemmas.{cut-group}
-use Rattle.range_query.proofs.EndLemmas.{heads-part, heads-gap}
+use Rattle.range_query.proofs.EndLemmas.{heads-part}
 use Rattle.range_query.proofs.head_walk.add_heads.Goals as goal
 
 pub unwrap-segment-requires : goal.unwrap-segment-requires

@@ -1,4 +1,4 @@
-use Rattle.std.proofs.Common.{arith, ◌-◌, ◌↔◌, ◌⊎◌, subst}
+use Rattle.std.proofs.Common.{arith, ◌↔◌, ◌⊎◌, subst}
 use Rattle.id_groups.specs.Lists.{IsIn}
 use Rattle.segment_codec.specs.Lent.{segment_of}
 use Rattle.range_query.proofs.EndLemmas.{pushed-before, pushed-own}

@@ -1,8 +1,6 @@
 use Rattle.std.proofs.Common.{arith, ◌+◌, sym, subst}
-use Rattle.id_groups.specs.declared.span.IdSpan.{IdSpan}
-use Rattle.id_groups.specs.Span.{IsInSpan}
-use Rattle.span_set.specs.Members.{IsMember, IsCanonical}
-use Rattle.span_set.proofs.MemberLemmas.{member-at, span-read}
+use Rattle.span_set.specs.Members.{IsCanonical}
+use Rattle.span_set.proofs.MemberLemmas.{span-read}
 use Rattle.range_query.proofs.MergeLemmas.{span-merges}
 use Rattle.range_query.proofs.EndLemmas.{span-inside}
 use Rattle.range_query.proofs.root_walk.roots.Goals as goal

@@ -1,4 +1,4 @@
-use Rattle.std.proofs.Common.{ℕ, ◌-◌}
+use Rattle.std.proofs.Common.{◌-◌}
 use Rattle.range_query.proofs.ladder.Ladder.climb.Given as goal
 
 abbrev pub decreases-up : goal.decreases-up
