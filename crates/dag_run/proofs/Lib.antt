@@ -14,3 +14,4 @@ pub mod Usages
 pub mod Leading
 pub mod Over
 pub mod Served
+pub mod Anew

@@ -9,3 +9,4 @@ pub mod Between
 pub mod Demo
 pub mod Modes
 pub mod Serving
+pub mod Compacting
