@@ -2,6 +2,7 @@
 
 //! Runs of command lines over a log: from the bytes that are read to the bytes that are written.
 
+mod bundling;
 mod compacting;
 mod demo;
 mod execute;
