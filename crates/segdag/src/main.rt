@@ -23,7 +23,7 @@ ghost use Rattle.segdag.specs.Usage.{IsDemo, IsRun, IsUsage, Refuses};
 mod remotes;
 mod words;
 
-use crate::remotes::{remote_at, remotes_of};
+use crate::remotes::{bundle_at, bundle_path, log_at, remotes_of};
 use crate::words::{log_of, mode_of};
 use dag_run::top;
 use disk_trait::Disk;
@@ -122,20 +122,17 @@ fn own_status(status: u8, is_opened: bool) -> u8
     status
 }
 
-/// Answers the lines of standard input on standard output over the log at this path, beside the remotes that the words name, and
-/// gives the status.
-fn run_over(rt: &HostRuntime, words: &[String], path: &str) -> Result<u8, AllocError>
+/// Answers the lines of standard input on standard output over the log at this path, beside these mirrors, and gives the status.
+fn run_over(
+    rt: &HostRuntime,
+    words: &[String],
+    path: &str,
+    mirrors: &mut Mirrors,
+) -> Result<u8, AllocError>
     requires { length words.now < 2 ^ 32 }
 {
     let mut log = disk_at(rt, path, "")?;
     let mut spare = disk_at(rt, path, ".new")?;
-    let paths = remotes_of(words);
-    let mut list: Vec<Box<dyn Remote>> = Vec::new(rt.alloc());
-    'paths: for path in paths {
-        let remote = remote_at(rt, path.as_str())?;
-        list.push(Box::new(rt.alloc(), remote)?)?;
-    }
-    let mut mirrors = Mirrors::new(list);
     let mut input = StdSource::new(rt.reader());
     let mut output = StdSink::new(io::writer(rt));
     let status = answer(
@@ -143,11 +140,31 @@ fn run_over(rt: &HostRuntime, words: &[String], path: &str) -> Result<u8, AllocE
         words,
         &mut log,
         &mut spare,
-        &mut mirrors,
+        mirrors,
         &mut input,
         &mut output,
     );
     Ok(own_status(status, log.opened()))
+}
+
+/// The same beside the remotes that the words name: bundles, where `bundle:` stands in front of the path, and else logs.
+fn run_beside(rt: &HostRuntime, words: &[String], path: &str) -> Result<u8, AllocError>
+    requires { length words.now < 2 ^ 32 }
+{
+    let mut list: Vec<Box<dyn Remote>> = Vec::new(rt.alloc());
+    'remotes: for word in remotes_of(words) {
+        match bundle_path(word.as_str()) {
+            Some(path) => {
+                let bundle = bundle_at(rt, path)?;
+                list.push(Box::new(rt.alloc(), bundle)?)?;
+            }
+            None => {
+                let log = log_at(rt, word.as_str())?;
+                list.push(Box::new(rt.alloc(), log)?)?;
+            }
+        }
+    }
+    run_over(rt, words, path, &mut Mirrors::new(list))
 }
 
 /// Answers the lines of standard input on standard output, and gives the status.
@@ -159,7 +176,7 @@ fn run(rt: &HostRuntime) -> Result<u8, u8> {
     let Some(path) = log_of(&words) else {
         return Err(NO_USAGE);
     };
-    run_over(rt, &words, path).map_err(|_refused| NO_MEMORY)
+    run_beside(rt, &words, path).map_err(|_refused| NO_MEMORY)
 }
 
 /// Ends with the status that a run gave, or with that for which none began. Where the words were no usage it says on standard error how
