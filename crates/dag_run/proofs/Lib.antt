@@ -15,3 +15,5 @@ pub mod Leading
 pub mod Over
 pub mod Served
 pub mod Anew
+pub mod Bundled
+pub mod ModeStatuses
