@@ -21,6 +21,8 @@ mod beside;
 #[cfg(test)]
 mod bundle_tests;
 #[cfg(test)]
+mod compact_tests;
+#[cfg(test)]
 mod look_ups;
 #[cfg(test)]
 mod mirror_tests;
