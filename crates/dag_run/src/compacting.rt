@@ -18,7 +18,7 @@ use std::alloc::Global;
 /// Puts the line that tells of it, and gives the status: 0 where it was put whole, else 6.
 fn tell_shrunk<O: Sink>(output: &mut O, shrunk: &Shrunk) -> u8
     ensures has { (result ≡ 0) ⊎ (result ≡ 6) }
-    ensures puts { WhereTold (O.taken output.old) (O.taken output.new) (PutsAnswer (Compacted.Done *shrunk) result) }
+    ensures puts { WhereTold (O.taken output.old) (O.taken output.new) (PutsAnswer (Compacted.Done shrunk.now) result) }
     ensures sink { result ≡ 6 → Rose (O.faults output.old) (O.faults output.new) }
 {
     let put = put_shrunk(

@@ -2,7 +2,7 @@
 
 //! The program `segdag`: answers command lines of standard input on standard output, over the log in a file.
 
-ghost use Rattle.std.specs.Prelude.{◌≡◌, ◌⊎◌, ◌<◌, ◌^◌, ◌==◌, ◌&&◌, not, length, map, string_bytes, if◌then◌else◌, ℕ, List, IfSome, MatchResult};
+ghost use Rattle.std.specs.Prelude.{◌≡◌, ◌⊎◌, ◌<◌, ◌^◌, ◌==◌, ◌&&◌, ◌∷◌, [], not, length, map, string_bytes, if◌then◌else◌, ℕ, List, IfSome, MatchResult};
 ghost use Rattle.std.specs.Process.{exit_status};
 ghost use Rattle.outside.specs.Counts.{Rose};
 ghost use Rattle.outside.specs.Told.{WhereTold};
@@ -11,14 +11,17 @@ ghost use Rattle.commit_graph.specs.World.{World};
 ghost use Rattle.batch_codec.specs.Payload.{Payload};
 ghost use Rattle.change_rules.specs.Standard.{standard};
 ghost use Rattle.disk_trait.specs.Calls.{Goes};
-ghost use Rattle.dag_store.specs.Loading.{IsUntouched};
+ghost use Rattle.change_rules.specs.Holding.{HoldAs};
+ghost use Rattle.dag_store.specs.Loading.{IsUntouched, KeepsHolding};
 ghost use Rattle.dag_run.specs.Seen.{seen};
 ghost use Rattle.dag_run.specs.Ends.{Begins, StatusMeans, StatusRefuses};
 ghost use Rattle.dag_run.specs.Demo.{DemoMeans};
+ghost use Rattle.dag_run.specs.Bundling.{BundleMeans};
+ghost use Rattle.dag_run.specs.Compacting.{CompactMeans};
 ghost use Rattle.dag_run.specs.Serving.{IsServeStatus, ServeMeans, WantsOne};
 ghost use Rattle.remote_serve.specs.Steps.{ports, streams as served_streams};
-ghost use Rattle.dag_run.specs.Stops.{IsDemoStatus, IsOverBy, IsStatus};
-ghost use Rattle.segdag.specs.Usage.{IsDemo, IsRun, IsUsage, Refuses};
+ghost use Rattle.dag_run.specs.Stops.{IsDemoStatus, IsOneOf, IsOverBy, IsStatus};
+ghost use Rattle.segdag.specs.Usage.{HasStatus, IsDemo, IsRun, IsUsage, Refuses};
 
 mod remotes;
 mod words;
@@ -49,8 +52,9 @@ const NO_MEMORY: u8 = 7;
 /// The status where the log was never opened.
 const NOT_OPENED: u8 = 9;
 
-/// Answers the lines of the input over the log, or those of a demonstration, or serves the one mirror, where the words, the program's
-/// own name in front, are a usage, and gives the status. The mirrors are asked as the lines say, and the caller keeps those that are left.
+/// Answers the lines of the input over the log, or those of a demonstration, or serves the one mirror, or puts the log's bundle, or
+/// writes the log anew to the spare disk, where the words, the program's own name in front, are a usage, and gives the status. The mirrors
+/// are asked as the lines say, and the caller keeps those that are left.
 fn answer<D: Disk, I: Source, O: Sink>(
     alloc: Global,
     words: &[String],
@@ -62,6 +66,7 @@ fn answer<D: Disk, I: Source, O: Sink>(
 ) -> u8
     requires { length words.now < 2 ^ 32 }
     ensures known { IsStatus result }
+    ensures modes { HasStatus (map string_bytes words.now) result }
     ensures usage { Refuses (map string_bytes words.now) result }
     ensures means { let first = map (λ b. (⟦<dyn Remote as Remote>⟧ b.vtable).shown b.value) mirrors.old.list.items in let left = map (λ b. (⟦<dyn Remote as Remote>⟧ b.vtable).shown b.value) mirrors.new.list.items in
         (cache : ℕ) (w : World Name) (payloads : List Payload) → IsRun cache (map string_bytes words.now)
@@ -78,12 +83,24 @@ fn answer<D: Disk, I: Source, O: Sink>(
         (λ before after. ServeMeans standard.input result (served_streams before after) first left) }
     ensures one { IsUsage Mode.Serve (map string_bytes words.now) → WantsOne (length mirrors.old.list.items) result }
     ensures beside { IsUsage Mode.Serve (map string_bytes words.now) → IsServeStatus result × (log.new ≡ log.old) }
-    ensures quiet { (result ≡ 2) ⊎ ((result ≡ 7) ⊎ (result ≡ 11)) → (input.new ≡ input.old) × (output.new ≡ output.old) × (mirrors.new ≡ mirrors.old) }
+    ensures bundles { (payloads : List Payload) (w : World Name) → IsUsage Mode.Bundle (map string_bytes words.now)
+        → IfSome (D.bytes log.old) (λ bytes. HoldAs standard.log bytes payloads w → WhereTold (O.taken output.old) (O.taken output.new) (BundleMeans payloads w result)) }
+    ensures unbundled { IsUsage Mode.Bundle (map string_bytes words.now) → IfSome (D.bytes log.old) (λ bytes. StatusRefuses standard.log bytes result) }
+    ensures held { (w : World Name) → IsUsage Mode.Bundle (map string_bytes words.now) → Goes (KeepsHolding standard.log w) (D.told log.old) (D.told log.new) }
+    ensures apart { IsUsage Mode.Bundle (map string_bytes words.now)
+        → (mirrors.new ≡ mirrors.old) × (input.new ≡ input.old) × ((result ≡ 0) ⊎ ((result ≡ 6) ⊎ (output.new ≡ output.old))) }
+    ensures compacts { IsUsage Mode.Compact (map string_bytes words.now)
+        → CompactMeans standard.log (D.bytes log.old) (D.bytes spare.old) (D.told spare.old) (D.told spare.new) (O.taken output.old) (O.taken output.new) result }
+    ensures kept { (w : World Name) → IsUsage Mode.Compact (map string_bytes words.now) → Goes (KeepsHolding standard.log w) (D.told log.old) (D.told log.new) }
+    ensures anew { IsUsage Mode.Compact (map string_bytes words.now)
+        → (mirrors.new ≡ mirrors.old) × (input.new ≡ input.old) × ((result ≡ 0) ⊎ ((result ≡ 6) ⊎ (output.new ≡ output.old))) }
+    ensures quiet { IsOneOf (2 ∷ 7 ∷ 10 ∷ 11 ∷ 13 ∷ 14 ∷ 15 ∷ []) result → (input.new ≡ input.old) × (output.new ≡ output.old) × (mirrors.new ≡ mirrors.old) }
     ensures untouched { result ≡ 2 → log.new ≡ log.old }
     ensures disk { result ≡ 3 → Rose (D.faults log.old) (D.faults log.new) }
+    ensures spare_disk { result ≡ 13 → Rose (D.faults spare.old) (D.faults spare.new) }
     ensures source { result ≡ 5 → Rose (I.faults input.old) (I.faults input.new) }
     ensures sink { result ≡ 6 → Rose (O.faults output.old) (O.faults output.new) }
-    ensures spare { spare.new ≡ spare.old }
+    ensures spare { (IsUsage Mode.Compact (map string_bytes words.now) → ⊥) ⊎ ((result ≡ 3) ⊎ (result ≡ 4)) → spare.new ≡ spare.old }
 {
     let Some(mode) = mode_of(words) else {
         return NO_USAGE;
