@@ -1,5 +1,5 @@
 -- Logs that are written anew: where nothing was begun, and statuses.
-use Rattle.std.proofs.Common.{ℕ, ◌≡◌, ◌⊎◌, inl, inr, ⊎_elim, List, Option, Some, None, IfSome, refl, sym, subst, arith}
+use Rattle.std.proofs.Common.{ℕ, ◌≡◌, ◌⊎◌, inl, inr, List, Option, Some, None, IfSome, refl, sym, subst, arith}
 use Rattle.outside.proofs.ToldLemmas.{WhereTold-same}
 use Rattle.disk_trait.specs.Images.{Told}
 use Rattle.change_rules.specs.Holding.{HoldAs}

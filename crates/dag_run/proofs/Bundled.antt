@@ -1,8 +1,8 @@
 -- Bundles: what is made of a log, where no store was loaded, and statuses.
-use Rattle.std.proofs.Common.{ℕ, ◌≡◌, ◌⊎◌, ◌++◌, ◌∙◌, inl, inr, List, Option, Some, None, Result, Ok, Err, IfSome, length, refl, sym, subst}
-use Rattle.std.specs.Prelude.{IfErr, Vec, true, false}
+use Rattle.std.proofs.Common.{ℕ, ◌≡◌, ◌⊎◌, ◌∙◌, inl, inr, List, Option, Some, None, Result, Ok, Err, IfSome, refl, sym, subst}
+use Rattle.std.specs.Prelude.{IfErr, Vec}
 use Rattle.std.specs.declared.alloc.Global.{Global}
-use Rattle.outside.specs.Told.{WhereTold, TookFront}
+use Rattle.outside.specs.Told.{WhereTold}
 use Rattle.outside.proofs.ToldLemmas.{WhereTold-map, WhereTold-same}
 use Rattle.disk_trait.specs.Images.{Told}
 use Rattle.disk_trait.specs.Calls.{Goes}
@@ -11,11 +11,9 @@ use Rattle.disk_trait.proofs.Moments.{started}
 use Rattle.id_groups.specs.Name.{Name}
 use Rattle.commit_graph.specs.World.{World}
 use Rattle.batch_codec.specs.Payload.{Payload}
-use Rattle.bundle_codec.specs.Bundle.{bundle_of}
 use Rattle.change_rules.specs.declared.Limits.{Limits}
 use Rattle.change_rules.specs.Holding.{HoldAs, HoldBytes}
 use Rattle.change_rules.specs.Unlawful.{IsNoLog}
-use Rattle.dag_store.specs.Kept.{PlainStore}
 use Rattle.dag_store.specs.Loading.{KeepsHolding, LoadAnswers, Opens, IsNoLogFault}
 use Rattle.dag_store.specs.declared.replies.LoadFault.{LoadFault}
 use Rattle.dag_store.specs.declared.replies.LoadFault.TheVariants as loads

@@ -1,14 +1,14 @@
 -- Statuses by the mode that the words are a usage of.
-use Rattle.std.proofs.Common.{ℕ, ◌≡◌, ◌⊎◌, ◌∙◌, Bool, true, false, inl, inr, List, [], ◌∷◌, refl, sym, ap, subst}
-use Rattle.std.specs.Prelude.{◌==◌, IsTrue, ⊤}
+use Rattle.std.proofs.Common.{ℕ, ◌≡◌, ◌⊎◌, ◌∙◌, Bool, true, false, inl, inr, List, [], ◌∷◌, refl, sym, subst}
+use Rattle.std.specs.Prelude.{◌==◌, IsTrue}
 use Rattle.std.specs.List.{AllByRecursion, list_any}
 use Rattle.std.proofs.lemmas.Bool.{eqb-true}
-use Rattle.program_words.specs.Usage.{IsUsage, IsNoUsage}
+use Rattle.program_words.specs.Usage.{IsUsage}
 use Rattle.program_words.specs.declared.usage.Mode.{Mode}
 use Rattle.program_words.specs.declared.usage.Mode.TheVariants.{Run, Demo, Serve, Bundle, Compact}
 use Rattle.program_words.specs.declared.usage.Usage.{Usage}
 use Rattle.program_words.proofs.Exactly.{no-usage}
-use Rattle.dag_run.specs.Modes.{IsUsageOf, IsModeStatus, HasModeStatus, EndsAtOnce, RefusesWords}
+use Rattle.dag_run.specs.Modes.{IsModeStatus, HasModeStatus, EndsAtOnce, RefusesWords}
 use Rattle.dag_run.specs.Stops.{IsStatus, IsOneOf}
 use Rattle.dag_run.proofs.Usages.{only-memory, one-mode}
 

@@ -4,7 +4,6 @@ use Rattle.outside.specs.Told.{WhereTold}
 use Rattle.outside.proofs.ToldLemmas.{WhereTold-same}
 use Rattle.remote_rules.specs.Mirror.{Mirror}
 use Rattle.program_words.specs.declared.usage.Mode.TheVariants.{Serve}
-use Rattle.remote_serve.specs.Ends.{ServesOnly}
 use Rattle.remote_serve.specs.Steps.{ports, streams}
 use Rattle.remote_serve.specs.declared.served.Served.TheVariants as served
 use Rattle.dag_run.specs.Modes.{IsUsageOf, EndsAtOnce}

@@ -1,4 +1,3 @@
-use Rattle.std.proofs.Common.{Ok, Err}
 use Rattle.outside.specs.Told.{WhereTold}
 use Rattle.change_rules.specs.Holding.{HoldAs}
 use Rattle.dag_run.specs.Bundling.{BundleMeans}

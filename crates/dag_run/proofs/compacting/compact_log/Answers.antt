@@ -1,4 +1,3 @@
-use Rattle.std.proofs.Common.{◌≡◌}
 use Rattle.dag_run.proofs.Anew.{answer-status, of-log-disk, of-no-log, of-spare-disk, of-log}
 use Rattle.dag_run.proofs.compacting.compact_log.Goals as goal
 

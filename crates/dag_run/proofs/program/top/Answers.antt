@@ -1,8 +1,6 @@
 use Rattle.std.proofs.Common.{◌≡◌, ◌∙◌, rules, map, string_bytes, inl, inr, ⊎_elim, sym, subst}
 use Rattle.change_rules.specs.Standard.{AreLimits, standard}
-use Rattle.outside.specs.Told.{WhereTold}
 use Rattle.program_words.specs.declared.usage.Mode.TheVariants.{Run, Demo, Serve, Bundle, Compact}
-use Rattle.dag_run.specs.Demo.{DemoMeans}
 use Rattle.dag_run.specs.Modes.{EndsAtOnce}
 use Rattle.dag_run.proofs.Usages.{once-means, cache-least, one-cache, once-refuses, once-demo, one-mode, of-demo, size-least, demo-means, only-memory}
 use Rattle.dag_run.proofs.Over.{once-over}
