@@ -5,7 +5,7 @@ Reads command lines and prints the reply to each, as the program does. It is slo
 the program, so that the two can be compared. `plain_store.py LOG [REMOTE]... < LINES` goes on from the world of LOG, if
 there is such a file, and writes the log afterwards.
 
-Each REMOTE is a log that is a mirror. Every commit has its name here: where LOG stores none, it is taken from the first
+Each REMOTE is a log that is a mirror, or the bundle of a log's master, with `bundle:` in front of its path. Every commit has its name here: where LOG stores none, it is taken from the first
 mirror that is there at the beginning. Mirrors are asked where the definitions say so, and those that fail go to the
 back. Of names that were found it is kept which they are, as if there were room for all.
 """
@@ -256,7 +256,7 @@ def payload(old, new):
     masters = flat_segments(before, ids_of(new, new.master[before:]))
     levels = new_levels(flat_segments(0, ids_of(new, new.master[:before])), flat_segments(0, ids_of(new, new.master)))
     known = list(enumerate((name for name, _ in new.master[before:]), before))
-    return spelled(1, before, len(new.master), masters, levels, known, [], new)
+    return spelled(1, before, 0, masters, levels, known, [], new)
 
 
 def clone_payload(new):
@@ -265,15 +265,23 @@ def clone_payload(new):
     return spelled(2, 0, len(new.master), segments, new_levels([], segments), known, heads, new)
 
 
-def spelled(kind, before, after, masters, levels, known, heads, new):
-    """A payload of version 2, with all others of the new world. Of a clone all ids are cloned."""
+def whole_payload(payloads, world):
+    """The payload that alone holds what these hold, which is this world: with the names that any of them has, and with the
+    cloned commits and heads of a clone that they begin with."""
+    segments = flat_segments(0, ids_of(world, world.master))
+    known = {i: name for data in payloads for i, name in read_payload(data)[2].items()}
+    return spelled(3, 0, read_payload(payloads[0])[0], segments, new_levels([], segments), sorted(known.items()), read_heads(payloads[0]), world)
+
+
+def spelled(kind, before, cloned, masters, levels, known, heads, new):
+    """A payload of version 2, with all others of the new world."""
     others = flat_segments(OTHER, ids_of(new, new.others))
     return b"".join(
         [
             bytes([2, kind]),
             before.to_bytes(8, "big"),
-            after.to_bytes(8, "big"),
-            (after if kind == 2 else 0).to_bytes(8, "big"),
+            len(new.master).to_bytes(8, "big"),
+            cloned.to_bytes(8, "big"),
             len(masters).to_bytes(4, "big"),
             *map(record, masters),
             len(levels).to_bytes(4, "big"),
@@ -288,6 +296,13 @@ def spelled(kind, before, after, masters, levels, known, heads, new):
             *(bytes.fromhex(name) for name, _ in new.others),
         ]
     )
+
+
+def bundle(rows):
+    """The bundle of a master of these rows."""
+    segments = flat_segments(0, ids_of(World(rows, []), rows))
+    sizes = len(rows).to_bytes(4, "big") + len(segments).to_bytes(4, "big")
+    return b"SEGBNDL1" + sizes + b"".join(map(record, segments)) + b"".join(bytes.fromhex(name) for name, _ in rows)
 
 
 def clone_data(rows):
@@ -372,6 +387,16 @@ def read_payload(data):
     return cloned, masters, names, others, [data[at + 20 * j : at + 20 * j + 20].hex() for j in range(count)]
 
 
+def read_heads(data):
+    """The heads of the remote that a payload of either version has."""
+    _, at = read_records(data, 26 if data[0] == 2 else 18)
+    if data[0] == 2:
+        _, at = read_records(data, at)
+    at += 4 + 28 * int.from_bytes(data[at : at + 4], "big")
+    count, at = int.from_bytes(data[at : at + 2], "big"), at + 2
+    return [data[at + 20 * j : at + 20 * j + 20].hex() for j in range(count)]
+
+
 def read_log(data, served=()):
     """The payloads of a log, of either version, and its world. A cloned commit without a stored name has the one to
     which the served rows lead from the commit above it, or where these don't have it or it is another's, a `?` and its
@@ -418,6 +443,26 @@ class Mirror:
     def refresh(self):
         self.rows = None
         return self.answers()
+
+
+class Bundle(Mirror):
+    """The same of a bundle."""
+
+    def read(self):
+        try:
+            with open(self.path, "rb") as file:
+                data = file.read()
+        except OSError:
+            return None
+        parents, at = read_records(data, 12)
+        names = [data[k : k + 20].hex() for k in range(at, len(data), 20)]
+        return [(name, [names[p] for p in ids]) for name, ids in zip(names, parents)]
+
+
+def mirror_of(word):
+    """The mirror that a word names."""
+    word = str(word)
+    return Bundle(word[len("bundle:") :]) if word.startswith("bundle:") else Mirror(word)
 
 
 class Store:
@@ -723,7 +768,7 @@ class Store:
 def main():
     path, *remotes = sys.argv[1:]
     data = open(path, "rb").read() if os.path.exists(path) else b""
-    store = Store(data, LIMITS, map(Mirror, remotes))
+    store = Store(data, LIMITS, map(mirror_of, remotes))
     for line in sys.stdin.buffer:
         text = re.sub(r"\r?\n\Z", "", line.decode("latin-1"))
         if text and not text.startswith("#"):

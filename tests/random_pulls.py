@@ -15,6 +15,7 @@ from collections import Counter
 from pathlib import Path
 
 import plain_store
+import random_anew
 from random_lines import Lines
 
 ENDS = ("ok", "err")
@@ -43,7 +44,7 @@ class Run:
         self.watch = threading.Timer(120, self.child.kill)
         self.watch.start()
         data = log.read_bytes() if log.exists() else b""
-        self.store = plain_store.Store(data, plain_store.LIMITS, map(plain_store.Mirror, mirrors))
+        self.store = plain_store.Store(data, plain_store.LIMITS, map(plain_store.mirror_of, mirrors))
 
     def told(self, line):
         """The program's reply: its last line says how it went."""
@@ -186,7 +187,13 @@ class Scene:
         if not self.is_clone and self.draw.random() < 0.2:
             some = [Path(self.folder, "missing")] * self.draw.choice([0, 1, 2])
         self.draw.shuffle(some)
-        return some
+        return [self.bundle_of(remote) or remote for remote in some]
+
+    def bundle_of(self, remote):
+        """Now and then a bundle of what a remote has, in its place."""
+        if not random_anew.is_known or not remote.exists() or self.draw.random() > 0.15:
+            return None
+        return f"bundle:{random_anew.bundled(self.program, remote, ())}"
 
     def draw_line(self, run):
         """A line of the log's own. Where names have to be asked no mirror is dropped, so that one goes on answering.
@@ -293,7 +300,8 @@ class Scene:
             count += self.turn(turn == 0)
             if self.is_clone and self.draw.random() < 0.8:
                 count += self.stranger()
-        return count
+        there = [remote for remote in self.remotes if remote.exists()]
+        return count + random_anew.check(self.program, self.draw, self.folder, self.here, there, world_of(there[0]).master)
 
 
 def pulls(program, runs, seed):
@@ -304,7 +312,7 @@ def pulls(program, runs, seed):
             scene = Scene(program, random.Random(seed * 9_000_011 + run), folder)
             try:
                 count += scene.play()
-            except Differs as differs:
+            except (Differs, random_anew.Differs) as differs:
                 print(f"random_runs: the pulls of run {run} of seed {seed} differ; the lines were:\n{differs}")
                 return False
             seen += scene.seen

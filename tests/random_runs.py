@@ -2,10 +2,11 @@
 """Drawn command lines of sixteen sessions, answered by the built program and by plain_store.py: replies and logs must agree.
 
 `random_runs.py PROGRAM [RUNS [SEED]]`. Each run goes over the log of the one before, up to four, so that logs are
-opened again. Between two of them some first payloads become those of version 1. Behind them come runs over clones: a
-drawn log is cloned by a second one, whose lines go beside the first as a mirror, among files that aren't there, with
-room for few names. Replies are those of a plain store that has all names. The last are runs that pull, drawn by
-random_pulls.py, where the program knows how.
+opened again. Between two of them some first payloads become those of version 1, or the logs are written anew. Behind
+them come runs over clones: a drawn log is cloned by a second one, whose lines go beside the first, or its bundle, as a
+mirror, among files that aren't there, with room for few names. Replies are those of a plain store that has all names.
+The last are runs that pull, drawn by random_pulls.py, where the program knows how. What each run leaves is written anew
+and bundled by random_anew.py, where the program knows how.
 """
 import random
 import subprocess
@@ -14,6 +15,7 @@ import tempfile
 from pathlib import Path
 
 import plain_store
+import random_anew
 import random_pulls
 from random_lines import Lines
 
@@ -28,11 +30,21 @@ def answers(command, log, text):
 def age(draw, logs):
     """Some of the first payloads of the logs, which are equal, become those of version 1, which are read."""
     payloads = plain_store.read_payloads(logs[0].read_bytes())
+    if payloads and payloads[0][1] == 3:
+        return  # A whole store comes in version 2 alone.
     for k in range(draw.choice([0, 0, draw.randint(0, len(payloads)), len(payloads)])):
         if payloads[k][0] == 2:
             payloads[k] = plain_store.first_version(payloads[k])
     for log in logs if payloads else ():
         log.write_bytes(plain_store.log_of(payloads))
+
+
+def begin_anew(program, logs):
+    """The logs, which are equal, are written anew."""
+    other = random_anew.written_anew(program, logs[0], ())
+    for log in logs:
+        log.write_bytes(other.read_bytes())
+    other.unlink()
 
 
 def commands(lines, count):
@@ -55,12 +67,13 @@ def clone_run(program, draw, folder):
     later.known = [name for name, _ in world.master]
     later.names = drawn.names + later.names
     lines = ["0 clone", *commands(later, draw.choice([60, 200]))]
-    mirrors = [str(there)] + [str(Path(folder, "missing"))] * draw.choice([0, 0, 1, 2])
+    bundle = random_anew.bundled(program, there, ()) if random_anew.is_known and draw.random() < 0.4 else None
+    mirrors = [f"bundle:{bundle}" if bundle else str(there)] + [str(Path(folder, "missing"))] * draw.choice([0, 0, 1, 2])
     draw.shuffle(mirrors)
     command = [program, str(here), *mirrors, "--", "run", "--cache", str(draw.choice([1, 2, 5, 1000]))]
     text = "".join(line + "\n" for line in lines)
     done = subprocess.run(command, input=text.encode(), capture_output=True, timeout=120)
-    store = plain_store.Store(b"", plain_store.LIMITS, map(plain_store.Mirror, mirrors))
+    store = plain_store.Store(b"", plain_store.LIMITS, map(plain_store.mirror_of, mirrors))
     told = [reply for line in lines if line and not line.startswith("#") for reply in store.line(line)]
     wanted = "".join(line + "\n" for line in told)
     if (done.returncode, done.stdout.decode(), here.read_bytes()) != (0, wanted, store.log()):
@@ -68,7 +81,9 @@ def clone_run(program, draw, folder):
     again = subprocess.run(command, input=b"0 query all\n", capture_output=True, timeout=120).stdout.decode()
     end = store.worlds[-1].down()
     wanted = "".join(line + "\n" for line in [*end, f"ok {len(end)}"])
-    return (len(lines), None) if again == wanted else (0, ("0 query all\n", again, wanted))
+    if again != wanted:
+        return 0, ("0 query all\n", again, wanted)
+    return len(lines) + random_anew.check(program, draw, folder, here, mirrors, world.master), None
 
 
 def clones(program, runs, seed):
@@ -76,7 +91,10 @@ def clones(program, runs, seed):
     count = 0
     for run in range(runs):
         with tempfile.TemporaryDirectory() as folder:
-            lines, wrong = clone_run(program, random.Random(seed * 7_000_003 + run), folder)
+            try:
+                lines, wrong = clone_run(program, random.Random(seed * 7_000_003 + run), folder)
+            except random_anew.Differs as differs:
+                wrong = [f"{differs}\n"]
         if wrong:
             print(f"random_runs: the clone of run {run} of seed {seed} differs; its lines were:")
             for text in wrong:
@@ -91,8 +109,9 @@ def main():
     program = sys.argv[1]
     runs = int(sys.argv[2]) if len(sys.argv) > 2 else 60
     seed = int(sys.argv[3]) if len(sys.argv) > 3 else 1
-    count = 0
+    count = anew = 0
     Lines.pulls = random_pulls.knows(program)
+    random_anew.is_known = random_anew.knows(program)
     with tempfile.TemporaryDirectory() as folder:
         for run in range(runs):
             draw = random.Random(seed * 1_000_003 + run)
@@ -110,12 +129,23 @@ def main():
                         sys.stdout.write(told[1].decode())
                     return 1
                 count += text.count(b"\n")
+                try:
+                    anew += random_anew.check(program, draw, folder, log)
+                    if random_anew.is_known and draw.random() < 0.2:
+                        begin_anew(program, (log, plain))
+                except random_anew.Differs as differs:
+                    print(f"random_runs: run {run} of seed {seed}: {differs}")
+                    return 1
                 age(draw, (log, plain))
     print(f"random_runs: {count} lines of {runs} runs are answered as by plain worlds")
     cloned = clones(program, runs, seed)
     if cloned is None:
         return 1
     print(f"random_runs: {cloned} lines over clones are answered as by stores with all names")
+    if random_anew.is_known:
+        print(f"random_runs: {anew} lines over logs, over them written anew, and over clones of their bundles are answered alike")
+    else:
+        print(f"random_runs: {program} doesn't know compact, so logs written anew and bundles are left out")
     if not Lines.pulls:
         print(f"random_runs: {program} doesn't know pull, so pulls are left out")
         return 0

@@ -224,6 +224,88 @@ def moments():
     print(f"real_files: moments: {tried} runs, by {calls}")
 
 
+def compact(log, before=(), **options):
+    """The status of a run that writes the log anew, and what it put."""
+    done = subprocess.run([*before, PROGRAM, log, "--", "compact"], stdout=subprocess.PIPE, timeout=60, **options)
+    return done.returncode, done.stdout.decode()
+
+
+def read(path):
+    with open(path, "rb") as file:
+        return file.read()
+
+
+def left(log, bytes_of_log, whole, line, when):
+    """Whether a file that is stopped in being written is whole. If not it is gone on with as a new one; and the log stays as it was."""
+    if read(log) != bytes_of_log:
+        fail(f"{when}: the log is another")
+    is_whole = os.path.exists(log + ".new") and read(log + ".new") == whole
+    ended = compact(log)
+    if ended != ((14, "") if is_whole else (0, line)):
+        fail(f"{when}: a second try: {ended}")
+    if read(log + ".new") != whole or read(log) != bytes_of_log:
+        fail(f"{when}: other bytes are there in the end")
+    return is_whole
+
+
+def anew():
+    """A log is written anew, and each of the calls on the new file fails, or the process is killed in it, or at a random moment."""
+    log = fresh("anew")
+    run(log, commits(1, 600))
+    data = read(log)
+    status, line = compact(log)
+    if status != 0 or not line.startswith(f"ok compacted 600 0 {len(data)} "):
+        fail(f"anew: status {status}, {line}")
+    whole = read(log + ".new")
+    seed = int(os.environ.get("SEED", time.time_ns() % 10**9))
+    chance = random.Random(seed)
+    began = time.monotonic()
+    os.remove(log + ".new")
+    compact(log)
+    took = time.monotonic() - began
+    rounds = done = 0
+    while rounds < KILL_ROUNDS and time.monotonic() - began < KILL_SECONDS / 3:
+        os.remove(log + ".new")
+        child = subprocess.Popen([PROGRAM, log, "--", "compact"], stdout=subprocess.PIPE)
+        time.sleep(chance.uniform(0, 1.2 * took))
+        child.kill()
+        told = child.stdout.read().decode()
+        child.stdout.close()
+        child.wait()
+        is_whole = left(log, data, whole, line, f"anew, round {rounds} of SEED={seed}")
+        if told and not is_whole:
+            fail(f"anew, round {rounds} of SEED={seed}: the line came before the batch")
+        done += is_whole
+        rounds += 1
+    print(f"real_files: anew: {rounds} processes were killed, and {done} had written it")
+    anew_calls(log, data, whole, line)
+
+
+def anew_calls(log, data, whole, line):
+    """The same by each call on the new file."""
+    if shutil.which("strace") is None:
+        return skip("anew", "there is no strace")
+    new, trace = log + ".new", os.path.join(FOLDER, "trace")
+    tracing = ["strace", "-f", "-q", "-o", trace, "-P", new]
+    os.remove(new)
+    if compact(log, before=[*tracing, "-e", "trace=read,write,lseek,fsync"]) != (0, line):
+        return skip("anew", "strace can't trace here")
+    calls = counted_calls(trace)
+    tried = 0
+    for call, times in sorted(calls.items()):
+        for at in range(1, times + 1):
+            for harm, wanted in (("signal=KILL", (-signal.SIGKILL, "")), ("error=EIO", (13, "")), ("error=EINTR", (0, line))):
+                if harm == "error=EINTR" and call == "lseek":
+                    continue
+                os.remove(new)
+                ended = compact(log, before=[*tracing, "-e", f"trace={call}", "-e", f"inject={call}:{harm}:when={at}"])
+                if ended != wanted and (harm != "signal=KILL" or ended[1]):
+                    fail(f"anew: {harm} at {call} {at}: {ended}")
+                left(log, data, whole, line, f"anew: {harm} at {call} {at}")
+                tried += 1
+    print(f"real_files: anew: {tried} runs, by {calls}")
+
+
 def order():
     """A commit writes its payload, makes sure of it, opens the gate, makes sure of that, and only then is the reply written."""
     if shutil.which("strace") is None:
@@ -257,7 +339,7 @@ def order():
         fail(f"order: the calls were {steps}")
 
 
-PARTS = {part.__name__: part for part in (places, limit, full, kill, moments, order)}
+PARTS = {part.__name__: part for part in (places, limit, full, kill, moments, anew, order)}
 began = time.monotonic()
 PARTS[sys.argv[1]]()
 print(f"real_files: {sys.argv[1]}: {time.monotonic() - began:.1f} s")

@@ -13,7 +13,7 @@ if ! command -v python3 > /dev/null; then
     echo "real_files: there is no python3, so this isn't tried"
     exit 0
 fi
-[ $# -gt 0 ] || set -- places limit full kill moments order
+[ $# -gt 0 ] || set -- places limit full kill moments anew order
 folder=$(mktemp -d)
 trap 'rm -rf "$folder"' EXIT
 chmod 755 "$folder"

@@ -241,6 +241,96 @@ def pulls():
         os.remove(path)
 
 
+def ends(what, word, status, out, mirrors=()):
+    """The program's run over the log by this word ends so, and puts these bytes."""
+    done = subprocess.run([PROGRAM, LOG, *mirrors, "--", word], input=b"0 status\n", stdout=subprocess.PIPE, timeout=60)
+    if (done.returncode, done.stdout) != (status, out):
+        sys.exit(f"whole_runs: {what}: status {done.returncode}, {done.stdout}")
+
+
+def content(path):
+    with open(path, "rb") as file:
+        return file.read()
+
+
+def put(path, data):
+    with open(path, "wb") as file:
+        file.write(data)
+
+
+def named(number):
+    return bytes(19) + bytes([number])
+
+
+def anew():
+    """Logs that are written anew: what is told, and that what is refused stays as it is."""
+    new, apart = LOG + ".new", LOG + ".apart"
+    fresh("two flushes", FORK + "0 flush [c1]; 0 add [d1] [b1]; 0 flush", added(3) + "ok flushed 2 1; ok added N1; ok flushed 2 2", size=269)
+    data = content(LOG)
+    ends("a log written anew", "compact", 0, b"ok compacted 2 2 269 179\n")
+    ends("a second time", "compact", 14, b"")
+    if content(LOG) != data or os.path.getsize(new) != 179:
+        sys.exit("whole_runs: a log written anew: the files are others")
+    os.rename(LOG, apart)
+    os.rename(new, LOG)
+    check("the run over it", "0 query all; 0 levels; 0 add [e1] [d1]; 0 flush", "[d1]; [b1]; [c1]; [a1]; ok 4; ok 1; ok added N2; ok flushed 2 3")
+    os.remove(LOG)
+    os.rename(apart, LOG)
+    put(new, bytes([1, 0, 0, 0, 0, 0, 0, 0, 5, 170]))
+    ends("a damaged file in its place", "compact", 14, b"")
+    if os.path.getsize(new) != 10:
+        sys.exit("whole_runs: a damaged file in its place was written")
+    os.remove(new)
+    os.mkdir(new)
+    ends("a folder in its place", "compact", 13, b"")
+    os.rmdir(new)
+    os.remove(LOG)
+    ends("no log yet", "compact", 0, b"ok compacted 0 0 1 1\n")
+    ends("no log yet, a second time", "compact", 0, b"ok compacted 0 0 1 1\n")
+    os.remove(new)
+    for word in ("compact", "bundle"):
+        put(LOG, bytes([1, 0, 0, 0, 0, 0, 0, 0, 5, 170]))
+        ends(f"a damaged log, {word}", word, 4, b"")
+        os.remove(LOG)
+        os.mkdir(LOG)
+        ends(f"a folder as the log, {word}", word, 9, b"")
+        os.rmdir(LOG)
+    if os.path.exists(new):
+        sys.exit("whole_runs: a file was written for a log that is none")
+
+
+def bundles():
+    """Bundles: of what they are, and mirrors that are read of them."""
+    bundle, there = LOG + ".bundle", LOG + ".there"
+    word = "bundle:" + bundle
+    fork = b"SEGBNDL1" + bytes([0, 0, 0, 2, 0, 0, 0, 1, 1, 0, *bytes(7), 1, 1, 0]) + named(0xA1) + named(0xC1)
+    fresh("a fork", FORK + "0 flush [c1]", added(3) + "ok flushed 2 1")
+    ends("its bundle", "bundle", 0, fork)
+    put(bundle, fork)
+    os.rename(LOG, there)
+    check("a clone of a bundle", "0 clone; 0 query all; 0 add [d1] [c1]; 0 flush [d1]", "ok cloned 2; [c1]; [a1]; ok 2; ok added N0; ok flushed 3 0", mirrors=[word])
+    check("a pull from it", "0 pull; 0 count all", "ok pulled 3 0; ok 3", mirrors=[word + ".not", word])
+    ends("the bundle of a clone that lacks a name", "bundle", 10, b"", mirrors=[word])
+    put(bundle, fork[:-1])
+    fresh("a clone of half a bundle", "0 clone; 0 clone", "err remote 1; err remote 1", mirrors=[word], size=1)
+    check("and of a log as if it were one", "0 clone", "err remote 1", mirrors=["bundle:" + there], size=1)
+    ends("the bundle of nothing", "bundle", 0, b"SEGBNDL1" + bytes(8))
+    roots = [(f"{number:040x}", []) for number in (0xA1, 0xB1)]
+    fresh("two roots", "0 add [a1]; 0 add [b1]; 0 flush [a1] [b1]", added(2) + "ok flushed 2 0")
+    os.rename(LOG, there)
+    check("their clone", "0 clone", "ok cloned 2", mirrors=[there])
+    ends("the bundle of a clone that has all names", "bundle", 0, plain_store.bundle(roots))
+    for path in (LOG, bundle, there):
+        os.remove(path)
+
+
+def knows_bundles():
+    known = subprocess.run([PROGRAM, LOG, "--", "bundle"], stdout=subprocess.PIPE, stderr=subprocess.PIPE, timeout=60).returncode == 0
+    if known:
+        os.remove(LOG)
+    return known
+
+
 def drawn(size, start):
     """Each commit's name with its parents' names."""
     x, rows = start, []
@@ -285,6 +375,11 @@ if knows_pull():
     pulls()
 else:
     print("whole_runs: the program doesn't know pull, so pulls are left out")
+if knows_bundles():
+    anew()
+    bundles()
+else:
+    print("whole_runs: the program doesn't know bundles, so they and logs written anew are left out")
 for size, start in [(1, 0), (2, 0), (3, 0), (3, 5), (3, 10), (64, 3), (999, 10), (1000, 0), (1001, (1 << 64) - 1)]:
     demonstrate(size, start, plainly(drawn(size, start), by_lines=True))
 many = plainly(drawn(20_000, 5), by_lines=False)

@@ -39,6 +39,9 @@ ends 2 1 log -- run run
 ends 2 1 log -- run --cache 0
 ends 2 1 log -- run --cache
 ends 2 1 log -- demo run
+ends 2 1 log -- bundle compact
+ends 2 1 log -- bundles
+ends 2 1 log -- compact 1
 ends 2 1 log -- demo --size 0
 ends 2 1 log -- demo --size 60001
 ends 2 1 log remote -- Run
@@ -58,6 +61,7 @@ if [ "$(od -An -tx1 log | tr -d ' ')" != 00 ]; then
     exit 1
 fi
 ends 0 0 log remote other -- run
+ends 0 0 log bundle:remote bundle: -- run
 ends 0 0 log -- run --cache 5
 ends 0 0 log -- --cache=5 run
 ends 0 0 run -- run

@@ -12,7 +12,7 @@ use Rattle.id_groups.specs.Id.{id_text, is_master_id}
 use Rattle.outside.specs.Told.{TookFront}
 use Rattle.std.proofs.lemmas.Grind.{common_steps, flat_map-append}
 use Rattle.std.proofs.lemmas.Option.{slice_get_within, get_or_from_slice_get}
-use Rattle.step_rules.specs.Reply.{LevelSizes, Listed, reply_text, words_text}
+use Rattle.step_rules.specs.Reply.{LevelSizes, reply_text, words_text}
 use Rattle.command_lines.specs.Sending.{Sends, lines_text, listed_text}
 
 decimal-short : (n : ℕ) → n < 2 ^ 64 → length (decimal n) ≤ 20

@@ -37,3 +37,8 @@ refusal_head why.Memory = codes "err memory"
 -- the names, one a line, and this number of them: the text of an answer, where it is how many they are
 abbrev pub listed_text : List Name → ℕ → List ℕ
 listed_text names count = lines_text (map hex_text names ++ words_text (codes "ok") (decimal count ∷ []) ∷ [])
+
+-- the line that tells of a log written anew: its world's sizes, and how long the log was that was read and the one that was written
+abbrev pub shrunk_text : ℕ → ℕ → ℕ → ℕ → List ℕ
+shrunk_text master others length_from length_to =
+    lines_text (words_text (codes "ok compacted") (decimal master ∷ decimal others ∷ decimal length_from ∷ decimal length_to ∷ []) ∷ [])

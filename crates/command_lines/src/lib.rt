@@ -11,5 +11,5 @@ mod words;
 
 pub use command::{Command, CommandFault, Verb};
 pub use name_list::NameList;
-pub use put::{put_disk_fault, put_names, put_reply};
+pub use put::{put_disk_fault, put_names, put_reply, put_shrunk};
 pub use reply::Reply;

@@ -7,13 +7,13 @@ ghost use Rattle.id_groups.specs.Id.{id_text};
 ghost use Rattle.run_rules.specs.Ends.{disk_text};
 ghost use Rattle.step_rules.specs.Reply.{LevelSizes, reply_text, words_text};
 ghost use Rattle.dag_store.specs.Names.{names_left};
-ghost use Rattle.command_lines.specs.Sending.{Sends, lines_text, listed_text};
+ghost use Rattle.command_lines.specs.Sending.{Sends, lines_text, listed_text, shrunk_text};
 ghost use Rattle.command_lines.specs.Told.{reply_head, told};
 
 use crate::Reply;
 use crate::reply_line::{
     LINE, id_line, line_of, number_line, pair_line, push_number, push_piece, refusal_line,
-    sizes_line,
+    shrunk_line, sizes_line,
 };
 use arrayvec::ArrayVec;
 use dag_store::{Counts, LevelCounts, Names};
@@ -183,4 +183,19 @@ pub fn put_disk_fault<O: Sink>(output: &mut O) -> Result<(), SinkFault>
     ensures cause { HasCause (O.faults output.old) (O.faults output.new) result }
 {
     output.put(b"err disk\n")
+}
+
+/// Puts the line that tells of a log written anew: the sizes of its world, and how long the log was that was read and the one that was
+/// written.
+pub fn put_shrunk<O: Sink>(
+    output: &mut O,
+    master: u64,
+    others: u64,
+    length_from: u64,
+    length_to: u64,
+) -> Result<(), SinkFault>
+    ensures bytes { Puts (O.taken output.old) (O.taken output.new) result (shrunk_text master others length_from length_to) }
+    ensures cause { HasCause (O.faults output.old) (O.faults output.new) result }
+{
+    put_line(output, &shrunk_line(master, others, length_from, length_to))
 }

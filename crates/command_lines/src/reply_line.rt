@@ -4,7 +4,7 @@ ghost use Rattle.std.specs.Prelude.{◌≡◌, ◌≤◌, ◌+◌, ◌++◌, [],
 ghost use Rattle.id_groups.specs.Id.{id_text};
 ghost use Rattle.id_groups.specs.Name.{hex_text};
 ghost use Rattle.step_rules.specs.Reply.{limit_text, refusal_text, words_text};
-ghost use Rattle.command_lines.specs.Sending.{lines_text, refusal_head};
+ghost use Rattle.command_lines.specs.Sending.{lines_text, refusal_head, shrunk_text};
 
 use arrayvec::ArrayVec;
 use dag_store::{Counts, Limit, Refusal};
@@ -136,6 +136,25 @@ pub(crate) fn sizes_line(counts: &Counts) -> ArrayVec<u8, LINE>
     push_number(&mut line, counts.master);
     push_number(&mut line, counts.others);
     push_number(&mut line, counts.pending);
+    push_piece(&mut line, b"\n");
+    line
+}
+
+/// The line of a log that was written anew.
+pub(crate) fn shrunk_line(
+    master: u64,
+    others: u64,
+    length_from: u64,
+    length_to: u64,
+) -> ArrayVec<u8, LINE>
+    ensures { result.items ≡ shrunk_text master others length_from length_to }
+{
+    let mut line = ArrayVec::new();
+    push_piece(&mut line, b"ok compacted");
+    push_number(&mut line, master);
+    push_number(&mut line, others);
+    push_number(&mut line, length_from);
+    push_number(&mut line, length_to);
     push_piece(&mut line, b"\n");
     line
 }

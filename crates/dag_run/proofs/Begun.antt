@@ -1,6 +1,5 @@
 -- Mirrors whose masters begin with the cloned commits do so through each command.
 use Rattle.std.proofs.Common.{◌≡◌, ◌≤◌, ◌⊎◌, ⊎_elim, ℕ, zero, suc, Bool, true, false, inl, inr, List, [], ◌∷◌, ◌++◌, length, take, nat_lt, Option, Some, None, is_some, refl, sym, ap, subst, ◌∙◌, MatchOption, arith, length-append, append-nil, append_assoc, le_refl, le_trans, true≢false, if◌then◌else◌}
-use Rattle.std.specs.Prelude.{◌<◌}
 use Rattle.std.specs.Bool.{MatchBool}
 use Rattle.std.specs.List.{AllByRecursion}
 use Rattle.std.proofs.lemmas.Bool.{lt-ltb}

@@ -46,7 +46,7 @@ use Rattle.dag_store.specs.Flushes.{HasRoom, HasStored, Stores, StoresBy, FlushL
 use Rattle.dag_store.specs.Clones.{StoresClone, StoresCloneBy, clone_end}
 use Rattle.dag_store.specs.declared.replies.Counts.{Counts}
 use Rattle.dag_store.specs.declared.replies.Flushed.TheVariants as flushes
-use Rattle.dag_run.specs.Enough.{HasEnough, IsEnoughFor, IsEnoughOn}
+use Rattle.dag_run.specs.Enough.{IsEnoughFor}
 use Rattle.dag_run.specs.Lines.{Changes, HasChanged, IsBrief, PutsReply, IsLimited, Replies, CommandReplies, DoesBeside, DropsAt, LineReplies, LineLeaves}
 use Rattle.dag_run.specs.Replies.{reply_of_count}
 use Rattle.dag_run.specs.declared.stops.Stop.{Stop}

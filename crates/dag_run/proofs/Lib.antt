@@ -14,3 +14,6 @@ pub mod Usages
 pub mod Leading
 pub mod Over
 pub mod Served
+pub mod Anew
+pub mod Bundled
+pub mod ModeStatuses

@@ -1,28 +1,14 @@
--- Serving: the one mirror, words that end it at once, and modes that are others.
-use Rattle.std.proofs.Common.{ℕ, ◌≡◌, ◌≢◌, ◌⊎◌, ◌∙◌, arith, inl, inr, List, [], ◌∷◌, Option, length, map, refl, sym, ap, subst}
+-- Serving: the one mirror, and words that end it at once.
+use Rattle.std.proofs.Common.{ℕ, ◌≡◌, arith, inr, List, [], ◌∷◌, Option, length, map, refl}
 use Rattle.outside.specs.Told.{WhereTold}
 use Rattle.outside.proofs.ToldLemmas.{WhereTold-same}
 use Rattle.remote_rules.specs.Mirror.{Mirror}
-use Rattle.program_words.specs.Usage.{IsUsage}
-use Rattle.program_words.specs.declared.usage.Mode.{Mode}
-use Rattle.program_words.specs.declared.usage.Mode.TheVariants.{Run, Demo, Serve}
-use Rattle.program_words.specs.declared.usage.Usage.{Usage}
-use Rattle.remote_serve.specs.Ends.{ServesOnly}
+use Rattle.program_words.specs.declared.usage.Mode.TheVariants.{Serve}
 use Rattle.remote_serve.specs.Steps.{ports, streams}
 use Rattle.remote_serve.specs.declared.served.Served.TheVariants as served
 use Rattle.dag_run.specs.Modes.{IsUsageOf, EndsAtOnce}
-use Rattle.dag_run.specs.Serving.{IsServeStatus, ServeMeans, WantsOne}
-use Rattle.dag_run.proofs.Usages.{only-memory, one-mode}
-
--- words of one mode are none of another
-pub of-mode : (words : List (List ℕ)) (usage : Usage) (a b : Mode) → IsUsage words usage → usage.mode ≡ a → IsUsageOf b words → a ≡ b
-of-mode words usage a b is e of = sym e ∙ one-mode words usage b is of
-
-pub run-serve : Run ≡ Serve → ⊥
-run-serve e = cc e
-
-pub demo-serve : Demo ≡ Serve → ⊥
-demo-serve e = cc e
+use Rattle.dag_run.specs.Serving.{ServeMeans, WantsOne}
+use Rattle.dag_run.proofs.Usages.{only-memory}
 
 -- the one of a list
 pub the-one : {X Y : Type 0} (f : X → Y) (xs : List X) → length xs ≡ 1 → (y : Y) × (map f xs ≡ y ∷ [])
@@ -45,6 +31,3 @@ pub once-one : (words : List (List ℕ)) (status count : ℕ) → EndsAtOnce wor
 once-one words status count once of =
     let seven = only-memory words status of.0 once of.1 in
     (λ e. absurd (omega (arith, e, seven)), λ h. inr seven)
-
-pub once-served : (words : List (List ℕ)) (status : ℕ) → EndsAtOnce words status → IsUsageOf Serve words → IsServeStatus status
-once-served words status once of = subst IsServeStatus (sym (only-memory words status of.0 once of.1)) refl

@@ -70,9 +70,6 @@ size-least words usage is = least-number 1 60000 _ usage.size is.matches.size
 pub one-mode : (words : List (List ℕ)) (usage : Usage) (mode : Mode) → IsUsage words usage → IsUsageOf mode words → usage.mode ≡ mode
 one-mode words usage mode is of = ap (λ (u : Usage). u.mode) (one-usage words usage of.0 is of.1) ∙ of.2
 
-pub run-or-demo : (mode : Mode) → mode ≡ Run → mode ≡ Demo → ⊥
-run-or-demo mode e f = let same : Run ≡ Demo = sym e ∙ f in cc same
-
 pub of-demo : (size start : ℕ) (words : List (List ℕ)) → IsDemoOf size start words → IsUsageOf Demo words
 of-demo size start words of = (of.0, of.1, of.2)
 

@@ -9,3 +9,5 @@ pub mod Between
 pub mod Demo
 pub mod Modes
 pub mod Serving
+pub mod Bundling
+pub mod Compacting

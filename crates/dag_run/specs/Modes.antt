@@ -1,9 +1,13 @@
 -- Which words are a usage of a mode, and what a program does that doesn't run.
-use Rattle.std.specs.Prelude.{ℕ, ◌≡◌, ◌⊎◌, List}
+use Rattle.std.specs.Prelude.{ℕ, ◌≡◌, ◌⊎◌, List, [], ◌∷◌}
 use Rattle.program_words.specs.Usage.{IsUsage, IsNoUsage}
 use Rattle.program_words.specs.declared.usage.Mode.{Mode}
-use Rattle.program_words.specs.declared.usage.Mode.TheVariants.{Run, Demo}
+use Rattle.program_words.specs.declared.usage.Mode.TheVariants.{Run, Demo, Serve, Bundle, Compact}
 use Rattle.program_words.specs.declared.usage.Usage.{Usage}
+use Rattle.dag_run.specs.Stops.{IsRunStatus, IsDemoStatus, IsOneOf}
+use Rattle.dag_run.specs.Serving.{IsServeStatus}
+use Rattle.dag_run.specs.Bundling.{IsBundleStatus}
+use Rattle.dag_run.specs.Compacting.{IsCompactStatus}
 
 -- the words are a usage of this mode
 abbrev pub IsUsageOf : Mode → List (List ℕ) → Type 0
@@ -24,3 +28,18 @@ IsRunOf cache words = (usage : Usage) × IsUsage words usage × (usage.mode ≡ 
 -- the words are a usage of the demonstration of so many commits, whose parents are drawn from that number on
 abbrev pub IsDemoOf : ℕ → ℕ → List (List ℕ) → Type 0
 IsDemoOf size start words = (usage : Usage) × IsUsage words usage × (usage.mode ≡ Demo) × (usage.size ≡ size) × (usage.start ≡ start)
+
+-- the statuses of a mode
+abbrev pub IsModeStatus : Mode → ℕ → Type 0
+IsModeStatus Run status = IsRunStatus status
+IsModeStatus Demo status = IsDemoStatus status
+IsModeStatus Serve status = IsServeStatus status
+IsModeStatus Bundle status = IsBundleStatus status
+IsModeStatus Compact status = IsCompactStatus status
+
+-- Where the words are a usage, the status is one of its mode. Status 10 comes only where they are one of `bundle`, and 13 to 15 only where
+-- they are one of `compact`.
+pub record HasModeStatus (words : List (List ℕ)) (status : ℕ) : Type 0 where
+  pub usages : (mode : Mode) → IsUsageOf mode words → IsModeStatus mode status
+  pub bundle : status ≡ 10 → IsUsageOf Bundle words
+  pub compact : IsOneOf (13 ∷ 14 ∷ 15 ∷ []) status → IsUsageOf Compact words

@@ -1,5 +1,5 @@
 -- Why a run stops, and how it ends then.
-use Rattle.std.specs.Prelude.{ℕ, ◌≡◌, ◌<◌, ◌≤◌, ◌==◌, Bool, true, false, [], ◌∷◌, Option, Some, None, IsTrue, Ok, Err, ⊤}
+use Rattle.std.specs.Prelude.{ℕ, ◌≡◌, ◌⊎◌, ◌<◌, ◌≤◌, ◌==◌, Bool, true, false, List, [], ◌∷◌, Option, Some, None, IsTrue, Ok, Err, ⊤}
 use Rattle.std.specs.List.{list_any}
 use Rattle.std.specs.declared.result.Result.{Result}
 use Rattle.line_io.specs.declared.lines.LineFault.{LineFault}
@@ -82,4 +82,9 @@ IsDemoStatus status = IsTrue (list_any (λ known. known == status) (0 ∷ 6 ∷ 
 
 -- the statuses of the program, with that of words that aren't a usage
 abbrev pub IsStatus : ℕ → Type 0
-IsStatus status = IsTrue (list_any (λ known. known == status) (0 ∷ 2 ∷ 3 ∷ 4 ∷ 5 ∷ 6 ∷ 7 ∷ 8 ∷ 11 ∷ 12 ∷ []))
+IsStatus status = IsTrue (list_any (λ known. known == status) (0 ∷ 2 ∷ 3 ∷ 4 ∷ 5 ∷ 6 ∷ 7 ∷ 8 ∷ 10 ∷ 11 ∷ 12 ∷ 13 ∷ 14 ∷ 15 ∷ []))
+
+-- the status is one of these
+abbrev pub IsOneOf : List ℕ → ℕ → Type 0
+IsOneOf [] status = ⊥
+IsOneOf (one ∷ more) status = (status ≡ one) ⊎ IsOneOf more status

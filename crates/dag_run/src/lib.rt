@@ -2,6 +2,8 @@
 
 //! Runs of command lines over a log: from the bytes that are read to the bytes that are written.
 
+mod bundling;
+mod compacting;
 mod demo;
 mod execute;
 mod laws;

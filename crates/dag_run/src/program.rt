@@ -18,16 +18,20 @@ ghost use Rattle.run_rules.specs.Ends.{status_of as end_status};
 ghost use Rattle.run_rules.specs.Means.{Means};
 ghost use Rattle.dag_store.specs.Loading.{KeepsHolding, IsLoadedStore, IsUntouched};
 ghost use Rattle.program_words.specs.Usage.{IsUsage};
-ghost use Rattle.dag_run.specs.Modes.{EndsAtOnce, IsDemoOf, IsRunOf, IsUsageOf, RefusesWords};
+ghost use Rattle.dag_run.specs.Modes.{EndsAtOnce, HasModeStatus, IsDemoOf, IsModeStatus, IsRunOf, IsUsageOf, RefusesWords};
 ghost use Rattle.dag_run.specs.Seen.{Seen, seen, streams};
-ghost use Rattle.dag_run.specs.Stops.{end_of, GoesOver, IsAnswerStop, IsDemoStatus, IsLoadStop, IsOverAt, IsOverBy, IsRunStatus, IsStatus, stop_of};
+ghost use Rattle.dag_run.specs.Stops.{end_of, GoesOver, IsAnswerStop, IsDemoStatus, IsLoadStop, IsOneOf, IsOverAt, IsOverBy, IsRunStatus, IsStatus, stop_of};
 ghost use Rattle.dag_run.specs.Lines.{PutsFault};
 ghost use Rattle.dag_run.specs.Demo.{DemoMeans};
 ghost use Rattle.dag_run.specs.Ends.{Begins, OpensRun, LoadPuts, LoadRefuses, RunRefuses, EndRefuses, StatusMeans, StatusRefuses};
 ghost use Rattle.dag_run.specs.Between.{Going, TurnMeans};
+ghost use Rattle.dag_run.specs.Bundling.{BundleMeans};
+ghost use Rattle.dag_run.specs.Compacting.{CompactMeans};
 ghost use Rattle.dag_run.specs.Serving.{IsServeStatus, ServeMeans, WantsOne};
 ghost use Rattle.remote_serve.specs.Steps.{ports, streams as served_streams};
 
+use crate::bundling::put_bundle;
+use crate::compacting::compact_log;
 use crate::demo::demo;
 use crate::execute::execute;
 use crate::replies::tell_fault;
@@ -324,10 +328,69 @@ fn usage_of(alloc: Global, words: &[String]) -> Result<Usage, u8>
     }
 }
 
+/// Does what the usage's mode says, within these limits.
+fn run_mode<D: Disk, I: Source, O: Sink>(
+    alloc: Global,
+    limits: Limits,
+    usage: Usage,
+    log: &mut D,
+    spare: &mut D,
+    mirrors: &mut Mirrors,
+    input: &mut I,
+    output: &mut O,
+) -> Report
+    requires limits { AreLimits limits }
+    requires cache { 0 < usage.cache }
+    requires size { 1 ≤ usage.size }
+    ensures known { IsModeStatus usage.mode result.status }
+    ensures means { let first = map (λ b. (⟦<dyn Remote as Remote>⟧ b.vtable).shown b.value) mirrors.old.list.items in let left = map (λ b. (⟦<dyn Remote as Remote>⟧ b.vtable).shown b.value) mirrors.new.list.items in
+        (w : World Name) (payloads : List Payload) → usage.mode ≡ Mode.Run → WhereTold (seen (D.told log.old) (I.left input.old) (O.taken output.old)) (seen (D.told log.new) (I.left input.new) (O.taken output.new))
+        (λ before after. Begins limits w payloads first before → StatusMeans limits w payloads usage.cache first left
+        (Rose (D.faults log.old) (D.faults log.new)) (Rose (I.faults input.old) (I.faults input.new)) (Rose (O.faults output.old) (O.faults output.new)) result.status result.changes before after) }
+    ensures over { usage.mode ≡ Mode.Run → WhereTold (I.left input.old) (I.left input.new) (λ before after. IsOverBy limits.input result.status (length before)) }
+    ensures refuses { (usage.mode ≡ Mode.Run) ⊎ (usage.mode ≡ Mode.Bundle) → IfSome (D.bytes log.old) (λ bytes. StatusRefuses limits.log bytes result.status) }
+    ensures no_log { usage.mode ≡ Mode.Run → WhereTold (seen (D.told log.old) (I.left input.old) (O.taken output.old)) (seen (D.told log.new) (I.left input.new) (O.taken output.new)) (EndRefuses limits result.status) }
+    ensures demo { usage.mode ≡ Mode.Demo → WhereTold (O.taken output.old) (O.taken output.new) (DemoMeans usage.size usage.start result.status) }
+    ensures serves { let first = map (λ b. (⟦<dyn Remote as Remote>⟧ b.vtable).shown b.value) mirrors.old.list.items in let left = map (λ b. (⟦<dyn Remote as Remote>⟧ b.vtable).shown b.value) mirrors.new.list.items in
+        usage.mode ≡ Mode.Serve → length mirrors.old.list.items ≡ 1 → WhereTold (ports (I.left input.old) (O.taken output.old)) (ports (I.left input.new) (O.taken output.new))
+        (λ before after. ServeMeans limits.input result.status (served_streams before after) first left) }
+    ensures one { usage.mode ≡ Mode.Serve → WantsOne (length mirrors.old.list.items) result.status }
+    ensures bundles { (payloads : List Payload) (w : World Name) → usage.mode ≡ Mode.Bundle → IfSome (D.bytes log.old) (λ bytes. HoldAs limits.log bytes payloads w
+        → WhereTold (O.taken output.old) (O.taken output.new) (BundleMeans payloads w result.status)) }
+    ensures compacts { usage.mode ≡ Mode.Compact
+        → CompactMeans limits.log (D.bytes log.old) (D.bytes spare.old) (D.told spare.old) (D.told spare.new) (O.taken output.old) (O.taken output.new) result.status }
+    ensures holds { (w : World Name) → (usage.mode ≡ Mode.Bundle) ⊎ (usage.mode ≡ Mode.Compact) → Goes (KeepsHolding limits.log w) (D.told log.old) (D.told log.new) }
+    ensures log { (usage.mode ≡ Mode.Demo) ⊎ (usage.mode ≡ Mode.Serve) → log.new ≡ log.old }
+    ensures changes { (usage.mode ≡ Mode.Run → ⊥) → result.changes ≡ [] }
+    ensures aside { (usage.mode ≡ Mode.Demo) ⊎ ((usage.mode ≡ Mode.Bundle) ⊎ (usage.mode ≡ Mode.Compact)) → (mirrors.new ≡ mirrors.old) × (input.new ≡ input.old) }
+    ensures nothing { (usage.mode ≡ Mode.Bundle) ⊎ (usage.mode ≡ Mode.Compact) → (result.status ≡ 0) ⊎ ((result.status ≡ 6) ⊎ (output.new ≡ output.old)) }
+    ensures spare { (usage.mode ≡ Mode.Compact → ⊥) ⊎ ((result.status ≡ 3) ⊎ (result.status ≡ 4)) → spare.new ≡ spare.old }
+    ensures unwritten { result.status ≡ 4 → Goes IsUntouched (D.told log.old) (D.told log.new) × (input.new ≡ input.old) × (output.new ≡ output.old) × (mirrors.new ≡ mirrors.old) }
+    ensures quiet { (result.status ≡ 7) ⊎ (result.status ≡ 11) → (input.new ≡ input.old) × (output.new ≡ output.old) × (mirrors.new ≡ mirrors.old) }
+    ensures disk { result.status ≡ 3 → Rose (D.faults log.old) (D.faults log.new) }
+    ensures spare_disk { result.status ≡ 13 → Rose (D.faults spare.old) (D.faults spare.new) }
+    ensures source { result.status ≡ 5 → Rose (I.faults input.old) (I.faults input.new) }
+    ensures sink { result.status ≡ 6 → Rose (O.faults output.old) (O.faults output.new) }
+{
+    match usage.mode {
+        Mode::Run => run_lines(alloc, limits, usage.cache, log, mirrors, input, output),
+        Mode::Demo => Report::idle(alloc, demo(alloc, usage.size, usage.start, output)),
+        Mode::Serve => {
+            Report::idle(
+                alloc,
+                serve_mirror(alloc, limits.input, mirrors, input, output),
+            )
+        }
+        Mode::Bundle => Report::idle(alloc, put_bundle(alloc, limits, log, output)),
+        Mode::Compact => { Report::idle(alloc, compact_log(alloc, limits.log, log, spare, output)) }
+    }
+}
+
 /// Runs the program over the words behind the `--`: answers the lines of the input over the log, within the program's limits, or
 /// those of a demonstration in memory, of which the last four replies are put, or the framed requests of the input over the one
-/// mirror. The mirrors are asked as the lines say, and as many of the names that they give are kept as the words say. The spare disk
-/// isn't touched, nor is any disk by a demonstration or by serving, nor the mirrors or the input by a demonstration.
+/// mirror, or puts the bundle of the log's master, or writes the log anew to the spare disk. The mirrors are asked as the lines say, and
+/// as many of the names that they give are kept as the words say. The spare disk isn't touched but by writing a log anew: neither by the
+/// run. The log isn't touched by a demonstration or by serving, and but for the run and for serving neither are the mirrors and the input.
 pub fn top<D: Disk, I: Source, O: Sink>(
     alloc: Global,
     words: &[String],
@@ -338,6 +401,7 @@ pub fn top<D: Disk, I: Source, O: Sink>(
     output: &mut O,
 ) -> Report
     ensures known { IsStatus result.status }
+    ensures modes { HasModeStatus (map string_bytes words.now) result.status }
     ensures usage { RefusesWords (map string_bytes words.now) result.status }
     ensures means { let first = map (λ b. (⟦<dyn Remote as Remote>⟧ b.vtable).shown b.value) mirrors.old.list.items in let left = map (λ b. (⟦<dyn Remote as Remote>⟧ b.vtable).shown b.value) mirrors.new.list.items in
         (cache : ℕ) (w : World Name) (payloads : List Payload) → IsRunOf cache (map string_bytes words.now)
@@ -357,27 +421,31 @@ pub fn top<D: Disk, I: Source, O: Sink>(
         (λ before after. ServeMeans standard.input result.status (served_streams before after) first left) }
     ensures one { IsUsageOf Mode.Serve (map string_bytes words.now) → WantsOne (length mirrors.old.list.items) result.status }
     ensures beside { IsUsageOf Mode.Serve (map string_bytes words.now) → IsServeStatus result.status × (log.new ≡ log.old) × (result.changes ≡ []) }
+    ensures bundles { (payloads : List Payload) (w : World Name) → IsUsageOf Mode.Bundle (map string_bytes words.now)
+        → IfSome (D.bytes log.old) (λ bytes. HoldAs standard.log bytes payloads w → WhereTold (O.taken output.old) (O.taken output.new) (BundleMeans payloads w result.status)) }
+    ensures unbundled { IsUsageOf Mode.Bundle (map string_bytes words.now) → IfSome (D.bytes log.old) (λ bytes. StatusRefuses standard.log bytes result.status) }
+    ensures held { (w : World Name) → IsUsageOf Mode.Bundle (map string_bytes words.now) → Goes (KeepsHolding standard.log w) (D.told log.old) (D.told log.new) }
+    ensures apart { IsUsageOf Mode.Bundle (map string_bytes words.now)
+        → (mirrors.new ≡ mirrors.old) × (input.new ≡ input.old) × (result.changes ≡ []) × ((result.status ≡ 0) ⊎ ((result.status ≡ 6) ⊎ (output.new ≡ output.old))) }
+    ensures compacts { IsUsageOf Mode.Compact (map string_bytes words.now)
+        → CompactMeans standard.log (D.bytes log.old) (D.bytes spare.old) (D.told spare.old) (D.told spare.new) (O.taken output.old) (O.taken output.new) result.status }
+    ensures kept { (w : World Name) → IsUsageOf Mode.Compact (map string_bytes words.now) → Goes (KeepsHolding standard.log w) (D.told log.old) (D.told log.new) }
+    ensures anew { IsUsageOf Mode.Compact (map string_bytes words.now)
+        → (mirrors.new ≡ mirrors.old) × (input.new ≡ input.old) × (result.changes ≡ []) × ((result.status ≡ 0) ⊎ ((result.status ≡ 6) ⊎ (output.new ≡ output.old))) }
     ensures unwritten { result.status ≡ 4 → Goes IsUntouched (D.told log.old) (D.told log.new) × (input.new ≡ input.old) × (output.new ≡ output.old) × (mirrors.new ≡ mirrors.old) }
-    ensures quiet { (result.status ≡ 2) ⊎ ((result.status ≡ 7) ⊎ (result.status ≡ 11)) → (input.new ≡ input.old) × (output.new ≡ output.old) × (mirrors.new ≡ mirrors.old) }
+    ensures quiet { IsOneOf (2 ∷ 7 ∷ 10 ∷ 11 ∷ 13 ∷ 14 ∷ 15 ∷ []) result.status → (input.new ≡ input.old) × (output.new ≡ output.old) × (mirrors.new ≡ mirrors.old) }
     ensures untouched { result.status ≡ 2 → log.new ≡ log.old }
     ensures disk { result.status ≡ 3 → Rose (D.faults log.old) (D.faults log.new) }
+    ensures spare_disk { result.status ≡ 13 → Rose (D.faults spare.old) (D.faults spare.new) }
     ensures source { result.status ≡ 5 → Rose (I.faults input.old) (I.faults input.new) }
     ensures sink { result.status ≡ 6 → Rose (O.faults output.old) (O.faults output.new) }
-    ensures spare { spare.new ≡ spare.old }
+    ensures spare { (IsUsageOf Mode.Compact (map string_bytes words.now) → ⊥) ⊎ ((result.status ≡ 3) ⊎ (result.status ≡ 4)) → spare.new ≡ spare.old }
 {
-    let usage = match usage_of(alloc, words) {
-        Ok(usage) => usage,
-        Err(status) => return Report::idle(alloc, status),
-    };
-    match usage.mode {
-        Mode::Run => {
+    match usage_of(alloc, words) {
+        Ok(usage) => {
             let limits = Limits::standard();
-            run_lines(alloc, limits, usage.cache, log, mirrors, input, output)
+            run_mode(alloc, limits, usage, log, spare, mirrors, input, output)
         }
-        Mode::Demo => Report::idle(alloc, demo(alloc, usage.size, usage.start, output)),
-        Mode::Serve => {
-            let limit = Limits::standard().input;
-            Report::idle(alloc, serve_mirror(alloc, limit, mirrors, input, output))
-        }
+        Err(status) => Report::idle(alloc, status),
     }
 }

@@ -43,13 +43,16 @@ impl Moments {
     }
 }
 
-/// The status that a run ends with, and the moments of its stored changes.
+/// The status that the program ends with, and the moments of its stored changes.
 #[derive(Drop)]
 pub struct Report {
-    /// 0: the input was read to its end and all replies were written. 2: the words aren't a usage. 3: the disk failed.
-    /// 4: the disk's bytes are no log. 5: the source failed. 6: the sink failed. 7: want of memory before the first line, or in
-    /// a demonstration, or before the first frame. 8: the input is longer than its limit. 11: the mirrors aren't one, for
-    /// serving. 12: a frame's length is 0 or too long, or the input ends within a frame.
+    /// 0: the input was read to its end and all replies were written; or the bundle was put, or the log was written anew and its line put.
+    /// 2: the words aren't a usage. 3: the log's disk failed. 4: its bytes are no log. 5: the source failed. 6: the sink failed, in writing
+    /// a log anew after that was done. 7: want of memory before the first line, or in a demonstration, or before the first frame, or before
+    /// a bundle is put, or before a log is written anew. 8: the input is longer than its limit. 10: a commit of master has no stored name,
+    /// for a bundle. 11: the mirrors aren't one, for serving. 12: a frame's length is 0 or too long, or the input ends within a frame. 13:
+    /// the spare disk failed, in writing a log anew. 14: the spare disk's bytes are no log, or have a batch. 15: what is to be written
+    /// anew is too long for the log's limit.
     pub status: u8,
     /// One moment for each stored change.
     pub changes: Moments,

@@ -7,10 +7,11 @@ use Rattle.disk_trait.specs.Images.{Told, IsImage, IsSound}
 use Rattle.disk_trait.specs.Calls.{Goes}
 use Rattle.disk_trait.proofs.Loss.{last-append}
 use Rattle.disk_trait.proofs.Moments.{weakened}
-use Rattle.disk_trait.proofs.Telling.{goes-from}
+use Rattle.disk_trait.proofs.Telling.{goes-from, goes-both}
+use Rattle.segment_codec.proofs.Tables.{le_or_lt}
 use Rattle.gated_log.specs.Log.{IsLog}
 use Rattle.gated_log.specs.Held.{Held}
-use Rattle.gated_log.specs.Load.{Loads, IsLogOf, LeavesOldOrFresh}
+use Rattle.gated_log.specs.Load.{Loads, IsLogOf, IsUnwritten, KeepsBytes, KeepsImages, LeavesOldOrFresh}
 use Rattle.gated_log.specs.declared.LoadLog.{LoadLog}
 use Rattle.gated_log.specs.declared.LoadLog.TheVariants as logs
 use Rattle.gated_log.proofs.Reading.{one-log}
@@ -34,7 +35,8 @@ use Rattle.flush_rebuild.proofs.Invented.{some-world}
 use Rattle.compact_rules.specs.Whole.{whole_change}
 use Rattle.log_compact.specs.declared.answer.Compacted.{Compacted}
 use Rattle.log_compact.specs.declared.answer.Compacted.TheVariants.{Done, FromDisk, FromBad, ToDisk, NotFresh, Full, Memory}
-use Rattle.log_compact.specs.Compacts.{PlainWhole, whole_list, batch_of, MakesWhole, ReadsWhole, IsOfReading, KeepsHolding, from_answer}
+use Rattle.log_compact.specs.Compacts.{PlainWhole, whole_list, batch_of, MakesWhole, ReadsWhole, IsOfReading, KeepsHolding, IsUntouched, from_answer}
+use Rattle.log_compact.proofs.ToDisk.{fault-untouched}
 use Rattle.log_compact.specs.Sections.{StandsWhole}
 
 -- ---- the texts of payloads
@@ -173,6 +175,26 @@ fresh-holds : (limit : ℕ) (w : World Name) (old image : List ℕ) → 1 ≤ li
 fresh-holds limit w old image least (payloads, h) short here =
     let none : h.texts ≡ [] = one-log old h.texts [] h.log (inl (short, refl)) in
     (payloads, record { within = omega (arith, least, here); texts = []; log = inl (here, refl); spelled = subst (λ l. AreSpelled l payloads) none h.spelled; hold = h.hold })
+
+-- a file that is no log stays as it was
+pub read-untouched : (limit : ℕ) (fault : LoadLog) (d e : Option Told) → 1 ≤ limit → IfSome d (λ t. Loads limit t.bytes (Err fault)) → Goes KeepsImages d e
+    → ((size : ℕ) → fault ≡ logs.TooLarge size → Goes (IsUnwritten 2) d e) → ((at : ℕ) → fault ≡ logs.Damaged at → Goes (IsUnwritten 3) d e) → from_answer fault ≡ FromBad → Goes IsUntouched d e
+read-untouched limit (logs.Damaged at) d e some loads images large damaged is = fault-untouched limit (logs.Damaged at) d e some loads images large damaged refl
+read-untouched limit (logs.TooLarge size) d e some loads images large damaged is = fault-untouched limit (logs.TooLarge size) d e some loads images large damaged refl
+read-untouched limit (logs.Disk fault) d e some loads images large damaged is = absurd (cc is)
+read-untouched limit logs.Memory d e some loads images large damaged is = absurd (cc is)
+
+unlawful-some : (texts : List (List ℕ)) (r : Result PlainWhole Compacted) → MakesWhole texts r → r ≡ Err FromBad → texts ≢ []
+unlawful-some texts r makes is none = (subst (λ ts. MakesWhole ts (Err FromBad)) none (subst (MakesWhole texts) is makes)).1
+
+pub made-untouched : (limit : ℕ) (log : Held) (r : Result PlainWhole Compacted) (d e : Option Told) → MakesWhole log.payloads r
+    → IfSome d (λ t. IsLogOf limit t.bytes log) → Goes KeepsImages d e → Goes KeepsBytes d e → r ≡ Err FromBad → Goes IsUntouched d e
+made-untouched limit log r d e makes h images kept is =
+    let some = unlawful-some log.payloads r makes is in
+    let Both : Told → Told → Type 0 = λ a b. KeepsImages a b × KeepsBytes a b in
+    goes-from Both IsUntouched (λ t. IsLogOf limit t.bytes log) d e
+    (λ a b l both. ⊎_elim (λ few. absurd (some (l.fresh few).0)) (λ many. (both.1 (omega (arith, many)), both.0 (omega (arith, many)))) (le_or_lt (length a.bytes) 1))
+    h (goes-both KeepsImages KeepsBytes Both d e (λ a b i k. (i, k)) images kept)
 
 pub keeps-holding : (limit : ℕ) (w : World Name) (a b : Option Told) → 1 ≤ limit → IfSome a IsSound → Goes LeavesOldOrFresh a b → Goes (KeepsHolding limit w) a b
 keeps-holding limit w a b least s f = goes-from LeavesOldOrFresh (KeepsHolding limit w) IsSound a b

@@ -116,6 +116,7 @@ fn read_whole<D: Disk>(alloc: Global, from: &mut D, limit: u64) -> Result<Whole,
     ensures answers { IfSome (D.bytes from.old) (λ bytes. ReadsWhole limit bytes result) }
     ensures err { IfErr result IsOfReading }
     ensures holds { (w : World NameBytes) → Goes (KeepsHolding limit w) (D.told from.old) (D.told from.new) }
+    ensures unwritten { result ≡ Err Compacted.FromBad → Goes IsUntouched (D.told from.old) (D.told from.new) }
     ensures later { D.faults from.old ≤ D.faults from.new }
     ensures cause { (fault : _) → result ≡ Err (Compacted.FromDisk fault) → Rose (D.faults from.old) (D.faults from.new) }
 {
@@ -201,7 +202,7 @@ fn write_whole<D: Disk>(alloc: Global, to: &mut D, limit: u64, whole: &Whole) ->
 /// Where each list of bytes that a crash of the second disk may leave is a log without a batch, at each moment since each one has no
 /// batch, or holds the world, with the same known names, cloned count and heads of the remote; and so does each one where it is done.
 /// `FromBad` comes exactly where the first disk's bytes are no log, `NotFresh` exactly where the second disk's bytes are none or have a
-/// batch, and `Full` exactly where the payload is too long.
+/// batch, and `Full` exactly where the payload is too long. A disk whose bytes are refused so isn't written.
 pub fn compact<D: Disk>(alloc: Global, from: &mut D, to: &mut D, limit: u64) -> Compacted
     requires { (1 ≤ limit) × (limit ≤ 2 ^ 32) }
     ensures reads { IfSome (D.bytes from.old) (λ bytes. IsReadAs limit bytes result) }
@@ -213,6 +214,7 @@ pub fn compact<D: Disk>(alloc: Global, from: &mut D, to: &mut D, limit: u64) -> 
     ensures done { (payloads : List Payload) (w : World NameBytes) (shrunk : _) → result ≡ Compacted.Done shrunk
         → IfSome (D.bytes from.old) (λ bytes. HoldAs limit bytes payloads w → Goes (HasWhole limit payloads w) (D.told to.old) (D.told to.new)) }
     ensures quiet { IsOfFrom result → to.new ≡ to.old }
+    ensures from_unwritten { result ≡ Compacted.FromBad → Goes IsUntouched (D.told from.old) (D.told from.new) }
     ensures unwritten { result ≡ Compacted.NotFresh → Goes IsUntouched (D.told to.old) (D.told to.new) }
     ensures loaded { IsUnstored result → Goes LeavesOldOrFresh (D.told to.old) (D.told to.new) }
     ensures from_later { D.faults from.old ≤ D.faults from.new }

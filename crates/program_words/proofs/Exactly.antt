@@ -1,23 +1,25 @@
 -- Words are a usage in one way at most, and never beside being none.
 use Rattle.std.proofs.Common.{◌≡◌, ◌∙◌, ap, sym, refl, ℕ, List, Option, Some, None, [], inl, inr}
-use Rattle.std.proofs.lemmas.Bool.{eqb-false}
-use Rattle.std.specs.Prelude.{slice_index, unwrap_or}
+use Rattle.std.specs.Prelude.{slice_index, unwrap_or, nat_eq, if◌then◌else◌}
 use Rattle.clap.specs.Words.{Text}
 use Rattle.program_words.specs.Usage.{WritesNumber, AreTexts, IsUsage, IsNoUsage, mode_text}
 use Rattle.program_words.specs.declared.usage.Mode.{Mode}
-use Rattle.program_words.specs.declared.usage.Mode.TheVariants.{Run, Demo, Serve}
+use Rattle.program_words.specs.declared.usage.Mode.TheVariants.{Run, Demo, Serve, Bundle, Compact}
 use Rattle.program_words.specs.declared.usage.Usage.{Usage}
 
+-- the mode of a word that begins with this byte
+abbrev mode_by : ℕ → Mode
+mode_by n = if nat_eq n 114 then Run else if nat_eq n 100 then Demo else if nat_eq n 115 then Serve else if nat_eq n 98 then Bundle else Compact
+
+by-text : (m : Mode) → mode_by (slice_index (mode_text m) 0) ≡ m
+by-text Run = refl
+by-text Demo = refl
+by-text Serve = refl
+by-text Bundle = refl
+by-text Compact = refl
+
 one-mode : (a b : Mode) → mode_text a ≡ mode_text b → a ≡ b
-one-mode Run Run e = refl
-one-mode Demo Demo e = refl
-one-mode Serve Serve e = refl
-one-mode Run Demo e = absurd (eqb-false 114 100 refl (ap (λ (t : Text). slice_index t 0) e))
-one-mode Demo Run e = absurd (eqb-false 100 114 refl (ap (λ (t : Text). slice_index t 0) e))
-one-mode Run Serve e = absurd (eqb-false 114 115 refl (ap (λ (t : Text). slice_index t 0) e))
-one-mode Serve Run e = absurd (eqb-false 115 114 refl (ap (λ (t : Text). slice_index t 0) e))
-one-mode Demo Serve e = absurd (eqb-false 100 115 refl (ap (λ (t : Text). slice_index t 0) e))
-one-mode Serve Demo e = absurd (eqb-false 115 100 refl (ap (λ (t : Text). slice_index t 0) e))
+one-mode a b e = sym (by-text a) ∙ (ap (λ (t : Text). mode_by (slice_index t 0)) e ∙ by-text b)
 
 one-number : (low high : ℕ) (o : Option Text) (m n : ℕ) → WritesNumber low high o m → WritesNumber low high o n → m ≡ n
 one-number low high None m n a b = absurd a

@@ -5,7 +5,7 @@ use Rattle.clap.specs.Words.{Row, Text, fault_of, matches_of, one_of, first_of, 
 use Rattle.clap.specs.declared.parser.matches.ArgMatches.{ArgMatches}
 use Rattle.program_words.specs.Command.{command}
 use Rattle.program_words.specs.declared.usage.Mode.{Mode}
-use Rattle.program_words.specs.declared.usage.Mode.TheVariants.{Run, Demo, Serve}
+use Rattle.program_words.specs.declared.usage.Mode.TheVariants.{Run, Demo, Serve, Bundle, Compact}
 use Rattle.program_words.specs.declared.usage.Usage.{Usage}
 
 -- the word of a mode
@@ -13,6 +13,8 @@ abbrev pub mode_text : Mode → Text
 mode_text Run = codes "run"
 mode_text Demo = codes "demo"
 mode_text Serve = codes "serve"
+mode_text Bundle = codes "bundle"
+mode_text Compact = codes "compact"
 
 -- the text is there, and writes this number, which lies within the bounds
 abbrev pub WritesNumber : ℕ → ℕ → Option Text → ℕ → Type 0

@@ -15,6 +15,10 @@ pub enum Mode {
     Demo,
     /// Answer the framed requests of the input over the one mirror.
     Serve,
+    /// Put the bundle of the stored master.
+    Bundle,
+    /// Write the log anew, to the spare disk.
+    Compact,
 }
 
 /// How the program is used. What its mode doesn't use is there all the same.
@@ -50,6 +54,12 @@ fn mode_of(word: &str) -> Option<Mode>
     }
     if word == "serve" {
         return Some(Mode::Serve);
+    }
+    if word == "bundle" {
+        return Some(Mode::Bundle);
+    }
+    if word == "compact" {
+        return Some(Mode::Compact);
     }
     None
 }

@@ -19,6 +19,10 @@ use std::{io, str};
 
 mod beside;
 #[cfg(test)]
+mod bundle_tests;
+#[cfg(test)]
+mod compact_tests;
+#[cfg(test)]
 mod look_ups;
 #[cfg(test)]
 mod mirror_tests;

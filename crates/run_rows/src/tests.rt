@@ -502,7 +502,7 @@ fn a_sink_that_fails_ends_a_run(rt: HostRuntime) -> Result<(), AllocError> {
 }
 
 /// The words of a text.
-fn words_of(alloc: Global, text: &str) -> Result<Vec<String>, AllocError> {
+pub(crate) fn words_of(alloc: Global, text: &str) -> Result<Vec<String>, AllocError> {
     let mut words = Vec::new(alloc);
     for word in text.split_whitespace() {
         words.push(String::from_str(alloc, word)?)?;

@@ -1,5 +1,5 @@
--- Which words of the program, its own name in front, are the remotes' paths.
-use Rattle.std.specs.Prelude.{ℕ, ◌-◌, List, [], ◌∷◌, take, drop, Option, Some, None}
+-- Which words of the program, its own name in front, are the remotes', and which of these name bundles.
+use Rattle.std.specs.Prelude.{ℕ, ◌≡◌, ◌-◌, List, [], ◌∷◌, ◌++◌, take, drop, codes, Option, Some, None}
 use Rattle.dag_run.specs.Words.{dashes_at, split_of}
 use Rattle.dag_run.specs.declared.words.Split.{Split}
 
@@ -12,3 +12,7 @@ between_of (Some split) words = drop split.remotes (take (split.rest - 1) words)
 abbrev pub remote_words : List (List ℕ) → List (List ℕ)
 remote_words [] = []
 remote_words (name ∷ words) = between_of (split_of (dashes_at words)) words
+
+-- the word names the bundle at this path
+abbrev pub IsBundleWord : List ℕ → List ℕ → Type 0
+IsBundleWord path word = word ≡ codes "bundle:" ++ path

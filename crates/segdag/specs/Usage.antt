@@ -1,7 +1,7 @@
 -- When the words of the program, its own name in front, are a usage.
 use Rattle.std.specs.Prelude.{ℕ, ◌≡◌, List, [], ◌∷◌, drop, Option, None, MatchOption}
 use Rattle.std.specs.Option.{option_map}
-use Rattle.dag_run.specs.Modes.{IsUsageOf, IsRunOf, IsDemoOf, RefusesWords}
+use Rattle.dag_run.specs.Modes.{IsUsageOf, IsRunOf, IsDemoOf, HasModeStatus, RefusesWords}
 use Rattle.dag_run.specs.Words.{dashes_at, split_of}
 use Rattle.program_words.specs.declared.usage.Mode.{Mode}
 
@@ -25,3 +25,7 @@ IsDemo size start words = MatchOption (mode_words words) ⊥ (IsDemoOf size star
 -- where none are there the status is 2, and else it refuses those that are
 abbrev pub Refuses : List (List ℕ) → ℕ → Type 0
 Refuses words status = MatchOption (mode_words words) (status ≡ 2) (λ mode. RefusesWords mode status)
+
+-- and the status is one that their mode may have
+abbrev pub HasStatus : List (List ℕ) → ℕ → Type 0
+HasStatus words status = MatchOption (mode_words words) (status ≡ 2) (λ mode. HasModeStatus mode status)

@@ -2,7 +2,7 @@
 
 //! The program `segdag`: answers command lines of standard input on standard output, over the log in a file.
 
-ghost use Rattle.std.specs.Prelude.{◌≡◌, ◌⊎◌, ◌<◌, ◌^◌, ◌==◌, ◌&&◌, not, length, map, string_bytes, if◌then◌else◌, ℕ, List, IfSome, MatchResult};
+ghost use Rattle.std.specs.Prelude.{◌≡◌, ◌⊎◌, ◌<◌, ◌^◌, ◌==◌, ◌&&◌, ◌∷◌, [], not, length, map, string_bytes, if◌then◌else◌, ℕ, List, IfSome, MatchResult};
 ghost use Rattle.std.specs.Process.{exit_status};
 ghost use Rattle.outside.specs.Counts.{Rose};
 ghost use Rattle.outside.specs.Told.{WhereTold};
@@ -11,19 +11,22 @@ ghost use Rattle.commit_graph.specs.World.{World};
 ghost use Rattle.batch_codec.specs.Payload.{Payload};
 ghost use Rattle.change_rules.specs.Standard.{standard};
 ghost use Rattle.disk_trait.specs.Calls.{Goes};
-ghost use Rattle.dag_store.specs.Loading.{IsUntouched};
+ghost use Rattle.change_rules.specs.Holding.{HoldAs};
+ghost use Rattle.dag_store.specs.Loading.{IsUntouched, KeepsHolding};
 ghost use Rattle.dag_run.specs.Seen.{seen};
 ghost use Rattle.dag_run.specs.Ends.{Begins, StatusMeans, StatusRefuses};
 ghost use Rattle.dag_run.specs.Demo.{DemoMeans};
+ghost use Rattle.dag_run.specs.Bundling.{BundleMeans};
+ghost use Rattle.dag_run.specs.Compacting.{CompactMeans};
 ghost use Rattle.dag_run.specs.Serving.{IsServeStatus, ServeMeans, WantsOne};
 ghost use Rattle.remote_serve.specs.Steps.{ports, streams as served_streams};
-ghost use Rattle.dag_run.specs.Stops.{IsDemoStatus, IsOverBy, IsStatus};
-ghost use Rattle.segdag.specs.Usage.{IsDemo, IsRun, IsUsage, Refuses};
+ghost use Rattle.dag_run.specs.Stops.{IsDemoStatus, IsOneOf, IsOverBy, IsStatus};
+ghost use Rattle.segdag.specs.Usage.{HasStatus, IsDemo, IsRun, IsUsage, Refuses};
 
 mod remotes;
 mod words;
 
-use crate::remotes::{remote_at, remotes_of};
+use crate::remotes::{bundle_at, bundle_path, log_at, remotes_of};
 use crate::words::{log_of, mode_of};
 use dag_run::top;
 use disk_trait::Disk;
@@ -49,8 +52,9 @@ const NO_MEMORY: u8 = 7;
 /// The status where the log was never opened.
 const NOT_OPENED: u8 = 9;
 
-/// Answers the lines of the input over the log, or those of a demonstration, or serves the one mirror, where the words, the program's
-/// own name in front, are a usage, and gives the status. The mirrors are asked as the lines say, and the caller keeps those that are left.
+/// Answers the lines of the input over the log, or those of a demonstration, or serves the one mirror, or puts the log's bundle, or
+/// writes the log anew to the spare disk, where the words, the program's own name in front, are a usage, and gives the status. The mirrors
+/// are asked as the lines say, and the caller keeps those that are left.
 fn answer<D: Disk, I: Source, O: Sink>(
     alloc: Global,
     words: &[String],
@@ -62,6 +66,7 @@ fn answer<D: Disk, I: Source, O: Sink>(
 ) -> u8
     requires { length words.now < 2 ^ 32 }
     ensures known { IsStatus result }
+    ensures modes { HasStatus (map string_bytes words.now) result }
     ensures usage { Refuses (map string_bytes words.now) result }
     ensures means { let first = map (λ b. (⟦<dyn Remote as Remote>⟧ b.vtable).shown b.value) mirrors.old.list.items in let left = map (λ b. (⟦<dyn Remote as Remote>⟧ b.vtable).shown b.value) mirrors.new.list.items in
         (cache : ℕ) (w : World Name) (payloads : List Payload) → IsRun cache (map string_bytes words.now)
@@ -78,12 +83,24 @@ fn answer<D: Disk, I: Source, O: Sink>(
         (λ before after. ServeMeans standard.input result (served_streams before after) first left) }
     ensures one { IsUsage Mode.Serve (map string_bytes words.now) → WantsOne (length mirrors.old.list.items) result }
     ensures beside { IsUsage Mode.Serve (map string_bytes words.now) → IsServeStatus result × (log.new ≡ log.old) }
-    ensures quiet { (result ≡ 2) ⊎ ((result ≡ 7) ⊎ (result ≡ 11)) → (input.new ≡ input.old) × (output.new ≡ output.old) × (mirrors.new ≡ mirrors.old) }
+    ensures bundles { (payloads : List Payload) (w : World Name) → IsUsage Mode.Bundle (map string_bytes words.now)
+        → IfSome (D.bytes log.old) (λ bytes. HoldAs standard.log bytes payloads w → WhereTold (O.taken output.old) (O.taken output.new) (BundleMeans payloads w result)) }
+    ensures unbundled { IsUsage Mode.Bundle (map string_bytes words.now) → IfSome (D.bytes log.old) (λ bytes. StatusRefuses standard.log bytes result) }
+    ensures held { (w : World Name) → IsUsage Mode.Bundle (map string_bytes words.now) → Goes (KeepsHolding standard.log w) (D.told log.old) (D.told log.new) }
+    ensures apart { IsUsage Mode.Bundle (map string_bytes words.now)
+        → (mirrors.new ≡ mirrors.old) × (input.new ≡ input.old) × ((result ≡ 0) ⊎ ((result ≡ 6) ⊎ (output.new ≡ output.old))) }
+    ensures compacts { IsUsage Mode.Compact (map string_bytes words.now)
+        → CompactMeans standard.log (D.bytes log.old) (D.bytes spare.old) (D.told spare.old) (D.told spare.new) (O.taken output.old) (O.taken output.new) result }
+    ensures kept { (w : World Name) → IsUsage Mode.Compact (map string_bytes words.now) → Goes (KeepsHolding standard.log w) (D.told log.old) (D.told log.new) }
+    ensures anew { IsUsage Mode.Compact (map string_bytes words.now)
+        → (mirrors.new ≡ mirrors.old) × (input.new ≡ input.old) × ((result ≡ 0) ⊎ ((result ≡ 6) ⊎ (output.new ≡ output.old))) }
+    ensures quiet { IsOneOf (2 ∷ 7 ∷ 10 ∷ 11 ∷ 13 ∷ 14 ∷ 15 ∷ []) result → (input.new ≡ input.old) × (output.new ≡ output.old) × (mirrors.new ≡ mirrors.old) }
     ensures untouched { result ≡ 2 → log.new ≡ log.old }
     ensures disk { result ≡ 3 → Rose (D.faults log.old) (D.faults log.new) }
+    ensures spare_disk { result ≡ 13 → Rose (D.faults spare.old) (D.faults spare.new) }
     ensures source { result ≡ 5 → Rose (I.faults input.old) (I.faults input.new) }
     ensures sink { result ≡ 6 → Rose (O.faults output.old) (O.faults output.new) }
-    ensures spare { spare.new ≡ spare.old }
+    ensures spare { (IsUsage Mode.Compact (map string_bytes words.now) → ⊥) ⊎ ((result ≡ 3) ⊎ (result ≡ 4)) → spare.new ≡ spare.old }
 {
     let Some(mode) = mode_of(words) else {
         return NO_USAGE;
@@ -122,20 +139,17 @@ fn own_status(status: u8, is_opened: bool) -> u8
     status
 }
 
-/// Answers the lines of standard input on standard output over the log at this path, beside the remotes that the words name, and
-/// gives the status.
-fn run_over(rt: &HostRuntime, words: &[String], path: &str) -> Result<u8, AllocError>
+/// Answers the lines of standard input on standard output over the log at this path, beside these mirrors, and gives the status.
+fn run_over(
+    rt: &HostRuntime,
+    words: &[String],
+    path: &str,
+    mirrors: &mut Mirrors,
+) -> Result<u8, AllocError>
     requires { length words.now < 2 ^ 32 }
 {
     let mut log = disk_at(rt, path, "")?;
     let mut spare = disk_at(rt, path, ".new")?;
-    let paths = remotes_of(words);
-    let mut list: Vec<Box<dyn Remote>> = Vec::new(rt.alloc());
-    'paths: for path in paths {
-        let remote = remote_at(rt, path.as_str())?;
-        list.push(Box::new(rt.alloc(), remote)?)?;
-    }
-    let mut mirrors = Mirrors::new(list);
     let mut input = StdSource::new(rt.reader());
     let mut output = StdSink::new(io::writer(rt));
     let status = answer(
@@ -143,11 +157,31 @@ fn run_over(rt: &HostRuntime, words: &[String], path: &str) -> Result<u8, AllocE
         words,
         &mut log,
         &mut spare,
-        &mut mirrors,
+        mirrors,
         &mut input,
         &mut output,
     );
     Ok(own_status(status, log.opened()))
+}
+
+/// The same beside the remotes that the words name: bundles, where `bundle:` stands in front of the path, and else logs.
+fn run_beside(rt: &HostRuntime, words: &[String], path: &str) -> Result<u8, AllocError>
+    requires { length words.now < 2 ^ 32 }
+{
+    let mut list: Vec<Box<dyn Remote>> = Vec::new(rt.alloc());
+    'remotes: for word in remotes_of(words) {
+        match bundle_path(word.as_str()) {
+            Some(path) => {
+                let bundle = bundle_at(rt, path)?;
+                list.push(Box::new(rt.alloc(), bundle)?)?;
+            }
+            None => {
+                let log = log_at(rt, word.as_str())?;
+                list.push(Box::new(rt.alloc(), log)?)?;
+            }
+        }
+    }
+    run_over(rt, words, path, &mut Mirrors::new(list))
 }
 
 /// Answers the lines of standard input on standard output, and gives the status.
@@ -159,7 +193,7 @@ fn run(rt: &HostRuntime) -> Result<u8, u8> {
     let Some(path) = log_of(&words) else {
         return Err(NO_USAGE);
     };
-    run_over(rt, &words, path).map_err(|_refused| NO_MEMORY)
+    run_beside(rt, &words, path).map_err(|_refused| NO_MEMORY)
 }
 
 /// Ends with the status that a run gave, or with that for which none began. Where the words were no usage it says on standard error how

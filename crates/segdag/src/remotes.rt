@@ -1,24 +1,50 @@
 //! The remotes that the words of the command line name.
 
-ghost use Rattle.std.specs.Prelude.{◌≡◌, ◌<◌, ◌≤◌, ◌-◌, ◌^◌, length, map, take, drop, string_bytes};
-ghost use Rattle.segdag.specs.Remotes.{remote_words};
+ghost use Rattle.std.specs.Prelude.{◌≡◌, ◌<◌, ◌≤◌, ◌-◌, ◌^◌, ℕ, List, length, map, take, drop, string_bytes, IfSome, IfNone};
+ghost use Rattle.segdag.specs.Remotes.{remote_words, IsBundleWord};
 
 use dag_run::split_words;
 use file_disk::FileDisk;
+use remote_bundle::BundleRemote;
 use remote_store::{Limits, StoreRemote};
 use std::alloc::AllocError;
 
-/// The log at this path as a remote. It has to be there when it is read, and nothing is opened yet.
-pub fn remote_at(
+/// How many bytes a bundle may have.
+const BUNDLE_LIMIT: u64 = 1 << 30;
+
+/// The file at this path, for reading alone. It has to be there when it is read, and nothing is opened yet.
+fn file_at(rt: &HostRuntime, path: &str) -> Result<FileDisk<HostRuntime>, AllocError> {
+    let path = format!(in rt.alloc(); "{path}")?;
+    Ok(FileDisk::new(rt.clone()?, path, false))
+}
+
+/// The log at this path as a remote.
+pub fn log_at(
     rt: &HostRuntime,
     path: &str,
 ) -> Result<StoreRemote<FileDisk<HostRuntime>>, AllocError> {
-    let path = format!(in rt.alloc(); "{path}")?;
-    let disk = FileDisk::new(rt.clone()?, path, false);
+    let disk = file_at(rt, path)?;
     Ok(StoreRemote::new(disk, Limits::standard()))
 }
 
-/// The paths of the remotes, of words with the program's own name in front: what stands between the log's path and the first `--`.
+/// The bundle at this path as a remote.
+pub fn bundle_at(
+    rt: &HostRuntime,
+    path: &str,
+) -> Result<BundleRemote<FileDisk<HostRuntime>>, AllocError> {
+    let disk = file_at(rt, path)?;
+    Ok(BundleRemote::new(disk, BUNDLE_LIMIT))
+}
+
+/// The path of the bundle that the word of a remote names: what stands behind `bundle:`. `None` where it names a log.
+pub fn bundle_path<'a>(word: &'a str) -> Option<&'a str>
+    ensures some { IfSome result (λ path. IsBundleWord path.now word.now) }
+    ensures none { IfNone result ((path : List ℕ) → IsBundleWord path word.now → ⊥) }
+{
+    word.strip_prefix("bundle:")
+}
+
+/// The words of the remotes, of words with the program's own name in front: what stands between the log's path and the first `--`.
 pub fn remotes_of<'a>(words: &'a [String]) -> &'a [String]
     requires { length words.now < 2 ^ 32 }
     ensures words { map string_bytes result.now ≡ remote_words (map string_bytes words.now) }

@@ -1,9 +1,9 @@
-use Rattle.std.proofs.Common.{◌≡◌, sym, subst}
+use Rattle.std.proofs.Common.{◌≡◌, ◌⊎◌, inl, inr, sym, subst, refl}
 use Rattle.std.specs.Prelude.{MatchOption}
 use Rattle.outside.proofs.ToldLemmas.{WhereTold-map}
-use Rattle.dag_run.specs.Modes.{IsUsageOf, IsRunOf, IsDemoOf, RefusesWords}
+use Rattle.dag_run.specs.Modes.{IsUsageOf, IsRunOf, IsDemoOf, HasModeStatus, RefusesWords}
 use Rattle.dag_run.specs.Seen.{seen}
-use Rattle.program_words.specs.declared.usage.Mode.TheVariants.{Run, Demo, Serve}
+use Rattle.program_words.specs.declared.usage.Mode.TheVariants.{Run, Demo, Serve, Bundle, Compact}
 use Rattle.segdag.proofs.answer.Goals as goal
 
 pub returns-clause-usage : goal.returns-clause-usage
@@ -42,3 +42,33 @@ pub returns-clause-beside : goal.returns-clause-beside
 returns-clause-beside g c = λ used.
     let beside = c.top.ensures.beside (subst (λ mode. MatchOption mode ⊥ (IsUsageOf Serve)) c.in-Some.ensures used) in
     (beside.0, beside.1)
+
+-- ---- bundles, and logs written anew
+pub returns-clause-modes : goal.returns-clause-modes
+returns-clause-modes g c =
+    subst (λ mode. MatchOption mode (c.top.result.status ≡ 2) (λ w. HasModeStatus w c.top.result.status)) (sym c.in-Some.ensures) c.top.ensures.modes
+
+pub returns-clause-bundles : goal.returns-clause-bundles
+returns-clause-bundles g c = λ payloads w used. c.top.ensures.bundles payloads w (subst (λ mode. MatchOption mode ⊥ (IsUsageOf Bundle)) c.in-Some.ensures used)
+
+pub returns-clause-unbundled : goal.returns-clause-unbundled
+returns-clause-unbundled g c = λ used. c.top.ensures.unbundled (subst (λ mode. MatchOption mode ⊥ (IsUsageOf Bundle)) c.in-Some.ensures used)
+
+pub returns-clause-held : goal.returns-clause-held
+returns-clause-held g c = λ w used. c.top.ensures.held w (subst (λ mode. MatchOption mode ⊥ (IsUsageOf Bundle)) c.in-Some.ensures used)
+
+pub returns-clause-apart : goal.returns-clause-apart
+returns-clause-apart g c = λ used.
+    let apart = c.top.ensures.apart (subst (λ mode. MatchOption mode ⊥ (IsUsageOf Bundle)) c.in-Some.ensures used) in
+    (apart.0, apart.1, apart.3)
+
+pub returns-clause-compacts : goal.returns-clause-compacts
+returns-clause-compacts g c = λ used. c.top.ensures.compacts (subst (λ mode. MatchOption mode ⊥ (IsUsageOf Compact)) c.in-Some.ensures used)
+
+pub returns-clause-kept : goal.returns-clause-kept
+returns-clause-kept g c = λ w used. c.top.ensures.kept w (subst (λ mode. MatchOption mode ⊥ (IsUsageOf Compact)) c.in-Some.ensures used)
+
+pub returns-clause-anew : goal.returns-clause-anew
+returns-clause-anew g c = λ used.
+    let anew = c.top.ensures.anew (subst (λ mode. MatchOption mode ⊥ (IsUsageOf Compact)) c.in-Some.ensures used) in
+    (anew.0, anew.1, anew.3)
