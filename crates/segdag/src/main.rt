@@ -139,7 +139,30 @@ fn own_status(status: u8, is_opened: bool) -> u8
     status
 }
 
-/// Answers the lines of standard input on standard output over the log at this path, beside these mirrors, and gives the status.
+/// Answers the lines of standard input on standard output over this log, beside these mirrors, and gives the status.
+fn run_on(
+    rt: &HostRuntime,
+    words: &[String],
+    log: &mut FileDisk<HostRuntime>,
+    spare: &mut FileDisk<HostRuntime>,
+    mirrors: &mut Mirrors,
+) -> u8
+    requires { length words.now < 2 ^ 32 }
+{
+    let mut input = StdSource::new(rt.reader());
+    let mut output = StdSink::new(io::writer(rt));
+    answer(
+        rt.alloc(),
+        words,
+        log,
+        spare,
+        mirrors,
+        &mut input,
+        &mut output,
+    )
+}
+
+/// The same over the log at this path. Its spare file has `.new` behind the path.
 fn run_over(
     rt: &HostRuntime,
     words: &[String],
@@ -150,35 +173,25 @@ fn run_over(
 {
     let mut log = disk_at(rt, path, "")?;
     let mut spare = disk_at(rt, path, ".new")?;
-    let mut input = StdSource::new(rt.reader());
-    let mut output = StdSink::new(io::writer(rt));
-    let status = answer(
-        rt.alloc(),
-        words,
-        &mut log,
-        &mut spare,
-        mirrors,
-        &mut input,
-        &mut output,
-    );
+    let status = run_on(rt, words, &mut log, &mut spare, mirrors);
     Ok(own_status(status, log.opened()))
 }
 
-/// The same beside the remotes that the words name: bundles, where `bundle:` stands in front of the path, and else logs.
-fn run_beside(rt: &HostRuntime, words: &[String], path: &str) -> Result<u8, AllocError>
-    requires { length words.now < 2 ^ 32 }
+/// The same beside the remotes that these words name: bundles, where `bundle:` stands in front of the path, and else logs.
+fn run_beside(
+    rt: &HostRuntime,
+    words: &[String],
+    remotes: &[String],
+    path: &str,
+) -> Result<u8, AllocError>
+    requires words { length words.now < 2 ^ 32 }
+    requires remotes { length remotes.now < 2 ^ 32 }
 {
-    let mut list: Vec<Box<dyn Remote>> = Vec::new(rt.alloc());
-    'remotes: for word in remotes_of(words) {
+    let mut list: Vec<Box<dyn Remote>> = Vec::with_capacity(rt.alloc(), remotes.len())?;
+    'remotes: for word in remotes {
         match bundle_path(word.as_str()) {
-            Some(path) => {
-                let bundle = bundle_at(rt, path)?;
-                list.push(Box::new(rt.alloc(), bundle)?)?;
-            }
-            None => {
-                let log = log_at(rt, word.as_str())?;
-                list.push(Box::new(rt.alloc(), log)?)?;
-            }
+            Some(path) => list.push_reserved(bundle_at(rt, path)?),
+            None => list.push_reserved(log_at(rt, word.as_str())?),
         }
     }
     run_over(rt, words, path, &mut Mirrors::new(list))
@@ -193,7 +206,8 @@ fn run(rt: &HostRuntime) -> Result<u8, u8> {
     let Some(path) = log_of(&words) else {
         return Err(NO_USAGE);
     };
-    run_beside(rt, &words, path).map_err(|_refused| NO_MEMORY)
+    let remotes = remotes_of(&words);
+    run_beside(rt, &words, remotes, path).map_err(|_refused| NO_MEMORY)
 }
 
 /// Ends with the status that a run gave, or with that for which none began. Where the words were no usage it says on standard error how

@@ -22,18 +22,20 @@ fn file_at(rt: &HostRuntime, path: &str) -> Result<FileDisk<HostRuntime>, AllocE
 pub fn log_at(
     rt: &HostRuntime,
     path: &str,
-) -> Result<StoreRemote<FileDisk<HostRuntime>>, AllocError> {
+) -> Result<Box<StoreRemote<FileDisk<HostRuntime>>>, AllocError> {
     let disk = file_at(rt, path)?;
-    Ok(StoreRemote::new(disk, Limits::standard()))
+    let remote = Box::new(rt.alloc(), StoreRemote::new(disk, Limits::standard()))?;
+    Ok(remote)
 }
 
 /// The bundle at this path as a remote.
 pub fn bundle_at(
     rt: &HostRuntime,
     path: &str,
-) -> Result<BundleRemote<FileDisk<HostRuntime>>, AllocError> {
+) -> Result<Box<BundleRemote<FileDisk<HostRuntime>>>, AllocError> {
     let disk = file_at(rt, path)?;
-    Ok(BundleRemote::new(disk, BUNDLE_LIMIT))
+    let remote = Box::new(rt.alloc(), BundleRemote::new(disk, BUNDLE_LIMIT))?;
+    Ok(remote)
 }
 
 /// The path of the bundle that the word of a remote names: what stands behind `bundle:`. `None` where it names a log.

@@ -1,4 +1,4 @@
-use Rattle.std.proofs.Common.{◌≡◌, ◌⊎◌, inl, inr, sym, subst, refl}
+use Rattle.std.proofs.Common.{◌≡◌, sym, subst}
 use Rattle.std.specs.Prelude.{MatchOption}
 use Rattle.outside.proofs.ToldLemmas.{WhereTold-map}
 use Rattle.dag_run.specs.Modes.{IsUsageOf, IsRunOf, IsDemoOf, HasModeStatus, RefusesWords}
