@@ -23,7 +23,7 @@ use std::alloc::Global;
 use store_bundle::bundle_of_store;
 
 /// Why there is no bundle to put.
-#[derive(Clone, Copy, PartialEq, Eq, Debug)]
+#[derive(Clone, Copy)]
 pub enum Unbundled {
     /// The disk failed while the log was loaded.
     NotLoaded,

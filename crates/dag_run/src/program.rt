@@ -388,9 +388,9 @@ fn run_mode<D: Disk, I: Source, O: Sink>(
 
 /// Runs the program over the words behind the `--`: answers the lines of the input over the log, within the program's limits, or
 /// those of a demonstration in memory, of which the last four replies are put, or the framed requests of the input over the one
-/// mirror, or puts the bundle of the log's master, or writes the log anew to the spare disk. The mirrors are asked as the lines say, and
-/// as many of the names that they give are kept as the words say. The spare disk isn't touched but by writing a log anew: neither by the
-/// run. The log isn't touched by a demonstration or by serving, and but for the run and for serving neither are the mirrors and the input.
+/// mirror; or puts the bundle of the log's master; or writes the log anew to the spare disk. The mirrors are asked as the lines say, and
+/// as many of the names that they give are kept as the words say. Only writing a log anew touches the spare disk: no run does. A
+/// demonstration and serving don't touch the log, and all but the run and serving leave the mirrors and the input alone.
 pub fn top<D: Disk, I: Source, O: Sink>(
     alloc: Global,
     words: &[String],

@@ -1,11 +1,8 @@
 //! Bundles that the program puts, by its words: of a fork, of no commits, and where there is none.
 
-use crate::tests::words_of;
-use dag_run::top;
+use crate::tests::{ended, words_of};
 use disk_memory::MemoryDisk;
-use disk_trait::Disk;
 use line_io::{MemorySink, MemorySource};
-use mirror_set::Mirrors;
 use std::alloc::{AllocError, Global};
 
 /// The log of a fork of six commits in master: the ids 0 to 2, 3 and 4 from 1, and 5 from 2 and 4.
@@ -79,40 +76,37 @@ const CASES: [Case; 9] = [
     ),
 ];
 
-/// The status of the program's run over the log, beside no mirrors, where nothing but the log and the sink was touched.
+/// The status of the program's run over the log, how many changes it stores, and how many bytes of its input are left.
 fn bundled(
     alloc: Global,
     words: &[String],
     log: &mut MemoryDisk,
     output: &mut MemorySink,
-) -> Result<Option<u8>, AllocError> {
-    let mut spare = MemoryDisk::new(alloc, &[], &[], None)?;
+) -> Result<(u8, usize, u64), AllocError> {
     let mut input = MemorySource::new(alloc, b"0 status\n", 1, &[])?;
-    let mut none = Mirrors::new(Vec::new(alloc));
-    let report = top(alloc, words, log, &mut spare, &mut none, &mut input, output);
-    let is_aside = spare.clock() == 0 && input.left() == 9 && report.changes.len() == 0;
-    Ok(is_aside.then_some(report.status))
+    let (status, changes) = ended(alloc, words, log, &mut input, output)?;
+    Ok((status, changes, input.left()))
 }
 
-/// The same for the log's bytes.
+/// The same for the log's bytes, where this call of its disk fails.
 fn bundled_of(
     alloc: Global,
     bytes: &[u8],
     fails: u64,
     output: &mut MemorySink,
-) -> Result<Option<u8>, AllocError> {
+) -> Result<(u8, usize, u64), AllocError> {
     let words = words_of(alloc, "bundle")?;
     let mut log = MemoryDisk::new(alloc, bytes, &[fails], None)?;
     bundled(alloc, &words, &mut log, output)
 }
 
-/// Whether the bundle, or a front of it, is put so.
+/// Whether the bundle, or a front of it, is put so, with nothing read and nothing stored.
 fn is_bundled(alloc: Global, case: &Case) -> Result<bool, AllocError> {
     let (_, log, fails, sink, status, bundle, size) = *case;
     let mut output = MemorySink::new(alloc, &[sink])?;
     let ended = bundled_of(alloc, log, fails, &mut output)?;
     let put = output.bytes();
-    Ok(ended == Some(status) && put.len() == size && bundle.starts_with(put))
+    Ok(ended == (status, 0, 9) && put.len() == size && bundle.starts_with(put))
 }
 
 #[test]

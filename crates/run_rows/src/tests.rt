@@ -567,7 +567,7 @@ const MODES: [Mode; 13] = [
 ];
 
 /// The status of the program's run, and how many changes it stores.
-fn ended(
+pub(crate) fn ended(
     alloc: Global,
     words: &[String],
     log: &mut MemoryDisk,
