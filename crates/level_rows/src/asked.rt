@@ -4,11 +4,11 @@ ghost use Rattle.std.specs.Prelude.{ℕ};
 ghost use Rattle.segment_codec.specs.Table.{IsHeld};
 ghost use Rattle.span_set.specs.Members.{IsMember};
 
-use crate::draws::next_random;
+use crate::draws::{Parents, next_random, parents_of};
 use ancestor_query::ancestors;
 use common_ancestor::{common, gca, only, tips};
 use id_groups::Id;
-use range_query::{children, descendants, range};
+use range_query::{children, descendants, heads, merges, range, roots};
 use sample_levels::LevelSample;
 use sample_tables::held_ids;
 use segment_codec::{SegmentTable, Steps};
@@ -21,6 +21,9 @@ pub enum Question {
     Ancestors,
     Children,
     Descendants,
+    Heads,
+    Roots,
+    Merges,
     Tips,
     Common,
     Gca,
@@ -28,10 +31,13 @@ pub enum Question {
     Only,
 }
 
-pub const QUESTIONS: [Question; 8] = [
+pub const QUESTIONS: [Question; 11] = [
     Question::Ancestors,
     Question::Children,
     Question::Descendants,
+    Question::Heads,
+    Question::Roots,
+    Question::Merges,
     Question::Tips,
     Question::Common,
     Question::Gca,
@@ -62,6 +68,9 @@ fn answer<T: SegmentTable>(
         Question::Ancestors => ancestors(alloc, table, one, steps),
         Question::Children => children(alloc, table, one, steps),
         Question::Descendants => descendants(alloc, table, one, steps),
+        Question::Heads => heads(alloc, table, one, steps),
+        Question::Roots => roots(alloc, table, one, steps),
+        Question::Merges => merges(alloc, table, one, steps),
         Question::Tips => tips(alloc, table, one, steps),
         Question::Common => common(alloc, table, one, steps),
         Question::Gca => gca(alloc, table, one, steps),
@@ -168,6 +177,54 @@ pub fn first_differing(
         random = next_random(next_random(random));
         if let Some(question) = first_drawn(alloc, &view, &flat, below, random)? {
             return Ok(Some(question));
+        }
+    }
+    Ok(None)
+}
+
+/// Whether one of the ids is among the parents.
+fn has_any(parents: Parents, ids: &[Id]) -> bool {
+    for id in ids {
+        if parents.has(id.number()) {
+            return true;
+        }
+    }
+    false
+}
+
+/// Whether the set has exactly the commits below a count with a parent among the ids.
+fn are_children(set: &IdSet, rows: &[Parents], below: u64, ids: &[Id]) -> bool {
+    let mut count = 0u64;
+    for id in 0..below {
+        if has_any(parents_of(rows, id), ids) {
+            if !set.contains(Id::master(id % (1 << 32))) {
+                return false;
+            }
+            count = count.saturating_add(1);
+        }
+    }
+    set.count() == count
+}
+
+/// The first of so many draws whose children over the view of so many commits with levels aren't those of the graph.
+pub fn first_wrong_children(
+    alloc: Global,
+    rows: &[Parents],
+    sample: &LevelSample,
+    below: u64,
+    draws: u64,
+) -> Result<Option<u64>, AllocError> {
+    if below > sample.count() {
+        return Ok(Some(0));
+    }
+    let view = sample.view(below);
+    let mut random = below.wrapping_add(1);
+    for draw in 0..draws {
+        random = next_random(random);
+        let ids = draw_ids(alloc, below, random >> 20)?;
+        let found = ask(alloc, &view, Question::Children, &ids, &[])?;
+        if !are_children(&found.set, rows, below, &ids) {
+            return Ok(Some(draw));
         }
     }
     Ok(None)

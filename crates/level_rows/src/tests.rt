@@ -1,6 +1,6 @@
 //! Graphs of several shapes, grown in pieces of several lengths.
 
-use crate::asked::{Question, ask, first_differing};
+use crate::asked::{Question, ask, first_differing, first_wrong_children};
 use crate::draws::{Parents, Shape, draw_rows, grow};
 use crate::plain::{Differs, compare};
 use flat_segments::FlatFault;
@@ -33,6 +33,7 @@ const CASES: [Case; 12] = [
 enum Wrong {
     Levels(Differs),
     Answer(Question),
+    Children(u64),
 }
 
 /// The first question that views of the sample answer otherwise than flat ones.
@@ -58,7 +59,11 @@ fn wrong_in(
     if let Some(differs) = compare(alloc, rows, sample)? {
         return Ok(Some(Wrong::Levels(differs)));
     }
-    let wrong = wrong_answer(alloc, sample, rows.len() as u64)?;
+    let count = rows.len() as u64;
+    if let Some(draw) = first_wrong_children(alloc, rows, sample, count, 40)? {
+        return Ok(Some(Wrong::Children(draw)));
+    }
+    let wrong = wrong_answer(alloc, sample, count)?;
     Ok(wrong.map(Wrong::Answer))
 }
 
@@ -127,11 +132,14 @@ fn levels_are_counted(rt: HostRuntime) -> Result<(), Fail> {
 /// it takes at most with levels. Without it takes more than twice as many.
 type Walked = (u64, Question, &'static [u64], &'static [u64], u64, u64);
 
-const WALKED: [Walked; 4] = [
+const WALKED: [Walked; 7] = [
     (35, Question::Ancestors, &[31], &[], 32, 8),
     (600, Question::Only, &[599], &[3], 596, 200),
     (600, Question::Only, &[3], &[599], 0, 200),
     (600, Question::Gca, &[599, 3], &[], 1, 200),
+    (600, Question::Children, &[300], &[], 2, 60),
+    (600, Question::Children, &[3, 301, 599], &[], 2, 120),
+    (600, Question::Children, &[3], &[], 1, 80),
 ];
 
 fn ids_of(alloc: Global, numbers: &[u64]) -> Result<Vec<Id>, AllocError> {
