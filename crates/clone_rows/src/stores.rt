@@ -1,7 +1,7 @@
 //! Runs of lines that clone, over a disk in memory and beside mirrors.
 
 use crate::drawn::{draw_world, mirror_of};
-use crate::told::{CHAIN_NAMES, Segment, chain_told, name, told_of};
+use crate::told::{CHAIN, CHAIN_NAMES, Segment, name, told_of};
 use commit_graph::{Row, World};
 use dag_run::{Limits, Report, run_lines};
 use disk_memory::MemoryDisk;
@@ -10,11 +10,11 @@ use id_groups::Name;
 use line_io::{MemorySink, MemorySource};
 use mirror_set::Mirrors;
 use remote_memory::MemoryRemote;
-use remote_trait::{CloneData, FixedRemote, Remote};
+use remote_trait::{CloneData, FixedRemote, Path, Remote};
 use std::alloc::{AllocError, Global};
 
 /// The last bytes of the names of a chain of ten commits.
-const CHAIN: [u8; 10] = [0x10, 0x11, 0x12, 0x13, 0x14, 0x15, 0x16, 0x17, 0x18, 0x19];
+const LASTS: [u8; 10] = [0x10, 0x11, 0x12, 0x13, 0x14, 0x15, 0x16, 0x17, 0x18, 0x19];
 
 /// The row of a commit on the one before, if there is one.
 fn next_row(before: Option<Name>, own: Name) -> Row {
@@ -28,7 +28,7 @@ fn next_row(before: Option<Name>, own: Name) -> Row {
 fn chain_world(alloc: Global) -> Result<World, AllocError> {
     let mut rows = Vec::new(alloc);
     let mut before = None;
-    for last in &CHAIN {
+    for last in &LASTS {
         let own = name(*last);
         rows.push(next_row(before, own))?;
         before = Some(own);
@@ -58,9 +58,14 @@ fn chain_list(alloc: Global, fails: &[u32]) -> Result<Vec<Box<dyn Remote>>, Allo
     Ok(list)
 }
 
-/// A mirror that tells this, with no path and no name.
-fn liar_list(alloc: Global, told: CloneData) -> Result<Vec<Box<dyn Remote>>, AllocError> {
-    let remote = FixedRemote::new(told, None, Vec::new(alloc));
+/// A mirror that tells this and a path from the name with this last byte, so many steps back, if there is one, and no name.
+fn liar_list(
+    alloc: Global,
+    told: CloneData,
+    path: Option<(u8, u64)>,
+) -> Result<Vec<Box<dyn Remote>>, AllocError> {
+    let path = path.map(|(last, n)| Path { x: name(last), n });
+    let remote = FixedRemote::new(told, path, Vec::new(alloc));
     let mut list: Vec<Box<dyn Remote>> = Vec::new(alloc);
     list.push(Box::new(alloc, remote)?)?;
     Ok(list)
@@ -179,55 +184,124 @@ fn clones_end_so(rt: HostRuntime) -> Result<(), AllocError> {
     Ok(())
 }
 
-/// What a mirror tells: segments, names and heads; and what a clone is answered.
+/// What a mirror tells: segments, names, heads, and a path by the last byte of a name and the steps from it; and what lines are answered.
 type Told = (
     &'static [Segment],
     &'static [(u64, u8)],
     &'static [u8],
+    Option<(u8, u64)>,
     Answered,
 );
 
-/// A chain that begins too late, and nothing.
-const TOLD: [Told; 2] = [
+/// A clone, and a name that isn't stored.
+const CLONED: &str = "0 clone
+0 id 0000000000000000000000000000000000000014
+0 status
+";
+
+/// A chain that begins too late; one of two segments, of which the second goes on; its name beyond the ids; no name; no head; nothing;
+/// the chain itself; and paths from a name that isn't stored, and to the stored name itself.
+const TOLD: [Told; 9] = [
     (
         &[(1, 9, &[])],
         &CHAIN_NAMES,
         &[0x19],
+        None,
         ("0 clone\n", "err mismatch clone 0\n", 1),
     ),
-    (&[], &[], &[], ("0 clone\n", "ok cloned 0\n", 1)),
+    (
+        &[(0, 4, &[]), (5, 9, &[4])],
+        &CHAIN_NAMES,
+        &[0x19],
+        None,
+        ("0 clone\n", "err mismatch clone 1\n", 1),
+    ),
+    (
+        &CHAIN,
+        &[(10, 0x19)],
+        &[0x19],
+        None,
+        ("0 clone\n", "err mismatch clone 1\n", 1),
+    ),
+    (
+        &CHAIN,
+        &[],
+        &[0x19],
+        None,
+        ("0 clone\n", "err mismatch clone 1\n", 1),
+    ),
+    (
+        &CHAIN,
+        &CHAIN_NAMES,
+        &[],
+        None,
+        ("0 clone\n", "err mismatch clone 2\n", 1),
+    ),
+    (&[], &[], &[], None, ("0 clone\n", "ok cloned 0\n", 1)),
+    (
+        &CHAIN,
+        &CHAIN_NAMES,
+        &[0x19],
+        None,
+        (
+            CLONED,
+            "ok cloned 10
+err unknown 0000000000000000000000000000000000000014
+ok 10 0 0
+",
+            118,
+        ),
+    ),
+    (
+        &CHAIN,
+        &CHAIN_NAMES,
+        &[0x19],
+        Some((0xa5, 0)),
+        (
+            CLONED,
+            "ok cloned 10
+err mismatch path 00000000000000000000000000000000000000a5 0
+ok 10 0 0
+",
+            118,
+        ),
+    ),
+    (
+        &CHAIN,
+        &CHAIN_NAMES,
+        &[0x19],
+        Some((0x19, 0)),
+        (
+            CLONED,
+            "ok cloned 10
+err mismatch path 0000000000000000000000000000000000000019 0
+ok 10 0 0
+",
+            118,
+        ),
+    ),
 ];
 
-/// Whether a clone of what is told is answered so.
+/// Whether the lines are answered so beside what is told.
 fn is_told_so(alloc: Global, told: &Told) -> Result<bool, AllocError> {
-    let (segments, names, heads, wanted) = told;
+    let (segments, names, heads, path, wanted) = told;
     let data = told_of(alloc, segments, names, heads)?;
-    are_answered(alloc, liar_list(alloc, data)?, wanted)
+    are_answered(alloc, liar_list(alloc, data, *path)?, wanted)
 }
 
-/// Whether the chain is stored, whoever tells it.
-fn is_chain_stored(alloc: Global) -> Result<bool, AllocError> {
-    let data = chain_told(alloc)?;
-    are_answered(
-        alloc,
-        liar_list(alloc, data)?,
-        &("0 clone\n", "ok cloned 10\n", 118),
-    )
-}
-
-/// Whether all that is told is stored or refused.
-fn are_told_so(alloc: Global) -> Result<bool, AllocError> {
-    for told in &TOLD {
-        if !is_told_so(alloc, told)? {
-            return Ok(false);
+/// The place of the first that is answered otherwise, if there is one.
+fn wrong_told(alloc: Global) -> Result<Option<usize>, AllocError> {
+    for place in 0..TOLD.len() {
+        if !is_told_so(alloc, &TOLD[place])? {
+            return Ok(Some(place));
         }
     }
-    is_chain_stored(alloc)
+    Ok(None)
 }
 
 #[test]
 fn what_is_told_is_stored_or_refused(rt: HostRuntime) -> Result<(), AllocError> {
-    assert!(rt; are_told_so(rt.alloc())?);
+    assert_eq!(rt; wrong_told(rt.alloc())?, None);
     Ok(())
 }
 
