@@ -215,6 +215,21 @@ fn is_near(spans: &[IdSpan], at: usize, id: Id) -> bool {
     at < spans.len() && id.number() <= spans[at].high.number() + 1
 }
 
+/// Tells the ladder whether the segment from `low` to the id, which it led to, is longer than the flat one. Of long ones it
+/// is taken for granted.
+fn weigh<T: SegmentTable>(table: &T, low: Id, id: Id, ladder: &mut Ladder, steps: &mut Steps)
+    requires held { IsHeld (T.flats table.now) id }
+    requires order { low ≤ id }
+    ensures counted { min steps.old.taken (2 ^ 64 - 1) ≤ steps.new.taken }
+{
+    if !ladder.is_short(id.number() - low.number()) {
+        ladder.note(true);
+        return;
+    }
+    let flat = table.flat(id, steps).unwrap();
+    ladder.note(low < flat.low());
+}
+
 /// Adds the children among the ids of a segment of any level up to one of its ids, and answers its lowest id. The first `at`
 /// spans of the set stand from the id on.
 fn add_next<T: SegmentTable>(
@@ -238,8 +253,12 @@ fn add_next<T: SegmentTable>(
     if is_near(set.spans(), at, id) {
         return add_flat(answer, table, set, at, id, steps);
     }
+    if ladder.is_pausing() {
+        return add_flat(answer, table, set, at, id, steps);
+    }
     ladder.climb(id);
     if let Some(segment) = childless_ending(table, set, at, id, ladder, steps) {
+        weigh(table, segment.low(), id, ladder, steps);
         return Ok(segment.low().number());
     }
     add_flat(answer, table, set, at, id, steps)

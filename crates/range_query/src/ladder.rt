@@ -4,18 +4,27 @@ ghost use Rattle.std.specs.Prelude.{◌≡◌, ◌+◌, ◌<◌, ◌≤◌, fals
 
 use id_groups::Id;
 
+/// For so many segments at first a walk tries no level where the last one that it tried had no longer segment.
+const LEAST_PAUSE: u32 = 8;
+
+/// For no more than so many segments.
+const MOST_PAUSE: u32 = 1024;
+
 /// No segment is of a higher level.
 pub(crate) const HIGHEST_LEVEL: usize = 7;
 
 /// The level on which a walk down tries the next id, and for each level the lowest id of the segment that it went into
 /// last: down to there no other segment of the level ends. It goes up to `top`, one above the highest level on which it
-/// found a segment. All of this only saves look-ups in vain.
+/// found a segment. Where segments of higher levels are no longer than flat ones it tries none for a while. All of this
+/// only saves look-ups in vain.
 #[derive(Clone, Copy, Drop)]
 pub(crate) struct Ladder {
     level: usize,
     top: usize,
     most: usize,
     lows: [u64; 8],
+    pause: u32,
+    next_pause: u32,
     ghost within: { level ≤ top },
     ghost bound: { top ≤ most },
     ghost end: { most < 8 },
@@ -31,6 +40,8 @@ impl Ladder {
             top: most.min(1),
             most,
             lows: [u64::MAX; 8],
+            pause: 0,
+            next_pause: LEAST_PAUSE,
         }
     }
 
@@ -84,5 +95,31 @@ impl Ladder {
     {
         self.lows[self.level] = low;
         self.level -= 1;
+    }
+
+    /// Whether no level is to be tried for the next segment.
+    #[inline(always)]
+    pub(crate) fn is_pausing(&mut self) -> bool {
+        if self.pause == 0 {
+            return false;
+        }
+        self.pause -= 1;
+        true
+    }
+
+    /// Whether a segment of this level with so many ids may be no longer than a flat one.
+    #[inline(always)]
+    pub(crate) fn is_short(&self, ids: u64) -> bool {
+        self.level <= 1 || ids < 1 << (3 * self.level)
+    }
+
+    /// Notes whether the level was worth its look-up. Each that wasn't makes the next pause twice as long.
+    pub(crate) fn note(&mut self, is_longer: bool) {
+        if is_longer {
+            self.next_pause = LEAST_PAUSE;
+            return;
+        }
+        self.pause = self.next_pause;
+        self.next_pause = self.next_pause.saturating_mul(2).min(MOST_PAUSE);
     }
 }
