@@ -1,7 +1,7 @@
 //! Runs of lines that clone, over a disk in memory and beside mirrors.
 
 use crate::drawn::{draw_world, mirror_of};
-use crate::told::{CHAIN, CHAIN_NAMES, Segment, name, told_of};
+use crate::told::{CHAIN, CHAIN_NAMES, Segment, chain_told, name, told_of};
 use commit_graph::{Row, World};
 use dag_run::{Limits, Report, run_lines};
 use disk_memory::MemoryDisk;
@@ -184,124 +184,125 @@ fn clones_end_so(rt: HostRuntime) -> Result<(), AllocError> {
     Ok(())
 }
 
-/// What a mirror tells: segments, names, heads, and a path by the last byte of a name and the steps from it; and what lines are answered.
+/// What a mirror tells: segments, names and heads; and what a clone is answered, which leaves a log without payloads.
 type Told = (
     &'static [Segment],
     &'static [(u64, u8)],
     &'static [u8],
-    Option<(u8, u64)>,
-    Answered,
+    &'static str,
 );
 
-/// A clone, and a name that isn't stored.
-const CLONED: &str = "0 clone
-0 id 0000000000000000000000000000000000000014
-0 status
-";
-
-/// A chain that begins too late; one of two segments, of which the second goes on; its name beyond the ids; no name; no head; nothing;
-/// the chain itself; and paths from a name that isn't stored, and to the stored name itself.
-const TOLD: [Told; 9] = [
+/// A chain that begins too late; one of two segments, of which the second goes on; its name beyond the ids; no name; no head; and
+/// nothing.
+const TOLD: [Told; 6] = [
     (
         &[(1, 9, &[])],
         &CHAIN_NAMES,
         &[0x19],
-        None,
-        ("0 clone\n", "err mismatch clone 0\n", 1),
+        "err mismatch clone 0\n",
     ),
     (
         &[(0, 4, &[]), (5, 9, &[4])],
         &CHAIN_NAMES,
         &[0x19],
-        None,
-        ("0 clone\n", "err mismatch clone 1\n", 1),
+        "err mismatch clone 1\n",
     ),
-    (
-        &CHAIN,
-        &[(10, 0x19)],
-        &[0x19],
-        None,
-        ("0 clone\n", "err mismatch clone 1\n", 1),
-    ),
-    (
-        &CHAIN,
-        &[],
-        &[0x19],
-        None,
-        ("0 clone\n", "err mismatch clone 1\n", 1),
-    ),
-    (
-        &CHAIN,
-        &CHAIN_NAMES,
-        &[],
-        None,
-        ("0 clone\n", "err mismatch clone 2\n", 1),
-    ),
-    (&[], &[], &[], None, ("0 clone\n", "ok cloned 0\n", 1)),
-    (
-        &CHAIN,
-        &CHAIN_NAMES,
-        &[0x19],
-        None,
-        (
-            CLONED,
-            "ok cloned 10
-err unknown 0000000000000000000000000000000000000014
-ok 10 0 0
-",
-            118,
-        ),
-    ),
-    (
-        &CHAIN,
-        &CHAIN_NAMES,
-        &[0x19],
-        Some((0xa5, 0)),
-        (
-            CLONED,
-            "ok cloned 10
-err mismatch path 00000000000000000000000000000000000000a5 0
-ok 10 0 0
-",
-            118,
-        ),
-    ),
-    (
-        &CHAIN,
-        &CHAIN_NAMES,
-        &[0x19],
-        Some((0x19, 0)),
-        (
-            CLONED,
-            "ok cloned 10
-err mismatch path 0000000000000000000000000000000000000019 0
-ok 10 0 0
-",
-            118,
-        ),
-    ),
+    (&CHAIN, &[(10, 0x19)], &[0x19], "err mismatch clone 1\n"),
+    (&CHAIN, &[], &[0x19], "err mismatch clone 1\n"),
+    (&CHAIN, &CHAIN_NAMES, &[], "err mismatch clone 2\n"),
+    (&[], &[], &[], "ok cloned 0\n"),
 ];
 
-/// Whether the lines are answered so beside what is told.
+/// Whether a clone of what is told is answered so.
 fn is_told_so(alloc: Global, told: &Told) -> Result<bool, AllocError> {
-    let (segments, names, heads, path, wanted) = told;
+    let (segments, names, heads, reply) = told;
     let data = told_of(alloc, segments, names, heads)?;
-    are_answered(alloc, liar_list(alloc, data, *path)?, wanted)
+    are_answered(
+        alloc,
+        liar_list(alloc, data, None)?,
+        &("0 clone\n", reply, 1),
+    )
 }
 
-/// The place of the first that is answered otherwise, if there is one.
-fn wrong_told(alloc: Global) -> Result<Option<usize>, AllocError> {
-    for place in 0..TOLD.len() {
-        if !is_told_so(alloc, &TOLD[place])? {
+/// The place of the first of these that is answered otherwise, if there is one.
+fn first_wrong_told(alloc: Global, rows: &[Told]) -> Result<Option<usize>, AllocError> {
+    for place in 0..rows.len() {
+        if !is_told_so(alloc, &rows[place])? {
             return Ok(Some(place));
         }
     }
     Ok(None)
 }
 
+/// The place of the first of all that is.
+fn wrong_told(alloc: Global) -> Result<Option<usize>, AllocError> {
+    first_wrong_told(alloc, &TOLD)
+}
+
+/// A clone, and a name that isn't stored.
+const FOUND: &str = "0 clone
+0 id 0000000000000000000000000000000000000014
+0 status
+";
+
+/// A path that a mirror tells behind a clone of the chain, by the last byte of a name and the steps from it; and what the lines are
+/// answered.
+type Way = (Option<(u8, u64)>, &'static str);
+
+/// None; from a name that isn't stored; and to the stored name itself.
+const WAYS: [Way; 3] = [
+    (
+        None,
+        "ok cloned 10
+err unknown 0000000000000000000000000000000000000014
+ok 10 0 0
+",
+    ),
+    (
+        Some((0xa5, 0)),
+        "ok cloned 10
+err mismatch path 00000000000000000000000000000000000000a5 0
+ok 10 0 0
+",
+    ),
+    (
+        Some((0x19, 0)),
+        "ok cloned 10
+err mismatch path 0000000000000000000000000000000000000019 0
+ok 10 0 0
+",
+    ),
+];
+
+/// Whether a name is sought so behind a clone.
+fn is_sought_so(alloc: Global, way: &Way) -> Result<bool, AllocError> {
+    let (path, replies) = way;
+    let data = chain_told(alloc)?;
+    are_answered(
+        alloc,
+        liar_list(alloc, data, *path)?,
+        &(FOUND, replies, 118),
+    )
+}
+
+/// The place of the first way by which it isn't, if there is one.
+fn wrong_way(alloc: Global) -> Result<Option<usize>, AllocError> {
+    for place in 0..WAYS.len() {
+        if !is_sought_so(alloc, &WAYS[place])? {
+            return Ok(Some(place));
+        }
+    }
+    Ok(None)
+}
+
+/// The places of both.
+fn wrong_rows(alloc: Global) -> Result<(Option<usize>, Option<usize>), AllocError> {
+    Ok((wrong_told(alloc)?, wrong_way(alloc)?))
+}
+
 #[test]
 fn what_is_told_is_stored_or_refused(rt: HostRuntime) -> Result<(), AllocError> {
-    assert_eq!(rt; wrong_told(rt.alloc())?, None);
+    assert_eq!(rt; wrong_rows(rt.alloc())?, (None, None));
     Ok(())
 }
 

@@ -134,12 +134,18 @@ fn run(
     Ok(run_lines(alloc, limits, 4096, disk, mirrors, &mut input, output))
 }
 
-/// A disk with the clone of the chain of ten commits.
-fn cloned(alloc: Global) -> Result<MemoryDisk, AllocError> {
-    let mut disk = MemoryDisk::new(alloc, &[], &[], None)?;
+/// Clones the chain of ten commits to a disk.
+fn clone_to(alloc: Global, disk: &mut MemoryDisk) -> Result<(), AllocError> {
     let mut unheard = MemorySink::new(alloc, &[])?;
     let mut mirrors = alone(alloc, 10, 0)?;
-    let _report = run(alloc, &mut disk, &mut mirrors, "0 clone\n", &mut unheard)?;
+    let _report = run(alloc, disk, &mut mirrors, "0 clone\n", &mut unheard)?;
+    Ok(())
+}
+
+/// A disk with the clone of that chain.
+fn cloned(alloc: Global) -> Result<MemoryDisk, AllocError> {
+    let mut disk = MemoryDisk::new(alloc, &[], &[], None)?;
+    clone_to(alloc, &mut disk)?;
     Ok(disk)
 }
 
@@ -244,16 +250,55 @@ fn stored_by(rows: &[Asked]) -> usize {
     sum
 }
 
+/// Answers the lines over a disk beside mirrors. Whether all were, and stored so many changes.
+fn run_lines_of(
+    alloc: Global,
+    disk: &mut MemoryDisk,
+    mirrors: &mut Mirrors,
+    rows: &[Asked],
+    output: &mut MemorySink,
+) -> Result<bool, AllocError> {
+    let lines = lines_of(alloc, rows)?;
+    let report = run(alloc, disk, mirrors, lines.as_str(), output)?;
+    Ok(report.status == 0 && report.changes.len() == stored_by(rows))
+}
+
+/// The same beside a mirror with so many commits, which may be asked for so many names.
+fn run_beside(
+    alloc: Global,
+    disk: &mut MemoryDisk,
+    commits: u8,
+    rows: &[Asked],
+    left: u64,
+    output: &mut MemorySink,
+) -> Result<bool, AllocError> {
+    let mut mirrors = alone(alloc, commits, left)?;
+    run_lines_of(alloc, disk, &mut mirrors, rows, output)
+}
+
+/// The same over the clone.
+fn run_over_clone(
+    alloc: Global,
+    commits: u8,
+    rows: &[Asked],
+    left: u64,
+    output: &mut MemorySink,
+) -> Result<bool, AllocError> {
+    let mut disk = cloned(alloc)?;
+    run_beside(alloc, &mut disk, commits, rows, left, output)
+}
+
+/// Whether these are the replies to the lines.
+fn are_replies(alloc: Global, rows: &[Asked], bytes: &[u8]) -> Result<bool, AllocError> {
+    let replies = replies_of(alloc, rows)?;
+    Ok(bytes == replies.as_bytes())
+}
+
 /// Whether the lines are answered so over the clone, where the mirror may be asked for so many names, and store so many changes.
 fn are_answered(alloc: Global, commits: u8, rows: &[Asked], left: u64) -> Result<bool, AllocError> {
-    let mut disk = cloned(alloc)?;
-    let mut mirrors = alone(alloc, commits, left)?;
     let mut output = MemorySink::new(alloc, &[])?;
-    let lines = lines_of(alloc, rows)?;
-    let report = run(alloc, &mut disk, &mut mirrors, lines.as_str(), &mut output)?;
-    let replies = replies_of(alloc, rows)?;
-    let is_so = output.bytes() == replies.as_bytes();
-    Ok(is_so && report.status == 0 && report.changes.len() == stored_by(rows))
+    let is_run = run_over_clone(alloc, commits, rows, left, &mut output)?;
+    Ok(is_run && are_replies(alloc, rows, output.bytes())?)
 }
 
 /// Whether the lines ask for as many names as they say: these suffice, and one fewer doesn't.
