@@ -24,5 +24,6 @@ test:
 	sh tests/real_files.sh
 	sh tests/format.sh
 	sh tests/damaged.sh
+	sh tests/no_memory.sh
 	sh tests/serve.sh
 	sh tests/guide.sh

@@ -1,8 +1,9 @@
 """Damaged logs: damaged.py PROGRAM FOLDER [LOGS] [SEED].
 
-Draws logs of both versions, of clones and of whole stores, damages them, byte by byte or by their structure, and gives each to the
-built program. It has to refuse what tests/plain_log.py refuses, by status 4 and with the file as it was, and else to answer what
-that reader finds. The last line counts how many of either there were, by kind of damage: the same numbers each time.
+Draws logs of both versions, of clones and of whole stores, damages them, byte by byte or by their structure, and those with cloned
+commits by what they say of these, too. Each is given to the built program, which has to refuse what tests/plain_log.py refuses, by
+status 4 and with the file as it was, and else to answer what that reader finds. The last line counts how many of either there were, by
+kind of damage: the same numbers each time.
 """
 import copy
 import random
@@ -15,7 +16,7 @@ import plain_log
 import plain_store
 from plain_log import OTHER, Payload
 
-LINES = b"0 status\n0 levels\n0 count all\n0 query others\n0 count merges(all)\n"
+LINES = b"0 status\n0 levels\n0 count all\n0 query others\n0 count merges(all)\n0 query heads(all)\n"
 
 
 # ---- logs that are drawn
@@ -213,6 +214,77 @@ def turn_order(draw, payloads):
         del payloads[k]
 
 
+# ---- damage of what a clone, or a whole store, says of cloned commits
+
+
+def lose_name(draw, p):
+    """A cloned id without its name: lawful, where it needs none."""
+    k = draw.choice([k for k, (i, _) in enumerate(p.known) if i < p.cloned])
+    del p.known[k]
+
+
+def give_name(draw, p):
+    """A name for a cloned id that has none, which is lawful, or for a new one."""
+    lazy = sorted(set(range(p.cloned)) - {i for i, _ in p.known})
+    own = draw.choice(lazy) if lazy and draw.random() < 0.8 else p.after
+    p.known = sorted(p.known + [(own, bytes([255]) * 20)])
+
+
+def move_name(draw, p):
+    """The name of a cloned id goes to another one that has none."""
+    lazy = sorted(set(range(p.cloned)) - {i for i, _ in p.known})
+    if lazy:
+        k = draw.choice([k for k, (i, _) in enumerate(p.known) if i < p.cloned])
+        p.known = sorted(p.known[:k] + p.known[k + 1 :] + [(draw.choice(lazy), p.known[k][1])])
+
+
+def exchange_names(draw, p):
+    """Two ids exchange their names: lawful, where no head is one of them."""
+    a, b = draw.randrange(len(p.known)), draw.randrange(len(p.known))
+    (i, first), (j, second) = p.known[a], p.known[b]
+    p.known[a], p.known[b] = (i, second), (j, first)
+
+
+def change_heads(draw, p):
+    """A head goes, or is another commit, or one more comes, or all are turned."""
+    turn, other = draw.randrange(4), draw.choice(p.known)[1]
+    if turn == 0:
+        del p.heads[draw.randrange(len(p.heads))]
+    elif turn == 1:
+        p.heads[draw.randrange(len(p.heads))] = other
+    elif turn == 2:
+        p.heads.insert(draw.randrange(len(p.heads) + 1), other)
+    else:
+        p.heads.reverse()
+
+
+def count_cloned(draw, p):
+    """Another number of cloned commits, perhaps with the heads that they have."""
+    p.cloned = draw.choice([0, p.after, p.after + 1, max(0, p.cloned - 1), p.cloned + 1, draw.randint(0, p.after)])
+    if draw.random() < 0.7:
+        try:
+            p.heads = plain_log.heads_of([s for _, s in p.master], dict(p.known), min(p.cloned, p.after))
+        except plain_log.Refused:
+            p.heads = p.heads[:1]
+
+
+def change_kind(draw, p):
+    """A clone that is told as a whole store, which is lawful, or the other way round; or either as a flush."""
+    p.kind = draw.choice([5 - p.kind, 5 - p.kind, 1])
+    if p.kind == 1 and draw.random() < 0.5:
+        p.cloned, p.heads = 0, []
+
+
+CLONED = [lose_name, give_name, move_name, exchange_names, change_heads, count_cloned, change_kind]
+
+
+def damaged_clone(draw, payloads):
+    """A kind of damage to what the first payload says of cloned commits, and the bytes of a log that has it."""
+    kind, turned = draw.choice(CLONED), copy.deepcopy(payloads)
+    kind(draw, turned[0])
+    return kind.__name__, plain_log.spelled(turned)
+
+
 STRUCTURE = [drop_item, double_item, move_item, turn_record, turn_name, turn_number, turn_order]
 
 
@@ -236,7 +308,16 @@ def answers(left):
     merges = sum(len(parents) > 1 for _, _, parents in segments)
     lines = [f"ok {left.count} {others} 0", "ok " + " ".join(map(str, plain_store.level_sizes(left.flat)))]
     lines += [f"ok {left.count + others}", *(name.hex() for name in reversed(left.other_names)), f"ok {others}", f"ok {merges}"]
+    lines += head_lines(left, segments)
     return "".join(line + "\n" for line in lines).encode()
+
+
+def head_lines(left, segments):
+    """The heads of all, the greatest id first: each has its name, whatever was cloned."""
+    below = {q for low, high, parents in segments for q in [*parents, *range(low, high)]}
+    every = [(i, left.names.get(i)) for i in range(left.count)] + [(OTHER + j, name) for j, name in enumerate(left.other_names)]
+    heads = [name.hex() for i, name in reversed(every) if i not in below]
+    return [*heads, f"ok {len(heads)}"]
 
 
 def wanted(data):
@@ -268,11 +349,12 @@ def main():
         payloads = draw_log(draw)
         if check(program, log, plain_log.spelled(payloads), "no damage", seed) != 0:
             sys.exit(f"damaged: log {seed} is refused as it was drawn")
-        for _ in range(12):
-            kind, data = damaged(draw, payloads)
+        ways = [damaged] * 12 + [damaged_clone] * (12 if payloads[0].cloned else 0)
+        for way in ways:
+            kind, data = way(draw, payloads)
             (refused if check(program, log, data, kind, seed) else taken)[kind] += 1
     kinds = " ".join(f"{kind} {refused[kind]}/{refused[kind] + taken[kind]}" for kind in sorted(refused | taken))
-    print(f"damaged: {logs} drawn logs are taken; of {12 * logs} damaged ones {refused.total()} refused: {kinds}")
+    print(f"damaged: {logs} drawn logs are taken; of {(refused + taken).total()} damaged ones {refused.total()} refused: {kinds}")
 
 
 main()

@@ -11,19 +11,47 @@ use crate::counts::{CLONE, FLUSH, VERSION, WHOLE};
 use crate::lent::{KnownSlice, Parts, SegmentSlice};
 use segment_codec::{Parents, SegmentRef, read_segment};
 
-/// Whether the number is one of a known id, by a binary search.
-fn knows(known: KnownSlice<'_>, number: u64) -> bool
+/// A place from `low` to before `high`: the one near, if that is one of these.
+fn probe(low: u32, high: u32, near: u32) -> u32
+    requires { low < high }
+    ensures low { low ≤ result }
+    ensures high { result < high }
+{
+    if low <= near && near < high {
+        near
+    } else {
+        low + (high - low) / 2
+    }
+}
+
+/// So many places above this one or below it.
+fn leap_from(place: u32, leap: u32, above: bool) -> u32 {
+    if above {
+        place.saturating_add(leap)
+    } else {
+        place.saturating_sub(leap)
+    }
+}
+
+/// Whether the number is one of a known id. The search begins at the place near, leaps farther and farther from there, and goes on by
+/// halves; the place behind the one that was found is kept as near.
+fn knows(known: KnownSlice<'_>, number: u64, near: &mut u32) -> bool
     ensures { result ≡ is_in nat_eq number (ids_of known.entry) }
 {
     let mut low = 0u32;
     let mut high = known.count;
+    let mut leap = 1u32;
     'search: while low < high {
-        let middle = low + (high - low) / 2;
+        let middle = probe(low, high, *near);
         let found = known.number_at(middle);
         if found == number {
+            *near = middle + 1;
             return true;
         }
-        (low, high) = narrowed(low, middle, high, found < number);
+        let above = found < number;
+        *near = leap_from(middle, leap, above);
+        leap = leap.saturating_mul(2);
+        (low, high) = narrowed(low, middle, high, above);
     }
     false
 }
@@ -41,21 +69,22 @@ fn narrowed(low: u32, middle: u32, high: u32, above: bool) -> (u32, u32)
     }
 }
 
-/// Whether each parent is known.
-fn knows_all(known: KnownSlice<'_>, parents: Parents<'_>) -> bool
+/// Whether each parent is known, which is sought near a place.
+fn knows_all(known: KnownSlice<'_>, parents: Parents<'_>, near: u32) -> bool
     ensures { result ≡ are_known (ids_of known.entry) (parents_left parents.entry) }
 {
     let mut rest = parents;
+    let mut near = near;
     'parents: while let Some(parent) = rest.next() {
-        if !knows(known, parent.number()) {
+        if !knows(known, parent.number(), &mut near) {
             return false;
         }
     }
     true
 }
 
-/// Whether the segment begins with no merge, or its parents are known.
-fn knows_merge_of(known: KnownSlice<'_>, segment: SegmentRef<'_>) -> bool
+/// Whether the segment begins with no merge, or its parents are known, which are sought near a place.
+fn knows_merge_of(known: KnownSlice<'_>, segment: SegmentRef<'_>, near: u32) -> bool
     ensures { result ≡ knows_merge (ids_of known.entry) (segment_of segment.entry).parents }
 {
     let mut parents = segment.parents();
@@ -65,16 +94,22 @@ fn knows_merge_of(known: KnownSlice<'_>, segment: SegmentRef<'_>) -> bool
     if parents.next().is_none() {
         return true;
     }
-    knows_all(known, segment.parents())
+    knows_all(known, segment.parents(), near)
 }
 
 /// Whether the segment begins behind the cloned ids, or the greatest cloned id in it, and its parents if it begins with a merge,
-/// are known.
-fn knows_segment_of(known: KnownSlice<'_>, segment: SegmentRef<'_>, cloned: u64) -> bool
+/// are known. They are sought near a place, which goes up with the segments.
+fn knows_segment_of(
+    known: KnownSlice<'_>,
+    segment: SegmentRef<'_>,
+    cloned: u64,
+    near: &mut u32,
+) -> bool
     ensures { result ≡ knows_segment cloned (ids_of known.entry) (segment_of segment.entry) }
 {
     let greatest = segment.high().number().min(cloned.saturating_sub(1));
-    cloned <= segment.low().number() || (knows(known, greatest) && knows_merge_of(known, segment))
+    cloned <= segment.low().number()
+        || (knows(known, greatest, near) && knows_merge_of(known, segment, *near))
 }
 
 /// Whether of each record that begins below the cloned count the greatest cloned id, and each parent of a merge, is known.
@@ -82,11 +117,12 @@ fn knows_what_is_needed(known: KnownSlice<'_>, section: SegmentSlice<'_>, cloned
     ensures { result ≡ knows_needed cloned (ids_of known.entry) (segments_of section.entry) }
 {
     let mut rest = section.bytes;
+    let mut near = 0;
     'records: for _ in 0..section.count {
         let Some((segment, after)) = read_segment(rest) else {
             return true;
         };
-        if !knows_segment_of(known, segment, cloned) {
+        if !knows_segment_of(known, segment, cloned, &mut near) {
             return false;
         }
         rest = after;

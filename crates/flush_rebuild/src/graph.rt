@@ -154,6 +154,11 @@ fn add_segment<T: SegmentTable>(
     Ok(end)
 }
 
+/// Lets the next look-up begin at the segment behind the last one's.
+fn go_up(steps: &mut Steps) {
+    steps.set_near(steps.near().saturating_add(2));
+}
+
 /// Adds the rows of the numbers below n, segment by segment. There are none before.
 fn read_rows<T: SegmentTable>(table: &T, rows: &mut Rows, n: u32) -> Result<(), AllocError>
     requires { AreRows rows.old.places.items rows.old.ids.items [] }
@@ -163,6 +168,7 @@ fn read_rows<T: SegmentTable>(table: &T, rows: &mut Rows, n: u32) -> Result<(), 
     let mut k = 0;
     'rows: while k < n {
         k = add_segment(table, rows, k, n, &mut steps)?;
+        go_up(&mut steps);
     }
     Ok(())
 }

@@ -1,18 +1,20 @@
 -- Children, segment by segment.
-use Rattle.std.proofs.Common.{◌≡◌, ℕ, suc, ◌-◌, ◌<◌, ◌≤◌, ◌^◌, ◌⊎◌, inl, inr, ◌↔◌, List, [], ◌∷◌, Option, Some, None, take, drop, refl, sym, subst, ap, ◌∙◌, arith, ⊎_elim}
+use Rattle.std.proofs.Common.{◌≡◌, ℕ, ◌+◌, ◌-◌, ◌<◌, ◌≤◌, ◌^◌, ◌⊎◌, inl, inr, ◌↔◌, List, [], ◌∷◌, Option, Some, None, max, refl, sym, subst, ap, ◌∙◌, arith, ⊎_elim}
 use Rattle.std.specs.Prelude.{slice_get}
-use Rattle.std.proofs.lemmas.Bool.{ltb-true, lt-ltb}
+use Rattle.std.proofs.lemmas.Bool.Decides.{nat_tests}
+use Rattle.id_groups.specs.Id.{is_master_id}
 use Rattle.id_groups.specs.Lists.{IsIn}
 use Rattle.id_groups.specs.declared.span.IdSpan.{IdSpan}
 use Rattle.commit_graph.specs.Sets as sets
 use Rattle.segment_codec.specs.Record.{Segment}
-use Rattle.segment_codec.specs.Table.{IsInSegment, segment_at, parents_in, parents_at, IsHeld, IsLawful}
-use Rattle.segment_codec.proofs.Tables.{le_or_lt, parents-low, parents-over, parent-below, lawful-rising}
+use Rattle.segment_codec.specs.Table.{IsInSegment, segment_at, parents_in, parents_at, IsHeld, Cover, IsLawful}
+use Rattle.segment_codec.proofs.Tables.{le_or_lt, segment-in, parents-low, parents-over, parent-below}
 use Rattle.span_set.specs.Members.{IsMember}
-use Rattle.ancestor_query.specs.Graph.{table_graph}
-use Rattle.range_query.specs.Places.{IsOf, IsPlace}
-use Rattle.range_query.specs.Parts.{IsChildIn, StandFrom}
-use Rattle.range_query.proofs.Rows.{at-in, before-at, held-of, of-parts, of-drop, before-place}
+use Rattle.ancestor_query.specs.Graph.{table_graph, IsJump}
+use Rattle.ancestor_query.proofs.Best.{same-group}
+use Rattle.range_query.specs.Parts.{IsChildIn, IsApart, LackChildren}
+use Rattle.range_query.proofs.Bounds.{cover-held}
+use Rattle.range_query.proofs.Rows.{at-in}
 
 in-one : (p q : ℕ) → IsIn p (q ∷ []) → p ≡ q
 in-one p q h = ⊎_elim (λ e. e) (λ n. absurd n) h
@@ -24,6 +26,17 @@ child-held flats x p i = go (segment_at flats x) refl
     go : (o : Option Segment) → segment_at flats x ≡ o → IsHeld flats x
     go None e = absurd (subst (λ o. IsIn p (parents_in o x)) e i)
     go (Some s) e = (s, e)
+
+-- what is added are the children among the ids of a part
+pub among-cut : {N O C P : Type 0} {x id : ℕ} (low next : ℕ) → next ≡ low → N ↔ (O ⊎ C) → C ↔ ((low ≤ x) × (x ≤ id) × P) → N ↔ (O ⊎ ((next ≤ x) × (x ≤ id) × P))
+among-cut low next e n c = (
+  λ m. ⊎_elim (λ o. inl o) (λ k. let h = c.0 k in let a = h.0 in inr (omega arith, h.1, h.2)) (n.0 m),
+  λ h. ⊎_elim (λ o. n.1 (inl o)) (λ k. let a = k.0 in n.1 (inr (c.1 (omega arith, k.1, k.2)))) h,
+)
+
+-- an id between two of one group is of it
+same-between : (a b c : ℕ) → a ≤ b → b ≤ c → is_master_id a ≡ is_master_id c → is_master_id a ≡ is_master_id b
+same-between a b c low high e = grind (arith, nat_tests)
 
 module _ (flats : List Segment) (lawful : IsLawful flats) (set : List IdSpan) where
   abbrev Child : ℕ → Type 0
@@ -53,35 +66,58 @@ module _ (flats : List Segment) (lawful : IsLawful flats) (set : List IdSpan) wh
     part-in x o (inl h) = let e = h.0 in (omega arith, omega arith)
     part-in x o (inr m) = let a = m.0 in (omega arith, m.1)
 
-  pub children-more : (k next : ℕ) (s : Segment) (before after : List IdSpan) → next ≡ suc k → slice_get flats k ≡ Some s
-      → ((x : ℕ) → IsMember before x ↔ (Child x × IsOf (drop next flats) x))
-      → ((x : ℕ) → IsMember after x ↔ (IsMember before x ⊎ IsChildIn set s x))
-      → (x : ℕ) → IsMember after x ↔ (Child x × IsOf (drop k flats) x)
-  children-more k next s before after n e exact added x =
-      let i = at-in flats k s e in let o = (lawful.each s i).segment.ascending in
-      let parts = subst (λ j. IsOf (drop k flats) x ↔ (IsInSegment x s ⊎ IsOf (drop j flats) x)) (sym n) (of-drop flats k s x e) in (
-        λ m. ⊎_elim (λ b. let h = (exact x).0 b in (h.0, parts.1 (inr h.1))) (λ c. (part-child s i x c, parts.1 (inl (part-in s i x o c)))) ((added x).0 m),
-        λ h. (added x).1 (⊎_elim (λ a. inr (child-part s i x a h.0)) (λ b. inl ((exact x).1 (h.0, b))) (parts.0 h.1)),
+  pub group-at : (k : ℕ) (s : Segment) → slice_get flats k ≡ Some s → s.low < 2 ^ 56 → s.high < 2 ^ 56
+  group-at k s e lt = same-group s.low s.high (lawful.each s (at-in flats k s e)).segment.one_group lt
+
+  -- the children among the ids of a segment up to one of them
+  pub cut-child : (s t : Segment) (id x : ℕ) → segment_at flats id ≡ Some s → t ≡ record s { high = id } → IsChildIn set t x ↔ ((s.low ≤ x) × (x ≤ id) × Child x)
+  cut-child s t id x found e =
+      let f = segment-in flats id s found in let low = f.1.0 in let high = f.1.1 in
+      subst (λ (q : Segment). IsChildIn set q x ↔ ((s.low ≤ x) × (x ≤ id) × Child x)) (sym e) (
+        λ h. ⊎_elim (λ l. let same = l.0 in (omega arith, omega arith, part-child s f.0 x (inl l)))
+            (λ m. let a = m.0 in let b = m.1 in (omega arith, b, part-child s f.0 x (inr (a, omega arith, m.2)))) h,
+        λ h. let b = h.1 in ⊎_elim (λ l. inl l) (λ m. inr (m.0, b, m.2)) (child-part s f.0 x (h.0, omega arith) h.2),
       )
 
-  pub children-whole : (lowest place k : ℕ) (answer : List IdSpan) → IsPlace flats lowest place → k ≤ place → ((x : ℕ) → IsMember set x → lowest ≤ x)
-      → ((x : ℕ) → IsMember answer x ↔ (Child x × IsOf (drop k flats) x)) → (x : ℕ) → IsMember answer x ↔ Child x
-  children-whole lowest place k answer p le least exact x = (
-    λ m. ((exact x).0 m).0,
-    λ c. (exact x).1 (
-      c,
+  -- an id and the lowest of its segment are of one group
+  pub cut-group : (s : Segment) (id : ℕ) → segment_at flats id ≡ Some s → (s.low ≤ id) × (s.low < 2 ^ 56 → id < 2 ^ 56) × (is_master_id s.low ≡ is_master_id id)
+  cut-group s id found =
+      let f = segment-in flats id s found in let low = f.1.0 in let high = f.1.1 in
+      let group = (lawful.each s f.0).segment.one_group in
+      (low, λ small. let h = same-group s.low s.high group small in omega arith, same-between s.low id s.high low high group)
+
+  -- a segment that stands apart from the set has no child of it
+  pub apart-lacks : (s : Segment) (id : ℕ) → IsJump (table_graph flats) s.low id s.parents → s.high ≡ id → IsApart set s → LackChildren (table_graph flats) set s.low id
+  apart-lacks s id jump high apart x a b c =
+      let down = (parent-below flats lawful x c.0 c.2).0 in
       ⊎_elim
-          (λ a. let lt = before-place flats lowest place k x p le a in let low = least c.0 c.1 in let under = (parent-below flats lawful x c.0 c.2).0 in absurd (omega arith))
-          (λ b. b) (of-parts flats k x (held-of flats x (child-held flats x c.0 c.2))),
-    ),
+      (λ (le : s.low ≤ c.0). let top = apart.0 c.0 c.1 le in absurd (omega arith))
+      (λ (lt : c.0 < s.low). absurd (apart.1 (c.0, jump.out x c.0 a b c.2 lt, c.1)))
+      (le_or_lt s.low c.0)
+
+  -- where none of some ids is a child nothing is to be added
+  pub lacks-none : (answer : List IdSpan) (low next id : ℕ) → next ≡ low → LackChildren (table_graph flats) set low id
+      → (x : ℕ) → IsMember answer x ↔ (IsMember answer x ⊎ ((next ≤ x) × (x ≤ id) × Child x))
+  lacks-none answer low next id e none x = (λ m. inl m, λ h. ⊎_elim (λ m. m) (λ k. let a = k.0 in absurd (none x (omega arith) k.1 k.2)) h)
+
+  -- all ids down to a lowest one have their children
+  module _ (fresh before after : List IdSpan) (low id below next : ℕ) (at : id ≡ below - 1) (some : low < below)
+      (added : (x : ℕ) → IsMember after x ↔ (IsMember before x ⊎ ((next ≤ x) × (x ≤ id) × Child x))) where
+    pub sound-more : ((x : ℕ) → IsMember before x → IsMember fresh x ⊎ Child x) → (x : ℕ) → IsMember after x → IsMember fresh x ⊎ Child x
+    sound-more sound x m = ⊎_elim (λ o. sound x o) (λ h. inr h.2) ((added x).0 m)
+
+    pub whole-more : (end : ℕ) → ((x : ℕ) → below ≤ x → x < end → Child x → IsMember before x) → (x : ℕ) → next ≤ x → x < end → Child x → IsMember after x
+    whole-more end whole x a b c = (added x).1 (⊎_elim (λ (le : x ≤ id). inr (a, le, c)) (λ (lt : id < x). inl (whole x (omega arith) b c)) (le_or_lt x id))
+
+  -- a child is one of the ids of either group, above the lowest member
+  pub both-whole : (none first all : List IdSpan) (lowest master others from : ℕ) → Cover flats master others → none ≡ [] → ((x : ℕ) → IsMember set x → lowest ≤ x)
+      → from ≡ max (lowest + 1) (2 ^ 56)
+      → ((x : ℕ) → IsMember first x → IsMember none x ⊎ Child x) → ((x : ℕ) → from ≤ x → x < 2 ^ 56 + others → Child x → IsMember first x)
+      → ((x : ℕ) → IsMember all x → IsMember first x ⊎ Child x) → ((x : ℕ) → lowest + 1 ≤ x → x < master → Child x → IsMember all x)
+      → ((x : ℕ) → IsMember first x → IsMember all x) → (x : ℕ) → IsMember all x ↔ Child x
+  both-whole none first all lowest master others from cover empty least start sound_a whole_a sound_b whole_b kept x = (
+    λ m. ⊎_elim (λ n. ⊎_elim (λ o. absurd (subst (λ l. IsMember l x) empty o)) (λ c. c) (sound_a x n)) (λ c. c) (sound_b x m),
+    λ c. let low = least c.0 c.1 in let under = (parent-below flats lawful x c.0 c.2).0 in
+        ⊎_elim (λ a. let lt = a.1 in whole_b x (omega arith) (omega arith) c) (λ a. let ge = a.0 in kept x (whole_a x (omega arith) a.1 c))
+        ((cover-held flats master others cover x).0 (child-held flats x c.0 c.2)),
   )
-
-  -- the spans passed stand above the segments that are still to come
-  pub passed-on : (k next : ℕ) (s : Segment) (above : List IdSpan) → next ≡ suc k → slice_get flats k ≡ Some s → StandFrom s.high above
-      → (t : Segment) → IsIn t (take k flats) → StandFrom t.high above
-  passed-on k next s above n e from t i x m =
-      let lt = before-at flats k s t (lawful-rising flats lawful) e i in let o = (lawful.each s (at-in flats k s e)).segment.ascending in
-      let h = from x m in omega arith
-
-  pub group-at : (k : ℕ) (s : Segment) → slice_get flats k ≡ Some s → s.low < 2 ^ 56 → s.high < 2 ^ 56
-  group-at k s e lt = let g = (lawful.each s (at-in flats k s e)).segment.one_group in ltb-true _ _ (sym g ∙ lt-ltb _ _ lt)

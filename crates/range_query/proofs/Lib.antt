@@ -1,6 +1,9 @@
 pub mod Rows
+pub mod Bounds
 pub mod Pieces
 pub mod ChildLemmas
+pub mod Climbing
+pub mod EndLemmas
 pub mod RisingLemmas
 pub mod Lowests
 pub mod Highests

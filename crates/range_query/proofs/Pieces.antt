@@ -1,5 +1,7 @@
 -- The ids one above those of a list of spans, piece by piece.
-use Rattle.std.proofs.Common.{◌≡◌, ℕ, suc, ◌+◌, ◌-◌, ◌<◌, ◌≤◌, ◌⊎◌, inl, inr, ◌↔◌, List, ◌∷◌, length, get_or, take, drop, min, max, sym, subst, arith, ⊎_elim, le_refl}
+use Rattle.std.proofs.Common.{◌≡◌, ℕ, zero, suc, ◌+◌, ◌-◌, ◌<◌, ◌≤◌, ◌⊎◌, inl, inr, ◌↔◌, List, [], ◌∷◌, length, get_or, take, drop, min, max, Bool, true, false, true≢false, sym, subst, arith, ⊎_elim, le_refl}
+use Rattle.std.specs.Prelude.{IsTrue}
+use Rattle.std.proofs.Math.Bool.{not}
 use Rattle.std.proofs.Math.Seq.{drop-cons}
 use Rattle.std.proofs.lemmas.List.{take-append-drop}
 use Rattle.id_groups.specs.declared.span.IdSpan.{IdSpan}
@@ -8,7 +10,7 @@ use Rattle.segment_codec.specs.Record.{Segment}
 use Rattle.span_set.specs.Members.{IsMember, IsCanonical}
 use Rattle.span_set.proofs.MemberLemmas.{member-at, span-read, take-member-at, member-first, member-last, member-right, member-either}
 use Rattle.span_set.proofs.Below.{canonical-drop}
-use Rattle.range_query.specs.Parts.{IsMoved, StandFrom}
+use Rattle.range_query.specs.Parts.{IsMoved, StandFrom, StandBelow}
 
 -- a step: what was left is the piece and what is left now
 walked : {G O R P N S : Type 0} → G ↔ (O ⊎ R) → R ↔ (P ⊎ S) → N ↔ (O ⊎ P) → G ↔ (N ⊎ S)
@@ -34,12 +36,32 @@ piece s t rest low end x l h = (
       (λ r. (r.0, r.1, inr r.2)) m,
 )
 
+-- no member from a span on lies above the span's highest id
+pub rest-below : (xs : List IdSpan) (i : ℕ) (t : IdSpan) (x : ℕ) → IsCanonical xs → i < length xs → t ≡ get_or xs i t → IsMember (drop i xs) x → x ≤ t.high
+rest-below xs i t x c lt is m =
+    let cons : drop i xs ≡ t ∷ drop (suc i) xs = subst (λ q. drop i xs ≡ q ∷ drop (suc i) xs) (sym is) (drop-cons xs i t lt) in
+    member-first (t ∷ drop (suc i) xs) t x (subst IsCanonical cons (canonical-drop i xs c)) (subst (λ q. IsMember q x) cons m)
+
+-- behind the last span there is none
+pub none-from : (xs : List IdSpan) (i x : ℕ) → length xs ≤ i → IsMember (drop i xs) x → ⊥
+none-from [] zero x le m = m
+none-from [] (suc i) x le m = m
+none-from (t ∷ xs) zero x le m = absurd (omega arith)
+none-from (t ∷ xs) (suc i) x le m = none-from xs i x (omega arith) m
+
+-- the members from a span on lie below what the others stand from
+pub apart-of : (s : Segment) (xs : List IdSpan) (n : ℕ) → StandFrom s.high (take n xs) → StandBelow s.low (drop n xs) → (x : ℕ) → IsMember xs x → s.low ≤ x → s.high ≤ x
+apart-of s xs n from below x m le =
+    ⊎_elim (λ a. from x a) (λ b. let lt = below x b in absurd (omega arith))
+    (member-either (take n xs) (drop n xs) x (subst (λ l. IsMember l x) (sym (take-append-drop n xs)) m))
+
+pub not-both : (b : Bool) → IsTrue (not b) → IsTrue b → ⊥
+not-both true n t = true≢false (sym n)
+not-both false n t = true≢false (sym t)
+
 -- the spans from one that ends below the segment on have no piece of it
 pub moved-none : (s : Segment) (xs : List IdSpan) (i : ℕ) (t : IdSpan) (x : ℕ) → IsCanonical xs → i < length xs → t ≡ get_or xs i t → t.high < s.low → IsMoved (drop i xs) s x → ⊥
-moved-none s xs i t x c lt is under m =
-    let cons : drop i xs ≡ t ∷ drop (suc i) xs = subst (λ q. drop i xs ≡ q ∷ drop (suc i) xs) (sym is) (drop-cons xs i t lt) in
-    let top = member-first (t ∷ drop (suc i) xs) t (x - 1) (subst IsCanonical cons (canonical-drop i xs c)) (subst (λ q. IsMember q (x - 1)) cons m.2) in
-    let a = m.0 in omega arith
+moved-none s xs i t x c lt is under m = let top = rest-below xs i t (x - 1) c lt is m.2 in let a = m.0 in omega arith
 
 -- what is left is nothing
 pub whole-now : {G O R : Type 0} → G ↔ (O ⊎ R) → (R → ⊥) → O ↔ G

@@ -4,3 +4,4 @@ pub mod Rising
 pub mod Tails
 pub mod Cuts
 pub mod Falls
+pub mod Ends

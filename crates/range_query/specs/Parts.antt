@@ -1,16 +1,21 @@
 -- What the ids of one segment have to do with a set.
-use Rattle.std.specs.Prelude.{◌≡◌, ℕ, ◌<◌, ◌≤◌, ◌-◌, ◌⊎◌, List, length}
+use Rattle.std.specs.Prelude.{◌≡◌, ℕ, ◌<◌, ◌≤◌, ◌-◌, ◌⊎◌, List, Some, length}
 use Rattle.id_groups.specs.Lists.{IsIn}
 use Rattle.id_groups.specs.declared.span.IdSpan.{IdSpan}
 use Rattle.id_groups.specs.Span.{IsInSpan}
 use Rattle.commit_graph.specs.Graph.{Graph, Reaches}
+use Rattle.commit_graph.specs.Sets as sets
 use Rattle.segment_codec.specs.Record.{Segment}
-use Rattle.segment_codec.specs.Table.{IsInSegment}
+use Rattle.segment_codec.specs.Table.{IsInSegment, parents_in}
 use Rattle.span_set.specs.Members.{IsMember}
 
 -- a parent of the segment's lowest id is a member
 abbrev pub HasParentIn : List IdSpan → Segment → Type 0
 HasParentIn spans s = (p : ℕ) × IsIn p s.parents × IsMember spans p
+
+-- a parent of one of the segment's ids is a member
+abbrev pub HasParentOf : List IdSpan → Segment → ℕ → Type 0
+HasParentOf spans s x = (p : ℕ) × IsIn p (parents_in (Some s) x) × IsMember spans p
 
 -- an id of the segment above its lowest, and the id before it is a member
 abbrev pub IsMoved : List IdSpan → Segment → ℕ → Type 0
@@ -23,6 +28,14 @@ IsChildIn spans s x = ((x ≡ s.low) × HasParentIn spans s) ⊎ IsMoved spans s
 -- no member lies below the id
 abbrev pub StandFrom : ℕ → List IdSpan → Type 0
 StandFrom low spans = (x : ℕ) → IsMember spans x → low ≤ x
+
+-- no member is an id of the segment below its highest, or a parent of it
+abbrev pub IsApart : List IdSpan → Segment → Type 0
+IsApart spans s = ((x : ℕ) → IsMember spans x → s.low ≤ x → s.high ≤ x) × (HasParentIn spans s → ⊥)
+
+-- no id from the lowest to the highest has a parent that is a member
+abbrev pub LackChildren : Graph ℕ → List IdSpan → ℕ → ℕ → Type 0
+LackChildren g spans low high = (x : ℕ) → low ≤ x → x ≤ high → sets.children g (IsMember spans) x → ⊥
 
 -- all members lie below the id
 abbrev pub StandBelow : ℕ → List IdSpan → Type 0

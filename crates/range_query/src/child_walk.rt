@@ -1,15 +1,17 @@
 //! The children of the members of a set.
 
-ghost use Rattle.std.specs.Prelude.{◌≡◌, ℕ, ◌<◌, ◌≤◌, ◌^◌, ◌⊎◌, ◌↔◌, length, take, drop, slice_index_or, IfOk, OnOk, IsTrue, ◌-◌, min};
+ghost use Rattle.std.specs.Prelude.{◌≡◌, true, ℕ, ◌<◌, ◌≤◌, ◌^◌, ◌⊎◌, ◌↔◌, [], length, take, drop, slice_index_or, IfOk, OnOk, IfSome, IsTrue, ◌-◌, min};
 ghost use Rattle.commit_graph.specs.Sets as sets;
 ghost use Rattle.segment_codec.specs.Lent.{segment_of};
+ghost use Rattle.segment_codec.specs.Reading.{ascend_from};
 ghost use Rattle.segment_codec.specs.Table.{IsHeld};
 ghost use Rattle.span_set.specs.Members.{IsMember, IsCanonical};
 ghost use Rattle.ancestor_query.specs.Graph.{table_graph};
-ghost use Rattle.range_query.specs.Parts.{HasParentIn, IsMoved, IsChildIn, StandFrom};
+ghost use Rattle.range_query.specs.Parts.{HasParentIn, IsMoved, StandFrom, StandBelow, IsApart, LackChildren};
 
-use crate::place::{count_below, lowest_of};
-use id_groups::{Id, IdSpan};
+use crate::ladder::{HIGHEST_LEVEL, Ladder};
+use crate::place::lowest_of;
+use id_groups::{FIRST_OTHER, Id, IdSpan};
 use segment_codec::{SegmentRef, SegmentTable, Steps};
 use span_set::IdSet;
 use std::alloc::{AllocError, Global};
@@ -57,7 +59,7 @@ fn add_moved(
 }
 
 /// Whether a parent of the segment's lowest id is a member.
-fn has_parent_in(set: &IdSet, segment: SegmentRef<'_>) -> bool
+pub(crate) fn has_parent_in(set: &IdSet, segment: SegmentRef<'_>) -> bool
     ensures { IsTrue result ↔ HasParentIn set.now (segment_of segment.entry) }
 {
     let mut rest = segment.parents();
@@ -81,32 +83,232 @@ fn add_lowest(answer: &mut IdSet, set: &IdSet, segment: SegmentRef<'_>) -> Resul
     Ok(())
 }
 
-/// Adds the ids of the segment that have a parent in the set, whose first `at` spans stand from the segment's highest id
-/// on. It answers how many spans do.
-fn add_children_in(
-    answer: &mut IdSet,
-    set: &IdSet,
-    at: usize,
-    segment: SegmentRef<'_>,
-) -> Result<usize, AllocError>
-    requires within { at ≤ length set.now }
-    requires passed { StandFrom (segment_of segment).high (take at set.now) }
-    requires group { (segment_of segment).low < 2 ^ 56 → (segment_of segment).high < 2 ^ 56 }
-    ensures within { IfOk result (λ to. to ≤ length set.now) }
-    ensures passed { IfOk result (λ to. StandFrom (segment_of segment.entry).high (take to set.now)) }
-    ensures stop { IfOk result (λ to. (d : _) → to < length set.now → (slice_index_or set.now to d).low < (segment_of segment.entry).high) }
-    ensures members { OnOk result ((x : ℕ) → IsMember answer.new x ↔ (IsMember answer.old x ⊎ IsChildIn set.now (segment_of segment.entry) x)) }
-    ensures canonical { IsCanonical answer.old → IsCanonical answer.new }
+/// Whether a parent of the segment is a member, where its parents ascend. All members lie between these ids.
+fn has_parent_between(set: &IdSet, lowest: Id, greatest: Id, segment: SegmentRef<'_>) -> bool
+    requires ascending { ascend_from 0 (segment_of segment).parents ≡ true }
+    requires lowest { (x : ℕ) → IsMember set.now x → lowest ≤ x }
+    requires greatest { (x : ℕ) → IsMember set.now x → x ≤ greatest }
+    ensures { IsTrue result ↔ HasParentIn set.now (segment_of segment.entry) }
 {
-    let spans = set.spans();
-    let to = skip_from(spans, at, segment.high());
-    add_moved(answer, spans, to, segment)?;
-    add_lowest(answer, set, segment)?;
-    Ok(to)
+    let mut rest = segment.parents();
+    'parents: while let Some(parent) = rest.next() {
+        if parent.number() > greatest.number() {
+            return false;
+        }
+        if is_member_from(set, lowest, parent) {
+            return true;
+        }
+    }
+    false
 }
 
-/// The ids with a parent in the set, each member of which is an id of the table. It goes over the flat segments from the
-/// last down to the one that has the lowest member. `AllocError` only for want of memory.
+/// Whether the id is a member, none of which lies below `lowest`.
+#[inline(always)]
+fn is_member_from(set: &IdSet, lowest: Id, id: Id) -> bool
+    requires { (x : ℕ) → IsMember set.now x → lowest ≤ x }
+    ensures { IsTrue result ↔ IsMember set.now id }
+{
+    if id.number() < lowest.number() {
+        return false;
+    }
+    set.contains(id)
+}
+
+/// The same, whatever the members.
+fn has_parent_among(set: &IdSet, segment: SegmentRef<'_>) -> bool
+    requires { ascend_from 0 (segment_of segment).parents ≡ true }
+    ensures { IsTrue result ↔ HasParentIn set.now (segment_of segment.entry) }
+{
+    let Some(greatest) = set.greatest() else {
+        return false;
+    };
+    let Some(lowest) = lowest_of(set.spans()) else {
+        return false;
+    };
+    has_parent_between(set, lowest, greatest, segment)
+}
+
+/// Whether all spans from the place on lie below the id.
+fn are_below(spans: &[IdSpan], at: usize, id: Id) -> bool
+    requires { IsCanonical spans.now }
+    ensures { IsTrue result → StandBelow id (drop at spans.now) }
+{
+    if at >= spans.len() {
+        return true;
+    }
+    spans[at].high.number() < id.number()
+}
+
+/// Whether the segment, whose parents ascend, has no member below its highest id, and none of its parents is one. The first `at` spans of the set
+/// stand from its highest id on.
+fn is_apart(set: &IdSet, at: usize, segment: SegmentRef<'_>) -> bool
+    requires within { at ≤ length set.now }
+    requires passed { StandFrom (segment_of segment).high (take at set.now) }
+    requires ascending { ascend_from 0 (segment_of segment).parents ≡ true }
+    ensures { IsTrue result → IsApart set.now (segment_of segment.entry) }
+{
+    if !are_below(set.spans(), at, segment.low()) {
+        return false;
+    }
+    !has_parent_among(set, segment)
+}
+
+/// A segment above the flat ones that ends at the id and none of whose ids has a parent in the set: the first that the
+/// ladder leads to from its level down. The first `at` spans of the set stand from the id on.
+fn childless_ending<'a, T: SegmentTable>(
+    table: &'a T,
+    set: &IdSet,
+    at: usize,
+    id: Id,
+    ladder: &mut Ladder,
+    steps: &mut Steps,
+) -> Option<SegmentRef<'a>>
+    requires within { at ≤ length set.now }
+    requires passed { StandFrom id (take at set.now) }
+    ensures none { IfSome result (λ s. ((segment_of s).low ≤ id) × LackChildren (table_graph (T.flats table.now)) set.now (segment_of s).low id) }
+    ensures counted { min steps.old.taken (2 ^ 64 - 1) ≤ steps.new.taken }
+{
+    'levels: while ladder.level() > 0 {
+        match table.ending(ladder.level(), id, steps) {
+            None => ladder.go_down(),
+            Some(segment) => {
+                if !ladder.rise() {
+                    if is_apart(set, at, segment) {
+                        return Some(segment);
+                    }
+                    ladder.go_into(segment.low().number());
+                }
+            }
+        }
+    }
+    None
+}
+
+/// Adds the children among the ids of the flat segment that has the id, up to this one, and answers the segment's lowest id.
+/// The first `at` spans of the set stand from the id on.
+fn add_flat<T: SegmentTable>(
+    answer: &mut IdSet,
+    table: &T,
+    set: &IdSet,
+    at: usize,
+    id: Id,
+    steps: &mut Steps,
+) -> Result<u64, AllocError>
+    requires held { IsHeld (T.flats table.now) id }
+    requires within { at ≤ length set.now }
+    requires passed { StandFrom id (take at set.now) }
+    ensures low { IfOk result (λ low. low ≤ id) }
+    ensures members { IfOk result (λ low. (x : ℕ) → IsMember answer.new x
+        ↔ (IsMember answer.old x ⊎ ((low ≤ x) × (x ≤ id) × sets.children (table_graph (T.flats table.now)) (IsMember set.now) x))) }
+    ensures canonical { IsCanonical answer.old → IsCanonical answer.new }
+    ensures counted { min steps.old.taken (2 ^ 64 - 1) ≤ steps.new.taken }
+{
+    let segment = table.flat(id, steps).unwrap();
+    let part = segment.ending_at(id);
+    add_moved(answer, set.spans(), at, part)?;
+    add_lowest(answer, set, part)?;
+    Ok(part.low().number())
+}
+
+/// Whether the id is one of the span at the place, or the one above it.
+fn is_near(spans: &[IdSpan], at: usize, id: Id) -> bool {
+    at < spans.len() && id.number() <= spans[at].high.number() + 1
+}
+
+/// Adds the children among the ids of a segment of any level up to one of its ids, and answers its lowest id. The first `at`
+/// spans of the set stand from the id on.
+fn add_next<T: SegmentTable>(
+    answer: &mut IdSet,
+    table: &T,
+    set: &IdSet,
+    at: usize,
+    id: Id,
+    ladder: &mut Ladder,
+    steps: &mut Steps,
+) -> Result<u64, AllocError>
+    requires held { IsHeld (T.flats table.now) id }
+    requires within { at ≤ length set.now }
+    requires passed { StandFrom id (take at set.now) }
+    ensures low { IfOk result (λ low. low ≤ id) }
+    ensures members { IfOk result (λ low. (x : ℕ) → IsMember answer.new x
+        ↔ (IsMember answer.old x ⊎ ((low ≤ x) × (x ≤ id) × sets.children (table_graph (T.flats table.now)) (IsMember set.now) x))) }
+    ensures canonical { IsCanonical answer.old → IsCanonical answer.new }
+    ensures counted { min steps.old.taken (2 ^ 64 - 1) ≤ steps.new.taken }
+{
+    if is_near(set.spans(), at, id) {
+        return add_flat(answer, table, set, at, id, steps);
+    }
+    ladder.climb(id);
+    if let Some(segment) = childless_ending(table, set, at, id, ladder, steps) {
+        return Ok(segment.low().number());
+    }
+    add_flat(answer, table, set, at, id, steps)
+}
+
+/// Adds the children among the ids from `low` to before `end`, and maybe some that are lower. It goes down by segments of
+/// levels up to `top`.
+fn add_between<T: SegmentTable>(
+    answer: &mut IdSet,
+    table: &T,
+    set: &IdSet,
+    low: u64,
+    end: u64,
+    top: usize,
+    steps: &mut Steps,
+) -> Result<(), AllocError>
+    requires held { (x : ℕ) → low ≤ x → x < end → IsHeld (T.flats table.now) x }
+    requires bound { end ≤ 2 ^ 57 }
+    requires top { top < 8 }
+    ensures sound { OnOk result ((x : ℕ) → IsMember answer.new x → IsMember answer.old x ⊎ sets.children (table_graph (T.flats table.now)) (IsMember set.now) x) }
+    ensures whole { OnOk result ((x : ℕ) → low ≤ x → x < end → sets.children (table_graph (T.flats table.now)) (IsMember set.now) x → IsMember answer.new x) }
+    ensures kept { OnOk result ((x : ℕ) → IsMember answer.old x → IsMember answer.new x) }
+    ensures canonical { IsCanonical answer.old → IsCanonical answer.new }
+    ensures counted { min steps.old.taken (2 ^ 64 - 1) ≤ steps.new.taken }
+{
+    let mut ladder = Ladder::new(top);
+    let mut below = end;
+    let mut at = 0;
+    'down: while low < below {
+        let id = Id::from_number(below - 1);
+        at = skip_from(set.spans(), at, id);
+        below = add_next(answer, table, set, at, id, &mut ladder, steps)?;
+    }
+    Ok(())
+}
+
+/// Adds the children, all of which lie above the lowest member.
+fn add_above<T: SegmentTable>(
+    answer: &mut IdSet,
+    table: &T,
+    set: &IdSet,
+    lowest: Id,
+    steps: &mut Steps,
+) -> Result<(), AllocError>
+    requires empty { answer.old ≡ [] }
+    requires lowest { (x : ℕ) → IsMember set.now x → lowest ≤ x }
+    ensures members { OnOk result ((x : ℕ) → IsMember answer.new x ↔ sets.children (table_graph (T.flats table.now)) (IsMember set.now) x) }
+    ensures canonical { IsCanonical answer.old → IsCanonical answer.new }
+    ensures counted { min steps.old.taken (2 ^ 64 - 1) ≤ steps.new.taken }
+{
+    let bounds = table.bounds();
+    let low = lowest.number() + 1;
+    let others = low.max(FIRST_OTHER);
+    add_between(
+        answer,
+        table,
+        set,
+        others,
+        FIRST_OTHER + bounds.others,
+        0,
+        steps,
+    )?;
+    add_between(answer, table, set, low, bounds.master, HIGHEST_LEVEL, steps)?;
+    Ok(())
+}
+
+/// The ids with a parent in the set, each member of which is an id of the table. It goes down from the greatest id to the
+/// lowest member, and passes over a segment of a higher level whole where its parents tell that none of its ids is a child.
+/// `AllocError` only for want of memory.
 pub fn children<T: SegmentTable>(
     alloc: Global,
     table: &T,
@@ -122,11 +324,6 @@ pub fn children<T: SegmentTable>(
     let Some(lowest) = lowest_of(set.spans()) else {
         return Ok(answer);
     };
-    let from = count_below(table, lowest, steps);
-    let mut at = 0;
-    'down: for k in (from..table.flat_count()).rev() {
-        let segment = table.flat_at(k, steps);
-        at = add_children_in(&mut answer, set, at, segment)?;
-    }
+    add_above(&mut answer, table, set, lowest, steps)?;
     Ok(answer)
 }

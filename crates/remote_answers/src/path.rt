@@ -122,6 +122,11 @@ fn are_several(parents: Parents<'_>) -> bool
     left.next().is_some() && left.next().is_some()
 }
 
+/// Lets the next look-up begin at the segment so many places behind the last one's.
+fn go_up(steps: &mut Steps, places: usize) {
+    steps.set_near(steps.near().saturating_add(places).saturating_add(1));
+}
+
 /// The first child of the id, from this place on, that begins a segment and is reached. There is one.
 fn child_above<T: SegmentTable>(
     table: &T,
@@ -135,9 +140,11 @@ fn child_above<T: SegmentTable>(
 {
     let mut at = from;
     'segments: loop {
+        go_up(steps, 1);
         let segment = table.flat(Id::master(at), steps).unwrap();
         let low = segment.low();
         if is_among(segment.parents(), id) && ids.contains(low) {
+            go_up(steps, 0);
             return Child {
                 id: low.number(),
                 is_merge: are_several(segment.parents()),

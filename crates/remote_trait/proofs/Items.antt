@@ -4,7 +4,6 @@ use Rattle.std.specs.Prelude.{slice_get, flat_map, MatchOption, ◌≢◌}
 use Rattle.std.specs.BTreeSet.{BTreeSet, contains, Updates}
 use Rattle.std.specs.Cmp.Lexicographic.{slice_cmp, texts_ties}
 use Rattle.std.specs.List.{list_all, list_any}
-use Rattle.std.specs.Cmp.{unsigned_ties}
 use Rattle.std.specs.Option.{option_to_list}
 use Rattle.std.specs.Ordering.{nat_cmp}
 use Rattle.std.proofs.Math.Seq.{drop-cons, take-suc}
@@ -164,6 +163,15 @@ fits-is (b ∷ before) k = ap (λ s. (nat_lt b.id k.id && not s) && name_fits be
     by_test true true h = sym (and-false (list_all (λ (b : KnownName). nat_lt b.id k.id) before))
     by_test false q h = refl
 
+-- the ids of names are below those from the next one on: where one more is among them
+pub ids-more : (names : List KnownName) (next : ℕ) → ((q : ℕ) → list_all (λ (b : KnownName). nat_lt b.id q) names ≡ nat_le next q) → (k : KnownName) → next ≤ k.id
+    → (q : ℕ) → list_all (λ (b : KnownName). nat_lt b.id q) (names ++ k ∷ []) ≡ nat_le (k.id + 1) q
+ids-more names next h k le q = all-more (λ (b : KnownName). nat_lt b.id q) names k ∙ ap (λ b. b && nat_lt k.id q) (h q) ∙ by_test (nat_lt k.id q) refl
+  where
+    by_test : (b : Bool) → nat_lt k.id q ≡ b → (nat_le next q && b) ≡ nat_le (k.id + 1) q
+    by_test true e = let lt = ltb-true k.id q e in ap (λ b. b && true) (le-leb next q (omega (arith, lt, le))) ∙ sym (le-leb (k.id + 1) q (omega (arith, lt)))
+    by_test false e = and-false (nat_le next q) ∙ sym (false_from_ne_true (nat_le (k.id + 1) q) (λ t. let l = leb-true (k.id + 1) q t in true≢false (sym (lt-ltb k.id q (omega (arith, l))) ∙ e)))
+
 module _ (names : List KnownName) (seen : BTreeSet Name) (next : ℕ) (h : HasSeen names seen next) (k : KnownName) (end : ℕ) where
   -- the test that it stands there, by what was seen
   pub seen-fits : (nat_lt k.id end && name_fits names k) ≡ (nat_lt k.id end && (nat_le next k.id && not (contains (slice_cmp nat_cmp) seen k.name)))
@@ -180,7 +188,7 @@ module _ (names : List KnownName) (seen : BTreeSet Name) (next : ℕ) (h : HasSe
   seen-more le now u = record {
     names = λ q. u.0 q ∙ ap (λ b. cond b true (contains (slice_cmp nat_cmp) seen q)) (sym (texts_ties k.name q)) ∙ ap (λ b. cond (same_name k.name q) true b) (h.names q) ∙ ap (λ b. cond b true (is_in same_name q (map (λ (b : KnownName). b.name) names))) (same-sym k.name q)
         ∙ either (same_name q k.name) (is_in same_name q (map (λ (b : KnownName). b.name) names)) ∙ sym (in-more same_name q (map (λ (b : KnownName). b.name) names) k.name) ∙ ap (is_in same_name q) (sym (map-append (λ (b : KnownName). b.name) names (k ∷ [])));
-    ids = λ q. all-more (λ (b : KnownName). nat_lt b.id q) names k ∙ ap (λ b. b && nat_lt k.id q) (h.ids q) ∙ above q;
+    ids = ids-more names next h.ids k le;
   }
     where
       either : (a b : Bool) → cond a true b ≡ (b || a)
@@ -188,13 +196,6 @@ module _ (names : List KnownName) (seen : BTreeSet Name) (next : ℕ) (h : HasSe
       either true false = refl
       either false true = refl
       either false false = refl
-
-      above : (q : ℕ) → (nat_le next q && nat_lt k.id q) ≡ nat_le (k.id + 1) q
-      above q = by_test (nat_lt k.id q) refl
-        where
-          by_test : (b : Bool) → nat_lt k.id q ≡ b → (nat_le next q && b) ≡ nat_le (k.id + 1) q
-          by_test true e = let lt = ltb-true k.id q e in ap (λ b. b && true) (le-leb next q (omega (arith, lt, le))) ∙ sym (le-leb (k.id + 1) q (omega (arith, lt)))
-          by_test false e = and-false (nat_le next q) ∙ sym (false_from_ne_true (nat_le (k.id + 1) q) (λ t. let l = leb-true (k.id + 1) q t in true≢false (sym (lt-ltb k.id q (omega (arith, l))) ∙ e)))
 
 module _ (names : List KnownName) (end first k : ℕ) (known : KnownName) (h : first_false first (names_fit end [] names) ≡ first_false (first + k) (names_fit end (take k names) (drop k names)))
     (lt : k < length names) (is : known ≡ get_or names k known) where
@@ -392,29 +393,25 @@ flat-more : {X : Type 0} (f : X → List ℕ) (xs : List X) (x : X) → flat_map
 flat-more f [] x = append-nil (f x)
 flat-more f (y ∷ xs) x = ap (λ l. f y ++ l) (flat-more f xs x) ∙ sym (append_assoc (f y) (flat_map f xs) (f x))
 
-pub parents-more : (segments : List Segment) (k : ℕ) (s : Segment) → k < length segments → s ≡ get_or segments k s → (set now : BTreeSet ℕ)
-    → ((q : ℕ) → contains nat_cmp set q ≡ is_in nat_eq q (flat_map (λ (s : Segment). s.parents) (take k segments)))
-    → ((q : ℕ) → contains nat_cmp now q ≡ (contains nat_cmp set q || is_in nat_eq q s.parents))
-    → (q : ℕ) → contains nat_cmp now q ≡ is_in nat_eq q (flat_map (λ (s : Segment). s.parents) (take (k + 1) segments))
+pub parents-more : (segments : List Segment) (k : ℕ) (s : Segment) → k < length segments → s ≡ get_or segments k s → (set now : ℕ → Bool)
+    → ((q : ℕ) → set q ≡ is_in nat_eq q (flat_map (λ (s : Segment). s.parents) (take k segments)))
+    → ((q : ℕ) → now q ≡ (set q || is_in nat_eq q s.parents))
+    → (q : ℕ) → now q ≡ is_in nat_eq q (flat_map (λ (s : Segment). s.parents) (take (k + 1) segments))
 parents-more segments k s lt is set now h g q =
     g q ∙ ap (λ b. b || is_in nat_eq q s.parents) (h q) ∙ sym (in-append q (flat_map (λ (s : Segment). s.parents) (take k segments)) s.parents)
     ∙ ap (is_in nat_eq q) (sym (flat-more (λ (s : Segment). s.parents) (take k segments) s)) ∙ ap (λ l. is_in nat_eq q (flat_map (λ (s : Segment). s.parents) l)) (sym (before segments k s lt is))
 
-pub number-more : (numbers : List ℕ) (k : ℕ) → k < length numbers → (old set now : BTreeSet ℕ)
-    → ((q : ℕ) → contains nat_cmp set q ≡ (contains nat_cmp old q || is_in nat_eq q (take k numbers))) → Updates nat_cmp set now (get_or numbers k 0) true
-    → (q : ℕ) → contains nat_cmp now q ≡ (contains nat_cmp old q || is_in nat_eq q (take (k + 1) numbers))
-number-more numbers k lt old set now h u q =
+pub number-more : (numbers : List ℕ) (k : ℕ) → k < length numbers → (old set now : ℕ → Bool)
+    → ((q : ℕ) → set q ≡ (old q || is_in nat_eq q (take k numbers))) → ((q : ℕ) → now q ≡ (set q || nat_eq q (get_or numbers k 0)))
+    → (q : ℕ) → now q ≡ (old q || is_in nat_eq q (take (k + 1) numbers))
+number-more numbers k lt old set now h g q =
     let n = get_or numbers k 0 in
-    u.0 q ∙ ap (λ b. cond b true (contains nat_cmp set q)) (sym (unsigned_ties n q) ∙ lt-sym n q) ∙ ap (λ b. cond (nat_eq q n) true b) (h q)
-    ∙ either (contains nat_cmp old q) (is_in nat_eq q (take k numbers)) (nat_eq q n) ∙ ap (λ b. contains nat_cmp old q || b) (sym (in-more nat_eq q (take k numbers) n) ∙ ap (is_in nat_eq q) (sym (number-before numbers k lt)))
+    g q ∙ ap (λ b. b || nat_eq q n) (h q) ∙ turned (old q) (is_in nat_eq q (take k numbers)) (nat_eq q n)
+    ∙ ap (λ b. old q || b) (sym (in-more nat_eq q (take k numbers) n) ∙ ap (is_in nat_eq q) (sym (number-before numbers k lt)))
   where
-    either : (a b c : Bool) → cond c true (a || b) ≡ (a || (b || c))
-    either true b true = refl
-    either true b false = refl
-    either false true true = refl
-    either false true false = refl
-    either false false true = refl
-    either false false false = refl
+    turned : (a b c : Bool) → ((a || b) || c) ≡ (a || (b || c))
+    turned true b c = refl
+    turned false b c = refl
 
 filter-more : (f : ℕ → Bool) (xs : List ℕ) (x : ℕ) → filter f (xs ++ x ∷ []) ≡ filter f xs ++ cond (f x) (x ∷ []) []
 filter-more f [] x = refl

@@ -77,10 +77,12 @@ fn last_broken_item(
     ensures { IfOk result (λ found. found ≡ broken_head (record { segments = segments.now; names = names.now; heads = heads.now })) }
 {
     let headed = segments.len() as u64 + names.len() as u64;
-    if !has_needed_names(segments, names) {
+    let end = end_of_all(segments);
+    let all = has_needed_names(alloc, segments, names, end)?;
+    if !all {
         return Ok(Some(headed));
     }
-    let ids = head_ids(alloc, segments)?;
+    let ids = head_ids(alloc, segments, end)?;
     match first_bad_head(names, &ids, heads, headed) {
         Some(number) => Ok(Some(number)),
         None => Ok(missing_head(ids.len(), heads.len(), headed)),

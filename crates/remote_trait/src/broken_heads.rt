@@ -2,39 +2,49 @@
 
 ghost use Rattle.std.specs.Prelude.{◌≡◌, ◌+◌, ◌<◌, ◌^◌, ◌||◌, ℕ, [], ◌∷◌, ◌++◌, length, map, flat_map, IfOk, OnOk, nat_eq, slice_get, MatchOption, false, if◌then◌else◌};
 ghost use Rattle.std.specs.List.{list_all};
-ghost use Rattle.std.specs.Ordering.{nat_cmp};
-ghost use Rattle.std.specs.BTreeSet.{contains};
 ghost use Rattle.id_groups.specs.Lists.{is_in};
 ghost use Rattle.id_groups.specs.Name.{same_name};
 ghost use Rattle.remote_rules.specs.CloneData.{first_false, head_ids as ids_of_heads, heads_fit, merge_parents, names_at};
 ghost use Rattle.remote_trait.specs.Broken.{AscendFrom};
+ghost use Rattle.remote_trait.specs.Marked.{has};
 
 use crate::broken_names::name_of;
 use crate::clone::{CloneSegment, KnownName};
+use crate::marked::{MarkedIds, named_ids};
 use id_groups::Name;
 use std::alloc::{AllocError, Global};
-use std::collections::BTreeSet;
 
-/// Whether the highest id of each segment and each parent of a merge have a name, among names whose ids ascend.
-pub(crate) fn has_needed_names(segments: &[CloneSegment], names: &[KnownName]) -> bool
-    requires { AscendFrom 0 names.now }
-    ensures { result ≡ list_all (λ s. list_all (λ id. is_in nat_eq id (map (λ k. k.id) names.now)) (s.high ∷ merge_parents s.parents)) segments.now }
+/// Whether the highest id of each segment and each parent of a merge have a name, where the segments end here.
+pub(crate) fn has_needed_names(
+    alloc: Global,
+    segments: &[CloneSegment],
+    names: &[KnownName],
+    end: u128,
+) -> Result<bool, AllocError>
+    ensures { IfOk result (λ all. all ≡ list_all (λ s. list_all (λ id. is_in nat_eq id (map (λ k. k.id) names.now)) (s.high ∷ merge_parents s.parents)) segments.now) }
+{
+    let named = named_ids(alloc, names, end)?;
+    Ok(have_names(segments, &named))
+}
+
+/// Whether the highest id of each segment and each parent of a merge are among these.
+fn have_names(segments: &[CloneSegment], named: &MarkedIds) -> bool
+    ensures { result ≡ list_all (λ s. list_all (has named.now) (s.high ∷ merge_parents s.parents)) segments.now }
 {
     'segments: for k in 0..segments.len() {
         let segment = &segments[k];
-        if !has_own_names(segment, names) {
+        if !has_own_names(segment, named) {
             return false;
         }
     }
     true
 }
 
-/// Whether the highest id of the segment and, if it begins with a merge, each of its parents have a name.
-fn has_own_names(segment: &CloneSegment, names: &[KnownName]) -> bool
-    requires { AscendFrom 0 names.now }
-    ensures { result ≡ list_all (λ id. is_in nat_eq id (map (λ k. k.id) names.now)) (segment.now.high ∷ merge_parents segment.now.parents) }
+/// Whether the highest id of the segment and, if it begins with a merge, each of its parents are among these.
+fn has_own_names(segment: &CloneSegment, named: &MarkedIds) -> bool
+    ensures { result ≡ list_all (has named.now) (segment.now.high ∷ merge_parents segment.now.parents) }
 {
-    is_named(names, segment.high) && are_named(names, parents_of_merge(segment.parents.numbers()))
+    named.contains(segment.high) && are_named(named, parents_of_merge(segment.parents.numbers()))
 }
 
 /// The parents, if they are a merge's.
@@ -48,33 +58,28 @@ fn parents_of_merge(parents: &[u64]) -> &[u64]
     }
 }
 
-/// Whether each id has a name.
-fn are_named(names: &[KnownName], ids: &[u64]) -> bool
-    requires { AscendFrom 0 names.now }
-    ensures { result ≡ list_all (λ id. is_in nat_eq id (map (λ k. k.id) names.now)) ids.now }
+/// Whether each id is among these.
+fn are_named(named: &MarkedIds, ids: &[u64]) -> bool
+    ensures { result ≡ list_all (has named.now) ids.now }
 {
     'ids: for k in 0..ids.len() {
         let id = ids[k];
-        if !is_named(names, id) {
+        if !named.contains(id) {
             return false;
         }
     }
     true
 }
 
-/// Whether the id has a name.
-fn is_named(names: &[KnownName], id: u64) -> bool
-    requires { AscendFrom 0 names.now }
-    ensures { result ≡ is_in nat_eq id (map (λ k. k.id) names.now) }
-{
-    name_of(names, id).is_some()
-}
-
-/// The ids that are no parent, ascending where the segments do.
-pub(crate) fn head_ids(alloc: Global, segments: &[CloneSegment]) -> Result<Vec<u64>, AllocError>
+/// The ids that are no parent, ascending where the segments do, which end here.
+pub(crate) fn head_ids(
+    alloc: Global,
+    segments: &[CloneSegment],
+    end: u128,
+) -> Result<Vec<u64>, AllocError>
     ensures { IfOk result (λ ids. ids.items ≡ ids_of_heads segments.now) }
 {
-    let parents = parents_of(alloc, segments)?;
+    let parents = parents_of(alloc, segments, end)?;
     let mut ids = Vec::new(alloc);
     'segments: for k in 0..segments.len() {
         keep_head(&segments[k], &parents, &mut ids)?;
@@ -85,23 +90,23 @@ pub(crate) fn head_ids(alloc: Global, segments: &[CloneSegment]) -> Result<Vec<u
 /// Puts the highest id of the segment behind the others, if it is no parent.
 fn keep_head(
     segment: &CloneSegment,
-    parents: &BTreeSet<u64>,
+    parents: &MarkedIds,
     ids: &mut Vec<u64>,
 ) -> Result<(), AllocError>
-    ensures { OnOk result (ids.new.items ≡ ids.old.items ++ (if contains nat_cmp parents.now segment.now.high then [] else segment.now.high ∷ [])) }
+    ensures { OnOk result (ids.new.items ≡ ids.old.items ++ (if has parents.now segment.now.high then [] else segment.now.high ∷ [])) }
 {
-    if parents.contains(&segment.high) {
+    if parents.contains(segment.high) {
         return Ok(());
     }
     ids.push(segment.high)?;
     Ok(())
 }
 
-/// The parents of all segments.
-fn parents_of(alloc: Global, segments: &[CloneSegment]) -> Result<BTreeSet<u64>, AllocError>
-    ensures { IfOk result (λ set. (q : ℕ) → contains nat_cmp set q ≡ is_in nat_eq q (flat_map (λ s. s.parents) segments.now)) }
+/// The parents of all segments, which end here.
+fn parents_of(alloc: Global, segments: &[CloneSegment], end: u128) -> Result<MarkedIds, AllocError>
+    ensures { IfOk result (λ ids. (q : ℕ) → has ids q ≡ is_in nat_eq q (flat_map (λ s. s.parents) segments.now)) }
 {
-    let mut parents = BTreeSet::new(alloc);
+    let mut parents = MarkedIds::new(alloc, end)?;
     'segments: for k in 0..segments.len() {
         let segment = &segments[k];
         add_all(&mut parents, segment.parents.numbers())?;
@@ -110,8 +115,8 @@ fn parents_of(alloc: Global, segments: &[CloneSegment]) -> Result<BTreeSet<u64>,
 }
 
 /// Puts the numbers into the set.
-fn add_all(set: &mut BTreeSet<u64>, numbers: &[u64]) -> Result<(), AllocError>
-    ensures { OnOk result ((q : ℕ) → contains nat_cmp set.new q ≡ (contains nat_cmp set.old q || is_in nat_eq q numbers.now)) }
+fn add_all(set: &mut MarkedIds, numbers: &[u64]) -> Result<(), AllocError>
+    ensures { OnOk result ((q : ℕ) → has set.new q ≡ (has set.old q || is_in nat_eq q numbers.now)) }
 {
     'numbers: for k in 0..numbers.len() {
         let number = numbers[k];

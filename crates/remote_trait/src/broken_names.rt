@@ -1,11 +1,13 @@
 //! Which name of clone data may not stand where it stands, and which are missing.
 
-ghost use Rattle.std.specs.Prelude.{◌≡◌, ◌+◌, ◌<◌, ◌^◌, ◌&&◌, ℕ, List, length, IfOk, IsTrue, nat_lt, [], ◌∷◌, ◌++◌};
+ghost use Rattle.std.specs.Prelude.{◌≡◌, ◌+◌, ◌<◌, ◌^◌, ◌&&◌, ℕ, List, length, map, IfOk, IsTrue, nat_lt, [], ◌∷◌, ◌++◌};
 ghost use Rattle.std.specs.Option.{option_to_list};
+ghost use Rattle.id_groups.specs.Lists.{AreDistinct};
 ghost use Rattle.remote_rules.specs.CloneData.{KnownName as PlainName, first_false, names_fit, name_fits, names_at};
 ghost use Rattle.remote_trait.specs.Broken.{HasSeen, AscendFrom};
 
 use crate::clone::KnownName;
+use crate::fronts::have_own_fronts;
 use id_groups::Name;
 use std::alloc::{AllocError, Global};
 use std::collections::BTreeSet;
@@ -13,6 +15,40 @@ use std::collections::BTreeSet;
 /// The number of the first name that may not stand behind those before it, the first of which has the number `first`: its id is one of
 /// the segments', which end there, and above the ids before, and its name is new.
 pub(crate) fn first_bad_name(
+    alloc: Global,
+    names: &[KnownName],
+    end: u128,
+    first: u64,
+) -> Result<Option<u64>, AllocError>
+    requires { first + length names.now < 2 ^ 64 }
+    ensures { IfOk result (λ found. found ≡ first_false first (names_fit end [] names.now)) }
+{
+    if have_own_fronts(alloc, names)? {
+        return Ok(first_bad_id(names, end, first));
+    }
+    first_bad_of_any(alloc, names, end, first)
+}
+
+/// The same of names no two of which are the same.
+fn first_bad_id(names: &[KnownName], end: u128, first: u64) -> Option<u64>
+    requires room { first + length names.now < 2 ^ 64 }
+    requires distinct { AreDistinct (map (λ k. k.name) names.now) }
+    ensures { result ≡ first_false first (names_fit end [] names.now) }
+{
+    let mut next = 0;
+    'names: for k in 0..names.len() {
+        let known = &names[k];
+        let id = u128::from(known.id);
+        if end <= id || id < next {
+            return Some(first + k as u64);
+        }
+        next = id + 1;
+    }
+    None
+}
+
+/// The same of any names: each is sought among those before it.
+fn first_bad_of_any(
     alloc: Global,
     names: &[KnownName],
     end: u128,

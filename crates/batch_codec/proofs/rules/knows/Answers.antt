@@ -1,4 +1,4 @@
-use Rattle.std.proofs.Common.{◌+◌, ◌-◌, ◌/◌, ◌^◌, sym, ◌∙◌, arith}
+use Rattle.std.proofs.Common.{◌^◌, sym, ◌∙◌, arith}
 use Rattle.batch_codec.specs.Lent.{ids_of}
 use Rattle.batch_codec.proofs.Entries.{ids-length}
 use Rattle.batch_codec.proofs.Ascending.{search-starts, search-narrow, search-ends, found-at}
@@ -9,17 +9,15 @@ search-init c = search-starts (ids_of c.args.known) c.args.known.count c.args.nu
 
 pub returns-then-found-number : goal.returns-then-found-number
 returns-then-found-number c =
-    let lt = c.search-test.true in
     let bound = c.search.invariant.bound in
     let many = ids-length c.args.known.count c.args.known.bytes.now in
-    sym (found-at c.args.number (ids_of c.args.known) (c.search.low + (c.search.high - c.search.low) / 2) (omega (arith, lt, bound, many))
+    sym (found-at c.args.number (ids_of c.args.known) c.probe-middle.result (let under = c.probe-middle.ensures.high in omega (arith, under, bound, many))
     (sym c.number_at-found.ensures ∙ c.if-found-number.true))
 
 pub search-preserved : goal.search-preserved
 search-preserved c =
-    let lt = c.search-test.true in
-    search-narrow (2 ^ 57) (ids_of c.args.known) c.args.known.count c.args.number c.search.low (c.search.low + (c.search.high - c.search.low) / 2) c.search.high c.number_at-found.result c.narrowed.result
-    (ids-length c.args.known.count c.args.known.bytes.now) c.args.known.ascending c.search.invariant (omega arith) (omega (arith, lt)) c.number_at-found.ensures c.if-found-number.false
+    search-narrow (2 ^ 57) (ids_of c.args.known) c.args.known.count c.args.number c.search.low c.probe-middle.result c.search.high c.number_at-found.result c.narrowed.result
+    (ids-length c.args.known.count c.args.known.bytes.now) c.args.known.ascending c.search.invariant c.probe-middle.ensures.low c.probe-middle.ensures.high c.number_at-found.ensures c.if-found-number.false
     c.narrowed.ensures.above c.narrowed.ensures.below
 
 pub returns : goal.returns

@@ -1,14 +1,9 @@
-use Rattle.remote_trait.proofs.Items.{all-next, all-bad, all-end}
-use Rattle.remote_trait.proofs.broken_heads.has_needed_names.Invariants.{has-own}
+use Rattle.std.proofs.Common.{◌∙◌, map, nat_eq}
+use Rattle.id_groups.specs.Lists.{is_in}
+use Rattle.remote_rules.specs.CloneData.{KnownName}
+use Rattle.remote_trait.specs.Marked.{has}
+use Rattle.remote_trait.proofs.Apart.{needed-same}
 use Rattle.remote_trait.proofs.broken_heads.has_needed_names.Goals as goal
 
-pub segments-preserved : goal.segments-preserved
-segments-preserved c =
-    all-next (has-own c.args.names.now) c.args.segments.now c.segments.k c.index-segments-k.result c.segments.invariant c.segments-test.true c.index-segments-k.is c.if-not-has_own_names.ensures
-
-pub returns-then-not-has_own_names : goal.returns-then-not-has_own_names
-returns-then-not-has_own_names c =
-    all-bad (has-own c.args.names.now) c.args.segments.now c.segments.k c.index-segments-k.result c.segments.invariant c.segments-test.true c.index-segments-k.is c.if-not-has_own_names.ensures
-
 pub returns : goal.returns
-returns c = all-end (has-own c.args.names.now) c.args.segments.now c.segments.k c.segments.invariant c.segments-test.false
+returns c = c.have_names.ensures ∙ needed-same (has c.in_ok-named.named) (λ id. is_in nat_eq id (map (λ (k : KnownName). k.id) c.args.names.now)) c.in_ok-named.ensures c.args.segments.now

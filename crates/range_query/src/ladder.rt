@@ -1,0 +1,88 @@
+//! On which level a walk down tries the next id.
+
+ghost use Rattle.std.specs.Prelude.{◌≡◌, ◌+◌, ◌<◌, ◌≤◌, false, IsTrue};
+
+use id_groups::Id;
+
+/// No segment is of a higher level.
+pub(crate) const HIGHEST_LEVEL: usize = 7;
+
+/// The level on which a walk down tries the next id, and for each level the lowest id of the segment that it went into
+/// last: down to there no other segment of the level ends. It goes up to `top`, one above the highest level on which it
+/// found a segment. All of this only saves look-ups in vain.
+#[derive(Clone, Copy, Drop)]
+pub(crate) struct Ladder {
+    level: usize,
+    top: usize,
+    most: usize,
+    lows: [u64; 8],
+    ghost within: { level ≤ top },
+    ghost bound: { top ≤ most },
+    ghost end: { most < 8 },
+}
+
+impl Ladder {
+    /// Where a walk begins. No segment is of a higher level than `most`.
+    pub(crate) fn new(most: usize) -> Ladder
+        requires { most < 8 }
+    {
+        Ladder {
+            level: 0,
+            top: most.min(1),
+            most,
+            lows: [u64::MAX; 8],
+        }
+    }
+
+    /// The level.
+    #[inline(always)]
+    pub(crate) fn level(&self) -> u8
+        ensures within { result < 8 }
+        ensures same { result ≡ self.now.level }
+    {
+        self.level as u8
+    }
+
+    /// Goes up to the highest level on which a segment may end at the id.
+    #[inline(always)]
+    pub(crate) fn climb(&mut self, id: Id) {
+        'up: while self.level < self.top && id.number() < self.lows[self.level + 1] {
+            self.level += 1;
+        }
+    }
+
+    /// Goes up where a segment was found on the highest level that was tried: whether it did.
+    #[inline(always)]
+    pub(crate) fn rise(&mut self) -> bool
+        ensures rises { IsTrue result → (self.new.top ≡ self.old.top + 1) × (self.new.level ≡ self.old.level + 1) × (self.new.top < 8) }
+        ensures stays { result ≡ false → (self.new.top ≡ self.old.top) × (self.new.level ≡ self.old.level) }
+    {
+        if self.level < self.top || self.top == self.most {
+            return false;
+        }
+        self.top += 1;
+        self.level += 1;
+        true
+    }
+
+    /// Goes down by one level, as no segment of this one ends at the id.
+    #[inline(always)]
+    pub(crate) fn go_down(&mut self)
+        requires { 0 < self.old.level }
+        ensures level { self.new.level + 1 ≡ self.old.level }
+        ensures top { self.new.top ≡ self.old.top }
+    {
+        self.level -= 1;
+    }
+
+    /// Goes into the segment of this level that begins at the id.
+    #[inline(always)]
+    pub(crate) fn go_into(&mut self, low: u64)
+        requires { 0 < self.old.level }
+        ensures level { self.new.level + 1 ≡ self.old.level }
+        ensures top { self.new.top ≡ self.old.top }
+    {
+        self.lows[self.level] = low;
+        self.level -= 1;
+    }
+}

@@ -1,0 +1,19 @@
+use Rattle.std.proofs.Common.{ap, sym, ◌∙◌, arith, length, take, cond, lt-ltb, le-ltb}
+use Rattle.std.specs.Int.{w64, from_be_bytes}
+use Rattle.remote_trait.specs.Fronts.{front_of}
+use Rattle.remote_trait.proofs.fronts.front_of.Goals as goal
+
+pub returns-in-Some : goal.returns-in-Some
+unfolding front_of
+returns-in-Some c =
+    let bytes = c.lend.result.bytes.now in
+    let whole = c.in-Some.ensures.cases.2 in
+    c.from_be_bytes.ensures ∙ ap (from_be_bytes w64) c.in-Some.ensures.cases.0
+    ∙ sym (ap (λ b. cond b 0 (from_be_bytes w64 (take 8 bytes))) (le-ltb (length bytes) 8 (omega (arith, whole)))) ∙ ap front_of c.lend.ensures
+
+pub returns-in-None : goal.returns-in-None
+unfolding front_of
+returns-in-None c =
+    let bytes = c.lend.result.bytes.now in
+    let short = c.in-None.ensures.cases in
+    sym (ap (λ b. cond b 0 (from_be_bytes w64 (take 8 bytes))) (lt-ltb (length bytes) 8 short)) ∙ ap front_of c.lend.ensures
