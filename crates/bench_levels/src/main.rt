@@ -20,7 +20,7 @@ use flat_segments::FlatTable;
 use graph::{Shape, filled, leveled, written};
 use high_segments::Levels;
 use lookups::{count_ends, count_flat, make_view, walk};
-use queries::{Question, ask_pairs};
+use queries::{Question, ask_children, ask_pairs};
 use sample_levels::LevelSample;
 use segment_codec::SegmentTable;
 use std::alloc::{AllocError, Global};
@@ -94,6 +94,39 @@ fn show_pairs<R: Print + Eprint + Clock, T: SegmentTable>(
         show_question(rt, alloc, table, question, reach, count)?;
     }
     Ok(())
+}
+
+/// Asks for the children of so many commits, all over the graph and in its newest hundredth, and shows it.
+fn show_children<R: Print + Eprint + Clock, T: SegmentTable>(
+    rt: &R,
+    alloc: Global,
+    table: &T,
+    what: &str,
+    count: u64,
+) -> io::Result<()> {
+    for (name, reach) in [
+        ("children, anywhere", IDS),
+        ("children, among the newest hundredth", IDS / 100),
+    ] {
+        name_part(rt, name, what, count)?;
+        let start = Instant::now(rt)?;
+        let sum = ask_children(alloc, table, IDS, reach, count).unwrap_or(0);
+        show(rt, "together", start, sum)?;
+    }
+    Ok(())
+}
+
+/// Asks about so many pairs of commits, and about so many commits, and shows it.
+fn show_asked<R: Print + Eprint + Clock, T: SegmentTable>(
+    rt: &R,
+    alloc: Global,
+    table: &T,
+    what: &str,
+    pairs: u64,
+    commits: u64,
+) -> io::Result<()> {
+    show_pairs(rt, alloc, table, what, pairs)?;
+    show_children(rt, alloc, table, what, commits)
 }
 
 /// Says on both outputs what is done.
@@ -209,8 +242,8 @@ fn show_views<R: Print + Eprint + Clock>(
     let flat = table.view(records, table.count());
     show_look_ups(rt, alloc, &view, "with levels")?;
     show_look_ups(rt, alloc, &flat, "without levels")?;
-    show_pairs(rt, alloc, &view, "with levels", 5)?;
-    show_pairs(rt, alloc, &flat, "without levels", 2)
+    show_asked(rt, alloc, &view, "with levels", 5, 1000)?;
+    show_asked(rt, alloc, &flat, "without levels", 2, 20)
 }
 
 /// Makes the levels of a table.

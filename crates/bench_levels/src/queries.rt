@@ -1,9 +1,10 @@
-//! Queries about pairs of commits.
+//! Queries about commits and pairs of them.
 
 use crate::graph::next_random;
 use ancestor_query::ancestors;
 use common_ancestor::{gca, only};
 use id_groups::Id;
+use range_query::children;
 use sample_tables::held_ids;
 use segment_codec::{SegmentTable, Steps};
 use std::alloc::{AllocError, Global};
@@ -87,6 +88,28 @@ pub fn ask_pairs<T: SegmentTable>(
             Id::master(second % (1 << 32)),
         )?;
         sum = sum.saturating_add(found);
+    }
+    Ok(sum)
+}
+
+/// How many children so many commits have together. Each lies at most so far below the last of so many.
+pub fn ask_children<T: SegmentTable>(
+    alloc: Global,
+    table: &T,
+    ids: u64,
+    reach: u64,
+    count: u64,
+) -> Result<u64, AllocError> {
+    let mut random = 7;
+    let mut sum = 0u64;
+    for _k in 0..count {
+        random = next_random(random);
+        let id = ids
+            .saturating_sub(1)
+            .saturating_sub((random >> 30) % reach.max(1));
+        let set = held_ids(alloc, table, &[Id::master(id % (1 << 32))])?;
+        let found = children(alloc, table, &set, &mut Steps::new())?;
+        sum = sum.saturating_add(found.count());
     }
     Ok(sum)
 }
