@@ -1,10 +1,11 @@
 """Want of memory: no_memory.py PROGRAM FOLDER, where tests/no_memory.sh has put the library no_memory.so into FOLDER.
 
-Runs lines over logs, alone and beside mirrors, a demonstration, and a served mirror, each as often as it asks for memory: each time
-another one of these calls finds none. Then either the status is 7, nothing was put, and the log has no change; or one reply is
-`err memory`, and all others and the log are what they are without that line; or all is as ever. A demonstration puts the last four of
-such replies alone, and of a served mirror one answer is ff04.
+Runs lines over logs, alone and beside mirrors, and each other mode, as often as each asks for memory: each time another one of these
+calls finds none. Then either the status is 7, nothing was put, and no file has a change; or one reply is `err memory`, and all others
+and the log are what they are without that line; or all is as ever. A demonstration puts the last four of such replies alone, and of a
+served mirror one answer is ff04.
 """
+import itertools
 import os
 import subprocess
 import sys
@@ -53,24 +54,26 @@ class Runs:
     """Runs of the program with these words, over a log that each time begins with the same bytes, or isn't there."""
 
     def __init__(self, program, folder, words, start=None):
-        self.log, self.start = Path(folder, "log"), start
+        self.log, self.new, self.start = Path(folder, "log"), Path(folder, "log.new"), start
         self.words = [program, *(str(self.log) if word == "LOG" else str(word) for word in words)]
         self.env = {"LD_PRELOAD": str(Path(folder, "no_memory.so"))}
 
     def run(self, text, fails=0):
-        """The status, the output, the bytes of the log, and how many calls for memory there were."""
-        self.log.unlink(missing_ok=True)
+        """The status, the output, the bytes of the log and of one that is written anew, and how many calls for memory there were."""
+        for path in (self.log, self.new):
+            path.unlink(missing_ok=True)
         if self.start is not None:
             self.log.write_bytes(self.start)
         env = {**self.env, "FAIL_ALLOC": str(fails)}
         done = subprocess.run(self.words, input=text, env=env, stdout=subprocess.PIPE, stderr=subprocess.PIPE, timeout=60)
         told = done.stderr.decode(errors="replace").split()
         calls = int(told[-1]) if told and told[-1].isdigit() else 0
-        return done.returncode, done.stdout, self.log.read_bytes() if self.log.exists() else b"", calls
+        return done.returncode, done.stdout, [path.read_bytes() if path.exists() else b"" for path in (self.log, self.new)], calls
 
-    def is_unchanged(self, log):
+    def is_unchanged(self, files):
         """Whether these bytes have no change; a log that wasn't there may be made."""
-        return log == self.start or (self.start is None and log in (b"", b"\0"))
+        log, new = files
+        return (log == self.start or (self.start is None and log in (b"", b"\0"))) and new in (b"", b"\0")
 
 
 class Tried:
@@ -78,20 +81,20 @@ class Tried:
 
     def __init__(self, what, runs, text):
         self.what, self.runs, self.text = what, runs, text
-        self.status, self.output, self.log, self.calls = runs.run(text)
+        self.status, self.output, self.files, self.calls = runs.run(text)
         if self.status != 0 or self.calls == 0:
             sys.exit(f"no_memory: {what}: status {self.status} and {self.calls} calls for memory, where none fails")
 
     def came(self, fails):
         """What came of that call finding no memory; nothing where it can't be."""
-        status, output, log, _ = self.runs.run(self.text, fails)
-        if status == 7 and output == b"" and self.runs.is_unchanged(log):
+        status, output, files, _ = self.runs.run(self.text, fails)
+        if status == 7 and output == b"" and self.runs.is_unchanged(files):
             return "status 7"
-        if (status, output, log) == (self.status, self.output, self.log):
+        if (status, output, files) == (self.status, self.output, self.files):
             return "as ever"
-        return "no memory told" if status == self.status and self.is_told(output, log) else None
+        return "no memory told" if status == self.status and self.is_told(output, files) else None
 
-    def is_told(self, output, log):
+    def is_told(self, output, files):
         return False
 
     def fail_each(self, told):
@@ -99,8 +102,9 @@ class Tried:
         for fails in range(1, self.calls + 1):
             came = self.came(fails)
             if came is None:
-                status, output, log, _ = self.runs.run(self.text, fails)
-                print(f"no_memory: {self.what}: call {fails} of {self.calls} ends with status {status}, a log of {len(log)} bytes, and")
+                status, output, files, _ = self.runs.run(self.text, fails)
+                sizes = " and ".join(str(len(data)) for data in files)
+                print(f"no_memory: {self.what}: call {fails} of {self.calls} ends with status {status}, files of {sizes} bytes, and")
                 sys.stdout.buffer.write(output)
                 sys.exit(1)
             told[came] = told.get(came, 0) + 1
@@ -114,15 +118,15 @@ class Lines(Tried):
         self.lines, self.refused = lines, {}
 
     def refusal(self, k):
-        """The output and the log where line k is refused: those without it, and the refusal in the place of its reply."""
+        """The output and the files where line k is refused: those without it, and the refusal in the place of its reply."""
         if k not in self.refused:
             front = self.runs.run(joined(self.lines[:k]))[1]
-            _, output, log, _ = self.runs.run(joined(self.lines[:k] + self.lines[k + 1 :]))
-            self.refused[k] = (front + MEMORY + output[len(front) :], log)
+            _, output, files, _ = self.runs.run(joined(self.lines[:k] + self.lines[k + 1 :]))
+            self.refused[k] = (front + MEMORY + output[len(front) :], files)
         return self.refused[k]
 
-    def is_told(self, output, log):
-        return any((output, log) == self.refusal(k) for k in range(len(self.lines)))
+    def is_told(self, output, files):
+        return any((output, files) == self.refusal(k) for k in range(len(self.lines)))
 
 
 class Demonstration(Tried):
@@ -132,7 +136,7 @@ class Demonstration(Tried):
         super().__init__(what, runs, b"")
         self.lines = Lines(what + ", by its lines", beside, drawn(size, start))
 
-    def is_told(self, output, log):
+    def is_told(self, output, files):
         every = (self.lines.refusal(k)[0] for k in range(len(self.lines.lines)))
         return any(output.splitlines() == replies.splitlines()[-4:] for replies in every)
 
@@ -176,7 +180,7 @@ class Requests(Tried):
             at += 4 + size
         return found
 
-    def is_told(self, output, log):
+    def is_told(self, output, files):
         answers, right = self.bodies(output), self.bodies(self.output)
         return len(answers) == len(right) and [a for a, b in zip(answers, right) if a != b] == [b"\xff\4"]
 
@@ -197,27 +201,45 @@ def made(program, path, lines, *mirrors):
     return path.read_bytes()
 
 
-def all_tried(program, folder):
-    there, more, missing = Path(folder, "there"), Path(folder, "more"), Path(folder, "missing")
-    alone = ["LOG", "--", "run"]
+def bundled(program, log, path):
+    """The bundle of the log, at the path."""
+    path.write_bytes(subprocess.run([program, log, "--", "bundle"], check=True, stdout=subprocess.PIPE).stdout)
+
+
+def tried_alone(program, folder):
+    """The longest cases, and each mode over the log of one."""
+    alone, ladder = ["LOG", "--", "run"], None
     for what, lines in longest_cases(6):
         yield Lines(what, Runs(program, folder, alone), lines)
         if "ladder" in what:
-            yield Lines(what + ", loaded", Runs(program, folder, alone, made(program, Path(folder, "ladder"), lines)), LOADED)
-    made(program, there, chain(0x1B))
-    made(program, more, chain(0x23))
-    cloned = made(program, Path(folder, "cloned"), ["0 clone"], there)
-    yield Lines("a clone", Runs(program, folder, ["LOG", there, "--", "run"]), CLONED)
-    yield Lines("a clone beside two mirrors", Runs(program, folder, ["LOG", missing, there, "--", "run", "--cache", "1"]), CLONED)
-    yield Lines("a pull", Runs(program, folder, ["LOG", more, "--", "run"], cloned), PULLED)
-    yield Requests("a served mirror", Runs(program, folder, ["LOG", there, "--", "serve"]))
+            ladder = made(program, Path(folder, "ladder"), lines)
+    groups = made(program, Path(folder, "groups"), [*drawn(30, 7)[:-5], f"0 flush {name(20)}"])
+    for what, log in [("a ladder", ladder), ("a log with both groups", groups)]:
+        yield Lines(what + ", loaded", Runs(program, folder, alone, log), LOADED)
+        yield Tried(what + ", bundled", Runs(program, folder, ["LOG", "--", "bundle"], log), b"")
+        yield Tried(what + ", written anew", Runs(program, folder, ["LOG", "--", "compact"], log), b"")
     demo = Runs(program, folder, ["LOG", "--", "demo", "--size", "40", "--start", "7"])
     yield Demonstration("a demonstration", demo, Runs(program, folder, alone), 40, 7)
 
 
+def tried_beside(program, folder):
+    """Clones and pulls beside mirrors, and mirrors that are served."""
+    there, more, missing, bundle = (Path(folder, word) for word in ("there", "more", "missing", "bundle"))
+    made(program, there, chain(0x1B))
+    made(program, more, chain(0x23))
+    bundled(program, there, bundle)
+    cloned = made(program, Path(folder, "cloned"), ["0 clone"], there)
+    for what, mirrors in [("a log", [there]), ("one that isn't there and a log", [missing, there]), ("a bundle", [f"bundle:{bundle}"])]:
+        yield Lines("a clone beside " + what, Runs(program, folder, ["LOG", *mirrors, "--", "run", "--cache", "1"]), CLONED)
+    yield Lines("a pull", Runs(program, folder, ["LOG", more, "--", "run"], cloned), PULLED)
+    yield Tried("a clone, written anew", Runs(program, folder, ["LOG", "--", "compact"], cloned), b"")
+    for what, mirror in [("log", there), ("bundle", f"bundle:{bundle}")]:
+        yield Requests(f"a served {what}", Runs(program, folder, ["LOG", mirror, "--", "serve"]))
+
+
 def main():
-    told, calls = {}, 0
-    for tried in all_tried(os.path.abspath(sys.argv[1]), sys.argv[2]):
+    told, calls, words = {}, 0, (os.path.abspath(sys.argv[1]), sys.argv[2])
+    for tried in itertools.chain(tried_alone(*words), tried_beside(*words)):
         tried.fail_each(told)
         calls += tried.calls
     print(f"no_memory: each of {calls} calls for memory found none:", ", ".join(f"{came} {told[came]}" for came in sorted(told)))

@@ -1,5 +1,5 @@
 #!/bin/sh
-# Want of memory at each allocation in turn of the built program's runs, demonstrations and serving: each reply is the right one or
+# Want of memory at each allocation in turn of the built program, in each of its modes: each reply is the right one or
 # that memory is wanting, which changes nothing, and all goes on; or the status is 7, and nothing was done.
 set -eu
 cd "$(dirname "$0")/.."
