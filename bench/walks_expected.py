@@ -79,6 +79,9 @@ def report(name, merges, branches, count):
     print('is_ancestor, 100 random pairs:', pairs)
     print('inter(X,ancestors(Y)), 100 random pairs:', pairs)
     print('parents(all):', size(parents_of(2**count - 1)))
+    print('heads(all):', count - size(parents_of(2**count - 1)))
+    print('roots(all):', sum(not parents for parents in rows))
+    print('merges(all):', sum(len(parents) > 1 for parents in rows))
     for whose, place in (('a low id', 10), ('a middle id', count // 2)):
         above = begun[bisect.bisect_right(begun, place) - 1:]
         print(f'of {whose}:')

@@ -7,7 +7,7 @@ mod queries;
 
 use crate::telling::told;
 use draws::Apart;
-use queries::{Queries, Query};
+use queries::{OfAll, Queries, Query};
 use sample_tables::{Rule, draw_history};
 use segment_codec::SegmentTable;
 use std::io::{self, Eprint, Print};
@@ -59,6 +59,7 @@ fn headed(rt: &HostRuntime, name: &str) -> io::Result<()> {
 fn time_all<T: SegmentTable>(rt: &HostRuntime, table: &Queries<'_, T>) -> io::Result<()> {
     time_look_ups(rt, table)?;
     time_ancestors(rt, table)?;
+    time_all_at_once(rt, table)?;
     time_upward(rt, table, "of a low id", 10)?;
     time_upward(rt, table, "of a middle id", table.count() / 2)?;
     time_pairs(rt, table, "1000 near pairs", Apart::Near, 1000)?;
@@ -90,9 +91,20 @@ fn time_ancestors<T: SegmentTable>(rt: &HostRuntime, table: &Queries<'_, T>) -> 
             "inter(X,ancestors(Y)), 100 random pairs",
             Query::InterAncestors(100),
         ),
-        ("parents(all)", Query::ParentsOfAll),
     ] {
         time(rt, table, what, query)?;
+    }
+    Ok(())
+}
+
+fn time_all_at_once<T: SegmentTable>(rt: &HostRuntime, table: &Queries<'_, T>) -> io::Result<()> {
+    for (what, of) in [
+        ("parents(all)", OfAll::Parents),
+        ("heads(all)", OfAll::Heads),
+        ("roots(all)", OfAll::Roots),
+        ("merges(all)", OfAll::Merges),
+    ] {
+        time(rt, table, what, Query::OfAll(of))?;
     }
     Ok(())
 }

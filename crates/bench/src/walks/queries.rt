@@ -20,7 +20,7 @@ pub enum Query {
     FirstAncestor(u64),
     IsAncestor(u64),
     InterAncestors(u64),
-    ParentsOfAll,
+    OfAll(OfAll),
     Children(u64),
     Descendants(u64),
     RangeToHead(u64),
@@ -29,6 +29,27 @@ pub enum Query {
     Gca(Apart, u64),
     CommonOfTen,
     TipsOfTen,
+}
+
+/// What is asked of all commits.
+#[derive(Clone, Copy)]
+pub enum OfAll {
+    Parents,
+    Heads,
+    Roots,
+    Merges,
+}
+
+impl OfAll {
+    /// The expression.
+    fn text(self) -> &'static [u8] {
+        match self {
+            OfAll::Parents => b"parents(all)",
+            OfAll::Heads => b"heads(all)",
+            OfAll::Roots => b"roots(all)",
+            OfAll::Merges => b"merges(all)",
+        }
+    }
 }
 
 /// A table that is asked.
@@ -76,7 +97,7 @@ impl<'a, T: SegmentTable> Queries<'a, T> {
             Query::FirstAncestor(n) => Ok(self.first_of(self.head(), n)),
             Query::IsAncestor(times) => self.reached(times),
             Query::InterAncestors(times) => without_syntax(self.met(times)),
-            Query::ParentsOfAll => self.parents_of_all(),
+            Query::OfAll(of) => self.of_all(of),
             Query::Children(place) => self.children_of(id_at(place)),
             Query::Descendants(place) => self.descendants_of(id_at(place)),
             Query::RangeToHead(place) => self.between(id_at(place), self.head()),
@@ -212,9 +233,9 @@ impl<'a, T: SegmentTable> Queries<'a, T> {
         Ok(answer.count())
     }
 
-    /// How many members `parents(all)` has.
-    fn parents_of_all(&self) -> Result<u64, AllocError> {
-        without_syntax(self.evaluated(b"parents(all)"))
+    /// How many members an expression of all commits has.
+    fn of_all(&self, of: OfAll) -> Result<u64, AllocError> {
+        without_syntax(self.evaluated(of.text()))
     }
 
     /// How many members an expression without names has.
