@@ -80,56 +80,106 @@ const CASES: [Case; 8] = [
     ("a spare and a sink that fail", 0, 5, 1, 13, 0),
 ];
 
-/// The status of the program's run over the log and the spare disk, beside no mirrors, where else only the sink was touched.
-fn compacted(
+/// Both disks, the sink, and the status of the last run over them, where one ended as it may.
+#[derive(Drop)]
+struct Places {
+    log: MemoryDisk,
+    spare: MemoryDisk,
+    output: MemorySink,
+    status: Option<u8>,
+}
+
+/// Those of these bytes, of which these calls fail.
+fn places_of(
     alloc: Global,
-    log: &mut MemoryDisk,
-    spare: &mut MemoryDisk,
-    output: &mut MemorySink,
-) -> Result<Option<u8>, AllocError> {
-    let words = words_of(alloc, "compact")?;
+    log: &[u8],
+    spare: &[u8],
+    fails: (u64, u64, u64),
+) -> Result<Places, AllocError> {
+    let log = MemoryDisk::new(alloc, log, &[fails.0], None)?;
+    let spare = MemoryDisk::new(alloc, spare, &[fails.1], None)?;
+    let output = MemorySink::new(alloc, &[fails.2])?;
+    Ok(Places {
+        log,
+        spare,
+        output,
+        status: None,
+    })
+}
+
+/// The status of the program's run over them, beside no mirrors, where no more of the input was read and nothing else was stored.
+fn ended(alloc: Global, words: &[String], places: &mut Places) -> Result<Option<u8>, AllocError> {
     let mut input = MemorySource::new(alloc, b"0 status\n", 1, &[])?;
     let mut none = Mirrors::new(Vec::new(alloc));
-    let report = top(alloc, &words, log, spare, &mut none, &mut input, output);
+    let report = top(
+        alloc,
+        words,
+        &mut places.log,
+        &mut places.spare,
+        &mut none,
+        &mut input,
+        &mut places.output,
+    );
     let is_aside = input.left() == 9 && report.changes.len() == 0;
     Ok(is_aside.then_some(report.status))
 }
 
-/// Whether the log is written anew so, the line is put, and a second time is refused where there is a batch.
-fn is_anew(alloc: Global, anew: &Anew) -> Result<bool, AllocError> {
-    let (bytes, whole, line) = *anew;
-    let mut log = MemoryDisk::new(alloc, bytes, &[], None)?;
-    let mut spare = MemoryDisk::new(alloc, &[], &[], None)?;
-    let mut output = MemorySink::new(alloc, &[])?;
-    let first = compacted(alloc, &mut log, &mut spare, &mut output)?;
-    let is_put = output.bytes() == line;
-    let second = compacted(alloc, &mut log, &mut spare, &mut output)?;
-    let status = if bytes.is_empty() { 0 } else { 14 };
-    Ok(first == Some(0) && is_put && second == Some(status) && spare.bytes() == whole)
+/// They behind one more run by the word of the mode.
+fn again(alloc: Global, places: Places) -> Result<Places, AllocError> {
+    let mut places = places;
+    let words = words_of(alloc, "compact")?;
+    places.status = ended(alloc, &words, &mut places)?;
+    Ok(places)
 }
 
-/// Whether a case ends so, with a front of the line put. The log's bytes stay, and where the line is to be put the whole is written.
-fn is_told(alloc: Global, case: &Case) -> Result<bool, AllocError> {
-    let (_, log_fails, spare_fails, sink_fails, status, size) = *case;
-    let mut log = MemoryDisk::new(alloc, &FLUSHES, &[log_fails], None)?;
-    let mut spare = MemoryDisk::new(alloc, &[], &[spare_fails], None)?;
-    let mut output = MemorySink::new(alloc, &[sink_fails])?;
-    let ended = compacted(alloc, &mut log, &mut spare, &mut output)?;
-    let put = output.bytes();
+/// They behind the first run.
+fn ran(
+    alloc: Global,
+    log: &[u8],
+    spare: &[u8],
+    fails: (u64, u64, u64),
+) -> Result<Places, AllocError> {
+    again(alloc, places_of(alloc, log, spare, fails)?)
+}
+
+/// Whether one more run ends so, and these bytes are written then.
+fn is_whole(alloc: Global, places: Places, status: u8, whole: &[u8]) -> Result<bool, AllocError> {
+    let places = again(alloc, places)?;
+    Ok(places.status == Some(status) && places.spare.bytes() == whole)
+}
+
+/// Whether the log is written anew so, the line is put, and a second time is refused where there is a batch.
+fn is_anew(alloc: Global, anew: &Anew) -> Result<bool, AllocError> {
+    let (log, whole, line) = *anew;
+    let places = ran(alloc, log, &[], (0, 0, 0))?;
+    let is_put = places.status == Some(0) && places.output.bytes() == line;
+    let status = if log.is_empty() { 0 } else { 14 };
+    let is_left = is_whole(alloc, places, status, whole)?;
+    Ok(is_put && is_left)
+}
+
+/// Whether a front of so many bytes of the line was put, the log's bytes stay, and where a line was to be put the whole is written.
+fn are_left(places: &Places, case: &Case) -> bool {
+    let (_, _, _, _, status, size) = *case;
+    let put = places.output.bytes();
     let is_put = put.len() == size && ANEW[0].2.starts_with(put);
-    let is_left = status == 13 || (spare.bytes() == FLUSHES_WHOLE.as_slice()) == (size > 0);
-    let is_quiet = (spare.clock() == 0) == (status == 3);
-    Ok(ended == Some(status) && is_put && is_left && is_quiet && log.bytes() == FLUSHES.as_slice())
+    let is_left = status == 13 || (places.spare.bytes() == FLUSHES_WHOLE.as_slice()) == (size > 0);
+    let is_quiet = (places.spare.clock() == 0) == (status == 3);
+    is_put && is_left && is_quiet && places.log.bytes() == FLUSHES.as_slice()
+}
+
+/// Whether a case ends so.
+fn is_told(alloc: Global, case: &Case) -> Result<bool, AllocError> {
+    let (_, log_fails, spare_fails, sink_fails, status, _) = *case;
+    let places = ran(alloc, &FLUSHES, &[], (log_fails, spare_fails, sink_fails))?;
+    Ok(places.status == Some(status) && are_left(&places, case))
 }
 
 /// Whether these bytes of both disks are refused with this status, nothing is put, and both stay as they are.
 fn is_refused(alloc: Global, log: &[u8], spare: &[u8], status: u8) -> Result<bool, AllocError> {
-    let mut from = MemoryDisk::new(alloc, log, &[], None)?;
-    let mut to = MemoryDisk::new(alloc, spare, &[], None)?;
-    let mut output = MemorySink::new(alloc, &[])?;
-    let ended = compacted(alloc, &mut from, &mut to, &mut output)?;
-    let are_kept = from.bytes() == log && to.bytes() == spare;
-    Ok(ended == Some(status) && are_kept && output.bytes().is_empty())
+    let places = ran(alloc, log, spare, (0, 0, 0))?;
+    let are_kept = places.log.bytes() == log && places.spare.bytes() == spare;
+    Ok(places.status == Some(status) && are_kept && places.output.bytes().is_empty())
 }
 
 #[test]
