@@ -62,7 +62,7 @@ impl<'a> BaseRef<'a> {
         let others = self.others;
         let masters = tables.flat.view(self.bytes, self.below);
         let flat = masters.join(
-            &others.section,
+            others.section(),
             self.bytes,
             &pending.section,
             &pending.records,
@@ -104,7 +104,7 @@ impl<'a> BaseRef<'a> {
         if known.is_some() {
             return known;
         }
-        let place = others.index.find(self.bytes, name)?;
+        let place = others.index().find(self.bytes, name)?;
         Some(Id::other((place - others.names) / 20))
     }
 }

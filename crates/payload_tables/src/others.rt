@@ -1,6 +1,6 @@
 //! The other ids of one payload.
 
-ghost use Rattle.std.specs.Prelude.{◌≡◌, ◌<◌, ◌≤◌, ◌+◌, ◌*◌, ◌^◌, ℕ, List, length, take, drop, IfOk};
+ghost use Rattle.std.specs.Prelude.{◌≡◌, ◌<◌, ◌≤◌, ◌+◌, ◌*◌, ◌^◌, ℕ, List, [], length, take, drop, IfOk};
 ghost use Rattle.segment_codec.specs.Record.{Segment};
 ghost use Rattle.flat_segments.specs.Placed.{placed as placed_segments};
 ghost use Rattle.payload_tables.specs.Sections.{AreOthers};
@@ -19,23 +19,61 @@ use name_index::{IndexFault, NameIndex};
 use segment_codec::read_segment;
 use std::alloc::{AllocError, Global};
 use std::marker::Model;
+use std::rc::Rc;
+
+/// The records of other ids, and the index of their names.
+#[derive(Drop)]
+struct Parts {
+    section: Section,
+    index: NameIndex,
+}
 
 /// The records and the names of one payload's other ids, by their places in the log. Contracts see what is kept; whose it
-/// is, `AreOthersOf` says.
+/// is, `AreOthersOf` says. What was read of a payload is shared by all copies; `own`, which takes no memory, stands where
+/// there is none.
 #[derive(Drop)]
 pub struct OthersTable {
-    pub(crate) section: Section,
+    own: Parts,
+    shared: Option<Rc<Parts>>,
     pub(crate) names: u64,
     pub(crate) count: u32,
-    pub(crate) index: NameIndex,
 }
 
 impl Model for OthersTable {
+    ghost use Rattle.std.specs.Option.{option_map_or};
     ghost use Rattle.payload_tables.specs.Kept.{PlainOthers};
 
     ghost Value = { PlainOthers };
 
-    ghost view = { λ t. record { section = t.section; names = t.names; count = t.count; index = t.index } };
+    ghost view = { λ t. record {
+      section = option_map_or (λ parts. parts.value.section) t.shared t.own.section;
+      names = t.names;
+      count = t.count;
+      index = option_map_or (λ parts. parts.value.index) t.shared t.own.index;
+    } };
+}
+
+impl Parts {
+    /// The parts without ids. They take no memory yet, and keep the allocator.
+    fn empty(alloc: Global) -> Parts
+        ensures section { IsSectionOf result.section [] }
+        ensures index { IsIndexOf result.index [] }
+    {
+        Parts {
+            section: Section::empty(alloc),
+            index: NameIndex::empty(alloc),
+        }
+    }
+
+    /// The same parts once more.
+    fn copy(&self, alloc: Global) -> Result<Parts, AllocError>
+        ensures section { IfOk result (λ copy. copy.section ≡ self.now.section) }
+        ensures index { IfOk result (λ copy. copy.index ≡ self.now.index) }
+    {
+        let section = self.section.copy(alloc)?;
+        let index = self.index.copy(alloc)?;
+        Ok(Parts { section, index })
+    }
 }
 
 impl OthersTable {
@@ -44,10 +82,10 @@ impl OthersTable {
         ensures { AreNoOthers result }
     {
         OthersTable {
-            section: Section::empty(alloc),
+            own: Parts::empty(alloc),
+            shared: None,
             names: 0,
             count: 0,
-            index: NameIndex::empty(alloc),
         }
     }
 
@@ -63,26 +101,50 @@ impl OthersTable {
         let names = batch.other_names();
         let start = at + names.start();
         let index = index_of(alloc, &names, start)?;
+        let parts = Rc::new(alloc, Parts { section, index })?;
         Ok(OthersTable {
-            section,
+            own: Parts::empty(alloc),
+            shared: Some(parts),
             names: start,
             count: names.len(),
-            index,
         })
     }
 
-    /// The same table once more.
+    /// The same table once more. What was read of a payload is shared and not copied.
     pub fn copy(&self, alloc: Global) -> Result<OthersTable, AllocError>
         ensures { IfOk result (λ copy. copy ≡ self.now) }
     {
-        let section = self.section.copy(alloc)?;
-        let index = self.index.copy(alloc)?;
+        let own = self.own.copy(alloc)?;
+        let shared = match &self.shared {
+            Some(parts) => Some(parts.clone()?),
+            None => None,
+        };
         Ok(OthersTable {
-            section,
+            own,
+            shared,
             names: self.names,
             count: self.count,
-            index,
         })
+    }
+
+    /// The records.
+    pub(crate) fn section(&self) -> &Section
+        ensures { result.now ≡ self.now.section }
+    {
+        match &self.shared {
+            Some(parts) => &parts.as_ref().section,
+            None => &self.own.section,
+        }
+    }
+
+    /// The index of the names.
+    pub(crate) fn index(&self) -> &NameIndex
+        ensures { result.now ≡ self.now.index }
+    {
+        match &self.shared {
+            Some(parts) => &parts.as_ref().index,
+            None => &self.own.index,
+        }
     }
 
     /// How many other ids there are.

@@ -1,7 +1,8 @@
-use Rattle.std.proofs.Common.{◌≡◌, ◌^◌, ◌+◌, ◌++◌, sym, ap, subst, arith}
+use Rattle.std.proofs.Common.{◌≡◌, ◌^◌, ◌+◌, ◌++◌, List, sym, ap, subst, arith}
 use Rattle.batch_codec.specs.Payload.{Known}
 use Rattle.id_groups.specs.Lists.{IsIn}
 use Rattle.name_index.specs.Index.{IsIndexOf}
+use Rattle.name_index.specs.declared.entry.Entry.{Entry}
 use Rattle.name_map.specs.Map.{IsMapOf}
 use Rattle.name_map.specs.Added.{names_from, payloads_of}
 use Rattle.change_rules.specs.Tables.{newest, other_names_in}
@@ -21,14 +22,14 @@ returns-in_err-place c = λ added b.
     let s = c.args.self.now in
     id-none s.bytes.now s.tables.now s.others.now s.below added b c.args.name.bytes.now c.id-known.result c.from_residual.result (sym c.if-is_some.ensures) c.from_residual.ensures
     (c.id-known.ensures.id (added ++ b.behind) (subst (λ (t : PlainTables). IsMapOf t.names (added ++ b.behind)) (sym c.tables.view_is) b.tables_of.names) b.stand)
-    (c.in_err-place.ensures (names_from s.others.now.names (other_names_in (newest (payloads_of added)))) (subst (λ (o : PlainOthers). IsIndexOf o.index (names_from s.others.now.names (other_names_in (newest (payloads_of added))))) (sym c.others.view_is) (others-index s.bytes.now s.tables.now s.others.now s.below added b))
+    (c.in_err-place.ensures (names_from s.others.now.names (other_names_in (newest (payloads_of added)))) (subst (λ (runs : List (List Entry)). IsIndexOf runs (names_from s.others.now.names (other_names_in (newest (payloads_of added))))) (sym c.index.ensures) (others-index s.bytes.now s.tables.now s.others.now s.below added b))
     (others-named s.bytes.now s.tables.now s.others.now s.below added b))
 
 pub overflow_sub-place : goal.overflow_sub-place
 overflow_sub-place c =
     let s = c.args.self.now in let added = c.requires.0 in let b = c.requires.1 in
     let at = place-is s.bytes.now s.tables.now s.others.now s.below added b c.args.name.bytes.now c.in_ok-place.place
-    (c.in_ok-place.ensures (names_from s.others.now.names (other_names_in (newest (payloads_of added)))) (subst (λ (o : PlainOthers). IsIndexOf o.index (names_from s.others.now.names (other_names_in (newest (payloads_of added))))) (sym c.others.view_is) (others-index s.bytes.now s.tables.now s.others.now s.below added b))
+    (c.in_ok-place.ensures (names_from s.others.now.names (other_names_in (newest (payloads_of added)))) (subst (λ (runs : List (List Entry)). IsIndexOf runs (names_from s.others.now.names (other_names_in (newest (payloads_of added))))) (sym c.index.ensures) (others-index s.bytes.now s.tables.now s.others.now s.below added b))
     (others-named s.bytes.now s.tables.now s.others.now s.below added b)) in
     let e = at.1 in let v = ap (λ (o : PlainOthers). o.names) c.others.view_is in omega (arith, e, v)
 
@@ -36,7 +37,7 @@ pub other-requires : goal.other-requires
 other-requires c =
     let s = c.args.self.now in let added = c.requires.0 in let b = c.requires.1 in
     let at = place-is s.bytes.now s.tables.now s.others.now s.below added b c.args.name.bytes.now c.in_ok-place.place
-    (c.in_ok-place.ensures (names_from s.others.now.names (other_names_in (newest (payloads_of added)))) (subst (λ (o : PlainOthers). IsIndexOf o.index (names_from s.others.now.names (other_names_in (newest (payloads_of added))))) (sym c.others.view_is) (others-index s.bytes.now s.tables.now s.others.now s.below added b))
+    (c.in_ok-place.ensures (names_from s.others.now.names (other_names_in (newest (payloads_of added)))) (subst (λ (runs : List (List Entry)). IsIndexOf runs (names_from s.others.now.names (other_names_in (newest (payloads_of added))))) (sym c.index.ensures) (others-index s.bytes.now s.tables.now s.others.now s.below added b))
     (others-named s.bytes.now s.tables.now s.others.now s.below added b)) in
     let e = at.1 in let f = at.2 in let v = ap (λ (o : PlainOthers). o.names) c.others.view_is in omega (arith, e, v, f)
 
@@ -44,7 +45,7 @@ pub returns : goal.returns
 returns c = λ added b.
     let s = c.args.self.now in
     let at = place-is s.bytes.now s.tables.now s.others.now s.below added b c.args.name.bytes.now c.in_ok-place.place
-    (c.in_ok-place.ensures (names_from s.others.now.names (other_names_in (newest (payloads_of added)))) (subst (λ (o : PlainOthers). IsIndexOf o.index (names_from s.others.now.names (other_names_in (newest (payloads_of added))))) (sym c.others.view_is) (others-index s.bytes.now s.tables.now s.others.now s.below added b))
+    (c.in_ok-place.ensures (names_from s.others.now.names (other_names_in (newest (payloads_of added)))) (subst (λ (runs : List (List Entry)). IsIndexOf runs (names_from s.others.now.names (other_names_in (newest (payloads_of added))))) (sym c.index.ensures) (others-index s.bytes.now s.tables.now s.others.now s.below added b))
     (others-named s.bytes.now s.tables.now s.others.now s.below added b)) in
     let e = at.1 in let f = at.2 in let v = ap (λ (o : PlainOthers). o.names) c.others.view_is in
     let r = c.other.ensures in

@@ -7,11 +7,11 @@ use Rattle.segment_codec.specs.Record.{segment_bytes}
 use Rattle.flat_segments.specs.Maximal.{maximal, cut}
 use Rattle.flat_segments.specs.Placed.{placed, segments_of}
 use Rattle.flat_segments.proofs.Callers.{placed-stand}
-use Rattle.flat_segments.specs.Kept.{IsTableOf}
+use Rattle.flat_segments.specs.Kept.{Kept, IsTableOf}
 use Rattle.flat_segments.specs.Joined.{MayJoin, StandAs}
 use Rattle.name_map.specs.Added.{payloads_of}
 use Rattle.change_rules.specs.Tables.{newest}
-use Rattle.payload_tables.specs.Kept.{PlainTables, PlainOthers, master_records}
+use Rattle.payload_tables.specs.Kept.{PlainTables, master_records}
 use Rattle.payload_tables.specs.Pending.{PlainPending, segments_from}
 use Rattle.payload_tables.specs.Bases.{id_row, AreSegmentsOf}
 use Rattle.payload_tables.proofs.Standing.{masters-stand, placed-segments}
@@ -37,7 +37,7 @@ view-masters-requires-clause-below c =
 pub join-flat-requires : goal.join-flat-requires
 join-flat-requires c =
     let r = c.requires in let s = c.args.self.now in let p = c.args.pending.now in
-    subst (λ (o : PlainOthers). MayJoin c.view-masters.result o.section s.bytes.now c.pending.inside.section c.deref.result.now) (sym c.others.view_is)
+    subst (λ (t : Kept). MayJoin c.view-masters.result t s.bytes.now c.pending.inside.section c.deref.result.now) (sym c.section.ensures)
     (subst (λ (q : PlainPending). MayJoin c.view-masters.result s.others.now.section s.bytes.now q.section c.deref.result.now) (sym c.pending.view_is)
     (may-join c.view-masters.result s.bytes.now s.others.now s.below (newest (payloads_of r.0)) (base-others s.bytes.now s.tables.now s.others.now s.below r.0 r.1) p r.2.rows c.deref.result.now r.2.held r.2.first r.2.parents
     c.view-masters.ensures.count (c.deref.ensures.value ∙ ap (λ (q : PlainPending). q.records) c.pending.view_is)))
@@ -55,7 +55,7 @@ returns-clause-flats c = λ added w rows b stand pend.
     let master = c.join-flat.ensures.master ∙ c.view-masters.ensures.master ∙ c.view-masters.ensures.flats all table (masters-stand s.bytes.now (added ++ b.behind) b.stand)
     ∙ ap (λ (t : PlainTables). cut s.below (maximal t.flat.end (segments_of all))) c.tables.view_is
     ∙ masters-are s.bytes.now s.tables.now s.others.now s.below added b w stand in
-    let first = subst (λ (o : PlainOthers). StandAs o.section s.bytes.now facts.records) (sym c.others.view_is) (record { section_of = facts.section; stand = facts.stand }) in
+    let first = subst (λ (t : Kept). StandAs t s.bytes.now facts.records) (sym c.section.ensures) (record { section_of = facts.section; stand = facts.stand }) in
     let second = subst (λ (q : PlainPending). StandAs q.section c.deref.result.now (placed 0 segs)) (sym c.pending.view_is)
     (record { section_of = pend.held.section; stand = placed-stand c.deref.result.now [] 0 segs (bytes ∙ pend.held.records ∙ sym (append-nil (flat_map segment_bytes segs))) }) in
     let others = c.join-flat.ensures.others facts.records (placed 0 segs) first second

@@ -2,6 +2,8 @@ use Rattle.std.proofs.Common.{◌∙◌, ◌+◌, ℕ, flat_map, ap, sym, subst,
 use Rattle.segment_codec.specs.Record.{segment_bytes}
 use Rattle.id_groups.specs.Name.{Name}
 use Rattle.batch_codec.specs.Lent.{payload_of}
+use Rattle.batch_codec.specs.Payload.{others_start, names_start}
+use Rattle.payload_tables.specs.declared.others.Parts.{Parts}
 use Rattle.id_groups.specs.Lists.{AreDistinct}
 use Rattle.flat_segments.specs.Placed.{placed as placed_segments}
 use Rattle.flat_segments.specs.Kept.{IsSectionOf}
@@ -48,10 +50,12 @@ returns c = λ distinct.
     let start2 = c.start-2.ensures ∙ c.other_names-names.ensures.start ∙ c.is_payload.ensures.places.other_names in
     let names = c.other_names-names.ensures.names in
     record {
-      section = subst (λ n. IsSectionOf c.in_ok-section.section (placed_segments (c.args.at + n) p.others)) start
-          (c.in_ok-section.ensures p.others (are-others p c.bytes.result.now c.is_payload.ensures.payload (c.bytes.ensures ∙ ap (flat_map segment_bytes) c.other_segments-segments.ensures.segments)));
+      section = subst (λ (q : Parts). IsSectionOf q.section (placed_segments (c.args.at + others_start p) p.others)) (sym c.in_ok-parts.ensures.ok)
+          (subst (λ n. IsSectionOf c.in_ok-section.section (placed_segments (c.args.at + n) p.others)) start
+          (c.in_ok-section.ensures p.others (are-others p c.bytes.result.now c.is_payload.ensures.payload (c.bytes.ensures ∙ ap (flat_map segment_bytes) c.other_segments-segments.ensures.segments))));
       names = ap (λ n. c.args.at + n) start2;
       count = c.len.ensures ∙ ap (length {A = Name}) names;
-      index = subst (λ n. IsIndexOf c.in_ok-index.index (names_from (c.args.at + n) p.other_names)) start2
-          (subst (λ l. IsIndexOf c.in_ok-index.index (names_from (c.args.at + c.start-2.result) l)) names (c.in_ok-index.ensures (subst AreDistinct (sym names) distinct)));
+      index = subst (λ (q : Parts). IsIndexOf q.index (names_from (c.args.at + names_start p) p.other_names)) (sym c.in_ok-parts.ensures.ok)
+          (subst (λ n. IsIndexOf c.in_ok-index.index (names_from (c.args.at + n) p.other_names)) start2
+          (subst (λ l. IsIndexOf c.in_ok-index.index (names_from (c.args.at + c.start-2.result) l)) names (c.in_ok-index.ensures (subst AreDistinct (sym names) distinct))));
     }
