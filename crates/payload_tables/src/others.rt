@@ -31,7 +31,6 @@ struct Parts {
 /// The records and the names of one payload's other ids, by their places in the log. Contracts see what is kept; whose it
 /// is, `AreOthersOf` says. What was read of a payload is shared by all copies; `own`, which takes no memory, stands where
 /// there is none.
-#[derive(Drop)]
 pub struct OthersTable {
     own: Parts,
     shared: Option<Rc<Parts>>,
@@ -51,6 +50,18 @@ impl Model for OthersTable {
       count = t.count;
       index = option_map_or (λ parts. parts.value.index) t.shared t.own.index;
     } };
+}
+
+// Written out, so that a body which owns a table lets it go by one call.
+impl Drop for OthersTable {
+    fn drop(self) {
+        let OthersTable {
+            own: _own,
+            shared: _shared,
+            names: _names,
+            count: _count,
+        } = self;
+    }
 }
 
 impl Parts {
