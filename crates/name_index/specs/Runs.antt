@@ -16,9 +16,9 @@ leading bytes = if nat_lt (length bytes) 8 then 0 else from_be_bytes w64 (take 8
 
 -- a number spread over all of 64 bits, and another one added
 unfoldable pub mixed : ℕ → ℕ → ℕ
-mixed spread added = (spread * 11400714819323198485 % 2 ^ 64 + added) % 2 ^ 64
+mixed number added = (number * 11400714819323198485 % 2 ^ 64 + added) % 2 ^ 64
 
--- all bytes of a name in a number: the last eight and those behind the first eight are spread, and the first eight added
+-- all bytes of a name in a number: the last eight, then those behind the first eight, then the first eight
 unfoldable pub front_of : Name → ℕ
 front_of name = mixed (mixed (leading (drop 12 name)) (leading (drop 8 name))) (leading name)
 

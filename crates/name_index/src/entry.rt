@@ -10,8 +10,8 @@ use std::cmp::Ordering;
 /// How many bytes a name has.
 const NAME_BYTES: usize = 20;
 
-/// By how much a number is spread before the next is added: an odd number without a pattern in its digits, so that numbers
-/// that differ little come to lie far from one another, and no two of them become one.
+/// What a number is multiplied by before the next is added. It is odd, so no two numbers become one, and its digits have no
+/// pattern, so numbers that are near come to lie far from one another.
 const SPREAD: u64 = 0x9e37_79b9_7f4a_7c15;
 
 /// A name's bytes mixed into a number, and its place.
@@ -42,14 +42,14 @@ fn leading(bytes: &[u8]) -> u64
 /// A number spread, and another one added.
 #[inline]
 #[tactic(auto, unfolding(crate::specs::Runs::mixed))]
-fn mixed(spread: u64, added: u64) -> u64
-    ensures { result ≡ mixed spread added }
+fn mixed(number: u64, added: u64) -> u64
+    ensures { result ≡ mixed number added }
 {
-    spread.wrapping_mul(SPREAD).wrapping_add(added)
+    number.wrapping_mul(SPREAD).wrapping_add(added)
 }
 
-/// All bytes of a name mixed into a number, by which most comparisons are decided: its first eight bytes are added to the others,
-/// which are spread. So the fronts of names that agree in many of their bytes are spread evenly too, as those of hashes are.
+/// All bytes of a name mixed into a number, by which most comparisons are decided: the first eight are added to the others,
+/// which are spread. So names that agree in most of their bytes, as counters do, have fronts as even as those of hashes.
 #[tactic(auto, unfolding(crate::specs::Runs::front_of))]
 pub(crate) fn front_of_name(name: &[u8]) -> u64
     ensures { result ≡ front_of name.now }
