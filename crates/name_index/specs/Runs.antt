@@ -1,5 +1,5 @@
 -- Runs of an index: entries in ascending order of their names, and how a name is read from lent bytes.
-use Rattle.std.specs.Prelude.{◌≡◌, ◌-◌, ℕ, List, [], ◌∷◌, ◌++◌, ◌⊎◌, map, length, take, drop, nat_lt, if◌then◌else◌, ⊤, true, false}
+use Rattle.std.specs.Prelude.{◌≡◌, ◌-◌, ◌+◌, ◌*◌, ◌%◌, ◌^◌, ℕ, List, [], ◌∷◌, ◌++◌, ◌⊎◌, map, length, take, drop, nat_lt, if◌then◌else◌, ⊤, true, false}
 use Rattle.std.specs.Int.{w64, from_be_bytes}
 use Rattle.std.specs.List.{AllByRecursion}
 use Rattle.std.specs.List.Sorted.{IsPermutation}
@@ -11,8 +11,16 @@ use Rattle.name_index.specs.Named.{NamedPlace}
 use Rattle.name_index.specs.declared.entry.Entry.{Entry}
 
 -- the first eight bytes as a number; 0 where there are fewer
+unfoldable pub leading : List ℕ → ℕ
+leading bytes = if nat_lt (length bytes) 8 then 0 else from_be_bytes w64 (take 8 bytes)
+
+-- a number spread over all of 64 bits, and another one added
+unfoldable pub mixed : ℕ → ℕ → ℕ
+mixed number added = (number * 11400714819323198485 % 2 ^ 64 + added) % 2 ^ 64
+
+-- all bytes of a name in a number: the last eight, then those behind the first eight, then the first eight
 unfoldable pub front_of : Name → ℕ
-front_of name = if nat_lt (length name) 8 then 0 else from_be_bytes w64 (take 8 name)
+front_of name = mixed (mixed (leading (drop 12 name)) (leading (drop 8 name))) (leading name)
 
 -- what names are ordered by: the front decides, and then the bytes
 abbrev pub sort_key : Name → List ℕ

@@ -3,14 +3,18 @@
 ghost use Rattle.std.specs.Prelude.{◌≡◌, ◌∷◌};
 ghost use Rattle.std.specs.Ordering.{nat_cmp};
 ghost use Rattle.std.specs.Cmp.Lexicographic.{slice_cmp};
-ghost use Rattle.name_index.specs.Runs.{front_of, name_in, key_in};
+ghost use Rattle.name_index.specs.Runs.{front_of, leading, mixed, name_in, key_in};
 
 use std::cmp::Ordering;
 
 /// How many bytes a name has.
 const NAME_BYTES: usize = 20;
 
-/// A name's first eight bytes as a number, and its place.
+/// What a number is multiplied by before the next is added. It is odd, so no two numbers become one, and its digits have no
+/// pattern, so numbers that are near come to lie far from one another.
+const SPREAD: u64 = 0x9e37_79b9_7f4a_7c15;
+
+/// A name's bytes mixed into a number, and its place.
 #[derive(Clone, Copy)]
 pub struct Entry {
     pub(crate) front: u64,
@@ -24,14 +28,35 @@ pub(crate) struct Stretch<'a> {
     pub(crate) at: u64,
 }
 
-/// The first eight bytes as a number, by which most comparisons are decided; 0 where there are fewer.
-pub(crate) fn front_of_name(name: &[u8]) -> u64
-    ensures { result ≡ front_of name.now }
+/// The first eight bytes as a number; 0 where there are fewer.
+#[inline]
+fn leading(bytes: &[u8]) -> u64
+    ensures { result ≡ leading bytes.now }
 {
-    match name.split_first_chunk::<8>() {
+    match bytes.split_first_chunk::<8>() {
         Some((front, _rest)) => u64::from_be_bytes(*front),
         None => 0,
     }
+}
+
+/// A number spread, and another one added.
+#[inline]
+#[tactic(auto, unfolding(crate::specs::Runs::mixed))]
+fn mixed(number: u64, added: u64) -> u64
+    ensures { result ≡ mixed number added }
+{
+    number.wrapping_mul(SPREAD).wrapping_add(added)
+}
+
+/// All bytes of a name mixed into a number, by which most comparisons are decided: the first eight are added to the others,
+/// which are spread. So names that agree in most of their bytes, as counters do, have fronts as even as those of hashes.
+#[tactic(auto, unfolding(crate::specs::Runs::front_of))]
+pub(crate) fn front_of_name(name: &[u8]) -> u64
+    ensures { result ≡ front_of name.now }
+{
+    let middle = leading(name.get(8..).unwrap_or(&[]));
+    let last = leading(name.get(12..).unwrap_or(&[]));
+    mixed(mixed(last, middle), leading(name))
 }
 
 /// The 20 bytes at the place, fewer at the end of the stretch.

@@ -4,7 +4,7 @@ ghost use Rattle.std.specs.Prelude.{◌≡◌, ◌≤◌, ◌+◌, ◌↔◌, �
 ghost use Rattle.std.specs.List.{AllByRecursion};
 ghost use Rattle.id_groups.specs.Lists.{AreDistinct, IsIn};
 ghost use Rattle.name_index.specs.Index.{IsIndexOf, Finds};
-ghost use Rattle.name_index.specs.Runs.{AreRuns, Holds, HaveCommon, entry_of, joined};
+ghost use Rattle.name_index.specs.Runs.{AreRuns, Holds, HaveCommon, entry_of, front_of, joined};
 ghost use Rattle.name_index.specs.declared.index.IndexFault.{IndexFault as Fault};
 ghost use Rattle.name_index.specs.Named.{NamedPlace, Stand, StandFrom, names_in, places_in};
 
@@ -68,14 +68,15 @@ impl<T: Drop> From<AllocFailed<T>> for IndexFault {
     }
 }
 
-/// The place of the name in one of the runs.
-fn find_in(runs: &[Run], stretch: &Stretch<'_>, name: &[u8]) -> Option<u64>
+/// The place of the name, whose front is given, in one of the runs.
+fn find_in(runs: &[Run], stretch: &Stretch<'_>, front: u64, name: &[u8]) -> Option<u64>
+    requires { front ≡ front_of name.now }
     ensures { (held : List (List NamedPlace)) → AreRuns runs.now held → AllByRecursion (StandFrom stretch.now.at stretch.now.bytes.now) held → Finds (joined held) name.now result }
 {
     let (run, others) = runs.split_first()?;
-    match run.find(stretch, name) {
+    match run.find(stretch, front, name) {
         Some(place) => Some(place),
-        None => find_in(others, stretch, name),
+        None => find_in(others, stretch, front, name),
     }
 }
 
@@ -87,7 +88,8 @@ fn has_held(runs: &[Run], old: &Stretch<'_>, entries: &[Entry], new: &Stretch<'_
 {
     let mut rest = entries;
     'each: while let Some((entry, others)) = rest.split_first() {
-        if find_in(runs, old, name_at(new, entry.place)).is_some() {
+        let name = name_at(new, entry.place);
+        if find_in(runs, old, front_of_name(name), name).is_some() {
             return true;
         }
         rest = others;
@@ -238,7 +240,8 @@ impl NameIndex {
     pub fn find(&self, bytes: &[u8], name: NameRef<'_>) -> Option<u64>
         ensures { (all : List NamedPlace) → IsIndexOf self.now all → Stand bytes.now all → Finds all name.entry.bytes.now result }
     {
-        find_in(&self.runs, &Stretch { bytes, at: 0 }, name.bytes)
+        let front = front_of_name(name.bytes);
+        find_in(&self.runs, &Stretch { bytes, at: 0 }, front, name.bytes)
     }
 
     /// Puts the run in place of those behind the first `kept` ones. On want of memory all stay.

@@ -39,7 +39,7 @@ fn probe(low: usize, high: usize, guess: usize, guesses: u32) -> usize
 }
 
 /// The place of the entry with this name, whose front is given; else the place between those that are less and those that
-/// are greater. Names are hashes, so the fronts tell about where the entry stands: the first guess lies some hundreds of
+/// are greater. Fronts are spread evenly, so they tell about where the entry stands: the first guess lies some hundreds of
 /// places off in a million, each further one closer. Where the guesses fail, it goes on by halves.
 pub(crate) fn place_of(
     stretch: &Stretch<'_>,

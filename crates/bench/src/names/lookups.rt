@@ -25,6 +25,16 @@ pub fn random_names(alloc: Global, seed: u64, count: u64) -> Result<Vec<u8>, All
     Ok(bytes)
 }
 
+/// So many names of twelve zero bytes and a number, one behind the other.
+pub fn counter_names(alloc: Global, first: u64, count: u64) -> Result<Vec<u8>, AllocError> {
+    let mut bytes = Vec::new(alloc);
+    for number in first..first.saturating_add(count) {
+        bytes.extend_from_slice(&[0; 12])?;
+        bytes.extend_from_slice(&number.to_be_bytes())?;
+    }
+    Ok(bytes)
+}
+
 /// Inserts so many names behind those that are held already.
 fn insert_next(
     alloc: Global,

@@ -4,7 +4,7 @@ use Rattle.name_index.proofs.Indexes.{first-has, others-have}
 use Rattle.name_index.proofs.index.+find_in.Goals as goal
 
 pub find_in-requires : goal.find_in-requires
-find_in-requires t c = (omega (arith, c.in_ok-run.ensures.cases.1, c.decreases), tt)
+find_in-requires t c = (omega (arith, c.in_ok-run.ensures.cases.1, c.decreases), c.requires)
 
 pub returns-in-Some : goal.returns-in-Some
 returns-in-Some t c = λ held runs stand.

@@ -8,7 +8,7 @@ use Rattle.name_index.specs.Named.{names_in}
 
 pub returns-then-is_some : goal.returns-then-is_some
 returns-then-is_some c = λ held named runs stand is stands.
-    let finds = subst (λ name. Finds (joined held) name c.find_in.result) c.name_at.ensures (c.find_in.ensures held runs stand) in
+    let finds = subst (λ name. Finds (joined held) name c.find_in.result) c.name_at-name.ensures (c.find_in.ensures held runs stand) in
     let some = sym c.is_some.ensures ∙ c.if-is_some.true in (
       λ _. looked-found c.args.new.now.at c.args.new.now.bytes.now c.each.rest.now c.in-Some.others.now c.in-Some.entry.now (joined held) named c.find_in.result c.in-Some.ensures.cases.0 finds some
           (c.each.invariant held named runs stand is stands),
@@ -17,7 +17,7 @@ returns-then-is_some c = λ held named runs stand is stands.
 
 pub each-preserved : goal.each-preserved
 each-preserved c = λ held named runs stand is stands.
-    let finds = subst (λ name. Finds (joined held) name c.find_in.result) c.name_at.ensures (c.find_in.ensures held runs stand) in
+    let finds = subst (λ name. Finds (joined held) name c.find_in.result) c.name_at-name.ensures (c.find_in.ensures held runs stand) in
     let none = sym c.is_some.ensures ∙ c.if-is_some.false in
     looked-on c.args.new.now.at c.args.new.now.bytes.now c.each.rest.now c.in-Some.others.now c.in-Some.entry.now (joined held) named c.find_in.result c.in-Some.ensures.cases.0 finds none
     (c.each.invariant held named runs stand is stands)
