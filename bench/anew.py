@@ -5,11 +5,10 @@ bench/anew.py [COMMITS], behind `make run`; a million where none is given.
 Each work is a run of the program of its own, so its time holds a load of what it reads. The least of three runs is told.
 """
 import os
-import subprocess
 import sys
 import tempfile
-import time
 
+import spawn
 from history import lines
 from pull import chain
 from store import PROGRAM, run
@@ -19,15 +18,12 @@ TIMES = 3
 
 def one(words, text, out):
     """The seconds of one run of the program with these words, and the most memory in MB."""
-    begun = time.monotonic()
-    child = subprocess.Popen([PROGRAM, *words], stdin=subprocess.PIPE, stdout=out)
-    child.stdin.write(text)
-    child.stdin.close()
-    _, status, usage = os.wait4(child.pid, 0)
-    taken = time.monotonic() - begun
+    with tempfile.TemporaryFile() as given:
+        given.write(text)
+        taken, memory, status = spawn.run([PROGRAM, *words], given, out)
     if status != 0:
         sys.exit(f"anew: {words[-1]} ended with {status}")
-    return taken, usage.ru_maxrss / 1024
+    return taken, memory
 
 
 def least(what, words, to, made, text=b""):

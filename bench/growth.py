@@ -1,12 +1,11 @@
 """The measures of growth.sh: growth.py PROGRAM PICTURE COMMITS... A run of the program for each, so its time holds a load of the log."""
 import math
 import os
-import subprocess
 import sys
 import tempfile
-import time
 
 import history
+import spawn
 
 PROGRAM, PICTURE = os.path.abspath(sys.argv[1]), sys.argv[2]
 EACH = 1000  # commits between two flushes, and of those that are added at last
@@ -67,16 +66,13 @@ def run(log, lines):
     with tempfile.TemporaryFile() as given, tempfile.TemporaryFile() as out:
         given.writelines(line.encode() + b"\n" for line in lines)
         given.seek(0)
-        begun = time.perf_counter()
-        child = subprocess.Popen([PROGRAM, log, "--", "run"], stdin=given, stdout=out)
-        _, status, usage = os.wait4(child.pid, 0)
-        taken = time.perf_counter() - begun
+        taken, memory, status = spawn.run([PROGRAM, log, "--", "run"], given, out)
         out.seek(0)
         replies = out.read().splitlines()
     refused = [reply for reply in replies if reply.startswith(b"err")]
     if status != 0 or refused:
         stop(f"status {status}, {refused[:1]}")
-    return taken, usage.ru_maxrss / 1024, replies[-1].decode()
+    return taken, memory, replies[-1].decode()
 
 
 def stored_lines(rows):

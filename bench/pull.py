@@ -49,7 +49,7 @@ def unnamed(text):
 
 
 def timed(log, mirror, asked):
-    """How long each of these lines takes in one run, with its last reply; and the most memory in MB."""
+    """How long each of these lines takes in one run, with its last reply."""
     child = subprocess.Popen([PROGRAM, log, mirror, "--", "run"], stdin=subprocess.PIPE, stdout=subprocess.PIPE)
     told = []
     for line in asked:
@@ -61,10 +61,9 @@ def timed(log, mirror, asked):
         if not reply.startswith("ok"):
             sys.exit(f"pull: {line[:60]} is answered by '{reply}'")
     child.stdin.close()
-    _, status, usage = os.wait4(child.pid, 0)
-    if status != 0:
-        sys.exit(f"pull: the program ended with {status}")
-    return told, usage.ru_maxrss / 1024
+    if child.wait() != 0:
+        sys.exit(f"pull: the program ended with {child.returncode}")
+    return told
 
 
 def measure(kind, history, commits, folder):
@@ -72,20 +71,20 @@ def measure(kind, history, commits, folder):
     text = list(history(commits + MORE, 1000))
     cut = text.index(f"0 flush {name(commits - 1)}") + 1
     run(there, "".join(line + "\n" for line in text[:cut]).encode())
-    told, _ = timed(here, there, ["0 clone"])
+    told = timed(here, there, ["0 clone"])
     print(f"{kind}: a clone of {commits} commits: {told[0][0]:.3f} s", flush=True)
     run(there, "".join(line + "\n" for line in text[cut:]).encode())
     some = unnamed(text[:cut])
     middle = len(some) // 2
     asked = ["0 status", f"0 id {some[middle]}", f"0 id {some[middle + 1]}", "0 pull", "0 pull", "0 status"]
-    told, memory = timed(here, there, asked)
+    told = timed(here, there, asked)
     load, first, second, pull, again, sizes = (taken for taken, _ in told)
     reading = first - second
     print(f"{kind}: the program's start and a load of the clone: {load:.3f} s")
     print(f"{kind}: the mirror's log read: {reading:.3f} s, a name found then {second * 1e6:.0f} us")
     print(f"{kind}: a pull of {MORE} commits: {pull:.3f} s, beside the reading {pull - reading:.3f} s; {told[3][1]}")
     print(f"{kind}: a pull of nothing new: {again:.3f} s, beside the reading {again - reading:.3f} s")
-    print(f"{kind}: memory at most {memory:.0f} MB; {told[5][1]}", flush=True)
+    print(f"{kind}: {told[5][1]}", flush=True)
 
 
 def main():

@@ -4,12 +4,11 @@
 Each work is a run of the program of its own, so its time holds a load of the log; the load alone is told too, to be taken off.
 """
 import os
-import subprocess
 import sys
 import tempfile
-import time
 from pathlib import Path
 
+import spawn
 from history import lines, name
 
 PROGRAM = Path(__file__).parent.parent / "crates/segdag/out/segdag"
@@ -17,18 +16,14 @@ PROGRAM = Path(__file__).parent.parent / "crates/segdag/out/segdag"
 
 def run(log, text):
     """The seconds of a run over the log, the most memory that it took in MB, and its last reply."""
-    with tempfile.TemporaryFile() as out:
-        begun = time.monotonic()
-        child = subprocess.Popen([PROGRAM, log, "--", "run"], stdin=subprocess.PIPE, stdout=out)
-        child.stdin.write(text)
-        child.stdin.close()
-        _, status, usage = os.wait4(child.pid, 0)
-        taken = time.monotonic() - begun
+    with tempfile.TemporaryFile() as given, tempfile.TemporaryFile() as out:
+        given.write(text)
+        taken, memory, status = spawn.run([PROGRAM, log, "--", "run"], given, out)
         out.seek(0)
         replies = out.read().splitlines()
     if status != 0:
         sys.exit(f"store: the program ended with {status}")
-    return taken, usage.ru_maxrss / 1024, replies[-1].decode() if replies else ""
+    return taken, memory, replies[-1].decode() if replies else ""
 
 
 def told(what, answer):
