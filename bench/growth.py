@@ -1,8 +1,12 @@
-"""The measures of growth.sh: growth.py PROGRAM PICTURE COMMITS... A run of the program for each, so its time holds a load of the log."""
+"""The measures of growth.sh: growth.py PROGRAM PICTURE COMMITS... What is asked of a log is timed from the first line's reply on, so it
+holds no load."""
 import math
 import os
+import shutil
+import subprocess
 import sys
 import tempfile
+import time
 
 import history
 import spawn
@@ -93,6 +97,32 @@ def least(log, lines):
     return min(run(log, lines)[0] for _ in range(TIMES))
 
 
+def answered(log, lines):
+    """The seconds until each of the lines is answered by one line, of a program that has loaded a copy of the log."""
+    copy = f"{log}.copy"
+    shutil.copyfile(log, copy)
+    with open(copy, "rb+") as file:
+        os.fsync(file.fileno())
+    child = subprocess.Popen([PROGRAM, copy, "--", "run"], stdin=subprocess.PIPE, stdout=subprocess.PIPE)
+    child.stdin.write(b"0 status\n")
+    child.stdin.flush()
+    child.stdout.readline()
+    text = "".join(line + "\n" for line in lines).encode()
+    begun = time.perf_counter()
+    child.stdin.write(text)
+    child.stdin.flush()
+    replies = [child.stdout.readline() for _ in lines]
+    taken = time.perf_counter() - begun
+    child.stdin.close()
+    if child.wait() != 0 or any(not reply.startswith(b"ok") for reply in replies):
+        stop(f"not each line is answered: {replies[-1]}")
+    return taken
+
+
+def least_answered(log, lines):
+    return min(answered(log, lines) for _ in range(TIMES))
+
+
 def measured(kind, commits, folder):
     """What the program takes over a history of this kind."""
     rows, log = list(KINDS[kind](commits)), os.path.join(folder, "log")
@@ -106,15 +136,14 @@ def measured(kind, commits, folder):
     found["loaded, ms"] = load * 1000
     tip, middle, new = rows[-1][0], rows[commits // 2][0], [f"f{i:039x}" for i in range(EACH)]
     adds = [f"0 add {new[i]} {new[i - 1] if i else tip}" for i in range(EACH)]
-    found["1,000 adds, ms"] = (least(log, adds) - load) * 1000
+    found["1,000 adds, ms"] = least_answered(log, adds) * 1000
+    found["and a flush, ms"] = least_answered(log, [*adds, f"0 flush {new[-1]}"]) * 1000
     for what, expression in (
         ("merge base, ms", f"gca(union({tip},{middle}))"),
         ("only, ms", f"only({tip},{middle})"),
         ("all ancestors, ms", f"ancestors({tip})"),
     ):
-        found[what] = (least(log, [f"0 count {expression}"] * QUESTIONS) - load) * 1000 / QUESTIONS
-    # The last, since it stores them: so it is one run alone.
-    found["and a flush, ms"] = (run(log, [*adds, f"0 flush {new[-1]}"])[0] - load) * 1000
+        found[what] = least_answered(log, [f"0 count {expression}"] * QUESTIONS) * 1000 / QUESTIONS
     return {what: max(value, 0.001) for what, value in found.items()}
 
 
