@@ -55,6 +55,7 @@ MEASURES = {
     "stored, s": "all commits stored, seconds",
     "bytes a commit": "bytes of log a commit",
     "loaded, ms": "a log loaded, milliseconds",
+    "cloned, ms": "a log cloned, its reading included, milliseconds",
     "MB at most": "memory of the import at most, MB",
     "1,000 adds, ms": "1,000 commits added, milliseconds",
     "and a flush, ms": "1,000 commits added and flushed, milliseconds",
@@ -65,12 +66,12 @@ MEASURES = {
 DRAWN = ("stored, s", "loaded, ms", "and a flush, ms", "merge base, ms")
 
 
-def run(log, lines):
+def run(log, lines, mirrors=()):
     """The seconds of a run over the log, the most memory that it took in MB, and its last reply."""
     with tempfile.TemporaryFile() as given, tempfile.TemporaryFile() as out:
         given.writelines(line.encode() + b"\n" for line in lines)
         given.seek(0)
-        taken, memory, status = spawn.run([PROGRAM, log, "--", "run"], given, out)
+        taken, memory, status = spawn.run([PROGRAM, log, *mirrors, "--", "run"], given, out)
         out.seek(0)
         replies = out.read().splitlines()
     refused = [reply for reply in replies if reply.startswith(b"err")]
@@ -95,6 +96,14 @@ def stored_lines(rows):
 
 def least(log, lines):
     return min(run(log, lines)[0] for _ in range(TIMES))
+
+
+def cloned(log):
+    """The seconds of a run that clones the log, its start and the reading of the log included."""
+    clone = f"{log}.clone"
+    if os.path.exists(clone):
+        os.remove(clone)
+    return run(clone, ["0 clone"], [log])[0]
 
 
 def answered(log, lines):
@@ -134,6 +143,7 @@ def measured(kind, commits, folder):
         stop(f"not all of {commits} commits are stored")
     load = least(log, ["0 status"])
     found["loaded, ms"] = load * 1000
+    found["cloned, ms"] = min(cloned(log) for _ in range(TIMES)) * 1000
     tip, middle, new = rows[-1][0], rows[commits // 2][0], [f"f{i:039x}" for i in range(EACH)]
     adds = [f"0 add {new[i]} {new[i - 1] if i else tip}" for i in range(EACH)]
     found["1,000 adds, ms"] = least_answered(log, adds) * 1000
