@@ -1,5 +1,5 @@
 -- Numbers of a few bytes, read without a loop: byte by byte from the last one to the first.
-use Rattle.std.proofs.Common.{◌≡◌, ℕ, ◌+◌, ◌-◌, ◌*◌, ◌%◌, ◌^◌, ◌<◌, ◌≤◌, false, eqb, List, ◌∷◌, length, take, drop, get_or, Some, refl, ap, ◌∙◌, arith}
+use Rattle.std.proofs.Common.{◌≡◌, ℕ, ◌+◌, ◌-◌, ◌*◌, ◌%◌, ◌^◌, ◌<◌, ◌≤◌, false, eqb, List, ◌∷◌, length, take, drop, get_or, Some, refl, sym, ap, ◌∙◌, arith}
 use Rattle.std.proofs.lemmas.Bool.{lt-ltb, le-ltb, ne_eqb}
 use Rattle.std.proofs.lemmas.List.{drop_more, take_rest}
 use Rattle.segment_codec.specs.Reading.{group_below, long_number_at, number_at}
@@ -34,3 +34,30 @@ unfolding number_at
 short-number bytes k n value same small is =
     let t = lt-ltb n (2 ^ 64) small in
     rw (is, t, same, take_rest bytes k) refl
+
+-- four bytes, behind which a number other than 0 stands
+pub four-more : (bytes : List ℕ) (value n : ℕ) (rest : List ℕ) → IsBytes bytes → 4 ≤ length bytes
+    → 128 ≤ get_or bytes 0 0 → 128 ≤ get_or bytes 1 0 → 128 ≤ get_or bytes 2 0 → 128 ≤ get_or bytes 3 0
+    → value ≡ get_or bytes 0 0 % 128 + 128 * (get_or bytes 1 0 % 128) + 16384 * (get_or bytes 2 0 % 128 + 128 * (get_or bytes 3 0 % 128))
+    → 0 < n → long_number_at (drop 4 bytes) ≡ Some (n, rest) → long_number_at bytes ≡ Some (value + 268435456 * n, rest)
+four-more bytes value n rest fits len first second third fourth is some behind =
+    let four = more-at bytes 3 n rest fits (omega (arith, len)) fourth some behind in
+    let three = more-at bytes 2 _ _ fits (omega (arith, len)) third (omega (arith, some)) four in
+    let two = more-at bytes 1 _ _ fits (omega (arith, len)) second (omega (arith, some)) three in
+    let one = more-at bytes 0 _ _ fits (omega (arith, len)) first (omega (arith, some)) two in
+    let whole : get_or bytes 0 0 % 128 + 128 * (get_or bytes 1 0 % 128 + 128 * (get_or bytes 2 0 % 128 + 128 * (get_or bytes 3 0 % 128 + 128 * n)))
+    ≡ value + 268435456 * n = omega (arith, is) in
+    one ∙ ap (λ (v : ℕ). Some (v, rest)) whole
+
+-- a number's last byte, in front
+pub last-first : (bytes : List ℕ) → 1 ≤ length bytes → get_or bytes 0 0 < 128
+    → long_number_at bytes ≡ Some (get_or bytes 0 0, take (length bytes - 1) (drop 1 bytes))
+last-first bytes len small = last-at bytes 0 len small ∙ ap (λ (rest : List ℕ). Some (get_or bytes 0 0, rest)) (sym (take_rest bytes 1))
+
+-- a long number that fits
+pub fits-so : (bytes : List ℕ) (n value : ℕ) (rest : List ℕ) → value ≡ n → n < 2 ^ 64 → long_number_at bytes ≡ Some (n, rest)
+    → number_at bytes ≡ Some (value, rest)
+unfolding number_at
+fits-so bytes n value rest same small is =
+    let t = lt-ltb n (2 ^ 64) small in
+    rw (is, t, same) refl

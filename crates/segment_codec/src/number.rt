@@ -1,9 +1,9 @@
 //! Numbers of variable length: seven bits a byte, the lowest first. Only the shortest form is a spelling.
 
-ghost use Rattle.std.specs.Prelude.{◌≡◌, ◌+◌, ◌*◌, ◌%◌, ◌<◌, ◌^◌, ◌++◌, ◌≤◌, length, Some, IsTrue, ◌↔◌, MatchOption, IfSome, OnOk, OnErr};
+ghost use Rattle.std.specs.Prelude.{◌≡◌, ◌+◌, ◌*◌, ◌%◌, ◌<◌, ◌^◌, ◌++◌, ◌≤◌, length, List, ℕ, Some, IsTrue, ◌↔◌, MatchOption, IfSome, OnOk, OnErr};
 ghost use Rattle.segment_codec.specs.Number.{number_bytes};
 ghost use Rattle.segment_codec.specs.Record.{HasFront};
-ghost use Rattle.segment_codec.specs.Reading.{Gives, number_at};
+ghost use Rattle.segment_codec.specs.Reading.{Gives, long_number_at, number_at};
 
 use std::alloc::AllocError;
 
@@ -12,6 +12,9 @@ const MORE: u8 = 128;
 
 /// How many values two groups of seven bits have.
 const TWO_GROUPS: u64 = 1 << 14;
+
+/// How many values four groups of seven bits have.
+const FOUR_GROUPS: u64 = 1 << 28;
 
 /// The value with a group of seven bits put in front; `None` where it doesn't fit 64 bits.
 fn with_group(value: u64, unit: u64, group: u64) -> Option<u64>
@@ -57,8 +60,51 @@ pub fn read_short(bytes: &[u8]) -> Option<(u64, &[u8])>
     }
 }
 
-/// The number in front, and the rest; `None` where no number's spelling stands in front. A number below 2^28 takes
-/// no loop.
+/// The first four groups of seven bits, the lowest first, and the rest, where a number goes on behind them.
+#[inline(always)]
+fn four_groups(bytes: &[u8]) -> Option<(u64, &[u8])>
+    ensures { IfSome result (λ r. (r.0 < 2 ^ 28) × ((n : ℕ) (rest : List ℕ) → 0 < n → long_number_at r.1.now ≡ Some (n, rest)
+        → long_number_at bytes.now ≡ Some (r.0 + 2 ^ 28 * n, rest))) }
+{
+    match bytes {
+        [one, two, three, four, rest @ ..]
+            if *one >= MORE && *two >= MORE && *three >= MORE && *four >= MORE => {
+            let high = two_groups(*three, *four);
+            Some((two_groups(*one, *two) + TWO_GROUPS * high, rest))
+        }
+        _ => None,
+    }
+}
+
+/// The number in front, and the rest, if it takes nine bytes; `None` also where it takes fewer or more.
+#[inline(always)]
+fn read_nine(bytes: &[u8]) -> Option<(u64, &[u8])>
+    ensures { IfSome result (λ r. number_at bytes.now ≡ Some (r.0, r.1.now)) }
+{
+    let (low, rest) = four_groups(bytes)?;
+    let (middle, rest) = four_groups(rest)?;
+    match rest {
+        [last, rest @ ..] if ends_several(*last) => {
+            let high = middle + FOUR_GROUPS * u64::from(*last);
+            Some((low + FOUR_GROUPS * high, rest))
+        }
+        _ => None,
+    }
+}
+
+/// The number in front, and the rest, where it takes more than four bytes: an id of others takes nine.
+#[inline(never)]
+pub fn read_long(bytes: &[u8]) -> Option<(u64, &[u8])>
+    ensures { Gives (λ r. (r.0, r.1.now)) result (number_at bytes.now) }
+{
+    if let Some(nine) = read_nine(bytes) {
+        return Some(nine);
+    }
+    read_groups(bytes)
+}
+
+/// The number in front, and the rest; `None` where no number's spelling stands in front. A number below 2^28, and one
+/// of nine bytes, takes no loop.
 #[inline(always)]
 pub fn read_number(bytes: &[u8]) -> Option<(u64, &[u8])>
     ensures { Gives (λ r. (r.0, r.1.now)) result (number_at bytes.now) }
@@ -66,12 +112,11 @@ pub fn read_number(bytes: &[u8]) -> Option<(u64, &[u8])>
     if let Some(short) = read_short(bytes) {
         return Some(short);
     }
-    read_groups(bytes)
+    read_long(bytes)
 }
 
 /// The number in front, and the rest, group by group, whatever its length.
-#[inline(never)]
-pub fn read_groups(bytes: &[u8]) -> Option<(u64, &[u8])>
+fn read_groups(bytes: &[u8]) -> Option<(u64, &[u8])>
     ensures { Gives (λ r. (r.0, r.1.now)) result (number_at bytes.now) }
 {
     let mut value = 0u64;

@@ -8,7 +8,7 @@ ghost use Rattle.segment_codec.specs.Lent.{segment_of, parents_left};
 ghost use Rattle.segment_codec.specs.Turns.{is_only, goes_on};
 
 use crate::lent::{Parents, SegmentRef};
-use crate::number::{read_groups, read_short};
+use crate::number::{read_long, read_short};
 use id_groups::Id;
 
 /// Whether there is one parent, and it has this number.
@@ -96,7 +96,7 @@ impl<'a> Iterator for Parents<'a> {
             self.rest = rest;
             return Some(Id::from_number(number));
         }
-        let (number, rest) = read_groups(self.rest)?;
+        let (number, rest) = read_long(self.rest)?;
         self.rest = rest;
         Some(Id::from_number(number))
     }
