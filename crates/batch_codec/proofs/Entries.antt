@@ -9,7 +9,7 @@ use Rattle.id_groups.specs.Name.{Name, IsName}
 use Rattle.segment_codec.proofs.Numbers.{IsBytes}
 use Rattle.segment_codec.proofs.Lists.{bytes-take}
 use Rattle.batch_codec.specs.Payload.{Known, known_bytes, names_bytes}
-use Rattle.batch_codec.specs.Reading.{names_in, known_in, knowns_in, ids_in}
+use Rattle.batch_codec.specs.Reading.{names_read, known_in, knowns_in, ids_in}
 
 pub bytes-behind : (n : ℕ) (bytes : List ℕ) → IsBytes bytes → IsBytes (drop n bytes)
 bytes-behind n bytes h i = rw get_or-drop (h (n + i))
@@ -20,19 +20,19 @@ bytes-each (b ∷ bytes) h = (h 0, bytes-each bytes (λ i. h (suc i)))
 
 -- ---- names
 
-pub names-length : (n : ℕ) (b : List ℕ) → length (names_in n b) ≡ n
+pub names-length : (n : ℕ) (b : List ℕ) → length (names_read n b) ≡ n
 names-length zero b = refl
 names-length (suc n) b = ap suc (names-length n (drop 20 b))
 
 shorter : (k n : ℕ) (b : List ℕ) → length b ≡ k * suc n → length (drop k b) ≡ k * n
 shorter k n b len = omega (arith, len, length-drop {A = ℕ} k b)
 
-pub names-spelled : (n : ℕ) (b : List ℕ) → length b ≡ 20 * n → names_bytes (names_in n b) ≡ b
+pub names-spelled : (n : ℕ) (b : List ℕ) → length b ≡ 20 * n → names_bytes (names_read n b) ≡ b
 names-spelled zero b len = sym (nil_from_length b (omega (arith, len)))
 names-spelled (suc n) b len =
-    flat_map-cons (λ name. name) (take 20 b) (names_in n (drop 20 b)) ∙ ap (λ (z : List ℕ). take 20 b ++ z) (names-spelled n (drop 20 b) (shorter 20 n b len)) ∙ take-append-drop 20 b
+    flat_map-cons (λ name. name) (take 20 b) (names_read n (drop 20 b)) ∙ ap (λ (z : List ℕ). take 20 b ++ z) (names-spelled n (drop 20 b) (shorter 20 n b len)) ∙ take-append-drop 20 b
 
-pub names-are : (n : ℕ) (b : List ℕ) → length b ≡ 20 * n → IsBytes b → AllByRecursion IsName (names_in n b)
+pub names-are : (n : ℕ) (b : List ℕ) → length b ≡ 20 * n → IsBytes b → AllByRecursion IsName (names_read n b)
 names-are zero b len fits = tt
 names-are (suc n) b len fits =
     ((omega (arith, len, length-take {A = ℕ} 20 b), bytes-each (take 20 b) (bytes-take 20 b fits)), names-are n (drop 20 b) (shorter 20 n b len) (bytes-behind 20 b fits))
@@ -43,7 +43,7 @@ names-size (name ∷ names) h =
     let front = h.0.0 in
     ap (length {A = ℕ}) (flat_map-cons (λ (x : Name). x) name names) ∙ omega (arith, front, length-append name (names_bytes names), names-size names h.1)
 
-pub names-again : (names : List Name) → AllByRecursion IsName names → names_in (length names) (names_bytes names) ≡ names
+pub names-again : (names : List Name) → AllByRecursion IsName names → names_read (length names) (names_bytes names) ≡ names
 names-again [] h = refl
 names-again (name ∷ names) h =
     let whole = flat_map-cons (λ (x : Name). x) name names in
@@ -51,7 +51,7 @@ names-again (name ∷ names) h =
     let back = ap (drop 20) whole ∙ drop_at name (names_bytes names) 20 h.0.0 in
     rw (front, back) (ap (λ (z : List Name). name ∷ z) (names-again names h.1))
 
-pub name-at : (n i : ℕ) (b : List ℕ) → i < n → slice_get (names_in n b) i ≡ Some (take 20 (drop (20 * i) b))
+pub name-at : (n i : ℕ) (b : List ℕ) → i < n → slice_get (names_read n b) i ≡ Some (take 20 (drop (20 * i) b))
 name-at zero i b lt = absurd (omega (arith, lt))
 name-at (suc n) zero b lt = refl
 name-at (suc n) (suc i) b lt =

@@ -9,7 +9,7 @@ use Rattle.id_groups.specs.Lists.{IsIn, is_in, AreAllIn}
 use Rattle.id_groups.proofs.Listing.{found, there}
 use Rattle.segment_codec.specs.Record.{Segment}
 use Rattle.batch_codec.specs.Payload.{Payload, known_ids}
-use Rattle.batch_codec.specs.Grammar.{IsFlush, IsClone, IsWhole, KnowsCloned, merge_parents}
+use Rattle.batch_codec.specs.Grammar.{IsFlush, IsClone, IsWholePayload, KnowsCloned, merge_parents}
 use Rattle.batch_codec.specs.Reading.{ids_ascend, are_known, knows_merge, knows_segment, knows_needed, knows_from, flush_fits, clone_fits, whole_fits, kind_fits}
 use Rattle.batch_codec.proofs.Ascending.{ascend-parts, ascend-made}
 use Rattle.batch_codec.proofs.Meanings.{or-left, or-right, in-above, all-known, known-length}
@@ -227,7 +227,7 @@ clone-decided p r h =
     (eq-eqb (length p.other_names) 0 h.no_others))
     (needed-decided p.cloned (known_ids p) p.master known)
 
-whole-means : (p : Payload) → IsReady p → p.kind ≡ 3 → whole_fits p ≡ true → IsWhole p
+whole-means : (p : Payload) → IsReady p → p.kind ≡ 3 → whole_fits p ≡ true → IsWholePayload p
 whole-means p r kind h =
     let some = ltb 0 p.after || ltb 0 (length p.other_names) in
     let behind = knows_from p.cloned p.after (known_ids p) in
@@ -248,7 +248,7 @@ whole-means p r kind h =
       known = needed-means p.cloned (known_ids p) p.master a.1;
     }
 
-whole-decided : (p : Payload) → IsReady p → IsWhole p → whole_fits p ≡ true
+whole-decided : (p : Payload) → IsReady p → IsWholePayload p → whole_fits p ≡ true
 whole-decided p r h =
     let some = ltb 0 p.after || ltb 0 (length p.other_names) in
     let behind = knows_from p.cloned p.after (known_ids p) in
@@ -261,25 +261,25 @@ whole-decided p r h =
     (from-decided p.after p.cloned (known_ids p) (subst (λ (n : ℕ). ids_ascend n p.after (known_ids p) ≡ true) h.first r.ascend) h.all_known))
     (needed-decided p.cloned (known_ids p) p.master h.known)
 
-pub kind-means : (p : Payload) → IsReady p → kind_fits p ≡ true → IsFlush p ⊎ (IsClone p ⊎ IsWhole p)
+pub kind-means : (p : Payload) → IsReady p → kind_fits p ≡ true → IsFlush p ⊎ (IsClone p ⊎ IsWholePayload p)
 kind-means p r h = first (eqb p.kind 1) refl h
   where
-    third : (b : Bool) → eqb p.kind 3 ≡ b → cond b (whole_fits p) false ≡ true → IsFlush p ⊎ (IsClone p ⊎ IsWhole p)
+    third : (b : Bool) → eqb p.kind 3 ≡ b → cond b (whole_fits p) false ≡ true → IsFlush p ⊎ (IsClone p ⊎ IsWholePayload p)
     third true e h = inr (inr (whole-means p r (eqb-true p.kind 3 e) h))
     third false e h = absurd (true≢false (sym h))
 
-    second : (b : Bool) → eqb p.kind 2 ≡ b → cond b (clone_fits p) (cond (eqb p.kind 3) (whole_fits p) false) ≡ true → IsFlush p ⊎ (IsClone p ⊎ IsWhole p)
+    second : (b : Bool) → eqb p.kind 2 ≡ b → cond b (clone_fits p) (cond (eqb p.kind 3) (whole_fits p) false) ≡ true → IsFlush p ⊎ (IsClone p ⊎ IsWholePayload p)
     second true e h = inr (inl (clone-means p r (eqb-true p.kind 2 e) h))
     second false e h = third (eqb p.kind 3) refl h
 
-    first : (b : Bool) → eqb p.kind 1 ≡ b → cond b (flush_fits p) (cond (eqb p.kind 2) (clone_fits p) (cond (eqb p.kind 3) (whole_fits p) false)) ≡ true → IsFlush p ⊎ (IsClone p ⊎ IsWhole p)
+    first : (b : Bool) → eqb p.kind 1 ≡ b → cond b (flush_fits p) (cond (eqb p.kind 2) (clone_fits p) (cond (eqb p.kind 3) (whole_fits p) false)) ≡ true → IsFlush p ⊎ (IsClone p ⊎ IsWholePayload p)
     first true e h = inl (flush-means p r (eqb-true p.kind 1 e) h)
     first false e h = second (eqb p.kind 2) refl h
 
 another-kind : (p : Payload) (n m : ℕ) → p.kind ≡ n → n ≢ m → eqb p.kind m ≡ false
 another-kind p n m kind other = ne_eqb p.kind m (λ e. absurd (other (sym kind ∙ e)))
 
-pub kind-decided : (p : Payload) → IsReady p → IsFlush p ⊎ (IsClone p ⊎ IsWhole p) → kind_fits p ≡ true
+pub kind-decided : (p : Payload) → IsReady p → IsFlush p ⊎ (IsClone p ⊎ IsWholePayload p) → kind_fits p ≡ true
 kind-decided p r (inl h) = let t = eq-eqb p.kind 1 h.kind in rw t (flush-decided p r h)
 kind-decided p r (inr (inl h)) =
     let s = another-kind p 2 1 h.kind (λ e. absurd (omega (arith, e))) in

@@ -10,7 +10,7 @@ use Rattle.segment_codec.specs.Turns.{place_behind}
 use Rattle.segment_codec.proofs.Turns.{follow-behind}
 use Rattle.segment_codec.proofs.Numbers.{IsBytes, bind_some, guard_some, some_is}
 use Rattle.batch_codec.specs.Payload.{Known, Payload, known_ids, payload_bytes}
-use Rattle.batch_codec.specs.Grammar.{IsPayload, IsFlush, IsClone, IsWhole}
+use Rattle.batch_codec.specs.Grammar.{IsPayload, IsFlush, IsClone, IsWholePayload}
 use Rattle.batch_codec.specs.Reading.{ids_ascend, parts_at, ends_fit, kind_fits, payload_at}
 use Rattle.batch_codec.proofs.Turns.{stand-in-turn, turn-stands}
 use Rattle.batch_codec.proofs.Entries.{FitsKnown}
@@ -105,12 +105,12 @@ pub known-length : (p : Payload) → IsPayload p → length p.known ≤ p.after
 known-length p h = omega (arith, ids-many p, ascend-length p.before p.after (known_ids p) (in-order p h))
 
 -- what version 1 means by leaving the cloned count out
-meant : (p : Payload) → IsFlush p ⊎ (IsClone p ⊎ IsWhole p) → MeansCloned p.version p.kind p.after p.cloned
+meant : (p : Payload) → IsFlush p ⊎ (IsClone p ⊎ IsWholePayload p) → MeansCloned p.version p.kind p.after p.cloned
 meant p (inl h) first = let other : eqb p.kind 2 ≡ false = ne_eqb p.kind 2 (λ e. let kind = h.kind in absurd (omega (arith, kind, e))) in rw other h.cloned
 meant p (inr (inl h)) first = let same = eq-eqb p.kind 2 h.kind in rw same h.cloned
 meant p (inr (inr h)) first = let two = h.version in absurd (omega (arith, two, first))
 
-cloned-few : (p : Payload) → IsFlush p ⊎ (IsClone p ⊎ IsWhole p) → p.cloned ≤ p.after
+cloned-few : (p : Payload) → IsFlush p ⊎ (IsClone p ⊎ IsWholePayload p) → p.cloned ≤ p.after
 cloned-few p (inl h) = let none = h.cloned in omega (arith, none)
 cloned-few p (inr (inl h)) = let all = h.cloned in omega (arith, all)
 cloned-few p (inr (inr h)) = h.cloned

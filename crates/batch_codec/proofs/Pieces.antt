@@ -12,7 +12,7 @@ use Rattle.segment_codec.proofs.Numbers.{IsBytes, bind_some, guard_some, some_is
 use Rattle.segment_codec.proofs.Lists.{bytes-take, bytes-drop}
 use Rattle.batch_codec.specs.declared.counts.Counts.{Counts}
 use Rattle.batch_codec.specs.Payload.{Known, Payload, known_bytes, names_bytes, cloned_bytes, levels_bytes, payload_bytes}
-use Rattle.batch_codec.specs.Reading.{fixed_at, piece_at, names_in, knowns_in, ids_in, ids_ascend, may_stand, behind_segment, may_rise, behind_level, records_at, section_at, level_section_at, levels_at, names_at, known_at, heads_at, cloned_at, counts_at, Others, others_at, Masters, masters_at, joined, parts_at}
+use Rattle.batch_codec.specs.Reading.{fixed_at, piece_at, names_read, knowns_in, ids_in, ids_ascend, may_stand, behind_segment, may_rise, behind_level, records_at, section_at, level_section_at, levels_at, names_at, known_at, heads_at, cloned_at, counts_at, Others, others_at, Masters, masters_at, joined, parts_at}
 use Rattle.batch_codec.proofs.Entries.{names-length, names-spelled, names-are, names-size, names-again, knowns-length, knowns-spelled, knowns-are, FitsKnown, knowns-size, knowns-again}
 use Rattle.batch_codec.proofs.Records.{AllStand, AllRise, records_take, records_again}
 
@@ -114,9 +114,9 @@ pub record NamesTaken (count : ℕ) (bytes : List ℕ) (x : List Name × List �
 pub names_takes : (count : ℕ) (bytes : List ℕ) (x : List Name × List ℕ) → IsBytes bytes → names_at count bytes ≡ Some x → NamesTaken count bytes x
 unfolding names_at
 names_takes count bytes x fits e =
-    let a = bind_some (piece_at (20 * count) bytes) (λ piece. Some (names_in count piece.0, piece.1)) x e in
+    let a = bind_some (piece_at (20 * count) bytes) (λ piece. Some (names_read count piece.0, piece.1)) x e in
     let piece = piece_takes (20 * count) bytes a.0 fits a.1 in
-    let made : List Name × List ℕ = (names_in count a.0.0, a.0.1) in
+    let made : List Name × List ℕ = (names_read count a.0.0, a.0.1) in
     subst (NamesTaken count bytes) (some_is made x a.2) (record {
       parts = piece.parts ∙ ap (λ (z : List ℕ). z ++ a.0.1) (sym (names-spelled count a.0.0 piece.len));
       many = names-length count a.0.0;

@@ -101,7 +101,7 @@ abbrev pub KnowsCloned : ℕ → List ℕ → Segment → Type 0
 KnowsCloned cloned ids s = s.low < cloned → IsIn (min s.high (cloned - 1)) ids × AreAllIn (merge_parents s.parents) ids
 
 -- a whole store is the first, stores something, and knows each master id that wasn't cloned, and of the cloned ones what a clone would
-pub record IsWhole (p : Payload) : Type 0 where
+pub record IsWholePayload (p : Payload) : Type 0 where
   pub kind : p.kind ≡ 3
   pub version : p.version ≡ 2
   pub cloned : p.cloned ≤ p.after
@@ -119,7 +119,7 @@ pub record IsPayload (p : Payload) : Type 0 where
   pub maximal : IsMaximal p
   pub levels : HasLevelsInOrder p
   pub known : HasKnownInOrder p
-  pub by_kind : IsFlush p ⊎ (IsClone p ⊎ IsWhole p)
+  pub by_kind : IsFlush p ⊎ (IsClone p ⊎ IsWholePayload p)
   -- what the table of the fields has room for: a count of heads of 16 bits, and names of 20 bytes
   pub heads_fit : length p.heads < 2 ^ 16
   pub names : AllByRecursion IsName (known_names p)

@@ -7,7 +7,7 @@ use Rattle.batch_codec.specs.declared.lent.KnownSlice.{KnownSlice}
 use Rattle.batch_codec.specs.declared.lent.NameSlice.{NameSlice}
 use Rattle.batch_codec.specs.declared.lent.Parts.{Parts}
 use Rattle.batch_codec.specs.Payload.{Known, Payload, master_start, levels_start, known_start, heads_start, others_start, names_start}
-use Rattle.batch_codec.specs.Reading.{segments_in, knowns_in, names_in, ids_in}
+use Rattle.batch_codec.specs.Reading.{segments_in, knowns_in, names_read, ids_in}
 
 -- the records of a section
 abbrev pub segments_of : SegmentSlice → List Segment
@@ -18,12 +18,12 @@ abbrev pub knowns_of : KnownSlice → List Known
 knowns_of s = knowns_in s.count s.bytes.now
 
 -- the known ids alone
-abbrev pub ids_of : KnownSlice → List ℕ
-ids_of s = ids_in s.count s.bytes.now
+abbrev pub lent_ids : KnownSlice → List ℕ
+lent_ids s = ids_in s.count s.bytes.now
 
 -- the names of a section
-abbrev pub names_of : NameSlice → List Name
-names_of s = names_in s.count s.bytes.now
+abbrev pub lent_names : NameSlice → List Name
+lent_names s = names_read s.count s.bytes.now
 
 -- the payload of these sections
 abbrev pub payload_in : Parts → Payload
@@ -36,9 +36,9 @@ payload_in b = record {
   master = segments_of b.master;
   levels = segments_of b.levels;
   known = knowns_of b.known;
-  heads = names_of b.heads;
+  heads = lent_names b.heads;
   others = segments_of b.others;
-  other_names = names_of b.other_names;
+  other_names = lent_names b.other_names;
 }
 
 -- each section says the place at which it stands

@@ -18,9 +18,9 @@ abbrev pub piece_at : ℕ → List ℕ → Option (List ℕ × List ℕ)
 piece_at n bytes = if nat_lt (length bytes) n then None else Some (take n bytes, drop n bytes)
 
 -- so many names that stand one after another
-abbrev pub names_in : ℕ → List ℕ → List Name
-names_in zero bytes = []
-names_in (suc n) bytes = take 20 bytes ∷ names_in n (drop 20 bytes)
+abbrev pub names_read : ℕ → List ℕ → List Name
+names_read zero bytes = []
+names_read (suc n) bytes = take 20 bytes ∷ names_read n (drop 20 bytes)
 
 abbrev pub known_in : List ℕ → Known
 known_in bytes = record { id = from_be_bytes w64 (take 8 bytes); name = take 20 (drop 8 bytes) }
@@ -97,7 +97,7 @@ levels_at version end bytes = if nat_eq version 1 then Some ([], bytes) else lev
 unfoldable pub names_at : ℕ → List ℕ → Option (List Name × List ℕ)
 names_at count bytes = do
   piece ← piece_at (20 * count) bytes
-  Some (names_in count piece.0, piece.1)
+  Some (names_read count piece.0, piece.1)
 
 -- the count of known ids, and these with their names
 unfoldable pub known_at : ℕ → ℕ → List ℕ → Option (List Known × List ℕ)

@@ -2,7 +2,7 @@
 
 ghost use Rattle.std.specs.Prelude.{◌≡◌, ◌*◌, ◌<◌, Some, length, flat_map, slice_get, slice_index};
 ghost use Rattle.segment_codec.specs.Record.{segment_bytes};
-ghost use Rattle.batch_codec.specs.Lent.{segments_of, knowns_of, ids_of, names_of, known_of, payload_of};
+ghost use Rattle.batch_codec.specs.Lent.{segments_of, knowns_of, ids_of, names_of, lent_known, payload_of};
 
 use crate::fixed::{front_u64, piece};
 use crate::lent::{KnownRef, KnownSlice, NameSlice, SegmentSlice};
@@ -52,7 +52,7 @@ impl<'a> KnownSlice<'a> {
     /// The id at place `i`, with its name. `i` is below `len`.
     pub fn at(&self, i: u32) -> KnownRef<'a>
         requires { i < length (knowns_of self.now) }
-        ensures { slice_get (knowns_of self.now) i ≡ Some (known_of result) }
+        ensures { slice_get (knowns_of self.now) i ≡ Some (lent_known result) }
     {
         KnownRef {
             id: Id::from_number(self.number_at(i)),

@@ -6,8 +6,8 @@ use Rattle.std.proofs.lemmas.List.Concat.{flat_map-cons, flat_map-append}
 use Rattle.std.proofs.lemmas.Bool.{lt-ltb}
 use Rattle.id_groups.specs.Id.{id_end}
 use Rattle.segment_codec.specs.Record.{Segment, IsSegment, segment_bytes}
-use Rattle.flat_segments.specs.Placed.{Placed, placed, AreRecords, Stand}
-use Rattle.flat_segments.specs.Kept.{Kept, IsTableOf}
+use Rattle.flat_segments.specs.Placed.{PlacedSegment, placed_segments, AreRecords, Stand}
+use Rattle.flat_segments.specs.Kept.{KeptFlats, IsTableOf}
 use Rattle.flat_segments.proofs.Callers.{placed-stand}
 use Rattle.flat_segments.proofs.Adding.{all-append}
 
@@ -60,6 +60,6 @@ pub built-all : (bytes : List ℕ) (count : ℕ) → count ≤ 2 ^ 30 → Built 
 built-all bytes count le h = let few = h.few in (h.segments, h.records, omega (arith, few, le))
 
 -- the table of records that stand at 0
-pub filled-all : (records : List ℕ) (segments : List Segment) (table : Kept) → AreRecords segments records → IsTableOf table ([] ++ placed 0 segments)
-    → (x : List Placed) × IsTableOf table x × Stand records x
-filled-all records segments table are is = (placed 0 segments, is, placed-stand records [] 0 segments (are.bytes_are ∙ sym (append-nil (flat_map segment_bytes segments))))
+pub filled-all : (records : List ℕ) (segments : List Segment) (table : KeptFlats) → AreRecords segments records → IsTableOf table ([] ++ placed_segments 0 segments)
+    → (x : List PlacedSegment) × IsTableOf table x × Stand records x
+filled-all records segments table are is = (placed_segments 0 segments, is, placed-stand records [] 0 segments (are.bytes_are ∙ sym (append-nil (flat_map segment_bytes segments))))

@@ -2,7 +2,7 @@
 
 ghost use Rattle.std.specs.Prelude.{◌≤◌, ◌^◌, List, length};
 ghost use Rattle.segment_codec.specs.Record.{Segment};
-ghost use Rattle.flat_segments.specs.Placed.{Placed, AreRecords, Stand};
+ghost use Rattle.flat_segments.specs.Placed.{PlacedSegment, AreRecords, Stand};
 ghost use Rattle.flat_segments.specs.Kept.{IsTableOf};
 
 mod graph;
@@ -43,7 +43,7 @@ fn time_table(rt: &HostRuntime, records: &[u8]) -> io::Result<()>
 }
 
 fn time_look_ups(rt: &HostRuntime, table: &FlatTable, records: &[u8]) -> io::Result<()>
-    requires { (placed : List Placed) × IsTableOf table.now placed × Stand records.now placed }
+    requires { (placed : List PlacedSegment) × IsTableOf table.now placed × Stand records.now placed }
 {
     let start = Instant::now(rt)?;
     let sum = sum_of_lows(table, records, LOOK_UPS);

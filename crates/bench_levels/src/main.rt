@@ -10,7 +10,7 @@ mod queries;
 
 ghost use Rattle.std.specs.Prelude.{◌≤◌, ◌^◌, List, length};
 ghost use Rattle.segment_codec.specs.Record.{Segment};
-ghost use Rattle.flat_segments.specs.Placed.{AreRecords, placed};
+ghost use Rattle.flat_segments.specs.Placed.{AreRecords, placed_segments};
 ghost use Rattle.segment_levels.specs.Flats.{flats_of};
 ghost use Rattle.segment_levels.specs.Kept.{AreLevelsOf};
 ghost use Rattle.bench_levels.specs.Filled.{IsFilled};
@@ -235,7 +235,7 @@ fn show_views<R: Print + Eprint + Clock>(
     table: &FlatTable,
     levels: &Levels,
 ) -> io::Result<()>
-    requires filled { (segments : List Segment) × IsFilled records.now table.now segments × AreLevelsOf levels.now (flats_of table.now (placed 0 segments)) }
+    requires filled { (segments : List Segment) × IsFilled records.now table.now segments × AreLevelsOf levels.now (flats_of table.now (placed_segments 0 segments)) }
     requires small { table.now.end ≤ 16777216 }
 {
     let view = make_view(records, table, levels);

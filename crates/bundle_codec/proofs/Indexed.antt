@@ -5,7 +5,7 @@ use Rattle.std.specs.Int.{w32, to_be_bytes}
 use Rattle.std.proofs.lemmas.List.{take_at, drop_at}
 use Rattle.id_groups.specs.Name.{Name, IsName}
 use Rattle.segment_codec.specs.Record.{segment_bytes}
-use Rattle.name_index.specs.Named.{names_in, places_in, Stand}
+use Rattle.name_index.specs.Named.{names_in, places_in, NamesStand}
 use Rattle.batch_codec.specs.Payload.{names_bytes}
 use Rattle.bundle_codec.specs.Bundle.{Contents, bundle_bytes, mark}
 use Rattle.bundle_codec.specs.Places.{named_from, names_start, places_from}
@@ -23,7 +23,7 @@ places-more at zero = ap (λ (k : ℕ). k ∷ []) (let z : at ≡ at + 20 * 0 = 
 places-more at (suc n) = ap (λ (l : List ℕ). at ∷ l) (places-more (at + 20) n ∙ ap (λ (k : ℕ). places_from (at + 20) n ++ k ∷ []) (let z : at + 20 + 20 * n ≡ at + 20 * suc n = omega arith in z))
 
 -- names that are spelled behind so many bytes stand there
-pub names-at : (names : List Name) (front : List ℕ) (at : ℕ) → AllByRecursion IsName names → length front ≡ at → Stand (front ++ names_bytes names) (named_from at names)
+pub names-at : (names : List Name) (front : List ℕ) (at : ℕ) → AllByRecursion IsName names → length front ≡ at → NamesStand (front ++ names_bytes names) (named_from at names)
 names-at [] front at h len = tt
 names-at (name ∷ names) front at h len =
     let rest = names_bytes names in (
@@ -31,12 +31,12 @@ names-at (name ∷ names) front at h len =
         whole = h.0.0;
         stands = ap (λ (l : List ℕ). take 20 l) (drop_at front (name ++ rest) at len) ∙ take_at name rest 20 h.0.0;
       },
-      subst (λ (l : List ℕ). Stand l (named_from (at + 20) names)) (append_assoc front name rest)
+      subst (λ (l : List ℕ). NamesStand l (named_from (at + 20) names)) (append_assoc front name rest)
           (names-at names (front ++ name) (at + 20) h.1 (let l = length-append front name in let t = h.0.0 in omega (arith, l, t, len))),
     )
 
 -- the names of a bundle stand behind its records
-pub bundle-names : (c : Contents) → AllByRecursion IsName c.names → Stand (bundle_bytes c) (named_from (names_start c) c.names)
+pub bundle-names : (c : Contents) → AllByRecursion IsName c.names → NamesStand (bundle_bytes c) (named_from (names_start c) c.names)
 unfolding bundle_bytes
 bundle-names c h =
     let rows = to_be_bytes w32 (length c.names) in
@@ -49,7 +49,7 @@ bundle-names c h =
     let m : length mark ≡ 8 = refl in
     let r : length rows ≡ 4 = refl in
     let n : length count ≡ 4 = refl in
-    subst (λ (l : List ℕ). Stand l (named_from (names_start c) c.names))
+    subst (λ (l : List ℕ). NamesStand l (named_from (names_start c) c.names))
     (append_assoc mark (rows ++ (count ++ records)) (names_bytes c.names)
     ∙ ap (λ (l : List ℕ). mark ++ l) (append_assoc rows (count ++ records) (names_bytes c.names) ∙ ap (λ (l : List ℕ). rows ++ l) (append_assoc count records (names_bytes c.names))))
     (names-at c.names front (names_start c) h (omega (arith, a, b, d, m, r, n)))

@@ -20,7 +20,7 @@ use Rattle.segment_codec.specs.Table.{Follow}
 use Rattle.segment_codec.specs.Turns.{is_only}
 use Rattle.segment_rules.specs.Flat.{single, with_id, flat_segments_of, parents_listed}
 use Rattle.batch_codec.specs.Payload.{Payload, Known}
-use Rattle.remote_rules.specs.CloneData.{KnownName, first_false, first_of}
+use Rattle.remote_rules.specs.CloneData.{KnownName, first_false, first_some}
 use Rattle.remote_rules.specs.Known.{master_world}
 use Rattle.remote_rules.specs.Honest.{clone_data_of, named_ids, stored_ids, master_segments}
 use Rattle.change_rules.specs.Tables.{known_in}
@@ -184,9 +184,9 @@ module _ (payloads : List Payload) (w : World Name) (front rest more : List (Row
   none-unlike =
       let told = clone_data_of r in
       let items = length told.segments + length told.names + length told.heads in
-      ap₂ first_of
+      ap₂ first_some
       (ap₂ (λ a b. first_false 0 (segments_agree a b)) their-cut our-cut ∙ none-false 0 (segments_agree cut cut) (all-agree cut))
-      (ap₂ first_of
+      (ap₂ first_some
       (ap₂ (λ (a b : List Segment). first_false items (nat_le (length a) (length b) ∷ [])) our-cut their-cut ∙ none-false items (nat_le (length cut) (length cut) ∷ []) (le-leb (length cut) (length cut) (le_refl (length cut)), tt))
       (none-false (length told.segments) (map (λ k. not (nat_lt k.id cloned) || name_agrees (known_in payloads) k) told.names) (all-mapped (λ k. not (nat_lt k.id cloned) || name_agrees (known_in payloads) k) told.names names-agree)))
 

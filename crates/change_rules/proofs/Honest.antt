@@ -12,7 +12,7 @@ use Rattle.segment_codec.specs.Table.{Follow}
 use Rattle.segment_codec.specs.Turns.{place_behind}
 use Rattle.batch_codec.specs.Payload.{Known}
 use Rattle.remote_rules.specs.CloneData as clones
-use Rattle.remote_rules.specs.CloneData.{KnownName, first_false, first_of, first_broken, segments_fit, names_fit, heads_fit, head_ids, has_needed_names}
+use Rattle.remote_rules.specs.CloneData.{KnownName, first_false, first_some, first_broken, segments_fit, names_fit, heads_fit, head_ids, has_needed_names}
 use Rattle.remote_rules.specs.Known.{master_alone}
 use Rattle.remote_rules.specs.Honest.{clone_data_of, named_ids, stored_ids, heads_of, master_segments}
 use Rattle.change_rules.proofs.Lawful.{history-distinct}
@@ -72,8 +72,8 @@ module _ (r : World Name) (named : IsNamedWorld (master_alone r)) where
   never-broken =
       let headed = length (master_segments r) + length (named_ids r (stored_ids r)) in
       let place = behind-all 0 (length r.master) (master_segments r) (follow r named) in
-      ap₂ first_of (none-false 0 (segments_fit 0 (master_segments r)) (segments-fit (length r.master) (master_segments r) (follow r named) (segments-plain r named) (segments-maximal r named)))
-      (ap₂ first_of (ap (λ n. first_false (length (master_segments r)) (names_fit n [] (named_ids r (stored_ids r)))) place ∙ none-false (length (master_segments r)) (names_fit (length r.master) [] (named_ids r (stored_ids r))) (names-fit r distinct (stored_ids r) rising))
-      (ap₂ first_of (none-false headed (has_needed_names (clone_data_of r) ∷ []) (needed, tt))
-      (ap₂ first_of (none-false headed (heads_fit (named_ids r (stored_ids r)) (head_ids (master_segments r)) (heads_of r)) (heads-fit r distinct (stored_ids r) (head_ids (master_segments r)) 0 rising heads-rise head-stored))
+      ap₂ first_some (none-false 0 (segments_fit 0 (master_segments r)) (segments-fit (length r.master) (master_segments r) (follow r named) (segments-plain r named) (segments-maximal r named)))
+      (ap₂ first_some (ap (λ n. first_false (length (master_segments r)) (names_fit n [] (named_ids r (stored_ids r)))) place ∙ none-false (length (master_segments r)) (names_fit (length r.master) [] (named_ids r (stored_ids r))) (names-fit r distinct (stored_ids r) rising))
+      (ap₂ first_some (none-false headed (has_needed_names (clone_data_of r) ∷ []) (needed, tt))
+      (ap₂ first_some (none-false headed (heads_fit (named_ids r (stored_ids r)) (head_ids (master_segments r)) (heads_of r)) (heads-fit r distinct (stored_ids r) (head_ids (master_segments r)) 0 rising heads-rise head-stored))
       (none-false (headed + length (heads_of r)) (nat_le (length (head_ids (master_segments r))) (length (heads_of r)) ∷ []) (enough, tt)))))

@@ -28,7 +28,7 @@ use Rattle.change_rules.specs.Lawful.{master_flats}
 use Rattle.segment_codec.specs.Flat.{IsFlat}
 use Rattle.segment_rules.specs.Flat.{flat_segments_of, parents_listed}
 use Rattle.segment_rules.specs.NewLevels.{new_levels}
-use Rattle.segment_levels.specs.Whole.{IsWhole, Grows}
+use Rattle.segment_levels.specs.Whole.{IsWholeTo, Grows}
 use Rattle.segment_levels.proofs.Continuing.{flats-grow}
 
 -- Flat segments: each fact of an id and its parents is one of the segments' lowest ids.
@@ -424,9 +424,9 @@ module _ (payloads : List Payload) (old new : World Name) (lawful : AreLawful []
   all-spans = flat-spans MayHave (length new.master) 0 (parent_ids same_name new new.master) all-size
       (master-from new group [] new.master refl (history-front [] new.master new.others named.world))
 
-  whole-master : IsWhole (flat_segments_of 0 (parent_ids same_name new new.master)) (length new.master)
+  whole-master : IsWholeTo (flat_segments_of 0 (parent_ids same_name new new.master)) (length new.master)
   whole-master =
-      subst (λ l. IsWhole l (length new.master)) (sym (same-segments 0 (parent_ids same_name new new.master)))
+      subst (λ l. IsWholeTo l (length new.master)) (sym (same-segments 0 (parent_ids same_name new new.master)))
       (whole-flats (length new.master) (map flat_record (flat_segments 0 (parent_ids same_name new new.master)))
       (all-records (IsSpanOf MayHave (length new.master)) IsFlat (flat_segments 0 (parent_ids same_name new new.master))
       (λ s h. let f = master-segment new group (within-group (length new.master) fits) s h in record { segment = f.0; flat = f.1 }) all-spans)

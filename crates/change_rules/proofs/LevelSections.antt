@@ -12,7 +12,7 @@ use Rattle.segment_codec.proofs.Tables.{all-pass, follow-within}
 use Rattle.flat_segments.specs.Maximal.{begin_of}
 use Rattle.segment_rules.specs.Levels.{level_segments, top_level}
 use Rattle.segment_rules.specs.NewLevels.{same_segment, new_levels, high_levels}
-use Rattle.segment_levels.specs.Whole.{IsWhole, Grows}
+use Rattle.segment_levels.specs.Whole.{IsWholeTo, Grows}
 use Rattle.segment_levels.proofs.Ascending.{all-from-in, in-some, kept-in}
 use Rattle.segment_levels.proofs.Coming.{new-behind, new-all}
 use Rattle.segment_levels.proofs.Heading.{follow-drop, in-drop}
@@ -20,7 +20,7 @@ use Rattle.segment_levels.proofs.Leveled.{leveled, level-grows, level-high, high
 use Rattle.batch_codec.specs.Grammar.{StandsBefore, AscendByLevel, IsOfLevel}
 
 -- flat records that follow one another from id 0 on are a whole group
-pub whole-flats : (end : ℕ) (flats : List Segment) → AllByRecursion IsFlat flats → Follow 0 end flats → end ≤ 2 ^ 56 → IsWhole flats end
+pub whole-flats : (end : ℕ) (flats : List Segment) → AllByRecursion IsFlat flats → Follow 0 end flats → end ≤ 2 ^ 56 → IsWholeTo flats end
 whole-flats end flats flat follow le = record {
   lawful = subst IsLawful (append-nil flats)
       (parts-lawful end 0 flats []
@@ -45,14 +45,14 @@ range-bounds a zero x i = absurd i
 range-bounds a (suc n) x (inl e) = (omega (arith, e), omega (arith, e))
 range-bounds a (suc n) x (inr i) = let r = range-bounds (a + 1) n x i in let l = r.0 in let u = r.1 in (omega (arith, l), omega (arith, u))
 
-of-level : (new : List Segment) (end : ℕ) → IsWhole new end → end ≤ 16777216 → (level : ℕ) → 1 ≤ level → level ≤ 7 → (s : Segment) → IsIn s (level_segments new level) → IsOfLevel end s × (s.level ≡ level)
+of-level : (new : List Segment) (end : ℕ) → IsWholeTo new end → end ≤ 16777216 → (level : ℕ) → 1 ≤ level → level ≤ 7 → (s : Segment) → IsIn s (level_segments new level) → IsOfLevel end s × (s.level ≡ level)
 of-level new end w small zero low top s i = absurd (omega (arith, low))
 of-level new end w small (suc level) low top s i =
     let h = level-high new end w level s i in
     let n = h.number in
     (record { segment = high-segment new end level s h top small; above = omega (arith, n); below = h.high }, n)
 
-pub new-each : (old new : List Segment) (end : ℕ) → IsWhole new end → end ≤ 16777216 → AllByRecursion (IsOfLevel end) (new_levels old new)
+pub new-each : (old new : List Segment) (end : ℕ) → IsWholeTo new end → end ≤ 16777216 → AllByRecursion (IsOfLevel end) (new_levels old new)
 new-each old new end w small = all-from-in (IsOfLevel end) (new_levels old new) (λ s i.
     let at = in-some (λ level. filter (λ s. not (is_in same_segment s (level_segments old level))) (level_segments new level)) (range_with_len 1 top_level) s i in
     let b = range-bounds 1 7 at.0 at.1 in
@@ -87,7 +87,7 @@ rows-ascend f a (suc n) each level =
     let there = level at.0 (omega (arith, low)) (omega (arith, top)) t at.2 in
     inl (omega (arith, here, there, low)))
 
-pub new-ascend : (old new : List Segment) (end : ℕ) → IsWhole new end → end ≤ 16777216 → Grows old new → AscendByLevel (new_levels old new)
+pub new-ascend : (old new : List Segment) (end : ℕ) → IsWholeTo new end → end ≤ 16777216 → Grows old new → AscendByLevel (new_levels old new)
 new-ascend old new end w small g =
     let f = λ (level : ℕ). drop (length (level_segments old level)) (level_segments new level) in
     let number : (k : ℕ) → 1 ≤ k → k < 1 + 7 → (s : Segment) → IsIn s (f k) → s.level ≡ k =
@@ -107,8 +107,8 @@ new-ascend old new end w small g =
 from-nothing : (new : List Segment) → Grows [] new
 from-nothing new = record { more = Rattle.segment_rules.specs.Levels.complete new; is = refl }
 
-pub every-level : (new : List Segment) (end : ℕ) → IsWhole new end → end ≤ 16777216 → AllByRecursion (IsOfLevel end) (high_levels new)
+pub every-level : (new : List Segment) (end : ℕ) → IsWholeTo new end → end ≤ 16777216 → AllByRecursion (IsOfLevel end) (high_levels new)
 every-level new end w small = subst (AllByRecursion (IsOfLevel end)) (new-all new) (new-each [] new end w small)
 
-pub all-ascend : (new : List Segment) (end : ℕ) → IsWhole new end → end ≤ 16777216 → AscendByLevel (high_levels new)
+pub all-ascend : (new : List Segment) (end : ℕ) → IsWholeTo new end → end ≤ 16777216 → AscendByLevel (high_levels new)
 all-ascend new end w small = subst AscendByLevel (new-all new) (new-ascend [] new end w small (from-nothing new))

@@ -15,7 +15,7 @@ use Rattle.segment_codec.specs.Turns.{StandInTurn, place_behind, is_only}
 use Rattle.segment_codec.specs.Flat.{IsFlat}
 use Rattle.segment_rules.specs.Flat.{flat_segments_of, parents_listed}
 use Rattle.segment_rules.specs.NewLevels.{new_levels}
-use Rattle.segment_levels.specs.Whole.{IsWhole}
+use Rattle.segment_levels.specs.Whole.{IsWholeTo}
 use Rattle.segment_levels.proofs.Coming.{new-all}
 use Rattle.change_rules.proofs.Again.{made-again}
 use Rattle.change_rules.proofs.LevelSections.{whole-flats, every-level, all-ascend}
@@ -210,7 +210,7 @@ module _ (told : CloneData) (h : IsLawfulClone told) (formed : AreFormed told) (
       ∙ ap (map (λ (k : KnownName). k.name)) (filter-same (λ (k : KnownName). is_in nat_eq k.id highest && free k.id) (λ (k : KnownName). is_in nat_eq k.id (head_ids told.segments)) told.names (λ k i. sym (in-filtered k.id free highest)))
       ∙ picked 0 end told.names (head_ids told.segments) told.heads rising (rises-filter free 0 end highest (follow-rises 0 end told.segments cover)) h.heads)
 
-  whole : IsWhole told.segments end
+  whole : IsWholeTo told.segments end
   whole = whole-flats end told.segments (all-each IsFlat told.segments (λ s i. let f = segment s i in record { segment = f.0; flat = f.1 })) cover
       (let k : 16777216 ≤ 2 ^ 56 = lit≤ tt in omega (arith, fits, k))
 

@@ -11,7 +11,7 @@ use Rattle.segment_codec.specs.Table.{parents_at}
 use Rattle.segment_rules.specs.Flat.{flat_segments_of, parents_listed}
 use Rattle.batch_codec.specs.Payload.{Payload, Known}
 use Rattle.batch_codec.specs.Grammar.{cut_below}
-use Rattle.remote_rules.specs.CloneData.{CloneData, KnownName, first_false, first_of}
+use Rattle.remote_rules.specs.CloneData.{CloneData, KnownName, first_false, first_some}
 use Rattle.change_rules.specs.Tables.{known_in}
 
 -- the master group as the log has it, by its ids: only the parents matter here
@@ -52,8 +52,8 @@ first_unlike payloads cloned told =
     let stored = cut_below cloned (flat_segments_of 0 (parents_listed (flat_map (λ p. p.master) payloads))) in
     let theirs = cut_below cloned told.segments in
     let items = length told.segments + length told.names + length told.heads in
-    first_of (first_false 0 (segments_agree theirs stored))
-    (first_of (first_false items (nat_le (length stored) (length theirs) ∷ []))
+    first_some (first_false 0 (segments_agree theirs stored))
+    (first_some (first_false items (nat_le (length stored) (length theirs) ∷ []))
     (first_false (length told.segments) (map (λ k. not (nat_lt k.id cloned) || name_agrees (known_in payloads) k) told.names)))
 
 -- of each fetched name, the first of this id, whether it may be that of a new row: it is no earlier one, none that is stored

@@ -3,7 +3,7 @@ use Rattle.std.proofs.Common.{◌≡◌, ℕ, ◌+◌, ◌<◌, ◌≤◌, ◌^�
 use Rattle.std.specs.List.{AllByRecursion}
 use Rattle.segment_codec.specs.Record.{Segment, segment_bytes}
 use Rattle.flat_segments.specs.declared.view.FlatView.{FlatView}
-use Rattle.flat_segments.specs.Kept.{Kept, IsSectionOf}
+use Rattle.flat_segments.specs.Kept.{KeptFlats, IsSectionOf}
 use Rattle.flat_segments.specs.Views.{master_count}
 use Rattle.flat_segments.specs.Joined.{MayJoin}
 use Rattle.codec_rows.specs.Single.{IsOne}
@@ -13,7 +13,7 @@ near-view : (v : FlatView) (ps : List ℕ) → master_count v ≡ 4 → AllByRec
 near-view v [] e h = tt
 near-view v (p ∷ ps) e h = (⊎_elim (λ (a : p < 4). inl (omega (arith, a, e))) (λ b. inr b) h.0, near-view v ps e h.1)
 
-pub may-join : (v : FlatView) (others : Kept) (some : List ℕ) (pending : Kept) (more : List ℕ) (s t : Segment) → master_count v ≡ 4
+pub may-join : (v : FlatView) (others : KeptFlats) (some : List ℕ) (pending : KeptFlats) (more : List ℕ) (s t : Segment) → master_count v ≡ 4
     → IsOne others some (2 ^ 56) s → IsOne pending more others.end t → MayJoin v others some pending more
 may-join v others some pending more s t four one two =
     let flats = few-flats v in
@@ -30,7 +30,7 @@ may-join v others some pending more s t four one two =
       few = omega (arith, flats, four);
     }
 
-pub one-section : (section : Kept) (bytes after : List ℕ) (low : ℕ) (s : Segment) → IsSectionOf section ([] ++ record { place = 0; segment = s } ∷ []) → bytes ≡ segment_bytes s ++ after
+pub one-section : (section : KeptFlats) (bytes after : List ℕ) (low : ℕ) (s : Segment) → IsSectionOf section ([] ++ record { place = 0; segment = s } ∷ []) → bytes ≡ segment_bytes s ++ after
     → s.low ≡ low → section.end ≡ s.high + 1 → AllByRecursion (λ p. (p < 4) ⊎ (2 ^ 56 ≤ p)) s.parents → IsOne section bytes low s
 one-section section bytes after low s is parts begins ends near =
     record { stand = record { section_of = is; stand = ((after, parts), tt) }; begins = begins; ends = ends; near = near }

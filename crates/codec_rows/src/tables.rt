@@ -4,7 +4,7 @@ ghost use Rattle.std.specs.Prelude.{◌≡◌, ◌≤◌, ◌<◌, ◌⊎◌, �
 ghost use Rattle.std.specs.List.{AllByRecursion};
 ghost use Rattle.segment_codec.specs.Lent.{parents_left};
 ghost use Rattle.segment_codec.specs.Record.{Segment};
-ghost use Rattle.flat_segments.specs.Placed.{Placed, AreRecords, Stand};
+ghost use Rattle.flat_segments.specs.Placed.{PlacedSegment, AreRecords, Stand};
 ghost use Rattle.flat_segments.specs.Kept.{IsTableOf};
 ghost use Rattle.codec_rows.specs.Single.{IsOne};
 
@@ -111,8 +111,8 @@ fn are_records(bytes: &[u8]) -> bool
 /// Adds the records that stand in the log at a place, `len` bytes.
 fn add(table: &mut FlatTable, log: &[u8], at: usize, len: usize, most: u32) -> Result<(), FlatFault>
     requires small { most ≤ 2 ^ 20 }
-    requires table { (records : List Placed) × IsTableOf table.old records × Stand log.now records × (length records ≤ most) }
-    ensures { OnOk result ((records : List Placed) × IsTableOf table.new records × Stand log.now records × (length records ≤ most + 1000)) }
+    requires table { (records : List PlacedSegment) × IsTableOf table.old records × Stand log.now records × (length records ≤ most) }
+    ensures { OnOk result ((records : List PlacedSegment) × IsTableOf table.new records × Stand log.now records × (length records ≤ most + 1000)) }
 {
     if at > log.len() || len > log.len() - at || log.len() > 1 << 30 {
         return Err(FlatFault::Memory);
@@ -221,7 +221,7 @@ fn is_found_from_all(view: &FlatView<'_>) -> bool {
 
 /// Whether the table, whose records stand in the log, is that of the graph.
 fn is_whole(table: &FlatTable, log: &[u8]) -> bool
-    requires { (records : List Placed) × IsTableOf table.now records × Stand log.now records }
+    requires { (records : List PlacedSegment) × IsTableOf table.now records × Stand log.now records }
 {
     if table.count() != 200 {
         return false;
@@ -428,7 +428,7 @@ fn are_joined(
     pending: &Section,
     more: &[u8],
 ) -> bool
-    requires table { (records : List Placed) × IsTableOf table.now records × Stand log.now records }
+    requires table { (records : List PlacedSegment) × IsTableOf table.now records × Stand log.now records }
     requires four { 4 ≤ table.now.end }
     requires others { (s : Segment) × IsOne others.now some.now (2 ^ 56) s }
     requires pending { (s : Segment) × IsOne pending.now more.now others.now.end s }
@@ -444,7 +444,7 @@ fn are_joined_behind(
     some: &[u8],
     more: &[u8],
 ) -> Result<bool, FlatFault>
-    requires table { (records : List Placed) × IsTableOf table.now records × Stand log.now records }
+    requires table { (records : List PlacedSegment) × IsTableOf table.now records × Stand log.now records }
     requires four { 4 ≤ table.now.end }
 {
     let others = pushed(alloc, some, FIRST_OTHER)?;

@@ -7,7 +7,7 @@ use Rattle.id_groups.specs.Lists.{IsIn, AreDistinct}
 use Rattle.commit_graph.proofs.Down.{in-left, in-right}
 use Rattle.segment_codec.specs.Record.{Segment}
 use Rattle.batch_codec.specs.Payload.{Payload, Known, known_ids, known_names}
-use Rattle.batch_codec.specs.Grammar.{IsPayload, IsFlush, IsClone, IsWhole, count_after, cut_below, heads_among, cloned_head_names}
+use Rattle.batch_codec.specs.Grammar.{IsPayload, IsFlush, IsClone, IsWholePayload, count_after, cut_below, heads_among, cloned_head_names}
 use Rattle.batch_codec.proofs.Cloned.{cut-whole, heads-cloned}
 use Rattle.batch_codec.proofs.Knowing.{KnowsEnds}
 use Rattle.batch_codec.proofs.Meanings.{follow-within}
@@ -62,7 +62,7 @@ joined (y ∷ xs) x e = cc
 
 later-flush : (before : List Payload) (p : Payload) → before ≢ [] → MayFollow before p → IsFlush p
 later-flush before p some m = ⊎_elim (λ f. f)
-    (λ o. ⊎_elim (λ (c : IsClone p). absurd (some (m.clone_first c.kind))) (λ (w : IsWhole p). absurd (some (m.whole_first w.kind))) o) m.whole.by_kind
+    (λ o. ⊎_elim (λ (c : IsClone p). absurd (some (m.clone_first c.kind))) (λ (w : IsWholePayload p). absurd (some (m.whole_first w.kind))) o) m.whole.by_kind
 
 -- they know each new id
 pub later-known : (before more : List Payload) → before ≢ [] → AreLawful before more → (id : ℕ) → count_after 0 before ≤ id → id < count_after 0 (before ++ more) → IsIn id (ids_of (known_in more))
@@ -118,7 +118,7 @@ clone-begins p m c =
       heads = m.clone_heads c.kind ∙ sym (heads-cloned p m.whole c.kind);
     }
 
-whole-begins : (p : Payload) → MayFollow [] p → IsWhole p → Begins p
+whole-begins : (p : Payload) → MayFollow [] p → IsWholePayload p → Begins p
 whole-begins p m w = record {
   first = w.first;
   cloned = w.cloned;
@@ -141,7 +141,7 @@ others-most o [] le h = le
 others-most o (p ∷ payloads) le h = others-most (Some p) payloads h.0.counts.others h.1
 
 pub stores : (p : Payload) → IsPayload p → (0 < p.after) ⊎ (0 < length p.other_names)
-stores p h = ⊎_elim (λ (f : IsFlush p). f.something) (λ o. ⊎_elim (λ (c : IsClone p). inl c.something) (λ (w : IsWhole p). w.something) o) h.by_kind
+stores p h = ⊎_elim (λ (f : IsFlush p). f.something) (λ o. ⊎_elim (λ (c : IsClone p). inl c.something) (λ (w : IsWholePayload p). w.something) o) h.by_kind
 
 pub stored : (n : ℕ) (o : Option Payload) (payloads : List Payload) → (0 < n) ⊎ (0 < length (other_names_in o)) → AllByRecursion IsPayload payloads
     → (0 < count_after n payloads) ⊎ (0 < length (other_names_in (last_or o payloads)))

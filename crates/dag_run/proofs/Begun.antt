@@ -18,7 +18,7 @@ use Rattle.change_rules.specs.Tables.{cloned_count}
 use Rattle.remote_rules.specs.CloneData.{KnownName}
 use Rattle.remote_rules.specs.Mirror.{Mirror}
 use Rattle.remote_rules.specs.Known.{master_alone, master_world}
-use Rattle.remote_rules.specs.Honest.{IsHonest, IsSound}
+use Rattle.remote_rules.specs.Honest.{IsHonest, IsSoundMirror}
 use Rattle.remote_rules.specs.Calls.{IsCloned, IsPulled, MasterGoesOn}
 use Rattle.remote_rules.specs.Serving.{BeginsWith}
 use Rattle.remote_rules.specs.declared.MirrorFault.{MirrorFault}
@@ -30,7 +30,7 @@ use Rattle.step_rules.specs.Reply.{Reply, Refused, Added, Old, Listed, Dropped, 
 use Rattle.step_rules.specs.Worlds.{has, same_world, flush_of, after_change, after_flush, with_added}
 use Rattle.step_rules.specs.Tests.{first_some, refuse_if, refused_first, tests}
 use Rattle.step_rules.specs.Asking.{refusal_for}
-use Rattle.step_rules.specs.Step.{Told, TakesFrom, Clones, Pulls, Answered, Answers, CommandStep, GoesOutside, IsRefused, UnlessRefused, MayWantMemory, answer_tests, clone_tests, pull_tests, without}
+use Rattle.step_rules.specs.Step.{IsTold, TakesFrom, Clones, Pulls, AnsweredFirst, Answers, CommandStep, GoesOutside, IsRefused, UnlessRefused, MayWantMemory, answer_tests, clone_tests, pull_tests, without}
 use Rattle.step_rules.proofs.Trying.{Outer, tried-all}
 use Rattle.step_rules.proofs.Own.{refusals}
 use Rattle.step_rules.proofs.Steps.{not-tested, flushed-world, some-none, first-none-cons}
@@ -52,7 +52,7 @@ told-on false (Some q) r h = (q, refl, h.0, h.1)
 begins-on : (cloned : ℕ) (w : World Name) (k m : Mirror) → GoesTo k m → BeginsWith cloned w k → BeginsWith cloned w m
 begins-on cloned w k m g (r, told, honest, more, begins) =
     let on = told-on k.settled m.master r (subst (λ o. MasterGoesOn k.settled o m.master) told g.master) in
-    let sound : IsSound m = g.sound (subst (λ o. MatchOption o (Unit {0}) (IsHonest k.cloned)) (sym told) honest) in
+    let sound : IsSoundMirror m = g.sound (subst (λ o. MatchOption o (Unit {0}) (IsHonest k.cloned)) (sym told) honest) in
     (on.0, on.1, subst (λ o. MatchOption o (Unit {0}) (IsHonest m.cloned)) on.1 sound, more ++ on.2, on.3 ∙ ap (λ l. l ++ on.2) begins ∙ append_assoc (take cloned w.master) more on.2)
 
 settled-same : (k m : Mirror) → GoesTo k m → k.settled ≡ true → m.master ≡ k.master
@@ -147,14 +147,14 @@ some-of : {X : Type 0} (x y : X) → Some x ≡ Some y → x ≡ y
 some-of x y e = ap (or_this x) e
 
 -- who was cloned stands in front, and each other has its rows
-cloned-rows : (r : List (Row Name)) (mirrors : List Mirror) → Answered mirrors r → MayBeCloned mirrors → (m : Mirror) → IsIn m mirrors → (q : List (Row Name)) → m.master ≡ Some q → q ≡ r
+cloned-rows : (r : List (Row Name)) (mirrors : List Mirror) → AnsweredFirst mirrors r → MayBeCloned mirrors → (m : Mirror) → IsIn m mirrors → (q : List (Row Name)) → m.master ≡ Some q → q ≡ r
 cloned-rows r [] a c m i q t = absurd i
 cloned-rows r (x ∷ more) a (inl le) m (inl e) q t = some-of q r (sym t ∙ ap (λ (z : Mirror). z.master) e ∙ a)
 cloned-rows r (x ∷ []) a (inl le) m (inr i) q t = absurd i
 cloned-rows r (x ∷ y ∷ more) a (inl le) m (inr i) q t = absurd (omega (arith, le))
 cloned-rows r (x ∷ more) a (inr (settled, order)) m i q t = order m x q r i (inl refl) t a
 
-clone-begun : (st : Stored) (s : ℕ) (r : World Name) (mirrors : List Mirror) → Begun st mirrors → st.stored.master ≡ [] → MayBeCloned mirrors → Answered mirrors r.master
+clone-begun : (st : Stored) (s : ℕ) (r : World Name) (mirrors : List Mirror) → Begun st mirrors → st.stored.master ≡ [] → MayBeCloned mirrors → AnsweredFirst mirrors r.master
     → Begun (after_change st s (master_alone r) (clone_change r)) mirrors
 clone-begun st s r mirrors h empty choice a = changed-begun st s (master_alone r) (clone_change r) mirrors h (⊎_elim whole none (count-cloned st.payloads r))
   where
@@ -194,7 +194,7 @@ module _ (limits : Limits) (st : State) (s : ℕ) (h : IsState st) (clones : Typ
   same-now now mirrors e k = subst (λ z. IsNow z mirrors) (sym e) k
 
   told-now : (verb : Verb) (reply : Reply) (now : Stored) (mirrors : List Mirror) → first_some (refusals limits (base_of st.store s) (pending_of st.store s) st.store.stored verb) ≡ None
-      → Told st.store s verb reply now → IsNow st.store mirrors → IsNow now mirrors
+      → IsTold st.store s verb reply now → IsNow st.store mirrors → IsNow now mirrors
   told-now (Add name parents) reply now mirrors none t k = by_test (has (view_of st.store s) name) t
     where
       by_test : (b : Bool) → MatchBool b ((reply ≡ Old (id_in same_name (view_of st.store s) name)) × (now ≡ st.store))
@@ -243,11 +243,11 @@ module _ (limits : Limits) (st : State) (s : ℕ) (h : IsState st) (clones : Typ
   made st' mirrors e k = subst (λ l. IsNow st'.store l) (sym e) k
 
   taken-now : (Does : Mirror → Mirror → Type 0) (goes : (m asked : Mirror) → Does m asked → GoesTo m asked) (Makes : World Name → Reply → Stored → Type 0) (mirrors : List Mirror) (found : List KnownName) (reply : Reply) (st' : State)
-      → IsNow st.store mirrors → ((rows : List (Row Name)) (new : List Mirror) → Answered new rows → IsNow st.store new → Makes (master_world rows) reply st'.store → IsNow st'.store new) → TakesFrom Does Makes st mirrors found reply st' → IsSo st'
+      → IsNow st.store mirrors → ((rows : List (Row Name)) (new : List Mirror) → AnsweredFirst new rows → IsNow st.store new → Makes (master_world rows) reply st'.store → IsNow st'.store new) → TakesFrom Does Makes st mirrors found reply st' → IsSo st'
   taken-now Does goes Makes mirrors found reply st' k f (end, new, asks, out, ends) =
       made st' new out.mirrors_are (by_end end ends (on mirrors new (asks-from Does goes mirrors new end asks) k))
     where
-      by_end : (o : Option MirrorFault) → MatchOption o ((rows : List (Row Name)) × Answered new rows × Makes (master_world rows) reply st'.store) (λ fault. IsRefused st.store (refusal_for fault) reply st'.store) → IsNow st.store new → IsNow st'.store new
+      by_end : (o : Option MirrorFault) → MatchOption o ((rows : List (Row Name)) × AnsweredFirst new rows × Makes (master_world rows) reply st'.store) (λ fault. IsRefused st.store (refusal_for fault) reply st'.store) → IsNow st.store new → IsNow st'.store new
       by_end None g l = f g.0 new g.1 l g.2
       by_end (Some x) g l = same-now st'.store new g.1 l
 

@@ -32,7 +32,7 @@ use Rattle.step_rules.specs.Verb.{Verb, IsVerb, Add, Flush, Reload, Discard, Que
 use Rattle.step_rules.specs.Reply.{Reply, Counted, Dropped, Flushed, Stripped, Listed, Refused, reply_text}
 use Rattle.step_rules.specs.Tests.{tests}
 use Rattle.step_rules.specs.Worlds.{has, with_added, after_flush}
-use Rattle.step_rules.specs.Step.{Told, Answers, CommandStep, GoesOutside, IsRefused, MayWantMemory, without}
+use Rattle.step_rules.specs.Step.{IsTold, Answers, CommandStep, GoesOutside, IsRefused, MayWantMemory, without}
 use Rattle.step_rules.proofs.Kept.{step-state}
 use Rattle.step_rules.proofs.Plain.{all-memory, outside-same}
 use Rattle.step_rules.proofs.Refused.{refused-kept}
@@ -40,7 +40,7 @@ use Rattle.run_rules.specs.Grammar.{SpellsCommand}
 use Rattle.run_rules.specs.Run.{Step}
 use Rattle.command_lines.specs.Sending.{listed_text}
 use Rattle.dag_store.specs.Kept.{PlainStore}
-use Rattle.dag_store.specs.Stands.{Stands, StandsBeside, IsOutsideOf, IsRight}
+use Rattle.dag_store.specs.Stands.{Stands, StandsBeside, IsOutsideOf, IsAnswerable}
 use Rattle.dag_store.specs.Steps.{AreIdsOf, CountStep, ChangesOnly, KeepsAll, Leads}
 use Rattle.dag_store.specs.Flushes.{HasRoom, HasStored, Stores, StoresBy, FlushLeaves, LeavesStore, flush_end}
 use Rattle.dag_store.specs.Clones.{StoresClone, StoresCloneBy, clone_end}
@@ -93,7 +93,7 @@ pub limit-of : (kept : PlainStore) (limit : ℕ) → limit ≡ kept.limits.log �
 limit-of kept limit e f = sym f ∙ e
 
 -- ---- what a command leaves of what is stored
-told-changes : (st : Stored) (s : ℕ) (verb : Verb) (reply : Reply) (now : Stored) → IsBrief verb → Told st s verb reply now → Changes None st now []
+told-changes : (st : Stored) (s : ℕ) (verb : Verb) (reply : Reply) (now : Stored) → IsBrief verb → IsTold st s verb reply now → Changes None st now []
 told-changes st s (Add name parents) reply now brief t = by_test (has (view_of st s) name) _ _ t
   where
     by_test : (b : Bool) (P Q : Type 0) → MatchBool b (P × (now ≡ st)) (Q × (now ≡ with_added st s name parents)) → Changes None st now []
@@ -118,7 +118,7 @@ same-changes st now e = (ap (λ (z : Stored). z.past) e, ap (λ (z : Stored). z.
 
 module _ (limits : Limits) (st : State) (s : ℕ) where
   -- what is told of no test is told of what is stored alone
-  by_told : (verb : Verb) (reply : Reply) (st' : State) → IsBrief verb → ((mirrors : List Mirror) (found : List KnownName) → Answers limits st s verb mirrors found reply st' → Told st.store s verb reply st'.store)
+  by_told : (verb : Verb) (reply : Reply) (st' : State) → IsBrief verb → ((mirrors : List Mirror) (found : List KnownName) → Answers limits st s verb mirrors found reply st' → IsTold st.store s verb reply st'.store)
       → CommandStep limits st s verb reply st' → Changes None st.store st'.store []
   by_told verb reply st' brief told (verdict, mirrors, found, tries, ends) = by_verdict verdict ends
     where
@@ -284,7 +284,7 @@ same-outside limits began old new first st s verb reply now is h cache step stan
 
 -- one whose call tells the step and the store's state behind it
 pub leads-does : (first left : List Mirror) (old new : PlainStore) (s : ℕ) (verb asked : Verb) (reply given : Reply) → asked ≡ verb → IsBrief verb → given ≡ reply
-    → ((began : ℕ) (st : State) → StandsBeside began old first st → IsRight st → Leads began old.limits st s verb reply new left) → DoesBeside first left old new s asked given
+    → ((began : ℕ) (st : State) → StandsBeside began old first st → IsAnswerable st → Leads began old.limits st s verb reply new left) → DoesBeside first left old new s asked given
 leads-does first left old new s verb asked reply given e brief same leads =
     subst₂ (λ v r. DoesBeside first left old new s v r) (sym e) (sym same)
     (λ began st h enough. let l = leads began st h enough.0 in (l.0, l.1, brief-changes old.limits st s verb reply l.0 brief l.1, l.2))

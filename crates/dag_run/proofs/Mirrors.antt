@@ -10,7 +10,7 @@ use Rattle.id_groups.specs.Name.{Name, same_name}
 use Rattle.commit_graph.specs.World.{Row, World, rows_of}
 use Rattle.line_io.specs.Lines.{is_too_long}
 use Rattle.batch_codec.specs.Payload.{Payload}
-use Rattle.batch_codec.specs.Grammar.{IsPayload, IsFlush, IsClone, IsWhole}
+use Rattle.batch_codec.specs.Grammar.{IsPayload, IsFlush, IsClone, IsWholePayload}
 use Rattle.change_rules.specs.declared.Limits.{Limits}
 use Rattle.change_rules.specs.Tables.{cloned_count, other_names_in}
 use Rattle.change_rules.specs.Holding.{HoldAs, HoldPayloads}
@@ -22,7 +22,7 @@ use Rattle.remote_rules.specs.Known.{master_world}
 use Rattle.remote_rules.specs.declared.MirrorFault.{MirrorFault}
 use Rattle.change_rules.specs.Pull.{pulled}
 use Rattle.flush_rebuild.proofs.HonestTold.{cloned-within}
-use Rattle.remote_rules.specs.Honest.{IsSound}
+use Rattle.remote_rules.specs.Honest.{IsSoundMirror}
 use Rattle.step_rules.specs.declared.Refusal.{Refusal}
 use Rattle.step_rules.specs.declared.Refusal.TheVariants as why
 use Rattle.step_rules.specs.State.{State, Stored, IsState, at_start, start, with_stored, on_newest}
@@ -31,7 +31,7 @@ use Rattle.step_rules.specs.Reply.{Reply, Dropped, Pulled, Refused, LongLine}
 use Rattle.step_rules.specs.Tests.{first_some, has_pending, refused_first, tests}
 use Rattle.step_rules.specs.Asking.{refusal_for}
 use Rattle.step_rules.specs.Worlds.{after_flush}
-use Rattle.step_rules.specs.Step.{Answered, Answers, CommandStep, GoesOutside, IsRefused, MayWantMemory, Pulls, pull_tests, without}
+use Rattle.step_rules.specs.Step.{AnsweredFirst, Answers, CommandStep, GoesOutside, IsRefused, MayWantMemory, Pulls, pull_tests, without}
 use Rattle.step_rules.specs.Served.{IsServed}
 use Rattle.step_rules.specs.Plain.{IsInside}
 use Rattle.step_rules.proofs.Plain.{all-tried, command-back}
@@ -50,7 +50,7 @@ use Rattle.dag_run.proofs.Named.{IsNamed, named-flush, named-session, plain-name
 use Rattle.dag_run.proofs.Begun.{step-begun}
 
 -- ---- at the start
-pub enough-sound : (payloads : List Payload) (w : World Name) (mirrors : List Mirror) → AreEnough payloads w mirrors → AllByRecursion IsSound mirrors
+pub enough-sound : (payloads : List Payload) (w : World Name) (mirrors : List Mirror) → AreEnough payloads w mirrors → AllByRecursion IsSoundMirror mirrors
 enough-sound payloads w mirrors (inl serve) = served-sound (cloned_count payloads) w mirrors serve
 enough-sound payloads w mirrors (inr other) = other.2
 
@@ -140,7 +140,7 @@ pulls-named limits st s reply st' named (verdict, mirrors, found, tries, ends) =
     makes r (inl g) = by_tests r (first_some (pull_tests limits st.store r)) g
     makes r (inr m) = subst IsNamed (sym m.1) named
 
-    by_end : (new : List Mirror) (o : Option MirrorFault) → MatchOption o ((rows : List (Row Name)) × Answered new rows × Pulls limits st.store s (master_world rows) reply st'.store) (λ fault. IsRefused st.store (refusal_for fault) reply st'.store) → IsNamed st'.store
+    by_end : (new : List Mirror) (o : Option MirrorFault) → MatchOption o ((rows : List (Row Name)) × AnsweredFirst new rows × Pulls limits st.store s (master_world rows) reply st'.store) (λ fault. IsRefused st.store (refusal_for fault) reply st'.store) → IsNamed st'.store
     by_end new None g = makes (master_world g.0) g.2
     by_end new (Some x) g = subst IsNamed (sym g.1) named
 
@@ -151,7 +151,7 @@ pulls-named limits st s reply st' named (verdict, mirrors, found, tries, ends) =
 -- ---- the last row never goes
 -- what a payload stores has a commit
 payload-some : (p : Payload) → IsPayload p → (0 < p.after) ⊎ (0 < length p.other_names)
-payload-some p h = ⊎_elim (λ (f : IsFlush p). f.something) (λ o. ⊎_elim (λ (c : IsClone p). inl c.something) (λ (w : IsWhole p). w.something) o) h.by_kind
+payload-some p h = ⊎_elim (λ (f : IsFlush p). f.something) (λ o. ⊎_elim (λ (c : IsClone p). inl c.something) (λ (w : IsWholePayload p). w.something) o) h.by_kind
 
 last-whole : (before payloads : List Payload) (p : Payload) → AreLawful before (payloads ++ p ∷ []) → IsPayload p
 last-whole before [] p h = h.0.whole

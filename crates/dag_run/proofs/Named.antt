@@ -25,7 +25,7 @@ use Rattle.step_rules.specs.State.{Stored, IsStore, base_of, session}
 use Rattle.step_rules.proofs.Sessions.{newest-now}
 use Rattle.step_rules.specs.Verb.{Verb, Add, Flush, Reload, Discard, Query, Count, IdOf, Status, Levels, Clone, Pull, Strip, CountMirrors, Drop}
 use Rattle.step_rules.specs.Reply.{Reply, Listed}
-use Rattle.step_rules.specs.Step.{Told, UnlessRefused, IsRefused}
+use Rattle.step_rules.specs.Step.{IsTold, UnlessRefused, IsRefused}
 use Rattle.step_rules.specs.Tests.{first_some, refuse_if, refused_first, tests}
 use Rattle.step_rules.specs.Worlds.{has, with_added, after_flush, flush_of, same_world}
 use Rattle.step_rules.specs.State.{view_of}
@@ -110,7 +110,7 @@ named-flush st s new all = by_test (same_world new st.stored) refl
     by_test false e = rw e stored
 
 -- what is told that no test refuses
-told-named : (st : Stored) (s : ℕ) (verb : Verb) (reply : Reply) (now : Stored) → IsNamed st → Told st s verb reply now → IsNamed now
+told-named : (st : Stored) (s : ℕ) (verb : Verb) (reply : Reply) (now : Stored) → IsNamed st → IsTold st s verb reply now → IsNamed now
 told-named st s (Add name parents) reply now all t = by_test (has (view_of st s) name) _ _ t
   where
     by_test : (b : Bool) (P Q : Type 0) → MatchBool b (P × (now ≡ st)) (Q × (now ≡ with_added st s name parents)) → IsNamed now

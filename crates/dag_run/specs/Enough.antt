@@ -7,14 +7,14 @@ use Rattle.batch_codec.specs.Payload.{Payload}
 use Rattle.change_rules.specs.Lazy.{has_lazy}
 use Rattle.change_rules.specs.Tables.{cloned_count}
 use Rattle.remote_rules.specs.Mirror.{Mirror}
-use Rattle.remote_rules.specs.Honest.{IsSound}
+use Rattle.remote_rules.specs.Honest.{IsSoundMirror}
 use Rattle.remote_rules.specs.Serving.{AllServe}
 use Rattle.run_rules.specs.Grammar.{SpellsCommand}
 use Rattle.run_rules.specs.Premises.{HasCommand, HaveOneOrder}
 use Rattle.step_rules.specs.State.{State}
 use Rattle.step_rules.specs.Verb.{Verb, Clone, Pull}
 use Rattle.step_rules.specs.Served.{IsServed}
-use Rattle.dag_store.specs.Stands.{IsRight}
+use Rattle.dag_store.specs.Stands.{IsAnswerable}
 use Rattle.dag_store.specs.Pulls.{AllBeginWith}
 
 -- Over a log with these payloads that holds the world: each mirror serves it. Or else none is ever asked, and what they would answer
@@ -23,19 +23,19 @@ use Rattle.dag_store.specs.Pulls.{AllBeginWith}
 abbrev pub AreEnough : List Payload → World Name → List Mirror → Type 0
 AreEnough payloads w mirrors =
     AllServe (cloned_count payloads) w mirrors
-    ⊎ ((has_lazy payloads w ≡ false) × (0 < length (rows_of w)) × AllByRecursion IsSound mirrors)
+    ⊎ ((has_lazy payloads w ≡ false) × (0 < length (rows_of w)) × AllByRecursion IsSoundMirror mirrors)
 
 -- the same of a state: no mirror is asked for a name, or they serve it; and where nothing is stored, they serve what a clone stores
 abbrev pub HasEnough : State → Type 0
-HasEnough st = IsRight st × (length (rows_of st.store.stored) ≡ 0 → IsServed st)
+HasEnough st = IsAnswerable st × (length (rows_of st.store.stored) ≡ 0 → IsServed st)
 
 -- what a command's step rests on: beside that, a pull asks mirrors whose masters begin with the cloned commits
 abbrev pub IsEnoughFor : Verb → State → Type 0
-IsEnoughFor verb st = IsRight st × (length (rows_of st.store.stored) ≡ 0 → IsServed st) × (verb ≡ Pull → AllBeginWith st.store st.outside.mirrors)
+IsEnoughFor verb st = IsAnswerable st × (length (rows_of st.store.stored) ≡ 0 → IsServed st) × (verb ≡ Pull → AllBeginWith st.store st.outside.mirrors)
 
 -- and the step of a line
 abbrev pub IsEnoughOn : List ℕ → State → Type 0
-IsEnoughOn line st = IsRight st × (length (rows_of st.store.stored) ≡ 0 → IsServed st) × ((s : ℕ) → SpellsCommand line s Pull → AllBeginWith st.store st.outside.mirrors)
+IsEnoughOn line st = IsAnswerable st × (length (rows_of st.store.stored) ≡ 0 → IsServed st) × ((s : ℕ) → SpellsCommand line s Pull → AllBeginWith st.store st.outside.mirrors)
 
 -- What a state of a run of these lines has, where they pull: the cloned commits are there, each mirror's master begins with them, and
 -- where the lines clone, too, and nothing is stored yet, there is at most one mirror, or they are settled and have one order.

@@ -28,7 +28,7 @@ ghost use Rattle.dag_run.specs.Between.{Going, TurnMeans};
 ghost use Rattle.dag_run.specs.Bundling.{BundleMeans};
 ghost use Rattle.dag_run.specs.Compacting.{CompactMeans};
 ghost use Rattle.dag_run.specs.Serving.{IsServeStatus, ServeMeans, WantsOne};
-ghost use Rattle.remote_serve.specs.Steps.{ports, streams as served_streams};
+ghost use Rattle.remote_serve.specs.Steps.{ports, served_streams};
 
 use crate::bundling::put_bundle;
 use crate::compacting::compact_log;

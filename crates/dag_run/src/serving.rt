@@ -3,7 +3,7 @@
 ghost use Rattle.std.specs.Prelude.{◌≡◌, ◌≢◌, ◌⊎◌, length, map};
 ghost use Rattle.outside.specs.Counts.{Rose};
 ghost use Rattle.outside.specs.Told.{WhereTold};
-ghost use Rattle.remote_serve.specs.Steps.{ports, streams};
+ghost use Rattle.remote_serve.specs.Steps.{ports, served_streams};
 ghost use Rattle.dag_run.specs.Serving.{IsServeStatus, ServeMeans, WantsOne, served_status};
 
 use line_io::{Sink, Source};
@@ -44,7 +44,7 @@ pub fn serve_mirror<I: Source, O: Sink>(
     ensures known { IsServeStatus result }
     ensures means { let first = map (λ b. (⟦<dyn Remote as Remote>⟧ b.vtable).shown b.value) mirrors.old.list.items in let left = map (λ b. (⟦<dyn Remote as Remote>⟧ b.vtable).shown b.value) mirrors.new.list.items in
         length mirrors.old.list.items ≡ 1 → WhereTold (ports (I.left input.old) (O.taken output.old)) (ports (I.left input.new) (O.taken output.new))
-        (λ before after. ServeMeans limit result (streams before after) first left) }
+        (λ before after. ServeMeans limit result (served_streams before after) first left) }
     ensures one { WantsOne (length mirrors.old.list.items) result }
     ensures quiet { (result ≡ 7) ⊎ (result ≡ 11) → (input.new ≡ input.old) × (output.new ≡ output.old) × (mirrors.new ≡ mirrors.old) }
     ensures source { result ≡ 5 → Rose (I.faults input.old) (I.faults input.new) }

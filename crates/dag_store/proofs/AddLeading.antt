@@ -23,7 +23,7 @@ use Rattle.step_rules.proofs.Sessions.{base-changed, pending-changed}
 use Rattle.dag_store.specs.declared.replies.Added.{Added}
 use Rattle.dag_store.specs.declared.replies.Added.TheVariants.{New, Old}
 use Rattle.dag_store.specs.Kept.{PlainSession, PlainStore, IsKept, session_at, base_added, no_cache, sixteen}
-use Rattle.dag_store.specs.Stands.{IsRight, Stands, StandsBeside}
+use Rattle.dag_store.specs.Stands.{IsAnswerable, Stands, StandsBeside}
 use Rattle.dag_store.specs.Looking.{AreRight, AsksAlike, IsSoundCache, refusal_in}
 use Rattle.dag_store.specs.Adding.{AddsRow, IsSeen, add_tests, room_test, seen_tests}
 use Rattle.dag_store.specs.Steps.{Leads, add_reply}
@@ -74,7 +74,7 @@ module _ (log : Held) (tables : PlainTables) (sessions : List PlainSession) (lim
       subst (λ p. AsksAlike p (base_of st s) (tests limits st s (Add name parents)) old new (refusal_in r)) (payloads-are log tables sessions limits k began st h s lt)
       (subst (λ t. AsksAlike (payloads_of (base_added k.added (session_at sessions s))) (base_of st s) t old new (refusal_in r)) (sym (tests-are st h)) (f.tried.gained, f.tried.told))
 
-  add-leads : (st : State) (h : StandsBeside began (record { log = log; sessions = sessions; limits = limits; cache = a }) old st) → IsRight st → IsSoundCache b
+  add-leads : (st : State) (h : StandsBeside began (record { log = log; sessions = sessions; limits = limits; cache = a }) old st) → IsAnswerable st → IsSoundCache b
       → AddsRow limits.pending (session_at sessions s) (payloads_of (base_added k.added (session_at sessions s))) (base_of st.store s) (pending_of st.store s) name parents old new a b r next
       → Leads began limits st s (Add name parents) (add_reply r) (has_now s) new
   add-leads st h served sound f = by_result r f
@@ -134,14 +134,14 @@ module _ (log : Held) (tables : PlainTables) (sessions : List PlainSession) (lim
           (Some refusal, new, f.tried.gained, tried (Err refusal) f, ((refl, refl), next-goes a b old new st h.outside_of sound f.tried.gained f.tried.keeps))
 
   -- the same of a store as it is seen, and a session that was indexed
-  pub add-leads-at : (q : PlainStore) → had a ≡ q → (x : PlainSession) → x ≡ session_at sessions s → (n : ℕ) → n ≡ s → (st : State) → StandsBeside began q old st → IsRight st → (IsSoundCache a → IsSoundCache b)
+  pub add-leads-at : (q : PlainStore) → had a ≡ q → (x : PlainSession) → x ≡ session_at sessions s → (n : ℕ) → n ≡ s → (st : State) → StandsBeside began q old st → IsAnswerable st → (IsSoundCache a → IsSoundCache b)
       → ((w : World Name) (rows : List (Row Name)) → IsSeen k.added x w rows → Adds x w rows) → Leads began q.limits st s (Add name parents) (add_reply r) (has_now n) new
   add-leads-at q view x there n at = subst
-      (λ (q : PlainStore). (st : State) → StandsBeside began q old st → IsRight st → (IsSoundCache a → IsSoundCache b) → ((w : World Name) (rows : List (Row Name)) → IsSeen k.added x w rows → Adds x w rows)
+      (λ (q : PlainStore). (st : State) → StandsBeside began q old st → IsAnswerable st → (IsSoundCache a → IsSoundCache b) → ((w : World Name) (rows : List (Row Name)) → IsSeen k.added x w rows → Adds x w rows)
       → Leads began q.limits st s (Add name parents) (add_reply r) (has_now n) new) view
-      (subst (λ (x : PlainSession). (st : State) → StandsBeside began (had a) old st → IsRight st → (IsSoundCache a → IsSoundCache b) → ((w : World Name) (rows : List (Row Name)) → IsSeen k.added x w rows → Adds x w rows)
+      (subst (λ (x : PlainSession). (st : State) → StandsBeside began (had a) old st → IsAnswerable st → (IsSoundCache a → IsSoundCache b) → ((w : World Name) (rows : List (Row Name)) → IsSeen k.added x w rows → Adds x w rows)
       → Leads began limits st s (Add name parents) (add_reply r) (has_now n) new) (sym there)
-      (subst (λ m. (st : State) → StandsBeside began (had a) old st → IsRight st → (IsSoundCache a → IsSoundCache b)
+      (subst (λ m. (st : State) → StandsBeside began (had a) old st → IsAnswerable st → (IsSoundCache a → IsSoundCache b)
       → ((w : World Name) (rows : List (Row Name)) → IsSeen k.added (session_at sessions s) w rows → Adds (session_at sessions s) w rows)
       → Leads began limits st s (Add name parents) (add_reply r) (has_now m) new) (sym at)
       (λ st h served sound f. add-leads st h served (sound (sound-of began (had a) old st h)) (f (base_of st.store s) (pending_of st.store s) (session-seen log tables sessions limits k began st.store h.stored s lt)))))

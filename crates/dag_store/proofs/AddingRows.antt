@@ -14,8 +14,8 @@ use Rattle.commit_graph.proofs.Down.{in-right}
 use Rattle.commit_graph.proofs.Naming.{named-by, name-of, pending-names, pending-there}
 use Rattle.commit_graph.proofs.Places.{id-in-others, place-right}
 use Rattle.segment_codec.proofs.Tables.{le_or_lt}
-use Rattle.payload_tables.specs.Pending.{IdRow, PlainPending, HoldsRows, row_names}
-use Rattle.payload_tables.specs.Bases.{ArePending, id_row}
+use Rattle.payload_tables.specs.Pending.{HeldRow, PlainPending, HoldsRows, row_names}
+use Rattle.payload_tables.specs.Bases.{ArePending, held_row}
 use Rattle.payload_tables.proofs.Lists.{parents-known}
 use Rattle.payload_tables.proofs.Joined.{seen-id}
 use Rattle.step_rules.specs.Worlds.{has}
@@ -28,7 +28,7 @@ either-group [] = tt
 either-group (p ∷ ids) = (⊎_elim (λ a. inr a) (λ b. inl b) (le_or_lt (2 ^ 56) p), either-group ids)
 
 -- a name that a session doesn't see is that of none of its rows
-pub no-row : (w : World Name) (rows : List (Row Name)) (name : Name) → has (with_pending w rows) name ≡ false → IsIn name (row_names (map (id_row (with_pending w rows)) rows)) → ⊥
+pub no-row : (w : World Name) (rows : List (Row Name)) (name : Name) → has (with_pending w rows) name ≡ false → IsIn name (row_names (map (held_row (with_pending w rows)) rows)) → ⊥
 no-row w rows name fresh i =
     missing same_name same_name-exact same_name-self name (names_of (rows_of (with_pending w rows))) fresh
     (pending-there w rows name (subst (IsIn name) (names-of-rows (with_pending w rows) rows) i))
@@ -71,19 +71,19 @@ module _ (w : World Name) (rows : List (Row Name)) (view : IsNamedWorld (with_pe
   ids-stay (p ∷ ps) h = ap₂ (λ a b. a ∷ b) (id-stays p h.0) (ids-stay ps h.1)
 
   rows-stay : (some : List (Row Name)) → ((r : Row Name) → IsIn r some → AreAllIn r.parents (names_of (rows_of (with_pending w rows))))
-      → map (id_row (with_pending w (rows ++ record { name = name; parents = parents } ∷ []))) some ≡ map (id_row (with_pending w rows)) some
+      → map (held_row (with_pending w (rows ++ record { name = name; parents = parents } ∷ []))) some ≡ map (held_row (with_pending w rows)) some
   rows-stay [] h = refl
-  rows-stay (r ∷ some) h = ap₂ {C = List IdRow} (λ a b. record { name = r.name; parents = a } ∷ b) (ids-stay r.parents (h r (inl refl))) (rows-stay some (λ q i. h q (inr i)))
+  rows-stay (r ∷ some) h = ap₂ {C = List HeldRow} (λ a b. record { name = r.name; parents = a } ∷ b) (ids-stay r.parents (h r (inl refl))) (rows-stay some (λ q i. h q (inr i)))
 
   own-known : (r : Row Name) → IsIn r rows → AreAllIn r.parents (names_of (rows_of (with_pending w rows)))
   own-known r i = parents-known [] (rows_of (with_pending w rows)) view.world r (in-right r w.master (w.others ++ rows) (in-right r w.others rows i))
 
   -- the rows that are kept are those of the session with one more
-  pub rows-are : map (id_row (with_pending w (rows ++ record { name = name; parents = parents } ∷ []))) (rows ++ record { name = name; parents = parents } ∷ [])
-      ≡ map (id_row (with_pending w rows)) rows ++ record { name = name; parents = map (id_in same_name (with_pending w rows)) parents } ∷ []
+  pub rows-are : map (held_row (with_pending w (rows ++ record { name = name; parents = parents } ∷ []))) (rows ++ record { name = name; parents = parents } ∷ [])
+      ≡ map (held_row (with_pending w rows)) rows ++ record { name = name; parents = map (id_in same_name (with_pending w rows)) parents } ∷ []
   rows-are =
-      map-append (id_row (with_pending w more)) rows (row ∷ [])
-      ∙ ap₂ {C = List IdRow} (λ a b. a ++ record { name = name; parents = b } ∷ []) (rows-stay rows own-known) (ids-stay parents known)
+      map-append (held_row (with_pending w more)) rows (row ∷ [])
+      ∙ ap₂ {C = List HeldRow} (λ a b. a ++ record { name = name; parents = b } ∷ []) (rows-stay rows own-known) (ids-stay parents known)
 
   place-of-row : (xs : List (Row Name)) → slice_get (xs ++ row ∷ []) (length xs) ≡ Some row
   place-of-row [] = refl
@@ -95,9 +95,9 @@ module _ (w : World Name) (rows : List (Row Name)) (view : IsNamedWorld (with_pe
 
   -- the session's rows afterwards
   pub next-pending : (old new : PlainPending) (ids : List ℕ) → ArePending w old rows → ids ≡ map (id_in same_name (with_pending w rows)) parents → new.first ≡ old.first
-      → HoldsRows new (map (id_row (with_pending w rows)) rows ++ record { name = name; parents = ids } ∷ []) → ArePending w new (rows ++ record { name = name; parents = parents } ∷ [])
+      → HoldsRows new (map (held_row (with_pending w rows)) rows ++ record { name = name; parents = ids } ∷ []) → ArePending w new (rows ++ record { name = name; parents = parents } ∷ [])
   next-pending old new ids p are first held = record {
     first = first ∙ p.first;
-    held = subst (HoldsRows new) (ap (λ l. map (id_row (with_pending w rows)) rows ++ record { name = name; parents = l } ∷ []) are ∙ sym rows-are) held;
+    held = subst (HoldsRows new) (ap (λ l. map (held_row (with_pending w rows)) rows ++ record { name = name; parents = l } ∷ []) are ∙ sym rows-are) held;
     view = next-view.world;
   }

@@ -15,8 +15,8 @@ use Rattle.name_map.specs.Added.{Placed, payloads_of}
 use Rattle.change_rules.specs.declared.Limit.TheVariants as limit
 use Rattle.remote_rules.specs.Mirror.{Mirror}
 use Rattle.lazy_names.specs.Cache.{PlainCache}
-use Rattle.payload_tables.specs.Pending.{IdRow, PlainPending}
-use Rattle.payload_tables.specs.Bases.{id_row}
+use Rattle.payload_tables.specs.Pending.{HeldRow, PlainPending}
+use Rattle.payload_tables.specs.Bases.{held_row}
 use Rattle.step_rules.specs.declared.Refusal.{Refusal}
 use Rattle.step_rules.specs.declared.Refusal.TheVariants as why
 use Rattle.step_rules.specs.Worlds.{has}
@@ -69,11 +69,11 @@ module _ (added : List Placed) (x : PlainSession) (w : World Name) (rows : List 
 
   -- a row was appended, or wasn't
   module _ (ids : Vec ℕ Global) (q : Seeks (payloads_of (base_added added x)) w rows name parents old new a b (Ok (sought.New ids))) where
-    abbrev own : List IdRow
-    own = map (id_row (with_pending w rows)) rows
+    abbrev own : List HeldRow
+    own = map (held_row (with_pending w rows)) rows
 
-    many : length (map (id_row (with_pending w rows)) rows) ≡ length rows
-    many = length-map rows (id_row (with_pending w rows))
+    many : length (map (held_row (with_pending w rows)) rows) ≡ length rows
+    many = length-map rows (held_row (with_pending w rows))
 
     passed : AreRight (payloads_of (base_added added x)) w old → AreAllIn parents (names_of (rows_of (with_pending w rows))) × (twice [] parents ≡ None)
     passed v =
@@ -87,14 +87,14 @@ module _ (added : List Placed) (x : PlainSession) (w : World Name) (rows : List 
     room-is : AreRight (payloads_of (base_added added x)) w old → full limit.Pending most (length rows + 1) ≡ (if has (with_pending w rows) name then None else full limit.Pending most (length rows + 1))
     room-is v = sym (ap (λ z. if z then None else full limit.Pending most (length rows + 1)) (q.right v).0)
 
-    pub row-adds : (result : Result Added Refusal) (next : PlainPending) → Appends most x.pending (map (id_row (with_pending w rows)) rows) name ids.items result next → OnErr result (next ≡ x.pending)
+    pub row-adds : (result : Result Added Refusal) (next : PlainPending) → Appends most x.pending (map (held_row (with_pending w rows)) rows) name ids.items result next → OnErr result (next ≡ x.pending)
         → AddsRow most x (payloads_of (base_added added x)) w rows name parents old new a b result (record x { pending = next })
     row-adds (Ok (New id)) next h same = record {
       tried = tried-last payloads w (add_tests payloads w rows name parents) room None old new a b q.tried tt
           (λ v. full-not (let lt = h.0 in let long = many in omega (arith, lt, long)) ∙ room-is v);
       leaves = refl;
       right = λ v.
-          let named : IsName name = each (λ (r : IdRow). IsName r.name) (own ++ record { name = name; parents = ids.items } ∷ []) h.3.whole (record { name = name; parents = ids.items }) (in-right (record { name = name; parents = ids.items }) own (record { name = name; parents = ids.items } ∷ []) (inl refl)) in
+          let named : IsName name = each (λ (r : HeldRow). IsName r.name) (own ++ record { name = name; parents = ids.items } ∷ []) h.3.whole (record { name = name; parents = ids.items }) (in-right (record { name = name; parents = ids.items }) own (record { name = name; parents = ids.items } ∷ []) (inl refl)) in
           let y = q.right v in
           let gone = passed v in
           let first = s.pending_rows.first in

@@ -16,11 +16,11 @@ use Rattle.batch_codec.specs.Payload.{Payload, known_names}
 use Rattle.batch_codec.specs.Grammar.{count_after}
 use Rattle.change_rules.specs.Lawful.{AreLawful}
 use Rattle.name_map.specs.Added.{Placed, payloads_of}
-use Rattle.flat_segments.specs.Placed.{Placed as PlacedSegment, placed}
+use Rattle.flat_segments.specs.Placed.{PlacedSegment, placed_segments}
 use Rattle.change_rules.specs.Tables.{StandFor, newest, other_names_in}
 use Rattle.payload_tables.specs.declared.base.BaseRef.{BaseRef}
-use Rattle.payload_tables.specs.Pending.{IdRow, PlainPending, HoldsRows, row_names, segments_from}
-use Rattle.payload_tables.specs.Bases.{IsBaseOf, MayView, ArePending, id_row}
+use Rattle.payload_tables.specs.Pending.{HeldRow, PlainPending, HoldsRows, row_names, segments_from}
+use Rattle.payload_tables.specs.Bases.{IsBaseOf, MayView, ArePending, held_row}
 use Rattle.payload_tables.proofs.Lists.{all-append, names-length, parents-known}
 use Rattle.payload_tables.proofs.Naming.{whole-names}
 use Rattle.payload_tables.proofs.Rows.{count-rows}
@@ -57,7 +57,7 @@ parents-fit : (m k id : ℕ) → id ≡ 2 ^ 56 + k → (ps : List ℕ) → AllBy
 parents-fit m k id e [] h g = tt
 parents-fit m k id e (p ∷ ps) h g = (⊎_elim (λ a. inl a) (λ b. inr (b, (let lt = h.0 in omega (arith, lt, e)))) g.0, parents-fit m k id e ps h.1 g.1)
 
-rows-fit : (m k id at : ℕ) → id ≡ 2 ^ 56 + k → (rows : List IdRow) → AllByRecursion (λ (r : PlacedSegment). IsFlat r.segment) (placed at (segments_from id rows)) → HaveParents m rows → AllRows (Behind m) k rows
+rows-fit : (m k id at : ℕ) → id ≡ 2 ^ 56 + k → (rows : List HeldRow) → AllByRecursion (λ (r : PlacedSegment). IsFlat r.segment) (placed_segments at (segments_from id rows)) → HaveParents m rows → AllRows (Behind m) k rows
 rows-fit m k id at e [] h g = tt
 rows-fit m k id at e (r ∷ rows) h g = (
   (parents-fit m k id e r.parents h.0.segment.below g.0, h.0.segment.distinct, h.0.segment.level_parents),
@@ -78,7 +78,7 @@ fit-of added pending s = record {
 -- rows that are kept have names
 pub pending-named : (w : World Name) (pending : PlainPending) (rows : List (Row Name)) → IsNamedWorld w → ArePending w pending rows → IsNamedWorld (with_pending w rows)
 pending-named w pending rows h p =
-    let names = subst (AllByRecursion IsName) (names-of-rows (with_pending w rows) rows) (whole-names (map (id_row (with_pending w rows)) rows) p.held.whole) in
+    let names = subst (AllByRecursion IsName) (names-of-rows (with_pending w rows) rows) (whole-names (map (held_row (with_pending w rows)) rows) p.held.whole) in
     named-by (with_pending w rows) p.view (λ n i. ⊎_elim (λ j. name-of w h n j) (λ j. each IsName (names_of rows) names n j) (pending-names w rows n i))
 
 -- a session that is kept sees some world
@@ -112,7 +112,7 @@ module _ (added : List Placed) (w : World Name) (stand : StandFor (payloads_of a
   parts : IsHistory (names_of (rows_of w)) rows
   parts = history-rest [] (rows_of w) rows (subst (IsHistory []) (sym (append_assoc w.master w.others rows)) p.view)
 
-  parents-have : (some : List (Row Name)) → ((r : Row Name) → IsIn r some → AreAllIn r.parents (names_of (rows_of (with_pending w rows)))) → HaveParents (count_after 0 (payloads_of added)) (map (id_row (with_pending w rows)) some)
+  parents-have : (some : List (Row Name)) → ((r : Row Name) → IsIn r some → AreAllIn r.parents (names_of (rows_of (with_pending w rows)))) → HaveParents (count_after 0 (payloads_of added)) (map (held_row (with_pending w rows)) some)
   parents-have [] h = tt
   parents-have (r ∷ some) h = (
     subst (λ n. AllByRecursion (λ q. (q < n) ⊎ (2 ^ 56 ≤ q)) (map (id_in same_name (with_pending w rows)) r.parents)) (sym stand.count) (ids-parts (with_pending w rows) p.view small r.parents (h r (inl refl))),
@@ -121,7 +121,7 @@ module _ (added : List Placed) (w : World Name) (stand : StandFor (payloads_of a
 
   pub may-store : MayStore pending added
   may-store = record {
-    rows = map (id_row (with_pending w rows)) rows;
+    rows = map (held_row (with_pending w rows)) rows;
     held = p.held;
     first = p.first ∙ sym (ap (length {A = Name}) stand.names ∙ names-length w.others);
     parents = parents-have rows (λ r i. parents-known [] (rows_of (with_pending w rows)) p.view r (in-right r w.master (w.others ++ rows) (in-right r w.others rows i)));
@@ -152,8 +152,8 @@ below-all w rows n e small (id ∷ ids) h = (⊎_elim (λ a. omega (arith, a, sm
 pub may-be-parents : (w : World Name) (rows : List (Row Name)) (pending : PlainPending) (ids : List ℕ) → length w.master ≤ 16777216 → ArePending w pending rows → length ids ≤ 8 → AreDistinct ids → AllByRecursion (IsViewId w rows) ids
     → MayBeParents pending.first (length pending.places) ids
 may-be-parents w rows pending ids small p few distinct view =
-    let count = count-rows pending (map (id_row (with_pending w rows)) rows) p.held in
-    let long = length-map rows (id_row (with_pending w rows)) in
+    let count = count-rows pending (map (held_row (with_pending w rows)) rows) p.held in
+    let long = length-map rows (held_row (with_pending w rows)) in
     let first = p.first in
     record {
       few = few;
@@ -177,8 +177,8 @@ distinct-more (y ∷ xs) x d n = (
 -- A row that comes behind those of a session, whatever was told of its parents.
 module _ (added : List Placed) (x : PlainSession) (lawful : AreLawful [] (payloads_of added)) (of : IsSessionOf added x) (w : World Name) (rows : List (Row Name)) (s : IsSeen added x w rows) (name : Name) (ids : List ℕ)
     (view : AllByRecursion (IsViewId w rows) ids) (unstored : IsIn name (stored_names (payloads_of (base_added added x)) w) → ⊥) (unseen : IsIn name (names_of rows) → ⊥) where
-  abbrev own : List IdRow
-  own = map (id_row (with_pending w rows)) rows
+  abbrev own : List HeldRow
+  own = map (held_row (with_pending w rows)) rows
 
   abbrev front : List Placed
   front = base_added added x
@@ -186,19 +186,19 @@ module _ (added : List Placed) (x : PlainSession) (lawful : AreLawful [] (payloa
   its : MayStore x.pending (base_added added x)
   its = may-store (base_added added x) w s.stand (seen-small added x w rows lawful s) x.pending rows s.pending_rows
 
-  names-more : row_names (map (id_row (with_pending w rows)) rows ++ record { name = name; parents = ids } ∷ []) ≡ names_of rows ++ name ∷ []
-  names-more = map-append (λ (r : IdRow). r.name) (map (id_row (with_pending w rows)) rows) (record { name = name; parents = ids } ∷ []) ∙ ap (λ l. l ++ name ∷ []) (names-of-rows (with_pending w rows) rows)
+  names-more : row_names (map (held_row (with_pending w rows)) rows ++ record { name = name; parents = ids } ∷ []) ≡ names_of rows ++ name ∷ []
+  names-more = map-append (λ (r : HeldRow). r.name) (map (held_row (with_pending w rows)) rows) (record { name = name; parents = ids } ∷ []) ∙ ap (λ l. l ++ name ∷ []) (names-of-rows (with_pending w rows) rows)
 
-  pub not-own : IsIn name (row_names (map (id_row (with_pending w rows)) rows)) → ⊥
+  pub not-own : IsIn name (row_names (map (held_row (with_pending w rows)) rows)) → ⊥
   not-own i = unseen (subst (IsIn name) (names-of-rows (with_pending w rows) rows) i)
 
-  pub store-more : (new : PlainPending) → new.first ≡ x.pending.first → HoldsRows new (map (id_row (with_pending w rows)) rows ++ record { name = name; parents = ids } ∷ []) → MayStore new (base_added added x)
+  pub store-more : (new : PlainPending) → new.first ≡ x.pending.first → HoldsRows new (map (held_row (with_pending w rows)) rows ++ record { name = name; parents = ids } ∷ []) → MayStore new (base_added added x)
   unfolding its may-store
   store-more new first held = record {
-    rows = map (id_row (with_pending w rows)) rows ++ record { name = name; parents = ids } ∷ [];
+    rows = map (held_row (with_pending w rows)) rows ++ record { name = name; parents = ids } ∷ [];
     held = held;
     first = first ∙ its.first;
-    parents = all-append (λ (r : IdRow). AllByRecursion (λ p. (p < count_after 0 (payloads_of (base_added added x))) ⊎ (2 ^ 56 ≤ p)) r.parents) (map (id_row (with_pending w rows)) rows) (record { name = name; parents = ids } ∷ [])
+    parents = all-append (λ (r : HeldRow). AllByRecursion (λ p. (p < count_after 0 (payloads_of (base_added added x))) ⊎ (2 ^ 56 ≤ p)) r.parents) (map (held_row (with_pending w rows)) rows) (record { name = name; parents = ids } ∷ [])
         its.parents (in-parts w rows (count_after 0 (payloads_of (base_added added x))) s.stand.count ids view, tt);
     distinct = subst AreDistinct (sym names-more) (distinct-more (names_of rows) name (subst AreDistinct (names-of-rows (with_pending w rows) rows) its.distinct) unseen);
     fresh = λ n i j. ⊎_elim (λ o. its.fresh n (subst (IsIn n) (sym (names-of-rows (with_pending w rows) rows)) o) j)
@@ -207,7 +207,7 @@ module _ (added : List Placed) (x : PlainSession) (lawful : AreLawful [] (payloa
   }
 
   -- the session stays one of the store
-  pub kept-more : (most : ℕ) (result : Result Added Refusal) (new : PlainPending) → Appends most x.pending (map (id_row (with_pending w rows)) rows) name ids result new → OnErr result (new ≡ x.pending) → IsSessionOf added (record x { pending = new })
+  pub kept-more : (most : ℕ) (result : Result Added Refusal) (new : PlainPending) → Appends most x.pending (map (held_row (with_pending w rows)) rows) name ids result new → OnErr result (new ≡ x.pending) → IsSessionOf added (record x { pending = new })
   kept-more most (Ok (New id)) new a same = record { payloads = of.payloads; below = of.below; others = of.others; pending = store-more new a.2 a.3 }
   kept-more most (Ok (Old id)) new a same = absurd a
   kept-more most (Err refusal) new a same = subst (λ (p : PlainPending). IsSessionOf added (record x { pending = p })) (sym same) of

@@ -30,9 +30,9 @@ use Rattle.change_rules.specs.Disagree.{IsBadPath, id_graph}
 use Rattle.change_rules.proofs.Cloned.{get-some}
 use Rattle.remote_rules.specs.Known.{Path, master_world}
 use Rattle.remote_rules.specs.Mirror.{Mirror}
-use Rattle.remote_rules.specs.Serving.{Serves as IsServing}
+use Rattle.remote_rules.specs.Serving.{IsServing}
 use Rattle.remote_rules.specs.Calls.{IsAskedFor}
-use Rattle.remote_rules.specs.Asking.{Asks as IsOneAsk, AsksForNames}
+use Rattle.remote_rules.specs.Asking.{IsOneAsk, AsksForNames}
 use Rattle.remote_rules.specs.declared.MirrorFault.{MirrorFault}
 use Rattle.remote_rules.specs.declared.MirrorFault.TheVariants as mirror
 use Rattle.remote_trait.specs.Calls.{AreMaster, Leaves, raised}
@@ -51,7 +51,7 @@ use Rattle.payload_tables.proofs.Lists.{count-last, get-below, same-exact, same-
 use Rattle.payload_tables.proofs.Basing.{base-others}
 use Rattle.flush_rebuild.specs.Asked.{IsStored}
 use Rattle.lazy_names.specs.Cache.{PlainCache, Keeps}
-use Rattle.lazy_names.specs.Standing.{HasName, StandsFor, AreHeads}
+use Rattle.lazy_names.specs.Standing.{HasName, StandForRows, AreHeads}
 use Rattle.lazy_names.specs.Finding.{Finds, IsAsked, IsWay, IsMadeOf, IsRight, IsUnknown, found_entries}
 use Rattle.lazy_names.specs.declared.fault.LazyFault.{LazyFault}
 use Rattle.lazy_names.specs.declared.fault.LazyFault.TheVariants as lazy
@@ -256,7 +256,7 @@ module _ (base : BaseRef) (pending : PlainPending) (added : List Placed) (w : Wo
   table-parents id row e = view-parents id row e
       ∙ map-same (id_in same_name (with_pending w rows)) (id_in same_name (master_world w.master)) row.parents (λ p i. master-id (with_pending w rows) (master_world w.master) refl p (parent-in id row e p i))
 
-  pub stands-for : StandsFor flats (known_of (added ++ b.behind)) w.master
+  pub stands-for : StandForRows flats (known_of (added ++ b.behind)) w.master
   stands-for = record {
     master = master;
     others = length (w.others ++ rows);

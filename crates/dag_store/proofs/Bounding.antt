@@ -28,7 +28,7 @@ use Rattle.change_rules.specs.Tables.{StandFor}
 use Rattle.payload_tables.specs.declared.base.BaseRef.{BaseRef}
 use Rattle.payload_tables.specs.Kept.{master_records}
 use Rattle.payload_tables.specs.Pending.{segments_from}
-use Rattle.payload_tables.specs.Bases.{IsBaseOf, id_row, flat_segments_in}
+use Rattle.payload_tables.specs.Bases.{IsBaseOf, held_row, flat_segments_in}
 use Rattle.payload_tables.proofs.Basing.{base-levels}
 use Rattle.payload_tables.proofs.Lists.{same-self, same-exact}
 use Rattle.dag_store.specs.Bounds.{count_rows, most_looks, segments_of_level, EndsWithoutParents}
@@ -55,20 +55,20 @@ one-more false false m rows row h le = omega (arith, le)
 module _ (view : World Name) (spans : List IdSpan) where
   -- the segment of a row is met only where its id is in the set
   rows-met : (first : ℕ) (rows : List (Row Name)) → ((k : ℕ) (row : Row Name) → slice_get rows k ≡ Some row → id_in same_name view row.name ≡ first + k)
-      → count_met spans (segments_from first (map (id_row view) rows)) ≤ count_rows view spans rows
+      → count_met spans (segments_from first (map (held_row view) rows)) ≤ count_rows view spans rows
   rows-met first [] ids = zero-le
   rows-met first (row ∷ rows) ids =
       let is : id_in same_name view row.name ≡ first = ids 0 row refl ∙ (let z : first + 0 ≡ first = omega arith in z) in
       one-more (meets spans (record { low = first; high = first; level = 0; parents = map (id_in same_name view) row.parents })) (is_in nat_eq (id_in same_name view row.name) (ids_of spans))
-      (count_met spans (segments_from (first + 1) (map (id_row view) rows))) (filter (λ (r : Row Name). is_in nat_eq (id_in same_name view r.name) (ids_of spans)) rows) row
+      (count_met spans (segments_from (first + 1) (map (held_row view) rows))) (filter (λ (r : Row Name). is_in nat_eq (id_in same_name view r.name) (ids_of spans)) rows) row
       (λ e. there nat_eq same-exact same-self (id_in same_name view row.name) (ids_of spans) (subst (λ n. IsIn n (ids_of spans)) (sym is) (member-ids spans first (met-member spans first e))))
       (rows-met (first + 1) rows (λ k r e. ids (suc k) r e ∙ (let z : first + suc k ≡ first + 1 + k = omega arith in z)))
 
 -- what bounds look-ups by the segments of a view bounds them by the segments of the base and its pending rows
 pub few-looks : (w : World Name) (rows : List (Row Name)) → IsWorld (with_pending w rows) → (spans : List IdSpan) (flats : List Segment)
-    → flats ≡ flat_segments_in w ++ segments_from (other_id (length w.others)) (map (id_row (with_pending w rows)) rows) → (looks : ℕ) → looks ≤ 8 * (1 + count_met spans flats) → looks ≤ most_looks w rows spans
+    → flats ≡ flat_segments_in w ++ segments_from (other_id (length w.others)) (map (held_row (with_pending w rows)) rows) → (looks : ℕ) → looks ≤ 8 * (1 + count_met spans flats) → looks ≤ most_looks w rows spans
 few-looks w rows whole spans flats are looks le =
-    let behind = segments_from (other_id (length w.others)) (map (id_row (with_pending w rows)) rows) in
+    let behind = segments_from (other_id (length w.others)) (map (held_row (with_pending w rows)) rows) in
     let all : count_met spans flats ≡ count_met spans (flat_segments_in w) + count_met spans behind = ap (count_met spans) are ∙ met-append spans (flat_segments_in w) behind in
     let met = rows-met (with_pending w rows) spans (other_id (length w.others)) rows (λ k row e.
     id-in-others same_name same_name-exact same_name-self (with_pending w rows) whole (length w.others + k) row (place-right w.others rows k row e)

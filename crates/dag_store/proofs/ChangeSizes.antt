@@ -15,7 +15,7 @@ use Rattle.change_rules.specs.declared.Limit.TheVariants as limit
 use Rattle.change_rules.specs.Change.{text_of, flush_change}
 use Rattle.flush_rebuild.specs.declared.fault.PlanFault.{PlanFault}
 use Rattle.flush_rebuild.specs.declared.fault.PlanFault.TheVariants as faults
-use Rattle.flush_rebuild.specs.Plans.{IsChangeOf, over, first_of, length_with, flush_payload}
+use Rattle.flush_rebuild.specs.Plans.{IsChangeOf, over, first_fault, length_with, flush_payload}
 use Rattle.flush_rebuild.proofs.Refusing.{written, has-bytes}
 use Rattle.step_rules.specs.declared.Refusal.{Refusal}
 use Rattle.step_rules.specs.declared.Refusal.TheVariants as why
@@ -52,7 +52,7 @@ over-full what most n = by_test (nat_lt most n)
     by_test true = refl
     by_test false = refl
 
-pub mapped-first : (a : Option PlanFault) (b : Option PlanFault) (o : Option Refusal) (os : List (Option Refusal)) → option_map refusal_of a ≡ o → option_map refusal_of b ≡ first_some os → option_map refusal_of (first_of a b) ≡ first_some (o ∷ os)
+pub mapped-first : (a : Option PlanFault) (b : Option PlanFault) (o : Option Refusal) (os : List (Option Refusal)) → option_map refusal_of a ≡ o → option_map refusal_of b ≡ first_some os → option_map refusal_of (first_fault a b) ≡ first_some (o ∷ os)
 mapped-first None b o os e f = f ∙ ap (λ z. first_some (z ∷ os)) e
 mapped-first (Some fault) b o os e f = ap (λ z. first_some (z ∷ os)) e
 

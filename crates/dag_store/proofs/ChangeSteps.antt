@@ -29,7 +29,7 @@ use Rattle.dag_store.specs.Stands.{Stands, StandsBeside}
 use Rattle.dag_store.specs.Looking.{AreRight, IsSoundCache, Tried, refusal_in}
 use Rattle.dag_store.specs.Steps.{Leads}
 use Rattle.dag_store.specs.Flushes.{ChangeStep, StoresBy, HasRoom, refused_flush}
-use Rattle.dag_store.specs.Finishes.{EndsAs, Finishes, payload_in}
+use Rattle.dag_store.specs.Finishes.{FinishesAs, Finishes, payload_in}
 use Rattle.dag_store.specs.Changes.{IsPlanTo, IsPrepared, PreparesChange}
 use Rattle.dag_store.proofs.Leading.{leads-to, next-goes, outside_next}
 use Rattle.dag_store.proofs.ChangeSizes.{worlds-decided}
@@ -149,14 +149,14 @@ module _ (began : ℕ) (kept : PlainStore) (tables : PlainTables) (k : IsKept ke
   -- what was prepared, or refused, ends in the step
   pub change-ends : (reserved : Held) → HasRoom kept.log reserved → (after : PlainTables) (next : Result Next Refusal)
       → MatchResult next (λ ready. IsPrepared kept.limits kept.log reserved tables after k.added ready.change ready.session) (λ refusal. after ≡ tables)
-      → PreparesChange kept.limits st.store s verb new old left kept.cache b next → (end : Ended) → EndsAs reserved kept.sessions kept.limits b s next end → ChangeStep began kept st s verb sizes new left (payload_in next) end
+      → PreparesChange kept.limits st.store s verb new old left kept.cache b next → (end : Ended) → FinishesAs reserved kept.sessions kept.limits b s next end → ChangeStep began kept st s verb sizes new left (payload_in next) end
   change-ends reserved room after (Ok ready) p made end e = finished reserved after ready p room made end e
   change-ends reserved room after (Err refusal) p made end e =
       subst (ChangeStep began kept st s verb sizes new left []) (sym e)
       (refused reserved room (record { log = reserved; sessions = kept.sessions; limits = kept.limits; cache = b }) refl [] refusal made)
 
 -- it is refused where what was prepared is
-pub ends-refused : (log : Held) (sessions : List PlainSession) (limits : Limits) (b : PlainCache) (at : ℕ) (next : Result Next Refusal) (end : Ended) → EndsAs log sessions limits b at next end → refused_flush end ≡ refusal_in next
+pub ends-refused : (log : Held) (sessions : List PlainSession) (limits : Limits) (b : PlainCache) (at : ℕ) (next : Result Next Refusal) (end : Ended) → FinishesAs log sessions limits b at next end → refused_flush end ≡ refusal_in next
 ends-refused log sessions limits b at (Ok ready) (ends.Done store counts clock) e = refl
 ends-refused log sessions limits b at (Ok ready) (ends.Refused same refusal) e = absurd e
 ends-refused log sessions limits b at (Ok ready) (ends.Disk fault) e = refl

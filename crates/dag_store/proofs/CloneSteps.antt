@@ -40,7 +40,7 @@ use Rattle.step_rules.specs.Worlds.{same_world}
 use Rattle.step_rules.specs.Tests.{first_some, refused_first, tests}
 use Rattle.step_rules.specs.Served.{IsServed}
 use Rattle.step_rules.specs.Asking.{TriesAll}
-use Rattle.step_rules.specs.Step.{CommandStep, Answered, Clones, TakesFrom, GoesOutside, IsRefused, clone_tests}
+use Rattle.step_rules.specs.Step.{CommandStep, AnsweredFirst, Clones, TakesFrom, GoesOutside, IsRefused, clone_tests}
 use Rattle.step_rules.proofs.Kept.{step-state}
 use Rattle.step_rules.proofs.Plain.{all-tries}
 use Rattle.dag_store.specs.declared.changing.Next.{Next}
@@ -49,7 +49,7 @@ use Rattle.dag_store.specs.declared.replies.Flushed.TheVariants as ends
 use Rattle.dag_store.specs.Kept.{PlainSession, PlainStore, IsKept, sixteen}
 use Rattle.dag_store.specs.Stands.{IsOutsideOf, Stands, StandsBeside}
 use Rattle.dag_store.specs.Flushes.{HasRoom, FlushLeaves}
-use Rattle.dag_store.specs.Finishes.{EndsAs, Finishes, payload_in}
+use Rattle.dag_store.specs.Finishes.{FinishesAs, Finishes, payload_in}
 use Rattle.dag_store.specs.Changes.{IsPrepared, refusal_of}
 use Rattle.dag_store.specs.Clones.{clone_end, StoresCloneBy, beside, CloneStep, RefusesAsked, RefusesClone, TakesTold, CloneAnswers, PlansClone}
 use Rattle.dag_store.proofs.Sizes.{others-many}
@@ -122,7 +122,7 @@ module _ (limits : Limits) (fair : AreLimits limits) (st : State) (s log : ℕ) 
       by_test (Some why_not) e q = (Some why_not, st.outside.mirrors, [], tried (Some why_not) e, ((ap Refused q.1, refl), record { mirrors_are = q.0; room = refl; cache = refl }))
 
   pub told-step : (left : List Mirror) (told : CloneData) → TakesTold limits st.store s log st.outside.mirrors left told → (n : ℕ) → n ≡ told_count told
-      → (rows : List (Row Name)) × Answered left rows × IsToldBy rows told × CommandStep limits st s Clone (Cloned n) (beside st (clone_end st.store s rows) left)
+      → (rows : List (Row Name)) × AnsweredFirst left rows × IsToldBy rows told × CommandStep limits st s Clone (Cloned n) (beside st (clone_end st.store s rows) left)
   told-step left told t n count =
       let by = told-by (cloned_count st.store.payloads) st.store.stored st.outside.mirrors left told (served-now t.passed).mirrors.each t.asks in
       let nothing_there = nothing t.passed in
@@ -192,7 +192,7 @@ module _ (began : ℕ) (kept : PlainStore) (tables : PlainTables) (k : IsKept ke
     abbrev told : CloneData
     told = plan.0
 
-    there : (n : ℕ) → n ≡ told_count told → (rows : List (Row Name)) × Answered left rows × IsToldBy rows told × CommandStep kept.limits st s Clone (Cloned n) (beside st (clone_end st.store s rows) left)
+    there : (n : ℕ) → n ≡ told_count told → (rows : List (Row Name)) × AnsweredFirst left rows × IsToldBy rows told × CommandStep kept.limits st s Clone (Cloned n) (beside st (clone_end st.store s rows) left)
     there n e = told-step kept.limits k.limits_fit st s log served nothing left told plan.1 n e
 
     nothing_there : (st.store.stored ≡ empty_world) × (st.store.payloads ≡ []) × (log ≡ 1)
@@ -335,7 +335,7 @@ module _ (kept q : PlainStore) (is : kept ≡ q) (tables : PlainTables) (k : IsK
   pub clone-ends : (after : PlainTables) (next : Result Next Refusal) → MatchResult next (λ ready. IsPrepared kept.limits kept.log reserved tables after k.added ready.change ready.session) (λ refusal. after ≡ tables)
       → ((began : ℕ) (st : Stored) → Stands began kept st → MatchResult next
       (λ ready. PlansClone kept.limits st s (length (log_bytes kept.log)) first left ready.change) (RefusesClone kept.limits st s (length (log_bytes kept.log)) first left))
-      → (at : ℕ) → at ≡ s → (end : Ended) → EndsAs reserved kept.sessions kept.limits kept.cache at next end → Goes (FlushLeaves kept (payload_in next) end) a b
+      → (at : ℕ) → at ≡ s → (end : Ended) → FinishesAs reserved kept.sessions kept.limits kept.cache at next end → Goes (FlushLeaves kept (payload_in next) end) a b
       → (payload : List ℕ) × Goes (FlushLeaves q payload end) a b
       × ((began : ℕ) (st : State) → StandsBeside began q first st → (length (rows_of st.store.stored) ≡ 0 → IsServed st) → CloneStep began q left st s payload end)
       × ((began : ℕ) (st : Stored) → Stands began q st → CloneAnswers q.limits st s (length (log_bytes q.log)) first left payload end)

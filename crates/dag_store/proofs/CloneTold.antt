@@ -14,9 +14,9 @@ use Rattle.high_segments.proofs.Groups.{in-drop}
 use Rattle.remote_rules.specs.CloneData.{CloneData}
 use Rattle.remote_rules.specs.Mirror.{Mirror}
 use Rattle.remote_rules.specs.Known.{master_world}
-use Rattle.remote_rules.specs.Honest.{IsHonest, IsSound, heads_of}
+use Rattle.remote_rules.specs.Honest.{IsHonest, IsSoundMirror, heads_of}
 use Rattle.remote_rules.specs.Clones.{IsCloneOf}
-use Rattle.remote_rules.specs.Serving.{Serves}
+use Rattle.remote_rules.specs.Serving.{IsServing}
 use Rattle.remote_trait.specs.Calls.{Refreshes, ToldSo, AreGrown}
 use Rattle.mirror_set.specs.Asking.{Asks, IsItsClone}
 use Rattle.change_rules.specs.declared.Limits.{Limits}
@@ -27,7 +27,7 @@ use Rattle.change_rules.specs.Change.{clone_change, text_of}
 use Rattle.change_rules.proofs.Relation.{clones-are}
 use Rattle.flush_rebuild.specs.declared.fault.PlanFault.{PlanFault}
 use Rattle.flush_rebuild.specs.declared.fault.PlanFault.TheVariants as faults
-use Rattle.flush_rebuild.specs.Plans.{over, first_of, length_with}
+use Rattle.flush_rebuild.specs.Plans.{over, first_fault, length_with}
 use Rattle.flush_rebuild.specs.Cloning.{clone_payload, clone_refusal, IsToldBy}
 use Rattle.flush_rebuild.proofs.Refusing.{written, has-bytes}
 use Rattle.step_rules.specs.declared.Refusal.{Refusal}
@@ -36,7 +36,7 @@ use Rattle.step_rules.specs.State.{Stored, pending_of}
 use Rattle.step_rules.specs.Verb.{Clone}
 use Rattle.step_rules.specs.Worlds.{same_world, log_after}
 use Rattle.step_rules.specs.Tests.{first_some, refuse_if, refused_first, full, has_pending, tests}
-use Rattle.step_rules.specs.Step.{Answered, clone_tests}
+use Rattle.step_rules.specs.Step.{AnsweredFirst, clone_tests}
 use Rattle.step_rules.proofs.Steps.{some-none, first-none-cons}
 use Rattle.dag_store.specs.Changes.{refusal_of}
 
@@ -49,17 +49,17 @@ still-told P (Some b) None x h e = absurd h
 still-told P (Some b) (Some y) x h e = (y, refl)
 
 -- the mirror that answered tells master rows, and what it told is the clone of these
-pub told-by : (cloned : ℕ) (w : World Name) (first left : List Mirror) (told : CloneData) → AllByRecursion (Serves cloned w) first → Asks Refreshes IsItsClone first left (Ok told)
-    → (rows : List (Row Name)) × Answered left rows × IsToldBy rows told
+pub told-by : (cloned : ℕ) (w : World Name) (first left : List Mirror) (told : CloneData) → AllByRecursion (IsServing cloned w) first → Asks Refreshes IsItsClone first left (Ok told)
+    → (rows : List (Row Name)) × AnsweredFirst left rows × IsToldBy rows told
 told-by cloned w first left told served a =
     let there : IsIn a.first first = in-drop a.count first a.first (subst (IsIn a.first) (sym a.was) (inl refl)) in
-    let s = each (Serves cloned w) first served a.first there in
-    let before : IsSound a.first = subst (λ o. MatchOption o ⊤ (IsHonest a.first.cloned)) (sym s.1) s.2 in
+    let s = each (IsServing cloned w) first served a.first there in
+    let before : IsSoundMirror a.first = subst (λ o. MatchOption o ⊤ (IsHonest a.first.cloned)) (sym s.1) s.2 in
     let now = still-told AreGrown a.first.master a.next.master s.0 a.left.master s.1 in
     let honest : IsHonest a.next.cloned now.0 = subst (λ o. MatchOption o ⊤ (IsHonest a.next.cloned)) now.1 (a.left.sound before) in
     let clone : IsCloneOf now.0 told = subst (λ o. IfSome o (λ rows. IsCloneOf rows told)) now.1 a.right.honest in (
       now.0,
-      subst (λ (l : List Mirror). Answered l now.0) (sym a.is) now.1,
+      subst (λ (l : List Mirror). AnsweredFirst l now.0) (sym a.is) now.1,
       record { world = honest.world; told_is = (clones-are now.0 honest.world told).0 clone },
     )
 
@@ -114,7 +114,7 @@ over-full what limit n = by_test (nat_lt limit n)
     by_test true = refl
     by_test false = refl
 
-first-mapped : (x y z : Option PlanFault) → first_some (option_map refusal_of x ∷ option_map refusal_of y ∷ option_map refusal_of z ∷ []) ≡ option_map refusal_of (first_of x (first_of y z))
+first-mapped : (x y z : Option PlanFault) → first_some (option_map refusal_of x ∷ option_map refusal_of y ∷ option_map refusal_of z ∷ []) ≡ option_map refusal_of (first_fault x (first_fault y z))
 first-mapped (Some f) y z = refl
 first-mapped None (Some f) z = refl
 first-mapped None None (Some f) = refl

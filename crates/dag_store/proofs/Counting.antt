@@ -13,7 +13,7 @@ use Rattle.segment_codec.proofs.Tables.{le_or_lt}
 use Rattle.batch_codec.specs.Payload.{Known}
 use Rattle.batch_codec.specs.Reading.{ids_ascend}
 use Rattle.batch_codec.specs.Grammar.{count_after}
-use Rattle.name_map.specs.Added.{Placed, payloads_of, known_of, Follow}
+use Rattle.name_map.specs.Added.{Placed, payloads_of, known_of, FollowInLog}
 use Rattle.name_map.specs.Map.{count_known}
 use Rattle.name_map.proofs.More.{ids-ascend}
 use Rattle.name_map.proofs.Orders.{known-within}
@@ -42,7 +42,7 @@ joined least end (k ∷ ks) more h le g =
     let high : k.id + 1 ≤ end = let t = b.1 in grind (arith, nat_tests) in
     (low, joined (k.id + 1) end ks more a.1 high g)
 
-known-ascend : (count : ℕ) (added : List Placed) → Follow count added → Ascend count (known_of added)
+known-ascend : (count : ℕ) (added : List Placed) → FollowInLog count added → Ascend count (known_of added)
 known-ascend count [] h = tt
 known-ascend count (a ∷ more) h =
     let rest = known-ascend a.payload.after more h.2 in
@@ -115,17 +115,17 @@ full (suc m) ks h =
 
 -- ---- payloads behind others have no names for the ids of these
 
-from : (n : ℕ) (behind : List Placed) → Follow n behind → (k : Known) → IsIn k (known_of behind) → n ≤ k.id
+from : (n : ℕ) (behind : List Placed) → FollowInLog n behind → (k : Known) → IsIn k (known_of behind) → n ≤ k.id
 from n [] h k i = absurd i
 from n (a ∷ behind) h k i = ⊎_elim
     (λ (j : IsIn k a.payload.known). let low = (known-within a.payload h.0 k j).0 in let e = h.1 in omega (arith, low, e))
     (λ (j : IsIn k (known_of behind)). let r = from a.payload.after behind h.2 k j in let g = h.0.counts.grows in let e = h.1 in omega (arith, r, g, e)) (in-append k a.payload.known (known_of behind) i)
 
-behind-from : (n : ℕ) (front behind : List Placed) → Follow n (front ++ behind) → (k : Known) → IsIn k (known_of behind) → count_after n (payloads_of front) ≤ k.id
+behind-from : (n : ℕ) (front behind : List Placed) → FollowInLog n (front ++ behind) → (k : Known) → IsIn k (known_of behind) → count_after n (payloads_of front) ≤ k.id
 behind-from n [] behind h k i = from n behind h k i
 behind-from n (a ∷ front) behind h k i = behind-from a.payload.after front behind h.2 k i
 
-module _ (front behind : List Placed) (follow : Follow 0 (front ++ behind)) (w : World Name) (stand : StandFor (payloads_of front) w) where
+module _ (front behind : List Placed) (follow : FollowInLog 0 (front ++ behind)) (w : World Name) (stand : StandFor (payloads_of front) w) where
   abbrev known : List Known
   known = known_of (front ++ behind)
 

@@ -26,8 +26,8 @@ use Rattle.payload_tables.specs.declared.base.BaseRef.{BaseRef}
 use Rattle.payload_tables.proofs.Lists.{same-exact, same-self}
 use Rattle.lazy_names.specs.Cache.{Entry, PlainCache, Keeps}
 use Rattle.lazy_names.specs.Standing.{HasName}
-use Rattle.lazy_names.specs.Fetching.{AreNamed, AreServed, IsCacheOf, IsLazy, count_uncached, ids_fetched, is_uncached, entries_of as fetched_entries}
-use Rattle.lazy_names.specs.Gathering.{EndsAs, Gathers, IsRightFetch, fault_in}
+use Rattle.lazy_names.specs.Fetching.{AreNamed, AreServed, IsCacheOf, IsLazy, count_uncached, ids_fetched, is_uncached, fetched_entries}
+use Rattle.lazy_names.specs.Gathering.{GathersAs, Gathers, IsRightFetch, fault_in}
 use Rattle.lazy_names.specs.declared.fault.LazyFault.{LazyFault}
 use Rattle.lazy_names.specs.declared.fault.LazyFault.TheVariants as lazy
 use Rattle.lazy_names.specs.declared.fetched.FetchedName.{FetchedName}
@@ -155,7 +155,7 @@ module _ (payloads : List Payload) (w : World Name) (rows : List (Row Name)) (id
         right = λ r c. (tt, tt);
       })))
 
-  ends-so : (r : Result (List FetchedName) LazyFault) (answered : ℕ) (counts : List ℕ) (end : Option MirrorFault) → EndsAs all counts answered end (fault_in r) → FetchesSo all answered end (as_fetched r)
+  ends-so : (r : Result (List FetchedName) LazyFault) (answered : ℕ) (counts : List ℕ) (end : Option MirrorFault) → GathersAs all counts answered end (fault_in r) → FetchesSo all answered end (as_fetched r)
   ends-so (Ok fetched) answered counts end h = h
   ends-so (Err lazy.NoRemote) answered counts end h = (mirror.NoRemote, h, refl)
   ends-so (Err (lazy.AllFailed n)) answered counts end h = (mirror.AllFailed n, h, refl)

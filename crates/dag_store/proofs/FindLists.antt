@@ -7,7 +7,7 @@ use Rattle.std.proofs.lemmas.List.{map-append, take_all, take-append-drop, take-
 use Rattle.id_groups.specs.Name.{Name}
 use Rattle.commit_graph.specs.World.{World}
 use Rattle.name_map.specs.Added.{Placed, payloads_of}
-use Rattle.payload_tables.specs.Pending.{IdRow, PlainPending, HoldsRows, row_names}
+use Rattle.payload_tables.specs.Pending.{HeldRow, PlainPending, HoldsRows, row_names}
 use Rattle.remote_rules.specs.Mirror.{Mirror}
 use Rattle.lazy_names.specs.Cache.{PlainCache}
 use Rattle.step_rules.specs.declared.Refusal.{Refusal}
@@ -86,13 +86,13 @@ module _ {X : Type 0} (added : List Placed) (w : World Name) (test : Name → Te
 -- ---- the names of pending rows
 
 -- the name of a pending row
-row-at : (rows : List IdRow) (i : ℕ) (lent : Name) → i < length rows → ((row : IdRow) → slice_get rows i ≡ Some row → lent ≡ row.name) → (i < length (row_names rows)) × (lent ≡ get_or (row_names rows) i lent)
+row-at : (rows : List HeldRow) (i : ℕ) (lent : Name) → i < length rows → ((row : HeldRow) → slice_get rows i ≡ Some row → lent ≡ row.name) → (i < length (row_names rows)) × (lent ≡ get_or (row_names rows) i lent)
 row-at [] i lent lt h = absurd (omega (arith, lt))
-row-at (r ∷ rows) zero lent lt h = ((let l = length-map rows (λ (q : IdRow). q.name) in omega (arith, l)), h r refl)
+row-at (r ∷ rows) zero lent lt h = ((let l = length-map rows (λ (q : HeldRow). q.name) in omega (arith, l)), h r refl)
 row-at (r ∷ rows) (suc i) lent lt h = let q = row-at rows i lent (omega (arith, lt)) h in ((let a = q.0 in omega (arith, a)), q.1)
 
-module _ (pending : PlainPending) (names : List Name) (h : HaveNames pending names) (n : ℕ) (len : (rows : List IdRow) → HoldsRows pending rows → n ≡ length rows) where
-  pub name-there : (i : ℕ) (lent : Name) → i < n → ((rows : List IdRow) (row : IdRow) → HoldsRows pending rows → slice_get rows i ≡ Some row → lent ≡ row.name) → (i < length names) × (lent ≡ get_or names i lent)
+module _ (pending : PlainPending) (names : List Name) (h : HaveNames pending names) (n : ℕ) (len : (rows : List HeldRow) → HoldsRows pending rows → n ≡ length rows) where
+  pub name-there : (i : ℕ) (lent : Name) → i < n → ((rows : List HeldRow) (row : HeldRow) → HoldsRows pending rows → slice_get rows i ≡ Some row → lent ≡ row.name) → (i < length names) × (lent ≡ get_or names i lent)
   name-there i lent lt name =
       subst (λ l. (i < length l) × (lent ≡ get_or l i lent)) h.2
       (row-at h.0 i lent (let e = len h.0 h.1 in omega (arith, lt, e)) (λ row at. name h.0 row h.1 at))
@@ -100,7 +100,7 @@ module _ (pending : PlainPending) (names : List Name) (h : HaveNames pending nam
   pub names-over : (i : ℕ) → n ≤ i → length names ≤ i
   names-over i le =
       let e = len h.0 h.1 in
-      let a = length-map h.0 (λ (q : IdRow). q.name) in
+      let a = length-map h.0 (λ (q : HeldRow). q.name) in
       let b = ap (length {A = Name}) h.2 in
       omega (arith, le, e, a, b)
 

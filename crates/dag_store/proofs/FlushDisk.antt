@@ -15,7 +15,7 @@ use Rattle.dag_store.specs.declared.replies.Flushed.{Flushed}
 use Rattle.dag_store.specs.declared.replies.Flushed.TheVariants.{Done, Refused, Disk}
 use Rattle.dag_store.specs.Kept.{PlainSession, PlainStore}
 use Rattle.dag_store.specs.Flushes.{HasRoom, HasStored, FlushLeaves, IsQuiet, LeavesStore}
-use Rattle.dag_store.specs.Finishes.{EndsAs, Finishes}
+use Rattle.dag_store.specs.Finishes.{FinishesAs, Finishes}
 
 -- the payload is stored
 pub leaves-stored : (kept after : PlainStore) (payload : List ℕ) (clock : ℕ) (a b : Option Told) → kept.log.limit ≡ kept.limits.log → after.log.payloads ≡ kept.log.payloads ++ payload ∷ [] → after.log.limit ≡ kept.log.limit
@@ -72,7 +72,7 @@ module _ (kept : PlainStore) (reserved : Held) (room : HasRoom kept.log reserved
   leaves-store s x change (Disk fault) e f = tt
 
 -- the same of what was prepared or refused
-pub leaves-ends : (kept : PlainStore) (reserved : Held) (room : HasRoom kept.log reserved) (cache : PlainCache) (s at : ℕ) → at ≡ s → (next : Result Next Refusal) (end : Flushed) → EndsAs reserved kept.sessions kept.limits cache at next end → LeavesStore kept s end
+pub leaves-ends : (kept : PlainStore) (reserved : Held) (room : HasRoom kept.log reserved) (cache : PlainCache) (s at : ℕ) → at ≡ s → (next : Result Next Refusal) (end : Flushed) → FinishesAs reserved kept.sessions kept.limits cache at next end → LeavesStore kept s end
 leaves-ends kept reserved room cache s at is (Ok ready) end e =
     leaves-store kept reserved room (set kept.sessions at ready.session) cache s ready.session ready.change end (ap (λ n. set kept.sessions n ready.session) is) e
 leaves-ends kept reserved room cache s at is (Err refusal) end e =

@@ -10,7 +10,7 @@ use Rattle.change_rules.specs.declared.Limits.{Limits}
 use Rattle.remote_rules.specs.Mirror.{Mirror}
 use Rattle.lazy_names.specs.Cache.{PlainCache}
 use Rattle.payload_tables.specs.Kept.{PlainTables}
-use Rattle.payload_tables.specs.Pending.{IdRow, HoldsRows}
+use Rattle.payload_tables.specs.Pending.{HeldRow, HoldsRows}
 use Rattle.step_rules.specs.declared.Refusal.{Refusal}
 use Rattle.step_rules.specs.State.{State, Stored}
 use Rattle.step_rules.specs.Tests.{tests}
@@ -19,11 +19,11 @@ use Rattle.step_rules.specs.Verb.{Verb, Reload}
 use Rattle.dag_store.specs.declared.changing.Next.{Next}
 use Rattle.dag_store.specs.declared.replies.Flushed.{Flushed}
 use Rattle.dag_store.specs.Kept.{PlainSession, PlainStore, IsKept, IsSessionOf, session_at, sixteen}
-use Rattle.dag_store.specs.Stands.{IsRight, Stands, StandsBeside}
+use Rattle.dag_store.specs.Stands.{IsAnswerable, Stands, StandsBeside}
 use Rattle.dag_store.specs.Looking.{AreRight, AsksAlike, IsSoundCache, refusal_in}
 use Rattle.dag_store.specs.Steps.{Leads, reload_reply}
 use Rattle.dag_store.specs.Flushes.{ChangeStep, FlushLeaves, HasRoom}
-use Rattle.dag_store.specs.Finishes.{EndsAs, payload_in}
+use Rattle.dag_store.specs.Finishes.{FinishesAs, payload_in}
 use Rattle.dag_store.specs.Changes.{AreOver, IsOn, IsPrepared, PreparesChange, Reloads}
 use Rattle.dag_store.proofs.Leading.{right-now, sound-of}
 use Rattle.dag_store.proofs.FlushStored.{on-of, over-of}
@@ -47,7 +47,7 @@ module _ (log : Held) (tables : PlainTables) (sessions : List PlainSession) (lim
     beside-kept : (began : ℕ) (st : State) → StandsBeside began q old st → StandsBeside began (kept_with a) old st
     beside-kept began st h = subst (λ v. StandsBeside began v old st) (sym view) h
 
-    right-of : (began : ℕ) (st : State) → StandsBeside began q old st → IsRight st → AreRight st.store.payloads st.store.stored old
+    right-of : (began : ℕ) (st : State) → StandsBeside began q old st → IsAnswerable st → AreRight st.store.payloads st.store.stored old
     right-of began st h r = subst (AreRight st.store.payloads st.store.stored) h.outside_of.mirrors_are (right-now st r)
 
     module _ (sound : IsSoundCache a → IsSoundCache b) where
@@ -56,16 +56,16 @@ module _ (log : Held) (tables : PlainTables) (sessions : List PlainSession) (lim
 
       -- ---- a reload
 
-      pub reload-leads-at : (y : PlainSession) (n at : ℕ) → at ≡ s → IsSessionOf k.added y × (y.payloads ≡ length k.added) → ((rows : List IdRow) → HoldsRows y.pending rows → n ≡ length rows)
+      pub reload-leads-at : (y : PlainSession) (n at : ℕ) → at ≡ s → IsSessionOf k.added y × (y.payloads ≡ length k.added) → ((rows : List HeldRow) → HoldsRows y.pending rows → n ≡ length rows)
           → ((began : ℕ) (st : Stored) → IsOn began k.added x st s → Reloads limits st s old new a b (Ok y))
-          → (began : ℕ) (st : State) → StandsBeside began q old st → IsRight st → Leads began q.limits st s Reload (reload_reply (Ok n)) (record { log = log; sessions = set sessions at y; limits = limits; cache = b }) new
+          → (began : ℕ) (st : State) → StandsBeside began q old st → IsAnswerable st → Leads began q.limits st s Reload (reload_reply (Ok n)) (record { log = log; sessions = set sessions at y; limits = limits; cache = b }) new
       reload-leads-at y n at is good len f began st h r =
           subst (λ (v : PlainStore). Leads began v.limits st s Reload (reload_reply (Ok n)) (record { log = log; sessions = set sessions at y; limits = limits; cache = b }) new) view
           (subst (λ m. Leads began limits st s Reload (reload_reply (Ok n)) (record { log = log; sessions = set sessions m y; limits = limits; cache = b }) new) (sym is)
           (reload-done began (kept_with a) tables k st old new b (beside-kept began st h) s small (right-of began st h r) (sound-now began st h) y n good len (f began st.store (on-x began st.store h.stored))))
 
       pub reload-refused-at : (result : Result ℕ Refusal) (refusal : Refusal) → IsErrAnd result (λ g. g ≡ refusal) → ((began : ℕ) (st : Stored) → IsOn began k.added x st s → Reloads limits st s old new a b (Err refusal))
-          → (began : ℕ) (st : State) → StandsBeside began q old st → IsRight st → Leads began q.limits st s Reload (reload_reply result) (kept_with b) new
+          → (began : ℕ) (st : State) → StandsBeside began q old st → IsAnswerable st → Leads began q.limits st s Reload (reload_reply result) (kept_with b) new
       reload-refused-at (Ok v) refusal e f began st h r = absurd e
       reload-refused-at (Err g) refusal e f began st h r =
           subst (λ z. Leads began q.limits st s Reload (reload_reply (Err z)) (kept_with b) new) (sym e)
@@ -88,20 +88,20 @@ module _ (log : Held) (tables : PlainTables) (sessions : List PlainSession) (lim
         (reserved : Held) (room : HasRoom log reserved) (told then : Option Told) where
       abbrev Answers : PlainStore → Flushed → Type 0
       Answers v end = (payload : List ℕ) × Goes (FlushLeaves v payload end) told then
-          × ((began : ℕ) (st : State) → StandsBeside began v old st → IsRight st → ChangeStep began v st s verb sizes (new_of st.store) new payload end)
+          × ((began : ℕ) (st : State) → StandsBeside began v old st → IsAnswerable st → ChangeStep began v st s verb sizes (new_of st.store) new payload end)
 
       pub change-ends-at : (sound : IsSoundCache a → IsSoundCache b) (after : PlainTables) (next : Result Next Refusal)
           → MatchResult next (λ ready. IsPrepared limits log reserved tables after k.added ready.change ready.session) (λ refusal. after ≡ tables)
           → ((began : ℕ) (st : Stored) → IsOn began k.added x st s → PreparesChange limits st s verb (new_of st) old new a b next)
-          → (at : ℕ) → at ≡ s → (end : Flushed) → EndsAs reserved sessions limits b at next end → Goes (FlushLeaves (kept_with a) (payload_in next) end) told then
-          → (payload : List ℕ) × Goes (FlushLeaves q payload end) told then × ((began : ℕ) (st : State) → StandsBeside began q old st → IsRight st → ChangeStep began q st s verb sizes (new_of st.store) new payload end)
+          → (at : ℕ) → at ≡ s → (end : Flushed) → FinishesAs reserved sessions limits b at next end → Goes (FlushLeaves (kept_with a) (payload_in next) end) told then
+          → (payload : List ℕ) × Goes (FlushLeaves q payload end) told then × ((began : ℕ) (st : State) → StandsBeside began q old st → IsAnswerable st → ChangeStep began q st s verb sizes (new_of st.store) new payload end)
       change-ends-at sound after next p f at is end ends leaves = subst (λ v. Answers v end) view (
         payload_in next,
         leaves,
         λ began st h r.
             let o = subst (λ (y : PlainSession). IsOn began k.added y st.store s) (sym there) (on-of log tables sessions limits k began st.store h.stored s small) in
             change-ends began (kept_with a) tables k st old new b h s small (subst (AreRight st.store.payloads st.store.stored) h.outside_of.mirrors_are (right-now st r)) (sound (sound-of began (kept_with a) old st h))
-            verb sizes (new_of st.store) (can began st o) reserved room after next p (f began st.store o) end (subst (λ n. EndsAs reserved sessions limits b n next end) is ends),
+            verb sizes (new_of st.store) (can began st o) reserved room after next p (f began st.store o) end (subst (λ n. FinishesAs reserved sessions limits b n next end) is ends),
       )
 
     pub change-asks-at : (verb : Verb) (next_of : Stored → World Name) (result : Result Next Refusal) → ((began : ℕ) (st : Stored) → IsOn began k.added x st s → PreparesChange limits st s verb (next_of st) old new a b result)

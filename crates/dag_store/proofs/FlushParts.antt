@@ -11,7 +11,7 @@ use Rattle.gated_log.proofs.Places.{length-log}
 use Rattle.batch_codec.specs.Payload.{Payload, payload_bytes}
 use Rattle.change_rules.specs.declared.Limits.{Limits}
 use Rattle.change_rules.specs.Lawful.{MayFollow}
-use Rattle.name_map.specs.Added.{Placed, payloads_of, AllStand, Follow as Following}
+use Rattle.name_map.specs.Added.{Placed, payloads_of, AllStand, FollowInLog as Following}
 use Rattle.change_rules.specs.Change.{text_of}
 use Rattle.change_rules.specs.Lazy.{has_lazy}
 use Rattle.payload_tables.specs.declared.base.BaseRef.{BaseRef}

@@ -20,7 +20,7 @@ use Rattle.change_rules.proofs.Held.{change-held}
 use Rattle.remote_rules.specs.Mirror.{Mirror}
 use Rattle.lazy_names.specs.Cache.{PlainCache}
 use Rattle.payload_tables.specs.Kept.{PlainTables}
-use Rattle.payload_tables.specs.Pending.{IdRow, HoldsRows}
+use Rattle.payload_tables.specs.Pending.{HeldRow, HoldsRows}
 use Rattle.step_rules.specs.declared.Refusal.{Refusal}
 use Rattle.step_rules.specs.declared.Refusal.TheVariants as why
 use Rattle.step_rules.specs.State.{State, Stored, base_of, pending_of, on_newest}
@@ -156,7 +156,7 @@ module _ (began : ℕ) (kept : PlainStore) (tables : PlainTables) (k : IsKept ke
       (pending-there (base_of st.store s) (pending_of st.store s) y (filtered-names (λ row. not (is_in same_name row.name (names_of (rows_of st.store.stored)))) y (pending_of st.store s) j)))
       (pending-names st.store.stored left_rows y i))
 
-  pub reload-done : (x : PlainSession) (n : ℕ) → IsSessionOf k.added x × (x.payloads ≡ length k.added) → ((rows : List IdRow) → HoldsRows x.pending rows → n ≡ length rows) → Reloads kept.limits st.store s old left kept.cache b (Ok x)
+  pub reload-done : (x : PlainSession) (n : ℕ) → IsSessionOf k.added x × (x.payloads ≡ length k.added) → ((rows : List HeldRow) → HoldsRows x.pending rows → n ≡ length rows) → Reloads kept.limits st.store s old left kept.cache b (Ok x)
       → Leads began kept.limits st s Reload (Reloaded n) (record { log = kept.log; sessions = set kept.sessions s x; limits = kept.limits; cache = b }) left
   reload-done x n of len r =
       let p = r.right right in

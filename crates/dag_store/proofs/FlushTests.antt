@@ -19,7 +19,7 @@ use Rattle.payload_tables.specs.Bases.{ArePending}
 use Rattle.flush_rebuild.specs.declared.fault.PlanFault.{PlanFault}
 use Rattle.flush_rebuild.specs.declared.fault.PlanFault.TheVariants as faults
 use Rattle.flush_rebuild.specs.declared.plan.Change.{Change}
-use Rattle.flush_rebuild.specs.Plans.{IsPlanOf, over, first_of, unknown_fault, first_unknown, flush_refusal, size_refusal, length_with, stored_id}
+use Rattle.flush_rebuild.specs.Plans.{IsPlanOf, over, first_fault, unknown_fault, first_unknown, flush_refusal, size_refusal, length_with, stored_id}
 use Rattle.step_rules.specs.declared.Refusal.{Refusal}
 use Rattle.step_rules.specs.declared.Refusal.TheVariants as why
 use Rattle.step_rules.specs.State.{Stored, pending_of}
@@ -121,7 +121,7 @@ module _ (limits : Limits) (st : Stored) (s : ℕ) (heads : List Name) where
             all (n ∷ names) i = (known-rebased st.stored (pending_of st s) n i.0, all names i.1)
 
         refusal-is : AreRight st.payloads st.stored old → option_map refusal_of (flush_refusal limits log view (flush_of st s heads) heads payload_is) ≡ first_some (sizes limits st (flush_of st s heads))
-        refusal-is q = ap (λ z. option_map refusal_of (first_of (unknown_fault z) (size_refusal limits log (flush_of st s heads) payload_is))) (none-unknown view heads (heads-known q)) ∙ sizes-are log e le
+        refusal-is q = ap (λ z. option_map refusal_of (first_fault (unknown_fault z) (size_refusal limits log (flush_of st s heads) payload_is))) (none-unknown view heads (heads-known q)) ∙ sizes-are log e le
 
         -- what a plan is asked for, where the mirrors serve
         pub asked-rightly : AreRight st.payloads st.stored old → ArePending st.stored left (left_of same_name st.stored (pending_of st s)) × (later ≡ map (stored_id st.stored) heads)

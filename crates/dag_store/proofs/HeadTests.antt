@@ -17,7 +17,7 @@ use Rattle.remote_rules.specs.Mirror.{Mirror}
 use Rattle.lazy_names.specs.Cache.{PlainCache}
 use Rattle.payload_tables.specs.declared.base.BaseRef.{BaseRef}
 use Rattle.payload_tables.specs.Bases.{IsBaseOf, stored_in}
-use Rattle.payload_tables.specs.Pending.{IdRow, PlainPending, HoldsRows, FindsRow, row_names}
+use Rattle.payload_tables.specs.Pending.{HeldRow, PlainPending, HoldsRows, FindsRow, row_names}
 use Rattle.payload_tables.proofs.Lists.{names-length}
 use Rattle.payload_tables.proofs.Naming.{get-in, name-of-row}
 use Rattle.flush_rebuild.specs.Asked.{IsBaseId, IsFoundIn, others_count}
@@ -80,7 +80,7 @@ absent x xs n = by_test (is_in same_name x xs) refl
 
 -- ---- names of pending rows
 
-module _ (pending : PlainPending) (names : List Name) (h : HaveNames pending names) (lent name : Name) (same : lent ≡ name) (r : Option ℕ) (find : (rows : List IdRow) → HoldsRows pending rows → FindsRow rows lent r) where
+module _ (pending : PlainPending) (names : List Name) (h : HaveNames pending names) (lent name : Name) (same : lent ≡ name) (r : Option ℕ) (find : (rows : List HeldRow) → HoldsRows pending rows → FindsRow rows lent r) where
   here : FindsRow h.0 name r
   here = subst (λ z. FindsRow h.0 z r) same (find h.0 h.1)
 

@@ -15,7 +15,7 @@ use Rattle.segment_codec.specs.Table.{Follow, IsInSegment, parents_at, parents_i
 use Rattle.segment_codec.proofs.Tables.{follow-rising, follow-within, rising-at, le_or_lt}
 use Rattle.ancestor_query.specs.Graph.{table_graph}
 use Rattle.batch_codec.specs.Payload.{Payload, Known, known_ids}
-use Rattle.batch_codec.specs.Grammar.{IsPayload, IsFlush, IsClone, IsWhole, KnowsCloned, count_after, cloned_head_names, cut_below, heads_among, merge_parents}
+use Rattle.batch_codec.specs.Grammar.{IsPayload, IsFlush, IsClone, IsWholePayload, KnowsCloned, count_after, cloned_head_names, cut_below, heads_among, merge_parents}
 use Rattle.batch_codec.proofs.Cloned.{heads-cloned}
 use Rattle.batch_codec.proofs.Meanings as meanings
 use Rattle.change_rules.specs.Lawful.{AreLawful, MayFollow}
@@ -68,7 +68,7 @@ some-first x xs e = cc
 
 later-flush : (before : List Payload) (p : Payload) → before ≢ [] → MayFollow before p → IsFlush p
 later-flush before p some m = ⊎_elim (λ f. f)
-    (λ o. ⊎_elim (λ (c : IsClone p). absurd (some (m.clone_first c.kind))) (λ (w : IsWhole p). absurd (some (m.whole_first w.kind))) o) m.whole.by_kind
+    (λ o. ⊎_elim (λ (c : IsClone p). absurd (some (m.clone_first c.kind))) (λ (w : IsWholePayload p). absurd (some (m.whole_first w.kind))) o) m.whole.by_kind
 
 joined : {X : Type 0} (xs : List X) (x : X) → (xs ++ x ∷ []) ≢ []
 joined [] x e = cc
@@ -147,7 +147,7 @@ clone-begins p h c = record {
       (ends-known p.after (known_ids p) p.master (meanings.follow-within p.before p.after p.master h.cover.master) c.known);
 }
 
-whole-begins : (p : Payload) → IsWhole p → BeginsCloned p
+whole-begins : (p : Payload) → IsWholePayload p → BeginsCloned p
 whole-begins p w = record { first = w.first; cloned = w.cloned; all_known = w.all_known; known = w.known }
 
 -- ---- segments cut at an id
@@ -414,7 +414,7 @@ cloned-first (p ∷ rest) w h s lazy = ⊎_elim
     (λ (f : IsFlush p). absurd (no-lazy (p ∷ rest) w (λ id lt. in-both p.known (known_in rest) id (which f id lt)) lazy))
     (λ o. ⊎_elim
     (λ (c : IsClone p). (p, rest, refl, clone-begins p h.0.whole c, h.0.clone_heads c.kind ∙ sym (heads-cloned p h.0.whole c.kind)))
-    (λ (w : IsWhole p). (p, rest, refl, whole-begins p w, h.0.whole_heads w.kind)) o)
+    (λ (w : IsWholePayload p). (p, rest, refl, whole-begins p w, h.0.whole_heads w.kind)) o)
     h.0.whole.by_kind
   where
     which : IsFlush p → (id : ℕ) → id < length w.master → IsIn id (map (λ (k : Known). k.id) p.known) ⊎ IsIn id (map (λ (k : Known). k.id) (known_in rest))

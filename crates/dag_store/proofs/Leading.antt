@@ -18,8 +18,8 @@ use Rattle.payload_tables.specs.Kept.{PlainTables, AreTablesOf}
 use Rattle.payload_tables.proofs.Lists.{same-self, same-exact}
 use Rattle.remote_rules.specs.CloneData.{KnownName}
 use Rattle.remote_rules.specs.Mirror.{Mirror}
-use Rattle.remote_rules.specs.Serving.{Serves}
-use Rattle.lazy_names.specs.Cache.{Entry, PlainCache, Keeps, ids_of}
+use Rattle.remote_rules.specs.Serving.{IsServing}
+use Rattle.lazy_names.specs.Cache.{Entry, PlainCache, Keeps, cached_ids}
 use Rattle.step_rules.specs.declared.Refusal.{Refusal}
 use Rattle.step_rules.specs.State.{State, Stored, Outside, Cache, session, base_of, pending_of, view_of}
 use Rattle.step_rules.specs.Verb.{Verb, IsVerb, Count, IdOf}
@@ -31,7 +31,7 @@ use Rattle.step_rules.specs.Step.{CommandStep, GoesOutside}
 use Rattle.step_rules.proofs.Kept.{step-state}
 use Rattle.step_rules.proofs.Sessions.{newest-now}
 use Rattle.dag_store.specs.Kept.{PlainSession, PlainStore, IsKept, session_at, base_added, no_cache, sixteen}
-use Rattle.dag_store.specs.Stands.{IsRight, Stands, IsOutsideOf, StandsBeside}
+use Rattle.dag_store.specs.Stands.{IsAnswerable, Stands, IsOutsideOf, StandsBeside}
 use Rattle.dag_store.specs.Looking.{AreRight, AreTablesBehind, AsksAlike, IsSoundCache, entries_of, found_in, refusal_in, test_in}
 use Rattle.dag_store.specs.Adding.{FindsOne, IsSeen}
 use Rattle.dag_store.specs.Querying.{Evaluates}
@@ -56,12 +56,12 @@ has-entry (x ∷ es) id name e = by_key (nat_eq x.0 id) refl e (has-entry es id 
     by_key true t f rec = let same = same-exact x.0 id t in let is : x.1 ≡ name = cc in inl (ap₂ {C = Entry} (λ a b. (a, b)) (sym same) (sym is))
     by_key false t f rec = inr (rec f)
 
-pub in-ids : (es : List Entry) (id : ℕ) (name : Name) → IsIn (id, name) es → IsIn id (ids_of es)
+pub in-ids : (es : List Entry) (id : ℕ) (name : Name) → IsIn (id, name) es → IsIn id (cached_ids es)
 in-ids [] id name i = i
 in-ids (x ∷ es) id name (inl e) = inl (ap (λ (z : Entry). z.0) e)
 in-ids (x ∷ es) id name (inr i) = inr (in-ids es id name i)
 
-entry-has : (es : List Entry) → AreDistinct (ids_of es) → (id : ℕ) (name : Name) → IsIn (id, name) es → cache_of es id ≡ Some name
+entry-has : (es : List Entry) → AreDistinct (cached_ids es) → (id : ℕ) (name : Name) → IsIn (id, name) es → cache_of es id ≡ Some name
 entry-has [] d id name i = absurd i
 entry-has (x ∷ es) d id name (inl e) =
     let same : x.0 ≡ id = sym (ap (λ (z : Entry). z.0) e) in
@@ -69,7 +69,7 @@ entry-has (x ∷ es) d id name (inl e) =
 entry-has (x ∷ es) d id name (inr i) = by_key (nat_eq x.0 id) refl (entry-has es d.1 id name i)
   where
     by_key : (b : Bool) → nat_eq x.0 id ≡ b → cache_of es id ≡ Some name → (if b then Some x.1 else cache_of es id) ≡ Some name
-    by_key true t f = absurd (d.0 (subst (λ n. IsIn n (ids_of es)) (sym (same-exact x.0 id t)) (in-ids es id name i)))
+    by_key true t f = absurd (d.0 (subst (λ n. IsIn n (cached_ids es)) (sym (same-exact x.0 id t)) (in-ids es id name i)))
     by_key false t f = f
 
 some-of : (o : Option Name) → is_some o ≡ true → (name : Name) × (o ≡ Some name)
@@ -88,7 +88,7 @@ gained-ids [] ids h e i = absurd i
 gained-ids (k ∷ found) ids h e (inl f) = subst (λ n. IsIn n ids) (sym (ap (λ (z : Entry). z.0) f)) h.0
 gained-ids (k ∷ found) ids h e (inr i) = gained-ids found ids h.1 e i
 
-pub ids-length : (es : List Entry) → length (ids_of es) ≡ length es
+pub ids-length : (es : List Entry) → length (cached_ids es) ≡ length es
 ids-length es = length-map es (λ (e : Entry). e.0)
 
 abbrev next_cache : Cache → List KnownName → PlainCache → Cache
@@ -102,7 +102,7 @@ module _ (a b : PlainCache) (old new : List Mirror) (st : State) (h : IsOutsideO
   same-entries : Keeps [] a b → (e : Entry) → IsIn e a.entries → IsIn e b.entries
   same-entries k e i = ⊎_elim (λ j. j)
       (λ r. ⊎_elim (λ p. absurd p.2)
-      (λ m. absurd (let over = m (ids_of a.entries) (λ x j. in-ids a.entries x.0 x.1 j) (λ x j. absurd j) in let le = h.fits in let len = ids-length a.entries in omega (arith, over, le, len))) r)
+      (λ m. absurd (let over = m (cached_ids a.entries) (λ x j. in-ids a.entries x.0 x.1 j) (λ x j. absurd j) in let le = h.fits in let len = ids-length a.entries in omega (arith, over, le, len))) r)
       (k.old e i)
 
   pub next-has : (found : List KnownName) → Keeps (entries_of found) a b → (id : ℕ) (name : Name) → ((next_cache st.outside.cache found b) id ≡ Some name) ↔ IsIn (id, name) b.entries
@@ -120,7 +120,7 @@ module _ (a b : PlainCache) (old new : List Mirror) (st : State) (h : IsOutsideO
     cache = record {
       from = λ id name e. ⊎_elim (λ j. inl ((h.has id name).1 j)) (λ j. inr (in-gained (x ∷ found) id name j)) (k.new (id, name) (has-entry b.entries id name e));
       few = (
-        ids_of b.entries,
+        cached_ids b.entries,
         (let c = k.capacity in let r = h.room in let f = sound.fits in let l = ids-length b.entries in omega (arith, c, r, f, l)),
         λ id e. let n = some-of (cache_of b.entries id) e in in-ids b.entries id n.0 (has-entry b.entries id n.0 n.1),
       );
@@ -168,7 +168,7 @@ module _ (limits : Limits) (began : ℕ) (kept : PlainStore) (st : State) (s : �
       )
 
 -- what an answer over what is stored rests on
-pub right-now : (st : State) → IsRight st → AreRight st.store.payloads st.store.stored st.outside.mirrors
+pub right-now : (st : State) → IsAnswerable st → AreRight st.store.payloads st.store.stored st.outside.mirrors
 right-now st (inl none) = inl none
 right-now st (inr served) = inr served.mirrors.each
 
@@ -230,7 +230,7 @@ module _ (log : Held) (tables : PlainTables) (sessions : List PlainSession) (lim
   base-served mirrors (inl none) =
       let longer : length (base_of st s).master ≤ length st.stored.master = (let e = ap (length {A = Row Name}) grown.1 ∙ length-append (base_of st s).master grown.0 in omega (arith, e)) in
       inl (sym (lazy-same log tables sessions limits k began st h s lt) ∙ none-before st.payloads (base_of st s) st.stored longer none)
-  base-served mirrors (inr all) = inr (all-each (Serves (cloned_count front) (base_of st s)) mirrors (λ m i. let q = each (Serves (cloned_count st.payloads) st.stored) mirrors all m i in
+  base-served mirrors (inr all) = inr (all-each (IsServing (cloned_count front) (base_of st s)) mirrors (λ m i. let q = each (IsServing (cloned_count st.payloads) st.stored) mirrors all m i in
       (q.0, q.1, q.2, λ row j. q.3 row (within row j))))
     where
       within : (row : Row Name) → IsIn row (take (cloned_count front) (base_of st s).master) → IsIn row (take (cloned_count st.payloads) st.stored.master)
@@ -255,7 +255,7 @@ sound-of began kept mirrors st h = record { once = h.outside_of.once; fits = h.o
 
 -- what an answer over a session's base rests on, of a state that the store stands for
 pub right-base : (log : Held) (tables : PlainTables) (sessions : List PlainSession) (limits : Limits) (k : IsKept log tables sessions limits) (s : ℕ) (lt : s < sixteen) (a : PlainCache) (old : List Mirror) (began : ℕ) (st : State)
-    → StandsBeside began (record { log = log; sessions = sessions; limits = limits; cache = a }) old st → IsRight st → AreRight (payloads_of (base_added k.added (session_at sessions s))) (base_of st.store s) old
+    → StandsBeside began (record { log = log; sessions = sessions; limits = limits; cache = a }) old st → IsAnswerable st → AreRight (payloads_of (base_added k.added (session_at sessions s))) (base_of st.store s) old
 right-base log tables sessions limits k s lt a old began st h right =
     base-served log tables sessions limits k began st.store h.stored s lt old (subst (AreRight st.store.payloads st.store.stored) h.outside_of.mirrors_are (right-now st right))
 
@@ -274,7 +274,7 @@ module _ (log : Held) (tables : PlainTables) (sessions : List PlainSession) (lim
       (subst (λ t. AsksAlike (payloads_of (base_added k.added (session_at sessions s))) (base_of st s) t old new (refusal_in r)) (sym (tests-same log tables sessions limits k began st h s lt (unknown (view_of st s)) (name ∷ [])))
       (f.tried.gained, f.tried.told))
 
-  pub id-leads : (st : State) (h : StandsBeside began (record { log = log; sessions = sessions; limits = limits; cache = a }) old st) → IsRight st → IsSoundCache b
+  pub id-leads : (st : State) (h : StandsBeside began (record { log = log; sessions = sessions; limits = limits; cache = a }) old st) → IsAnswerable st → IsSoundCache b
       → FindsOne (payloads_of (base_added k.added (session_at sessions s))) (base_of st.store s) (pending_of st.store s) name old new a b r
       → Leads began limits st s (IdOf name) (id_reply r) (record { log = log; sessions = sessions; limits = limits; cache = b }) new
   id-leads st h served sound f = by_result r f
@@ -295,14 +295,14 @@ module _ (log : Held) (tables : PlainTables) (sessions : List PlainSession) (lim
           (Some refusal, new, f.tried.gained, tried (Err refusal) f, ((refl, refl), next-goes a b old new st h.outside_of sound f.tried.gained f.tried.keeps))
 
   -- the same of a store as it is seen, and a session that was indexed
-  pub id-leads-at : (q : PlainStore) → kept_with a ≡ q → (x : PlainSession) → x ≡ session_at sessions s → (st : State) → StandsBeside began q old st → IsRight st → (IsSoundCache a → IsSoundCache b)
+  pub id-leads-at : (q : PlainStore) → kept_with a ≡ q → (x : PlainSession) → x ≡ session_at sessions s → (st : State) → StandsBeside began q old st → IsAnswerable st → (IsSoundCache a → IsSoundCache b)
       → ((w : World Name) (rows : List (Row Name)) → IsSeen k.added x w rows → FindsOne (payloads_of (base_added k.added x)) w rows name old new a b r)
       → Leads began q.limits st s (IdOf name) (id_reply r) (kept_with b) new
   id-leads-at q view x there = subst
-      (λ (q : PlainStore). (st : State) → StandsBeside began q old st → IsRight st → (IsSoundCache a → IsSoundCache b)
+      (λ (q : PlainStore). (st : State) → StandsBeside began q old st → IsAnswerable st → (IsSoundCache a → IsSoundCache b)
       → ((w : World Name) (rows : List (Row Name)) → IsSeen k.added x w rows → FindsOne (payloads_of (base_added k.added x)) w rows name old new a b r)
       → Leads began q.limits st s (IdOf name) (id_reply r) (kept_with b) new) view
-      (subst (λ (x : PlainSession). (st : State) → StandsBeside began (kept_with a) old st → IsRight st → (IsSoundCache a → IsSoundCache b)
+      (subst (λ (x : PlainSession). (st : State) → StandsBeside began (kept_with a) old st → IsAnswerable st → (IsSoundCache a → IsSoundCache b)
       → ((w : World Name) (rows : List (Row Name)) → IsSeen k.added x w rows → FindsOne (payloads_of (base_added k.added x)) w rows name old new a b r)
       → Leads began limits st s (IdOf name) (id_reply r) (kept_with b) new) (sym there)
       (λ st h served sound f. id-leads st h served (sound (sound-of began (kept_with a) old st h)) (f (base_of st.store s) (pending_of st.store s) (session-seen log tables sessions limits k began st.store h.stored s lt))))
@@ -337,7 +337,7 @@ module _ (log : Held) (tables : PlainTables) (sessions : List PlainSession) (lim
       (subst (λ t. AsksAlike (payloads_of (base_added k.added (session_at sessions s))) (base_of st s) t old new (refusal_in r)) (sym (tests-same log tables sessions limits k began st h s lt (unknown (view_of st s)) (commits_in e)))
       (f.tried.gained, f.tried.told))
 
-  count-leads : (st : State) (h : StandsBeside began (record { log = log; sessions = sessions; limits = limits; cache = a }) old st) → IsRight st → IsSoundCache b
+  count-leads : (st : State) (h : StandsBeside began (record { log = log; sessions = sessions; limits = limits; cache = a }) old st) → IsAnswerable st → IsSoundCache b
       → Evaluates (payloads_of (base_added k.added (session_at sessions s))) (base_of st.store s) (pending_of st.store s) e old new a b r
       → CountStep began limits st s e r (record { log = log; sessions = sessions; limits = limits; cache = b }) new
   count-leads st h served sound f = by_result r f
@@ -361,12 +361,12 @@ module _ (log : Held) (tables : PlainTables) (sessions : List PlainSession) (lim
       by_result (Err refusal) f = leads-to limits began (plain_with a) st s (Count e) old new b h sound tt (Refused refusal) f.tried.gained st.store (plain_with b) refl h.stored f.tried.keeps
           (Some refusal, new, f.tried.gained, tried (Err refusal) f, ((refl, refl), next-goes a b old new st h.outside_of sound f.tried.gained f.tried.keeps))
 
-  pub count-leads-at : (q : PlainStore) → plain_with a ≡ q → (x : PlainSession) → x ≡ session_at sessions s → (st : State) → StandsBeside began q old st → IsRight st → (IsSoundCache a → IsSoundCache b)
+  pub count-leads-at : (q : PlainStore) → plain_with a ≡ q → (x : PlainSession) → x ≡ session_at sessions s → (st : State) → StandsBeside began q old st → IsAnswerable st → (IsSoundCache a → IsSoundCache b)
       → ((w : World Name) (rows : List (Row Name)) → IsSeen k.added x w rows → Members x w rows) → CountStep began q.limits st s e r (plain_with b) new
   count-leads-at q view x there = subst
-      (λ (q : PlainStore). (st : State) → StandsBeside began q old st → IsRight st → (IsSoundCache a → IsSoundCache b) → ((w : World Name) (rows : List (Row Name)) → IsSeen k.added x w rows → Members x w rows)
+      (λ (q : PlainStore). (st : State) → StandsBeside began q old st → IsAnswerable st → (IsSoundCache a → IsSoundCache b) → ((w : World Name) (rows : List (Row Name)) → IsSeen k.added x w rows → Members x w rows)
       → CountStep began q.limits st s e r (plain_with b) new) view
-      (subst (λ (x : PlainSession). (st : State) → StandsBeside began (plain_with a) old st → IsRight st → (IsSoundCache a → IsSoundCache b) → ((w : World Name) (rows : List (Row Name)) → IsSeen k.added x w rows → Members x w rows)
+      (subst (λ (x : PlainSession). (st : State) → StandsBeside began (plain_with a) old st → IsAnswerable st → (IsSoundCache a → IsSoundCache b) → ((w : World Name) (rows : List (Row Name)) → IsSeen k.added x w rows → Members x w rows)
       → CountStep began limits st s e r (plain_with b) new) (sym there)
       (λ st h served sound f. count-leads st h served (sound (sound-of began (plain_with a) old st h)) (f (base_of st.store s) (pending_of st.store s) (session-seen log tables sessions limits k began st.store h.stored s lt))))
 
@@ -384,6 +384,6 @@ module _ (log : Held) (tables : PlainTables) (sessions : List PlainSession) (lim
   seen-at q view x there = subst (λ (q : PlainStore). (st : Stored) → Stands began q st → IsSeen k.added x (base_of st s) (pending_of st s)) view
       (subst (λ (x : PlainSession). (st : Stored) → Stands began (plain_with a) st → IsSeen k.added x (base_of st s) (pending_of st s)) (sym there) (λ st h. session-seen log tables sessions limits k began st h s lt))
 
-  pub serves-at : (q : PlainStore) → plain_with a ≡ q → (x : PlainSession) → x ≡ session_at sessions s → (st : State) → StandsBeside began q old st → IsRight st → AreRight (payloads_of (base_added k.added x)) (base_of st.store s) old
-  serves-at q view x there = subst (λ (q : PlainStore). (st : State) → StandsBeside began q old st → IsRight st → AreRight (payloads_of (base_added k.added x)) (base_of st.store s) old) view
-      (subst (λ (x : PlainSession). (st : State) → StandsBeside began (plain_with a) old st → IsRight st → AreRight (payloads_of (base_added k.added x)) (base_of st.store s) old) (sym there) (λ st h served. right-base log tables sessions limits k s lt a old began st h served))
+  pub serves-at : (q : PlainStore) → plain_with a ≡ q → (x : PlainSession) → x ≡ session_at sessions s → (st : State) → StandsBeside began q old st → IsAnswerable st → AreRight (payloads_of (base_added k.added x)) (base_of st.store s) old
+  serves-at q view x there = subst (λ (q : PlainStore). (st : State) → StandsBeside began q old st → IsAnswerable st → AreRight (payloads_of (base_added k.added x)) (base_of st.store s) old) view
+      (subst (λ (x : PlainSession). (st : State) → StandsBeside began (plain_with a) old st → IsAnswerable st → AreRight (payloads_of (base_added k.added x)) (base_of st.store s) old) (sym there) (λ st h served. right-base log tables sessions limits k s lt a old began st h served))

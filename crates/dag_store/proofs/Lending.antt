@@ -19,8 +19,8 @@ use Rattle.change_rules.specs.Change.{known_from}
 use Rattle.change_rules.specs.Lazy.{is_lazy}
 use Rattle.change_rules.specs.Tables.{known_in, newest, other_names_in}
 use Rattle.payload_tables.specs.declared.base.BaseRef.{BaseRef}
-use Rattle.payload_tables.specs.Bases.{stored_in, id_row}
-use Rattle.payload_tables.specs.Pending.{IdRow, PlainPending}
+use Rattle.payload_tables.specs.Bases.{stored_in, held_row}
+use Rattle.payload_tables.specs.Pending.{HeldRow, PlainPending}
 use Rattle.payload_tables.proofs.Naming.{places-many}
 use Rattle.dag_store.specs.Looking.{Sees}
 use Rattle.dag_store.specs.Names.{name_among, name_at, stored_at, name_or, name_in, pending_name, named_front, fetched_name}
@@ -218,9 +218,9 @@ module _ (base : BaseRef) (pending : PlainPending) (added : List Placed) (w : Wo
               left (x ∷ xs) ys zero r h = h
               left (x ∷ xs) ys (suc i) r h = left xs ys i r h
 
-          id-row-get : (xs : List (Row Name)) (k : ℕ) (r : Row Name) (q : IdRow) → slice_get xs k ≡ Some r → slice_get (map (id_row (with_pending w rows)) xs) k ≡ Some q → r.name ≡ q.name
+          id-row-get : (xs : List (Row Name)) (k : ℕ) (r : Row Name) (q : HeldRow) → slice_get xs k ≡ Some r → slice_get (map (held_row (with_pending w rows)) xs) k ≡ Some q → r.name ≡ q.name
           id-row-get [] k r q e g = absurd (cc e)
-          id-row-get (x ∷ xs) zero r q e g = let a : x ≡ r = cc e in let b : id_row (with_pending w rows) x ≡ q = cc g in sym (ap (λ (z : Row Name). z.name) a) ∙ ap (λ (z : IdRow). z.name) b
+          id-row-get (x ∷ xs) zero r q e g = let a : x ≡ r = cc e in let b : held_row (with_pending w rows) x ≡ q = cc g in sym (ap (λ (z : Row Name). z.name) a) ∙ ap (λ (z : HeldRow). z.name) b
           id-row-get (x ∷ xs) (suc k) r q e g = id-row-get xs k r q e g
 
           pending-there : IsIn name (names_of rows) → Some name ≡ pending_name pending (id_in same_name (with_pending w rows) name)
@@ -229,10 +229,10 @@ module _ (base : BaseRef) (pending : PlainPending) (added : List Placed) (w : Wo
               let at : id_in same_name (with_pending w rows) name ≡ other_id (length w.others + t.0) = ap (id_in same_name (with_pending w rows)) (sym t.3)
               ∙ id-in-others same_name same_name-exact same_name-self (with_pending w rows) s.view.world (length w.others + t.0) t.1 (place-right w.others rows t.0 t.1 t.2) in
               let first = s.pending_rows.first in
-              let many = places-many pending (map (id_row (with_pending w rows)) rows) s.pending_rows.held in
-              let long = length-map rows (id_row (with_pending w rows)) in
+              let many = places-many pending (map (held_row (with_pending w rows)) rows) s.pending_rows.held in
+              let long = length-map rows (held_row (with_pending w rows)) in
               let lt = get-less rows t.0 t.1 t.2 in
-              row-here pending (map (id_row (with_pending w rows)) rows) s.pending_rows.held (id_in same_name (with_pending w rows) name) t.0 (omega (arith, at, first)) (omega (arith, many, long, lt)) name
+              row-here pending (map (held_row (with_pending w rows)) rows) s.pending_rows.held (id_in same_name (with_pending w rows) name) t.0 (omega (arith, at, first)) (omega (arith, many, long, lt)) name
               (λ q g. sym t.3 ∙ id-row-get rows t.0 t.1 q t.2 g)
 
   -- a commit of master without a stored name is no pending row either

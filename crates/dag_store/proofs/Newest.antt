@@ -5,7 +5,7 @@ use Rattle.std.proofs.lemmas.List.{take_all, take-append-drop, length-map}
 use Rattle.batch_codec.specs.Payload.{Payload}
 use Rattle.batch_codec.specs.Grammar.{count_after}
 use Rattle.gated_log.specs.Held.{Held}
-use Rattle.name_map.specs.Added.{Placed, payloads_of, AllStand, Follow}
+use Rattle.name_map.specs.Added.{Placed, payloads_of, AllStand, FollowInLog}
 use Rattle.change_rules.specs.Change.{text_of}
 use Rattle.change_rules.specs.Tables.{other_names_in}
 use Rattle.payload_tables.specs.Kept.{PlainTables, PlainOthers, AreTablesOf, AreOthersIn, last_added}
@@ -18,7 +18,7 @@ use Rattle.dag_store.specs.Kept.{PlainSession, IsSessionOf, base_added}
 use Rattle.dag_store.specs.Loading.{IsOnNewest}
 use Rattle.dag_store.proofs.Sizes.{others-many}
 
-last-few : (o : Option Payload) (count : ℕ) (added : List Placed) → length (other_names_in o) ≤ 65536 → Follow count added → length (other_names_in (last_or o (payloads_of added))) ≤ 65536
+last-few : (o : Option Payload) (count : ℕ) (added : List Placed) → length (other_names_in o) ≤ 65536 → FollowInLog count added → length (other_names_in (last_or o (payloads_of added))) ≤ 65536
 last-few o count [] le h = le
 last-few o count (a ∷ added) le h = last-few (Some a.payload) a.payload.after added h.0.counts.others h.2
 

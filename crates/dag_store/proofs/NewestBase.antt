@@ -6,8 +6,8 @@ use Rattle.name_map.specs.Added.{Placed, payloads_of, AllStand}
 use Rattle.change_rules.specs.Tables.{StandFor}
 use Rattle.payload_tables.specs.declared.base.BaseRef.{BaseRef}
 use Rattle.payload_tables.specs.Kept.{PlainTables, PlainOthers, AreTablesOf}
-use Rattle.payload_tables.specs.Pending.{IdRow, PlainPending, HoldsRows, row_names}
-use Rattle.payload_tables.specs.Bases.{IsBaseOf, MayView, id_row}
+use Rattle.payload_tables.specs.Pending.{HeldRow, PlainPending, HoldsRows, row_names}
+use Rattle.payload_tables.specs.Bases.{IsBaseOf, MayView, held_row}
 use Rattle.flush_rebuild.specs.Asked.{others_count}
 use Rattle.step_rules.specs.State.{Stored, base_of, pending_of}
 use Rattle.dag_store.specs.Kept.{PlainSession}
@@ -30,7 +30,7 @@ none-behind tables bytes added t s = record {
 pub session-names : (began s : ℕ) (added : List Placed) (x : PlainSession) (st : Stored) → IsOn began added x st s → HaveNames x.pending (names_of (pending_of st s))
 session-names began s added x st o =
     let v = with_pending (base_of st s) (pending_of st s) in
-    (map (id_row v) (pending_of st s), o.session.pending.held, names-of-rows v (pending_of st s))
+    (map (held_row v) (pending_of st s), o.session.pending.held, names-of-rows v (pending_of st s))
 
 module _ (tables : PlainTables) (added : List Placed) (t : AreTablesOf tables added) (others : PlainOthers) (is : others ≡ tables.others) (n m : ℕ) (count : n ≡ others.count) (from : m ≡ n) where
   same : m ≡ tables.others.count
@@ -61,12 +61,12 @@ module _ (tables : PlainTables) (added : List Placed) (t : AreTablesOf tables ad
         (stand, newest-sees st.stored stand o.hold.world)
 
 -- rows of some parents with these names
-pub plain-names : (pending : PlainPending) (rows : List IdRow) → HoldsRows pending rows → (some : List (Row Name)) × HaveNames pending (names_of some)
+pub plain-names : (pending : PlainPending) (rows : List HeldRow) → HoldsRows pending rows → (some : List (Row Name)) × HaveNames pending (names_of some)
 plain-names pending rows held = (map plain_row rows, (rows, held, again rows))
   where
-    plain_row : IdRow → Row Name
+    plain_row : HeldRow → Row Name
     plain_row r = record { name = r.name; parents = [] }
 
-    again : (rows : List IdRow) → row_names rows ≡ names_of (map plain_row rows)
+    again : (rows : List HeldRow) → row_names rows ≡ names_of (map plain_row rows)
     again [] = refl
     again (r ∷ rows) = ap (λ l. r.name ∷ l) (again rows)

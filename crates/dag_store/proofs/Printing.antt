@@ -16,7 +16,7 @@ use Rattle.remote_rules.specs.Asking.{AsksForNames, AsksInTurn}
 use Rattle.remote_rules.specs.declared.MirrorFault.{MirrorFault}
 use Rattle.remote_rules.specs.declared.MirrorFault.TheVariants as mirror
 use Rattle.payload_tables.proofs.Lists.{distinct-join, same-exact, same-self}
-use Rattle.lazy_names.specs.Cache.{Entry, PlainCache, Keeps, ids_of}
+use Rattle.lazy_names.specs.Cache.{Entry, PlainCache, Keeps, cached_ids}
 use Rattle.lazy_names.specs.declared.fetched.FetchedName.{FetchedName}
 use Rattle.lazy_names.proofs.Caches.{no-longer}
 use Rattle.step_rules.specs.declared.Refusal.{Refusal}
@@ -112,21 +112,21 @@ distinct-ids f (x ∷ xs) d = by_test (f x) (distinct-ids f xs d.1)
 
 -- ---- how many ids go from a cache
 
-pub entry-at : (es : List Entry) (id : ℕ) → IsIn id (ids_of es) → (name : Name) × IsIn (id, name) es
+pub entry-at : (es : List Entry) (id : ℕ) → IsIn id (cached_ids es) → (name : Name) × IsIn (id, name) es
 entry-at [] id i = absurd i
 entry-at (e ∷ es) id (inl f) = (e.1, inl (ap (λ n. (n, e.1)) f))
 entry-at (e ∷ es) id (inr i) = let r = entry-at es id i in (r.0, inr r.1)
 
 -- no more go than were put in
-pub gone-few : (a m : PlainCache) (added : List Entry) → Keeps added a m → IsSoundCache a → IsSoundCache m → (ids : List ℕ) → AreDistinct ids → ((id : ℕ) → IsIn id ids → IsIn id (ids_of a.entries) × (IsIn id (ids_of m.entries) → ⊥))
+pub gone-few : (a m : PlainCache) (added : List Entry) → Keeps added a m → IsSoundCache a → IsSoundCache m → (ids : List ℕ) → AreDistinct ids → ((id : ℕ) → IsIn id ids → IsIn id (cached_ids a.entries) × (IsIn id (cached_ids m.entries) → ⊥))
     → length ids ≤ length added
 gone-few a m added k sa sm ids d h =
-    let others = filter (λ id. not (is_in nat_eq id ids)) (ids_of a.entries) in
-    let first = no-longer (ids ++ others) (ids_of a.entries) (distinct-join ids others d (distinct-filter (λ id. not (is_in nat_eq id ids)) (ids_of a.entries) sa.once)
-    (λ id i j. apart id i (filtered (λ id. not (is_in nat_eq id ids)) (ids_of a.entries) id j).1)) (λ id i. either id i) in
-    let second = no-longer (ids_of m.entries) (others ++ ids_of added) sm.once (λ id i. new id i) in
+    let others = filter (λ id. not (is_in nat_eq id ids)) (cached_ids a.entries) in
+    let first = no-longer (ids ++ others) (cached_ids a.entries) (distinct-join ids others d (distinct-filter (λ id. not (is_in nat_eq id ids)) (cached_ids a.entries) sa.once)
+    (λ id i j. apart id i (filtered (λ id. not (is_in nat_eq id ids)) (cached_ids a.entries) id j).1)) (λ id i. either id i) in
+    let second = no-longer (cached_ids m.entries) (others ++ cached_ids added) sm.once (λ id i. new id i) in
     let one = length-append ids others in
-    let two = length-append others (ids_of added) in
+    let two = length-append others (cached_ids added) in
     let n = ids-length a.entries in
     let o = ids-length m.entries in
     let p = ids-length added in
@@ -136,22 +136,22 @@ gone-few a m added k sa sm ids d h =
     apart : (id : ℕ) → IsIn id ids → not (is_in nat_eq id ids) ≡ true → ⊥
     apart id i e = true≢false (sym e ∙ ap not (there nat_eq same-exact same-self id ids i))
 
-    either : (id : ℕ) → IsIn id (ids ++ filter (λ id. not (is_in nat_eq id ids)) (ids_of a.entries)) → IsIn id (ids_of a.entries)
-    either id i = ⊎_elim (λ j. (h id j).0) (λ j. (filtered (λ id. not (is_in nat_eq id ids)) (ids_of a.entries) id j).0) (parted ids (filter (λ id. not (is_in nat_eq id ids)) (ids_of a.entries)) id i)
+    either : (id : ℕ) → IsIn id (ids ++ filter (λ id. not (is_in nat_eq id ids)) (cached_ids a.entries)) → IsIn id (cached_ids a.entries)
+    either id i = ⊎_elim (λ j. (h id j).0) (λ j. (filtered (λ id. not (is_in nat_eq id ids)) (cached_ids a.entries) id j).0) (parted ids (filter (λ id. not (is_in nat_eq id ids)) (cached_ids a.entries)) id i)
       where
         parted : (xs ys : List ℕ) (x : ℕ) → IsIn x (xs ++ ys) → IsIn x xs ⊎ IsIn x ys
         parted [] ys x i = inr i
         parted (z ∷ xs) ys x (inl e) = inl (inl e)
         parted (z ∷ xs) ys x (inr i) = ⊎_elim (λ j. inl (inr j)) (λ j. inr j) (parted xs ys x i)
 
-    new : (id : ℕ) → IsIn id (ids_of m.entries) → IsIn id (filter (λ id. not (is_in nat_eq id ids)) (ids_of a.entries) ++ ids_of added)
+    new : (id : ℕ) → IsIn id (cached_ids m.entries) → IsIn id (filter (λ id. not (is_in nat_eq id ids)) (cached_ids a.entries) ++ cached_ids added)
     new id i =
-        let others = filter (λ id. not (is_in nat_eq id ids)) (ids_of a.entries) in
+        let others = filter (λ id. not (is_in nat_eq id ids)) (cached_ids a.entries) in
         let (name, at) = entry-at m.entries id i in
         ⊎_elim
-        (λ j. in-left id others (ids_of added) (kept (λ id. not (is_in nat_eq id ids)) (ids_of a.entries) id (in-ids a.entries id name j)
+        (λ j. in-left id others (cached_ids added) (kept (λ id. not (is_in nat_eq id ids)) (cached_ids a.entries) id (in-ids a.entries id name j)
         (true_not (is_in nat_eq id ids) (λ e. (h id (found nat_eq same-exact same-self id ids e)).1 i))))
-        (λ j. in-right id others (ids_of added) (in-ids added id name j))
+        (λ j. in-right id others (cached_ids added) (in-ids added id name j))
         (k.new (id, name) at)
 
 -- ---- lazy commits of an answer, those of which a cache has no name, and those that were found
@@ -166,7 +166,7 @@ found-entry [] id name i = i
 found-entry (k ∷ gained) id name (inl e) = inl (ap (λ (z : Entry). z.0) e)
 found-entry (k ∷ gained) id name (inr i) = inr (found-entry gained id name i)
 
-module _ (cache : Cache) (a m : PlainCache) (gained lazy : List KnownName) (same : (k : KnownName) → is_cached cache k ≡ is_in nat_eq k.id (ids_of a.entries)) (keeps : Keeps (entries_of gained) a m) (sa : IsSoundCache a) (sm : IsSoundCache m)
+module _ (cache : Cache) (a m : PlainCache) (gained lazy : List KnownName) (same : (k : KnownName) → is_cached cache k ≡ is_in nat_eq k.id (cached_ids a.entries)) (keeps : Keeps (entries_of gained) a m) (sa : IsSoundCache a) (sm : IsSoundCache m)
     (distinct : AreDistinct (map (λ (k : KnownName). k.id) lazy)) where
   abbrev absent : List KnownName
   absent = filter (λ (k : KnownName). not (is_cached cache k)) lazy
@@ -175,14 +175,14 @@ module _ (cache : Cache) (a m : PlainCache) (gained lazy : List KnownName) (same
   wanted = filter (λ (k : KnownName). not (is_found gained k)) absent
 
   abbrev out : KnownName → Bool
-  out k = not (is_in nat_eq k.id (ids_of m.entries))
+  out k = not (is_in nat_eq k.id (cached_ids m.entries))
 
   -- what is wanted isn't there
   pub wanted-most : length wanted ≤ length (absent_of m lazy)
   wanted-most = both-filters (λ (k : KnownName). not (is_cached cache k)) (λ (k : KnownName). not (is_found gained k)) out lazy
-      (λ k p q. true_not (is_in nat_eq k.id (ids_of m.entries)) (λ e.
-      let (name, at) = entry-at m.entries k.id (found nat_eq same-exact same-self k.id (ids_of m.entries) e) in
-      ⊎_elim (λ j. true≢false (sym p ∙ ap not (same k ∙ there nat_eq same-exact same-self k.id (ids_of a.entries) (in-ids a.entries k.id name j))))
+      (λ k p q. true_not (is_in nat_eq k.id (cached_ids m.entries)) (λ e.
+      let (name, at) = entry-at m.entries k.id (found nat_eq same-exact same-self k.id (cached_ids m.entries) e) in
+      ⊎_elim (λ j. true≢false (sym p ∙ ap not (same k ∙ there nat_eq same-exact same-self k.id (cached_ids a.entries) (in-ids a.entries k.id name j))))
       (λ j. true≢false (sym q ∙ ap not (there nat_eq same-exact same-self k.id (map (λ (c : KnownName). c.id) gained) (found-entry gained k.id name j))))
       (keeps.new (k.id, name) at)))
 
@@ -190,7 +190,7 @@ module _ (cache : Cache) (a m : PlainCache) (gained lazy : List KnownName) (same
   pub asked-most : length (absent_of m lazy) ≤ length wanted + ((length absent - length wanted) + min (length gained) (length lazy - length absent))
   asked-most =
       let f : KnownName → Bool = λ k. not (is_cached cache k) in
-      let went = filter (λ (k : KnownName). not (not (is_cached cache k)) && not (is_in nat_eq k.id (ids_of m.entries))) lazy in
+      let went = filter (λ (k : KnownName). not (not (is_cached cache k)) && not (is_in nat_eq k.id (cached_ids m.entries))) lazy in
       let parts = split f out lazy in
       let all = within f out lazy in
       let less = fewer (λ (k : KnownName). not (is_found gained k)) absent in
@@ -200,15 +200,15 @@ module _ (cache : Cache) (a m : PlainCache) (gained lazy : List KnownName) (same
       let most = le-min (length went) (length gained) (length lazy - length absent) (omega (arith, few, n, o)) (omega (arith, all)) in
       omega (arith, parts, less, most)
     where
-      gone : (id : ℕ) → IsIn id (map (λ (k : KnownName). k.id) (filter (λ (k : KnownName). not (not (is_cached cache k)) && not (is_in nat_eq k.id (ids_of m.entries))) lazy))
-          → IsIn id (ids_of a.entries) × (IsIn id (ids_of m.entries) → ⊥)
+      gone : (id : ℕ) → IsIn id (map (λ (k : KnownName). k.id) (filter (λ (k : KnownName). not (not (is_cached cache k)) && not (is_in nat_eq k.id (cached_ids m.entries))) lazy))
+          → IsIn id (cached_ids a.entries) × (IsIn id (cached_ids m.entries) → ⊥)
       gone id i =
-          let (k, j, is) = from-map (λ (k : KnownName). k.id) (filter (λ (k : KnownName). not (not (is_cached cache k)) && not (is_in nat_eq k.id (ids_of m.entries))) lazy) id i in
-          let test = (filtered (λ (k : KnownName). not (not (is_cached cache k)) && not (is_in nat_eq k.id (ids_of m.entries))) lazy k j).1 in
-          let both = and_true (not (not (is_cached cache k))) (not (is_in nat_eq k.id (ids_of m.entries))) test in
-          subst (λ n. IsIn n (ids_of a.entries) × (IsIn n (ids_of m.entries) → ⊥)) (sym is) (
-            found nat_eq same-exact same-self k.id (ids_of a.entries) (sym (same k) ∙ twice (is_cached cache k) both.0),
-            λ l. true≢false (sym both.1 ∙ ap not (there nat_eq same-exact same-self k.id (ids_of m.entries) l)),
+          let (k, j, is) = from-map (λ (k : KnownName). k.id) (filter (λ (k : KnownName). not (not (is_cached cache k)) && not (is_in nat_eq k.id (cached_ids m.entries))) lazy) id i in
+          let test = (filtered (λ (k : KnownName). not (not (is_cached cache k)) && not (is_in nat_eq k.id (cached_ids m.entries))) lazy k j).1 in
+          let both = and_true (not (not (is_cached cache k))) (not (is_in nat_eq k.id (cached_ids m.entries))) test in
+          subst (λ n. IsIn n (cached_ids a.entries) × (IsIn n (cached_ids m.entries) → ⊥)) (sym is) (
+            found nat_eq same-exact same-self k.id (cached_ids a.entries) (sym (same k) ∙ twice (is_cached cache k) both.0),
+            λ l. true≢false (sym both.1 ∙ ap not (there nat_eq same-exact same-self k.id (cached_ids m.entries) l)),
           )
         where
           twice : (b : Bool) → not (not b) ≡ true → b ≡ true

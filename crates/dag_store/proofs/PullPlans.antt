@@ -24,7 +24,7 @@ use Rattle.payload_tables.specs.Kept.{PlainTables}
 use Rattle.flush_rebuild.specs.declared.plan.Change.{Change}
 use Rattle.flush_rebuild.specs.declared.fault.PlanFault.{PlanFault}
 use Rattle.flush_rebuild.specs.declared.fault.PlanFault.TheVariants as faults
-use Rattle.flush_rebuild.specs.Plans.{IsPlanOf, conflict_fault, first_of, length_with, over}
+use Rattle.flush_rebuild.specs.Plans.{IsPlanOf, conflict_fault, first_fault, length_with, over}
 use Rattle.flush_rebuild.specs.Pulling.{MayPullOn, MayPull, told_rows, mismatch, pull_refusal}
 use Rattle.step_rules.specs.declared.Refusal.{Refusal}
 use Rattle.step_rules.specs.declared.Refusal.TheVariants as why
@@ -73,8 +73,8 @@ pub may-pull-on : (log : Held) (tables : PlainTables) (bytes : List ℕ) (fresh 
     → length fresh.names ≡ count_from (cloned_count (payloads_of added)) fresh.cloned → MayPullOn tables bytes fresh added
 may-pull-on log tables bytes fresh added v all unbroken count = record { tables_of = v.tables_of; stand = subst (λ l. AllStand l added) (sym all) v.stand; unbroken = unbroken; count = count }
 
-first-of-none : (a b : Option PlanFault) → a ≡ None → first_of a b ≡ b
-first-of-none a b e = ap (λ z. first_of z b) e
+first-of-none : (a b : Option PlanFault) → a ≡ None → first_fault a b ≡ b
+first-of-none a b e = ap (λ z. first_fault z b) e
 
 conflict-is : (o : Option Name) → option_map refusal_of (conflict_fault o) ≡ option_map why.Conflict o
 conflict-is None = refl
@@ -104,7 +104,7 @@ module _ (limits : Limits) (log : Held) (tables : PlainTables) (bytes : List ℕ
       let new = pull_of st rows in
       let log_is : Option Refusal = full Log limits.log (log_after st new (flush_change st.stored new)) in
       ap (option_map refusal_of) (first-of-none (mismatch added fresh) _ none)
-      ∙ mapped-first (conflict_fault (first_conflict same_name st.stored rows)) (first_of (over limits.master (length new.master) Master) (over limits.log (length_with (length bytes) (payload_to st new)) Log))
+      ∙ mapped-first (conflict_fault (first_conflict same_name st.stored rows)) (first_fault (over limits.master (length new.master) Master) (over limits.log (length_with (length bytes) (payload_to st new)) Log))
       (option_map why.Conflict (first_conflict same_name st.stored rows)) (full Master limits.master (length new.master) ∷ log_is ∷ []) (conflict-is (first_conflict same_name st.stored rows))
       (mapped-first (over limits.master (length new.master) Master) (over limits.log (length_with (length bytes) (payload_to st new)) Log) (full Master limits.master (length new.master)) (log_is ∷ [])
       (over-full Master limits.master (length new.master)) (log-test st new limits (length bytes) size fits ∙ sym (only-first log_is)))

@@ -44,7 +44,7 @@ use Rattle.step_rules.specs.Reply.{Reply, Pulled, Refused}
 use Rattle.step_rules.specs.Worlds.{after_flush, log_after, same_world}
 use Rattle.step_rules.specs.Tests.{first_some, full, refused_first, tests}
 use Rattle.step_rules.specs.Asking.{TriesAll}
-use Rattle.step_rules.specs.Step.{CommandStep, Answered, GoesOutside, IsRefused, Pulls, TakesFrom, pull_tests}
+use Rattle.step_rules.specs.Step.{CommandStep, AnsweredFirst, GoesOutside, IsRefused, Pulls, TakesFrom, pull_tests}
 use Rattle.step_rules.proofs.Held.{held-sizes, within-limit}
 use Rattle.step_rules.proofs.Kept.{step-state}
 use Rattle.step_rules.proofs.Plain.{all-tries}
@@ -55,7 +55,7 @@ use Rattle.dag_store.specs.declared.replies.Flushed.TheVariants as ends
 use Rattle.dag_store.specs.Kept.{PlainSession, PlainStore, IsKept, sixteen}
 use Rattle.dag_store.specs.Stands.{IsOutsideOf, Stands, StandsBeside}
 use Rattle.dag_store.specs.Flushes.{HasRoom, FlushLeaves, StoresBy}
-use Rattle.dag_store.specs.Finishes.{EndsAs, Finishes, payload_in}
+use Rattle.dag_store.specs.Finishes.{FinishesAs, Finishes, payload_in}
 use Rattle.dag_store.specs.Changes.{IsPlanTo, IsPrepared, refusal_of}
 use Rattle.dag_store.specs.Clones.{beside}
 use Rattle.dag_store.specs.Pulls.{AllBeginWith, PlansPull, PullAnswers, PullStep, RefusesFresh, RefusesPull, RefusesTold, TakesFresh, fresh_refusal, mismatch_of, pull_end, pull_of, rows_told}
@@ -140,7 +140,7 @@ module _ (limits : Limits) (st : State) (s : ℕ) (agree : Agrees st.store) (beg
 
   -- what was told is told rightly
   told-rightly : (left : List Mirror) (fresh : PlainFresh) → AsksFresh cloned first left (Ok fresh)
-      → (rows : List (Row Name)) × Answered left rows × AreMaster rows × (rows_told st.store fresh ≡ rows) × (mismatch_of st.store.payloads fresh ≡ None)
+      → (rows : List (Row Name)) × AnsweredFirst left rows × AreMaster rows × (rows_told st.store fresh ≡ rows) × (mismatch_of st.store.payloads fresh ≡ None)
   told-rightly left fresh a =
       let n = next-tells cloned st.store.stored first left begin (IsItsFresh cloned fresh) a in
       let t = n.1 in
@@ -188,7 +188,7 @@ module _ (limits : Limits) (st : State) (s : ℕ) (agree : Agrees st.store) (beg
 
   -- the rows that were told, and the step that takes them
   pub told-step : (left : List Mirror) (fresh : PlainFresh) → TakesFresh limits st.store s st.outside.mirrors left fresh
-      → (rows : List (Row Name)) × Answered left rows × AreMaster rows × (rows_told st.store fresh ≡ rows) × (first_some (pull_tests limits st.store (master_world rows)) ≡ None)
+      → (rows : List (Row Name)) × AnsweredFirst left rows × AreMaster rows × (rows_told st.store fresh ≡ rows) × (first_some (pull_tests limits st.store (master_world rows)) ≡ None)
       × ((m n : ℕ) → m ≡ length (pull_of st.store rows).master → n ≡ length (pull_of st.store rows).others → CommandStep limits st s Pull (Pulled m n) (beside st (pull_end st.store s rows) left))
   told-step left fresh t =
       let by = told-rightly left fresh t.asks in
@@ -256,7 +256,7 @@ module _ (began : ℕ) (kept : PlainStore) (tables : PlainTables) (k : IsKept ke
 
   module _ (reserved : Held) (later : PlainTables) (change : Change) (x : PlainSession) (p : IsPrepared kept.limits kept.log reserved tables later k.added change x) (room : HasRoom kept.log reserved)
       (planned : PlansPull kept.limits st.store s st.outside.mirrors left change) where
-    told : (rows : List (Row Name)) × Answered left rows × AreMaster rows × (rows_told st.store planned.0 ≡ rows) × (first_some (pull_tests kept.limits st.store (master_world rows)) ≡ None)
+    told : (rows : List (Row Name)) × AnsweredFirst left rows × AreMaster rows × (rows_told st.store planned.0 ≡ rows) × (first_some (pull_tests kept.limits st.store (master_world rows)) ≡ None)
         × ((m n : ℕ) → m ≡ length (pull_of st.store rows).master → n ≡ length (pull_of st.store rows).others → CommandStep kept.limits st s Pull (Pulled m n) (beside st (pull_end st.store s rows) left))
     told = told-step kept.limits st s agree begin left planned.0 planned.1
 
@@ -379,7 +379,7 @@ module _ (kept q : PlainStore) (is : kept ≡ q) (tables : PlainTables) (k : IsK
   pub pull-ends : (after : PlainTables) (next : Result Next Refusal) → MatchResult next (λ ready. IsPrepared kept.limits kept.log reserved tables after k.added ready.change ready.session) (λ refusal. after ≡ tables)
       → ((began : ℕ) (st : Stored) → Stands began kept st → MatchResult next
       (λ ready. PlansPull kept.limits st s first left ready.change) (RefusesPull kept.limits st s first left))
-      → (at : ℕ) → at ≡ s → (end : Ended) → EndsAs reserved kept.sessions kept.limits kept.cache at next end → Goes (FlushLeaves kept (payload_in next) end) a b
+      → (at : ℕ) → at ≡ s → (end : Ended) → FinishesAs reserved kept.sessions kept.limits kept.cache at next end → Goes (FlushLeaves kept (payload_in next) end) a b
       → (payload : List ℕ) × Goes (FlushLeaves q payload end) a b
       × ((began : ℕ) (st : State) → StandsBeside began q first st → AllBeginWith st.store first → PullStep began q left st s payload end)
       × ((began : ℕ) (st : Stored) → Stands began q st → PullAnswers q.limits st s first left payload end)

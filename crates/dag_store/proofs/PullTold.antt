@@ -9,7 +9,7 @@ use Rattle.commit_graph.proofs.Naming.{each}
 use Rattle.high_segments.proofs.Groups.{in-drop}
 use Rattle.remote_rules.specs.CloneData.{CloneData, first_broken}
 use Rattle.remote_rules.specs.Clones.{IsCloneOf}
-use Rattle.remote_rules.specs.Honest.{IsHonest, IsSound, clone_data_of}
+use Rattle.remote_rules.specs.Honest.{IsHonest, IsSoundMirror, clone_data_of}
 use Rattle.remote_rules.specs.Known.{master_world}
 use Rattle.remote_rules.specs.Mirror.{Mirror}
 use Rattle.remote_rules.specs.Serving.{BeginsWith}
@@ -18,7 +18,7 @@ use Rattle.mirror_set.specs.Asking.{Answered, IsItsClone}
 use Rattle.mirror_set.specs.Fresh.{GaveBroken, GaveFew, IsItsFresh, IsPulledFrom, PlainFresh}
 use Rattle.change_rules.proofs.Honest.{never-broken}
 use Rattle.change_rules.proofs.Relation.{clones-are}
-use Rattle.step_rules.specs.Step.{Answered as IsFirst}
+use Rattle.step_rules.specs.Step.{AnsweredFirst as IsFirst}
 
 -- what is told afterwards of what was told before
 grown-told : {X : Type 0} (P : X → X → Type 0) (before now : Option X) (x : X) → ToldSo before now P → before ≡ Some x → (y : X) × (now ≡ Some y) × P x y
@@ -46,7 +46,7 @@ module _ (cloned : ℕ) (w : World Name) (first left : List Mirror) (served : Al
       let there : IsIn a.first first = in-drop a.count first a.first (subst (IsIn a.first) (sym a.was) (inl refl)) in
       let s = each (BeginsWith cloned w) first served a.first there in
       let p = a.left in
-      let before : IsSound a.first = subst (λ o. MatchOption o ⊤ (IsHonest a.first.cloned)) (sym s.1) s.2 in
+      let before : IsSoundMirror a.first = subst (λ o. MatchOption o ⊤ (IsHonest a.first.cloned)) (sym s.1) s.2 in
       let now = grown-told AreGrown a.first.master p.mid.master s.0 p.refreshed.master s.1 in
       let honest : IsHonest p.mid.cloned now.0 = subst (λ o. MatchOption o ⊤ (IsHonest p.mid.cloned)) now.1 (p.refreshed.sound before) in
       let tells : a.next.master ≡ Some now.0 = p.stays.master ∙ now.1 in (

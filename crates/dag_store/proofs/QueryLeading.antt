@@ -29,10 +29,10 @@ use Rattle.remote_rules.specs.Mirror.{Mirror}
 use Rattle.remote_rules.specs.declared.MirrorFault.{MirrorFault}
 use Rattle.remote_rules.specs.declared.MirrorFault.TheVariants as mirror
 use Rattle.payload_tables.specs.Kept.{PlainTables, AreTablesOf}
-use Rattle.payload_tables.specs.Bases.{id_row}
+use Rattle.payload_tables.specs.Bases.{held_row}
 use Rattle.payload_tables.proofs.Rows.{count-rows}
 use Rattle.payload_tables.proofs.Lists.{get-front, same-exact, same-self}
-use Rattle.lazy_names.specs.Cache.{Entry, PlainCache, Keeps, ids_of as cached_ids}
+use Rattle.lazy_names.specs.Cache.{Entry, PlainCache, Keeps, cached_ids}
 use Rattle.lazy_names.specs.Fetching.{IsCacheOf}
 use Rattle.lazy_names.specs.declared.fetched.FetchedName.{FetchedName}
 use Rattle.lazy_names.proofs.Caches.{keeps-then}
@@ -50,7 +50,7 @@ use Rattle.step_rules.specs.Step.{answer_tests, printing_test}
 use Rattle.step_rules.proofs.Cached.{FindsRight, found-cached, gained-right, named-right}
 use Rattle.dag_store.specs.declared.query.Found.{Found}
 use Rattle.dag_store.specs.Kept.{PlainSession, PlainStore, IsKept, IsSessionOf, session_at, base_added, no_cache, sixteen}
-use Rattle.dag_store.specs.Stands.{IsRight, Stands, StandsBeside}
+use Rattle.dag_store.specs.Stands.{IsAnswerable, Stands, StandsBeside}
 use Rattle.dag_store.specs.Looking.{AreRight, AsksAlike, IsSoundCache, IsViewId, entries_of, found_in, refusal_in}
 use Rattle.dag_store.specs.Adding.{IsSeen, seen_tests}
 use Rattle.dag_store.specs.Querying.{AreNamesIn, AreViewIds, AsksQuery, Evaluates, Fetches, FetchesSo, FindsMembers, IsRightEnd, Prints, absent_ids, absent_of, lazy_ids, printing}
@@ -207,7 +207,7 @@ module _ (log : Held) (tables : PlainTables) (sessions : List PlainSession) (lim
             }
 
   -- mirrors that serve, or that aren't asked
-  module _ (a : PlainCache) (old : List Mirror) (st : State) (h : StandsBeside began (record { log = log; sessions = sessions; limits = limits; cache = a }) old st) (right : IsRight st) where
+  module _ (a : PlainCache) (old : List Mirror) (st : State) (h : StandsBeside began (record { log = log; sessions = sessions; limits = limits; cache = a }) old st) (right : IsAnswerable st) where
     abbrev P : List Payload
     P = payloads_of (base_added k.added (session_at sessions s))
 
@@ -510,8 +510,8 @@ view-ids tables added x t of set view =
     let below = of.below in
     let count = h.stand.count in
     let first = h.pending_rows.first in
-    let many = count-rows x.pending (map (id_row (with_pending w rows)) rows) h.pending_rows.held in
-    let long = length-map rows (id_row (with_pending w rows)) in
+    let many = count-rows x.pending (map (held_row (with_pending w rows)) rows) h.pending_rows.held in
+    let long = length-map rows (held_row (with_pending w rows)) in
     (w, rows, omega (arith, below, count), omega (arith, first), omega (arith, many, long), view w rows h)
 
 -- ---- the same of a store as it is seen, and a session that was indexed
@@ -527,14 +527,14 @@ module _ (log : Held) (tables : PlainTables) (sessions : List PlainSession) (lim
   abbrev FindsAt : PlainSession → Answer → Result Found Refusal → Type 0
   FindsAt x answer r = (w : World Name) (rows : List (Row Name)) → IsSeen k.added x w rows → FindsMembers limits.answer (payloads_of (base_added k.added x)) w rows (ids_of answer.set) mid new m c r
 
-  pub refused-leads-at : (r : Result Found Refusal) (f : Refusal) → IsErrAnd r (λ g. g ≡ f) → (st : State) → StandsBeside began q old st → IsRight st → (IsSoundCache a → IsSoundCache m) → EvaluatesAt x (Err f)
+  pub refused-leads-at : (r : Result Found Refusal) (f : Refusal) → IsErrAnd r (λ g. g ≡ f) → (st : State) → StandsBeside began q old st → IsAnswerable st → (IsSoundCache a → IsSoundCache m) → EvaluatesAt x (Err f)
       → QueryStep began q.limits st s e r (record { log = log; sessions = sessions; limits = limits; cache = m }) mid
   refused-leads-at r f is st h right sound ev =
       subst₂ (λ (q : PlainStore) (x : PlainSession). StandsBeside began q old st → EvaluatesAt x (Err f) → QueryStep began q.limits st s e r (at m) mid) seen-as (sym indexed)
       (λ h ev. err-query began limits st s e r f (at m) mid is
       (refused-leads log tables sessions limits k s lt began e a old st h right m mid f (sound (sound-of began (at a) old st h)) (ev (base_of st.store s) (pending_of st.store s) (session-seen log tables sessions limits k began st.store h.stored s lt)))) h ev
 
-  pub found-leads-at : (answer : Answer) (r : Result Found Refusal) → IfOk r (λ found. found.answer ≡ answer) → (st : State) → StandsBeside began q old st → IsRight st → (IsSoundCache a → IsSoundCache m) → (IsSoundCache m → IsSoundCache c)
+  pub found-leads-at : (answer : Answer) (r : Result Found Refusal) → IfOk r (λ found. found.answer ≡ answer) → (st : State) → StandsBeside began q old st → IsAnswerable st → (IsSoundCache a → IsSoundCache m) → (IsSoundCache m → IsSoundCache c)
       → EvaluatesAt x (Ok answer) → FindsAt x answer r → QueryStep began q.limits st s e r (record { log = log; sessions = sessions; limits = limits; cache = c }) new
   found-leads-at answer r given st h right sound more ev finds =
       subst₂ (λ (q : PlainStore) (x : PlainSession). StandsBeside began q old st → EvaluatesAt x (Ok answer) → FindsAt x answer r → QueryStep began q.limits st s e r (at c) new) seen-as (sym indexed)
@@ -560,6 +560,6 @@ module _ (log : Held) (tables : PlainTables) (sessions : List PlainSession) (lim
   pub seen-at : (st : Stored) → Stands began q st → IsSeen k.added x (base_of st s) (pending_of st s)
   seen-at st h = subst₂ (λ (q : PlainStore) (x : PlainSession). Stands began q st → IsSeen k.added x (base_of st s) (pending_of st s)) seen-as (sym indexed) (λ h. session-seen log tables sessions limits k began st h s lt) h
 
-  pub right-at : (st : State) → StandsBeside began q old st → IsRight st → AreRight (payloads_of (base_added k.added x)) (base_of st.store s) old
+  pub right-at : (st : State) → StandsBeside began q old st → IsAnswerable st → AreRight (payloads_of (base_added k.added x)) (base_of st.store s) old
   right-at st h right = subst₂ (λ (q : PlainStore) (x : PlainSession). StandsBeside began q old st → AreRight (payloads_of (base_added k.added x)) (base_of st.store s) old) seen-as (sym indexed)
       (λ h. right-base log tables sessions limits k s lt a old began st h right) h

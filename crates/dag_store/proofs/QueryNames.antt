@@ -16,7 +16,7 @@ use Rattle.batch_codec.specs.Grammar.{count_after}
 use Rattle.batch_codec.specs.Reading.{ids_ascend}
 use Rattle.batch_codec.proofs.Ascending.{ascend-parts}
 use Rattle.batch_codec.proofs.Entries.{FitsKnown, names-size}
-use Rattle.name_map.specs.Added.{Placed, payloads_of, known_of, start_of, Follow, AllStand}
+use Rattle.name_map.specs.Added.{Placed, payloads_of, known_of, start_of, FollowInLog, AllStand}
 use Rattle.name_map.specs.Map.{NamesAs, parts_of}
 use Rattle.name_map.proofs.Orders.{known-within, known-small}
 use Rattle.name_map.proofs.More.{ids-ascend}
@@ -25,11 +25,11 @@ use Rattle.change_rules.specs.Change.{known_from}
 use Rattle.change_rules.specs.Tables.{newest, other_names_in}
 use Rattle.payload_tables.specs.declared.base.BaseRef.{BaseRef}
 use Rattle.payload_tables.specs.Bases.{IsBaseOf, stored_in}
-use Rattle.payload_tables.specs.Pending.{IdRow, PlainPending, HoldsRows}
+use Rattle.payload_tables.specs.Pending.{HeldRow, PlainPending, HoldsRows}
 use Rattle.payload_tables.proofs.Basing.{base-others}
 use Rattle.payload_tables.proofs.Naming.{places-many, row-name}
 use Rattle.payload_tables.proofs.Rows.{get-below}
-use Rattle.dag_store.specs.Names.{name_at, known_at, known_in, others_at, stored_at, name_among, pending_name, name_or, name_in, lent_name}
+use Rattle.dag_store.specs.Names.{name_at, known_at, known_in_parts, others_at, stored_at, name_among, pending_name, name_or, name_in, lent_name}
 
 -- ---- the entries that stand in the log are the payloads'
 
@@ -46,7 +46,7 @@ known-are bytes place (k ∷ ks) fits h =
     ap₂ {C = List Known} (λ n more. record { id = k.id; name = n } ∷ more) (known-name bytes place k fits.0 parts.0)
     (known-are bytes (place + 28) ks fits.1 (subst (λ (n : ℕ). take (length (flat_map known_bytes ks)) (drop (place + n) bytes) ≡ flat_map known_bytes ks) size parts.1))
 
-parts-are : (bytes : List ℕ) (count rank : ℕ) (added : List Placed) → Follow count added → AllStand bytes added → known_in bytes (parts_of rank added) ≡ known_of added
+parts-are : (bytes : List ℕ) (count rank : ℕ) (added : List Placed) → FollowInLog count added → AllStand bytes added → known_in_parts bytes (parts_of rank added) ≡ known_of added
 parts-are bytes count rank [] f s = refl
 parts-are bytes count rank (a ∷ added) f s =
     ap₂ {C = List Known} (λ x y. x ++ y) (known-are bytes (start_of a) a.payload.known (payload-fits a.payload f.0) (known-in-log bytes a f.0 s.0))
@@ -63,23 +63,23 @@ others-are bytes id place (n ∷ names) w h =
 
 -- ---- those below the count are of the first payloads
 
-after-grows : (n : ℕ) (added behind : List Placed) → Follow n (added ++ behind) → n ≤ count_after n (payloads_of added)
+after-grows : (n : ℕ) (added behind : List Placed) → FollowInLog n (added ++ behind) → n ≤ count_after n (payloads_of added)
 after-grows n [] behind h = omega arith
 after-grows n (a ∷ added) behind h = let r = after-grows a.payload.after added behind h.2 in let g = h.0.counts.grows in let e = h.1 in omega (arith, r, g, e)
 
-front-under : (n : ℕ) (front behind : List Placed) → Follow n (front ++ behind) → (k : Known) → IsIn k (known_of front) → k.id < count_after n (payloads_of front)
+front-under : (n : ℕ) (front behind : List Placed) → FollowInLog n (front ++ behind) → (k : Known) → IsIn k (known_of front) → k.id < count_after n (payloads_of front)
 front-under n [] behind h k i = absurd i
 front-under n (a ∷ front) behind h k i =
     ⊎_elim (λ (j : IsIn k a.payload.known). let small = (known-within a.payload h.0 k j).1 in let up = after-grows a.payload.after front behind h.2 in omega (arith, small, up))
     (λ (j : IsIn k (known_of front)). front-under a.payload.after front behind h.2 k j) (in-append k a.payload.known (known_of front) i)
 
-all-from : (n : ℕ) (behind : List Placed) → Follow n behind → (k : Known) → IsIn k (known_of behind) → n ≤ k.id
+all-from : (n : ℕ) (behind : List Placed) → FollowInLog n behind → (k : Known) → IsIn k (known_of behind) → n ≤ k.id
 all-from n [] h k i = absurd i
 all-from n (a ∷ behind) h k i =
     ⊎_elim (λ (j : IsIn k a.payload.known). let low = (known-within a.payload h.0 k j).0 in let e = h.1 in omega (arith, low, e))
     (λ (j : IsIn k (known_of behind)). let r = all-from a.payload.after behind h.2 k j in let g = h.0.counts.grows in let e = h.1 in omega (arith, r, g, e)) (in-append k a.payload.known (known_of behind) i)
 
-behind-from : (n : ℕ) (front behind : List Placed) → Follow n (front ++ behind) → (k : Known) → IsIn k (known_of behind) → count_after n (payloads_of front) ≤ k.id
+behind-from : (n : ℕ) (front behind : List Placed) → FollowInLog n (front ++ behind) → (k : Known) → IsIn k (known_of behind) → count_after n (payloads_of front) ≤ k.id
 behind-from n [] behind h k i = all-from n behind h k i
 behind-from n (a ∷ front) behind h k i = behind-from a.payload.after front behind h.2 k i
 
@@ -94,8 +94,8 @@ stored-are base added b =
     let names = other_names_in (newest (payloads_of added)) in
     let follow = b.tables_of.names.follow in
     let count = b.count in
-    let known : known_in base.bytes.now base.tables.now.names.parts ≡ known_of added ++ known_of b.behind =
-    ap (known_in base.bytes.now) b.tables_of.names.parts ∙ parts-are base.bytes.now 0 0 (added ++ b.behind) follow b.stand
+    let known : known_in_parts base.bytes.now base.tables.now.names.parts ≡ known_of added ++ known_of b.behind =
+    ap (known_in_parts base.bytes.now) b.tables_of.names.parts ∙ parts-are base.bytes.now 0 0 (added ++ b.behind) follow b.stand
     ∙ flat_map-append (λ (a : Placed). a.payload.known) added b.behind in
     let size : 20 * base.others.now.count ≡ length (names_bytes names) = let c = facts.count in let n = names-size names facts.whole in omega (arith, c, n) in
     ap₂ {C = List Known} (λ x y. x ++ y)
@@ -126,7 +126,7 @@ ascend-known least end [] h = tt
 ascend-known least end (k ∷ ks) h =
     let parts = ascend-parts least end k.id (map (λ (k : Known). k.id) ks) h in (parts.0, ascend-known (k.id + 1) end ks parts.2)
 
-ascend-all : (n : ℕ) (added : List Placed) → Follow n added → Ascend n (known_of added)
+ascend-all : (n : ℕ) (added : List Placed) → FollowInLog n added → Ascend n (known_of added)
 ascend-all n [] h = tt
 ascend-all n (a ∷ added) h =
     let e = h.1 in let g = h.0.counts.grows in
@@ -143,7 +143,7 @@ least n [] h k i = absurd i
 least n (x ∷ ks) h k (inl e) = let a = h.0 in let s = ap (λ (z : Known). z.id) e in omega (arith, a, s)
 least n (x ∷ ks) h k (inr i) = let a = h.0 in let r = least (x.id + 1) ks h.1 k i in omega (arith, a, r)
 
-following-front : (count : ℕ) (front behind : List Placed) → Follow count (front ++ behind) → Follow count front
+following-front : (count : ℕ) (front behind : List Placed) → FollowInLog count (front ++ behind) → FollowInLog count front
 following-front count [] behind h = tt
 following-front count (a ∷ front) behind h = (h.0, h.1, following-front a.payload.after front behind h.2)
 
@@ -182,8 +182,8 @@ pub none-name : (base : BaseRef) (pending : PlainPending) (added : List Placed) 
 none-name base pending added b id h =
     sym (ap (λ o. name_or o (pending_name pending id)) (ap (λ known. name_among known id) (stored-are base added b) ∙ no-name (stored_in added) id h))
 
-pub row-here : (p : PlainPending) (rows : List IdRow) → HoldsRows p rows → (id place : ℕ) → id ≡ 2 ^ 56 + p.first + place → place < length p.places → (name : Name)
-    → ((row : IdRow) → slice_get rows place ≡ Some row → name ≡ row.name) → Some name ≡ pending_name p id
+pub row-here : (p : PlainPending) (rows : List HeldRow) → HoldsRows p rows → (id place : ℕ) → id ≡ 2 ^ 56 + p.first + place → place < length p.places → (name : Name)
+    → ((row : HeldRow) → slice_get rows place ≡ Some row → name ≡ row.name) → Some name ≡ pending_name p id
 row-here p rows h id place e lt name is =
     let many = places-many p rows h in
     let x = get-below rows place (omega (arith, many, lt)) in

@@ -10,7 +10,7 @@ use Rattle.commit_graph.proofs.Down.{in-left, in-right}
 use Rattle.commit_graph.proofs.Naming.{each, named-by, name-of, pending-names}
 use Rattle.segment_codec.specs.Record.{segment_bytes}
 use Rattle.segment_codec.specs.Flat.{IsFlat}
-use Rattle.flat_segments.specs.Placed.{Placed as PlacedSegment, placed}
+use Rattle.flat_segments.specs.Placed.{PlacedSegment, placed_segments}
 use Rattle.batch_codec.specs.Payload.{Payload, known_names}
 use Rattle.batch_codec.specs.Grammar.{count_after}
 use Rattle.change_rules.specs.Lawful.{AreLawful}
@@ -18,8 +18,8 @@ use Rattle.name_map.specs.Added.{Placed, payloads_of}
 use Rattle.change_rules.specs.Tables.{newest, other_names_in}
 use Rattle.payload_tables.specs.declared.base.BaseRef.{BaseRef}
 use Rattle.payload_tables.specs.Kept.{PlainTables, AreTablesOf}
-use Rattle.payload_tables.specs.Pending.{IdRow, PlainPending, HoldsRows, row_names, segments_from}
-use Rattle.payload_tables.specs.Bases.{IsBaseOf, MayView, id_row}
+use Rattle.payload_tables.specs.Pending.{HeldRow, PlainPending, HoldsRows, row_names, segments_from}
+use Rattle.payload_tables.specs.Bases.{IsBaseOf, MayView, held_row}
 use Rattle.payload_tables.proofs.Lists.{names-length}
 use Rattle.payload_tables.proofs.Naming.{whole-names}
 use Rattle.flush_rebuild.specs.Asked.{others_count, HaveParents, MayStore}
@@ -34,7 +34,7 @@ parents-fit : (m k id : ℕ) → id ≡ 2 ^ 56 + k → (ps : List ℕ) → AllBy
 parents-fit m k id e [] h g = tt
 parents-fit m k id e (p ∷ ps) h g = (⊎_elim (λ a. inl a) (λ b. inr (b, (let lt = h.0 in omega (arith, lt, e)))) g.0, parents-fit m k id e ps h.1 g.1)
 
-rows-fit : (m k id at : ℕ) → id ≡ 2 ^ 56 + k → (rows : List IdRow) → AllByRecursion (λ (r : PlacedSegment). IsFlat r.segment) (placed at (segments_from id rows)) → HaveParents m rows → AllRows (Behind m) k rows
+rows-fit : (m k id at : ℕ) → id ≡ 2 ^ 56 + k → (rows : List HeldRow) → AllByRecursion (λ (r : PlacedSegment). IsFlat r.segment) (placed_segments at (segments_from id rows)) → HaveParents m rows → AllRows (Behind m) k rows
 rows-fit m k id at e [] h g = tt
 rows-fit m k id at e (r ∷ rows) h g = (
   (parents-fit m k id e r.parents h.0.segment.below g.0, h.0.segment.distinct, h.0.segment.level_parents),
@@ -56,7 +56,7 @@ pub lawful-front : (before front behind : List Payload) → AreLawful before (fr
 lawful-front before [] behind h = tt
 lawful-front before (p ∷ front) behind h = (h.0, lawful-front (before ++ p ∷ []) front behind h.1)
 
-names-again : (v : World Name) (rows : List (Row Name)) → row_names (map (id_row v) rows) ≡ names_of rows
+names-again : (v : World Name) (rows : List (Row Name)) → row_names (map (held_row v) rows) ≡ names_of rows
 names-again v [] = refl
 names-again v (r ∷ rows) = ap (λ l. r.name ∷ l) (names-again v rows)
 

@@ -17,7 +17,7 @@ use Rattle.payload_tables.specs.Pending.{PlainPending}
 use Rattle.payload_tables.specs.Bases.{ArePending}
 use Rattle.flush_rebuild.specs.declared.fault.PlanFault.{PlanFault}
 use Rattle.flush_rebuild.specs.declared.fault.PlanFault.TheVariants as faults
-use Rattle.flush_rebuild.specs.Plans.{conflict_fault, lost_fault, first_of, rebase_refusal, stored_id}
+use Rattle.flush_rebuild.specs.Plans.{conflict_fault, lost_fault, first_fault, rebase_refusal, stored_id}
 use Rattle.step_rules.specs.declared.Refusal.{Refusal}
 use Rattle.step_rules.specs.declared.Refusal.TheVariants as why
 use Rattle.step_rules.specs.State.{Stored, pending_of}
@@ -60,12 +60,12 @@ plan-memory (faults.BadRow id) = inr (λ e. true≢false (sym (ap is_memory e)))
 plan-memory faults.Memory = inl refl
 
 -- what a rebase is refused for is one of both, or neither is there
-both-none : (c l : Option Name) → first_of (conflict_fault c) (lost_fault l) ≡ None → (c ≡ None) × (l ≡ None)
+both-none : (c l : Option Name) → first_fault (conflict_fault c) (lost_fault l) ≡ None → (c ≡ None) × (l ≡ None)
 both-none None None e = (refl, refl)
 both-none None (Some name) e = absurd (true≢false (ap is_some e))
 both-none (Some name) l e = absurd (true≢false (ap is_some e))
 
-one-refuses : (c l : Option Name) (fault : PlanFault) → first_of (conflict_fault c) (lost_fault l) ≡ Some fault → first_some (option_map why.Conflict c ∷ option_map why.Lost l ∷ []) ≡ Some (refusal_of fault)
+one-refuses : (c l : Option Name) (fault : PlanFault) → first_fault (conflict_fault c) (lost_fault l) ≡ Some fault → first_some (option_map why.Conflict c ∷ option_map why.Lost l ∷ []) ≡ Some (refusal_of fault)
 one-refuses None None fault e = absurd (true≢false (sym (ap is_some e)))
 one-refuses None (Some name) fault e = ap (option_map refusal_of) e
 one-refuses (Some name) l fault e = ap (option_map refusal_of) e

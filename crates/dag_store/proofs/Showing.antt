@@ -3,7 +3,7 @@ use Rattle.std.proofs.Common.{◌≡◌, ℕ, List, [], ◌∷◌, map, refl, sy
 use Rattle.id_groups.specs.Name.{Name}
 use Rattle.commit_graph.specs.World.{Row, World}
 use Rattle.payload_tables.specs.Pending.{HoldsRows}
-use Rattle.payload_tables.specs.Bases.{id_row as held_id_row}
+use Rattle.payload_tables.specs.Bases.{held_row as held_id_row}
 use Rattle.step_rules.specs.State.{State, pending_of, view_of}
 use Rattle.step_rules.specs.Stands.{KeptStore, StandsFor, id_row}
 use Rattle.dag_store.specs.Kept.{PlainStore, session_at}

@@ -13,13 +13,13 @@ use Rattle.name_map.specs.Added.{Placed, payloads_of}
 use Rattle.change_rules.specs.declared.Limits.{Limits}
 use Rattle.change_rules.specs.Tables.{newest, other_names_in}
 use Rattle.payload_tables.specs.Kept.{PlainTables, PlainOthers, AreOthersIn}
-use Rattle.payload_tables.specs.Pending.{IdRow, PlainPending, HoldsRows}
-use Rattle.payload_tables.specs.Bases.{ArePending, id_row}
+use Rattle.payload_tables.specs.Pending.{HeldRow, PlainPending, HoldsRows}
+use Rattle.payload_tables.specs.Bases.{ArePending, held_row}
 use Rattle.payload_tables.proofs.Lists.{names-length}
 use Rattle.step_rules.specs.State.{State, Stored, session, pending_of, base_of, with_pending_rows}
 use Rattle.step_rules.specs.Verb.{Verb, Add, Flush, Reload, Discard, Query, Count, IdOf, Status, Levels, Clone, Pull, Strip, CountMirrors, Drop}
 use Rattle.step_rules.specs.Reply.{Reply, Sizes, LevelSizes, Discarded}
-use Rattle.step_rules.specs.Step.{CommandStep, Told}
+use Rattle.step_rules.specs.Step.{CommandStep, IsTold}
 use Rattle.step_rules.proofs.Plain.{outside-same}
 use Rattle.step_rules.proofs.States.{alone}
 use Rattle.dag_store.specs.Kept.{PlainSession, PlainStore, IsKept, IsSessionOf, session_at, base_added, no_cache, sixteen}
@@ -42,10 +42,10 @@ others-many others added h = last-count others None added h
 
 -- so many rows are pending
 abbrev pub CountsRows : PlainPending → ℕ → Type 0
-CountsRows pending n = (rows : List IdRow) → HoldsRows pending rows → n ≡ length rows
+CountsRows pending n = (rows : List HeldRow) → HoldsRows pending rows → n ≡ length rows
 
 pub pending-many : (w : World Name) (pending : PlainPending) (rows : List (Row Name)) (n : ℕ) → ArePending w pending rows → CountsRows pending n → n ≡ length rows
-pending-many w pending rows n p c = c (map (id_row (with_pending w rows)) rows) p.held ∙ length-map rows (id_row (with_pending w rows))
+pending-many w pending rows n p c = c (map (held_row (with_pending w rows)) rows) p.held ∙ length-map rows (held_row (with_pending w rows))
 
 -- commands without tests
 abbrev IsBare : Verb → Type 0
@@ -59,7 +59,7 @@ module _ (log : Held) (tables : PlainTables) (sessions : List PlainSession) (lim
   kept = record { log = log; sessions = sessions; limits = limits; cache = no_cache }
 
   -- a command without tests, that asks nothing
-  untested : (st : State) (now : Stored) (verb : Verb) → IsBare verb → (reply : Reply) → Told st.store s verb reply now → CommandStep limits st s verb reply (record st { store = now })
+  untested : (st : State) (now : Stored) (verb : Verb) → IsBare verb → (reply : Reply) → IsTold st.store s verb reply now → CommandStep limits st s verb reply (record st { store = now })
   untested st now Status i reply t = (None, st.outside.mirrors, [], (refl, refl, inl refl), (t, outside-same st now))
   untested st now Levels i reply t = (None, st.outside.mirrors, [], (refl, refl, inl refl), (t, outside-same st now))
   untested st now Discard i reply t = (None, st.outside.mirrors, [], (refl, refl, inl refl), (t, outside-same st now))

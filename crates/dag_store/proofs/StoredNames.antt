@@ -21,7 +21,7 @@ use Rattle.change_rules.specs.Change.{known_from}
 use Rattle.change_rules.specs.Lazy.{is_lazy, has_lazy, stored_names}
 use Rattle.change_rules.specs.Tables.{StandFor, newest, other_names_in, known_in}
 use Rattle.payload_tables.specs.Pending.{row_names, FindsRow}
-use Rattle.payload_tables.specs.Bases.{id_row, stored_in}
+use Rattle.payload_tables.specs.Bases.{held_row, stored_in}
 use Rattle.payload_tables.proofs.Lists.{get-below, names-length, same-self, same-exact}
 use Rattle.payload_tables.proofs.Naming.{get-in, name-of-row}
 use Rattle.name_map.specs.Map.{IsIdOf}
@@ -66,7 +66,7 @@ pub one-some : (x y : Name) → Some x ≡ Some y → x ≡ y
 one-some x y e = cc e
 
 -- the names of rows by ids are those of the rows
-pub names-of-rows : (v : World Name) (some : List (Row Name)) → row_names (map (id_row v) some) ≡ names_of some
+pub names-of-rows : (v : World Name) (some : List (Row Name)) → row_names (map (held_row v) some) ≡ names_of some
 names-of-rows v [] = refl
 names-of-rows v (r ∷ some) = ap (λ l. r.name ∷ l) (names-of-rows v some)
 
@@ -180,27 +180,27 @@ module _ (added : List Placed) (w : World Name) (stand : StandFor (payloads_of a
           s.1,
         )
 
-    pub found-pending : (name : Name) (k id : ℕ) → FindsRow (map (id_row (with_pending w rows)) rows) name (Some k) → id ≡ other_id (length w.others + k) → FindsIn (payloads_of added) w rows name (Some id)
+    pub found-pending : (name : Name) (k id : ℕ) → FindsRow (map (held_row (with_pending w rows)) rows) name (Some k) → id ≡ other_id (length w.others + k) → FindsIn (payloads_of added) w rows name (Some id)
     found-pending name k id f e =
         let h = head-pending w rows whole name k f.0 f.1 f.2 in
         let here : IsIn name (names_of rows) = subst (IsIn name) (names-of-rows (with_pending w rows) rows)
-        (get-in (row_names (map (id_row (with_pending w rows)) rows)) k name (name-of-row (map (id_row (with_pending w rows)) rows) k f.0 f.1 ∙ ap Some f.2)) in (
+        (get-in (row_names (map (held_row (with_pending w rows)) rows)) k name (name-of-row (map (held_row (with_pending w rows)) rows) k f.0 f.1 ∙ ap Some f.2)) in (
           asked-not (has_lazy (payloads_of added) w) (is_in same_name name (stored_names (payloads_of added) w)) (is_in same_name name (names_of rows)) (inr (is-there name (names_of rows) here)),
           is-there name (names_of (rows_of (with_pending w rows))) h.0,
           e ∙ h.1,
         )
 
-    pub not-pending : (name : Name) → FindsRow (map (id_row (with_pending w rows)) rows) name None → IsIn name (names_of rows) → ⊥
+    pub not-pending : (name : Name) → FindsRow (map (held_row (with_pending w rows)) rows) name None → IsIn name (names_of rows) → ⊥
     not-pending name f i = f (subst (IsIn name) (sym (names-of-rows (with_pending w rows) rows)) i)
 
-    pub has-to-ask : (name : Name) → (IsStored added name → ⊥) → FindsRow (map (id_row (with_pending w rows)) rows) name None → has_lazy (payloads_of added) w ≡ true
+    pub has-to-ask : (name : Name) → (IsStored added name → ⊥) → FindsRow (map (held_row (with_pending w rows)) rows) name None → has_lazy (payloads_of added) w ≡ true
         → is_asked_in (payloads_of added) w rows name ≡ true
     has-to-ask name out f lazy =
         ap₂ (λ a b. a && not b)
         (ap₂ (λ a b. a && not b) lazy (not-in name (stored_names (payloads_of added) w) (λ i. out (subst (IsIn name) stored-are i))))
         (not-in name (names_of rows) (not-pending name f))
 
-    pub found-nowhere : (name : Name) → (IsStored added name → ⊥) → FindsRow (map (id_row (with_pending w rows)) rows) name None → has_lazy (payloads_of added) w ≡ false
+    pub found-nowhere : (name : Name) → (IsStored added name → ⊥) → FindsRow (map (held_row (with_pending w rows)) rows) name None → has_lazy (payloads_of added) w ≡ false
         → FindsIn (payloads_of added) w rows name None
     found-nowhere name out f none = (
       ap (λ a. (a && not (is_in same_name name (stored_names (payloads_of added) w))) && not (is_in same_name name (names_of rows))) none,

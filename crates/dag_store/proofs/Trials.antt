@@ -10,7 +10,7 @@ use Rattle.batch_codec.specs.Payload.{Payload}
 use Rattle.change_rules.specs.Tables.{cloned_count}
 use Rattle.remote_rules.specs.CloneData.{KnownName}
 use Rattle.remote_rules.specs.Mirror.{Mirror}
-use Rattle.remote_rules.specs.Serving.{Serves}
+use Rattle.remote_rules.specs.Serving.{IsServing}
 use Rattle.remote_rules.specs.declared.MirrorFault.{MirrorFault}
 use Rattle.remote_rules.specs.Asking.{AsksForNames}
 use Rattle.lazy_names.specs.Cache.{PlainCache, Keeps}
@@ -78,7 +78,7 @@ module _ (payloads : List Payload) (w : World Name) where
   serving-on old new tests verdict g t (inl none) = inl none
   serving-on old new tests verdict g t (inr s) =
       let from = tries-from W old new tests verdict g t in
-      inr (all-each (Serves (cloned_count payloads) w) new (λ m i. let x = from.each_from m i in serves-on (cloned_count payloads) w x.0 m x.2 (each (Serves (cloned_count payloads) w) old s x.0 x.1)))
+      inr (all-each (IsServing (cloned_count payloads) w) new (λ m i. let x = from.each_from m i in serves-on (cloned_count payloads) w x.0 m x.2 (each (IsServing (cloned_count payloads) w) old s x.0 x.1)))
 
   pub tried-serves : (tests : List Test) (old new : List Mirror) (a b : PlainCache) (verdict : Option Refusal) → Tried payloads w tests old new a b verdict → AreRight payloads w old → AreRight payloads w new
   tried-serves tests old new a b verdict t s = serving-on old new t.told.told verdict t.gained t.told.tries s

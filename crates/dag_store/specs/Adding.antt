@@ -13,7 +13,7 @@ use Rattle.change_rules.specs.Lazy.{stored_names}
 use Rattle.change_rules.specs.Tables.{StandFor}
 use Rattle.change_rules.specs.declared.Limit.TheVariants as limit
 use Rattle.payload_tables.specs.Bases.{ArePending}
-use Rattle.payload_tables.specs.Pending.{IdRow, PlainPending, HoldsRows}
+use Rattle.payload_tables.specs.Pending.{HeldRow, PlainPending, HoldsRows}
 use Rattle.remote_rules.specs.Mirror.{Mirror}
 use Rattle.lazy_names.specs.Cache.{PlainCache}
 use Rattle.step_rules.specs.declared.Refusal.{Refusal}
@@ -96,7 +96,7 @@ pub record MayBeParents (first count : ℕ) (ids : List ℕ) : Type 0 where
   pub below : AllByRecursion (λ id. id < other_id (first + count)) ids
 
 -- a row comes behind these, unless there are as many as may be
-abbrev pub Appends : ℕ → PlainPending → List IdRow → Name → List ℕ → Result Added Refusal → PlainPending → Type 0
+abbrev pub Appends : ℕ → PlainPending → List HeldRow → Name → List ℕ → Result Added Refusal → PlainPending → Type 0
 Appends most old rows name ids (Ok (New id)) new =
     (length rows < most) × (id ≡ other_id (old.first + length rows)) × (new.first ≡ old.first)
     × HoldsRows new (rows ++ record { name = name; parents = ids } ∷ [])

@@ -13,7 +13,7 @@ use Rattle.change_rules.specs.Change.{text_of}
 use Rattle.change_rules.specs.Holding.{HoldPayloads}
 use Rattle.change_rules.specs.Rebase.{first_conflict, first_lost, left_of}
 use Rattle.payload_tables.specs.Kept.{PlainTables, AreTablesOf}
-use Rattle.payload_tables.specs.Pending.{IdRow, PlainPending, HoldsRows, row_names}
+use Rattle.payload_tables.specs.Pending.{HeldRow, PlainPending, HoldsRows, row_names}
 use Rattle.payload_tables.specs.Bases.{ArePending}
 use Rattle.flush_rebuild.specs.Asked.{IsFoundIn}
 use Rattle.flush_rebuild.specs.declared.fault.PlanFault.{PlanFault}
@@ -52,7 +52,7 @@ pub record IsOn (began : ℕ) (added : List Placed) (x : PlainSession) (st : Sto
 
 -- the pending rows have these names, in order
 abbrev pub HaveNames : PlainPending → List Name → Type 0
-HaveNames pending names = (rows : List IdRow) × HoldsRows pending rows × (row_names rows ≡ names)
+HaveNames pending names = (rows : List HeldRow) × HoldsRows pending rows × (row_names rows ≡ names)
 
 -- of the name of each pending row something was found in the newest base
 abbrev pub RowsFound : List Placed → PlainPending → List (Option ℕ) → Type 0

@@ -21,7 +21,7 @@ use Rattle.step_rules.specs.Reply.{Cloned, Refused as IsRefusal}
 use Rattle.step_rules.specs.Worlds.{after_change}
 use Rattle.step_rules.specs.Tests.{refused_first, tests}
 use Rattle.step_rules.specs.Asking.{refusal_for}
-use Rattle.step_rules.specs.Step.{CommandStep, Answered}
+use Rattle.step_rules.specs.Step.{CommandStep, AnsweredFirst}
 use Rattle.dag_store.specs.declared.replies.Flushed.{Flushed}
 use Rattle.dag_store.specs.declared.replies.Flushed.TheVariants.{Done, Refused, Disk}
 use Rattle.dag_store.specs.Kept.{PlainStore}
@@ -54,13 +54,13 @@ beside st now left = record { store = now; outside = record { cache = st.outside
 -- at a fault of the disk, the store is gone, and the payload is the one of the step that was to be taken.
 abbrev pub CloneStep : ℕ → PlainStore → List Mirror → State → ℕ → List ℕ → Flushed → Type 0
 CloneStep began old left st s payload (Done new counts clock) =
-    (rows : List (Row Name)) × Answered left rows
+    (rows : List (Row Name)) × AnsweredFirst left rows
     × CommandStep old.limits st s Clone (Cloned counts.master) (beside st (clone_end st.store s rows) left)
     × StandsBeside began new left (beside st (clone_end st.store s rows) left) × (counts.others ≡ 0) × StoresClone clock st.store s rows payload
 CloneStep began old left st s payload (Refused same refusal) =
     CommandStep old.limits st s Clone (IsRefusal refusal) (beside st st.store left) × StandsBeside began same left (beside st st.store left)
 CloneStep began old left st s payload (Disk fault) =
-    (rows : List (Row Name)) × Answered left rows
+    (rows : List (Row Name)) × AnsweredFirst left rows
     × CommandStep old.limits st s Clone (Cloned (length rows)) (beside st (clone_end st.store s rows) left)
     × StoresCloneBy st.store s rows payload
 

@@ -48,6 +48,6 @@ payload_in (Ok ready) = ready.change.payload
 payload_in (Err refusal) = []
 
 -- The change of what was prepared ends, with its session in this place; or the store is handed back with the refusal.
-abbrev pub EndsAs : Held → List PlainSession → Limits → PlainCache → ℕ → Result Next Refusal → Flushed → Type 0
-EndsAs log sessions limits cache at (Ok ready) end = Finishes log (slice_set sessions at ready.session) limits cache ready.change end
-EndsAs log sessions limits cache at (Err refusal) end = end ≡ Refused (record { log = log; sessions = sessions; limits = limits; cache = cache }) refusal
+abbrev pub FinishesAs : Held → List PlainSession → Limits → PlainCache → ℕ → Result Next Refusal → Flushed → Type 0
+FinishesAs log sessions limits cache at (Ok ready) end = Finishes log (slice_set sessions at ready.session) limits cache ready.change end
+FinishesAs log sessions limits cache at (Err refusal) end = end ≡ Refused (record { log = log; sessions = sessions; limits = limits; cache = cache }) refusal

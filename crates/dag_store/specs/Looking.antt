@@ -17,10 +17,10 @@ use Rattle.payload_tables.specs.Bases.{IsBaseOf, ArePending}
 use Rattle.payload_tables.specs.Pending.{PlainPending}
 use Rattle.remote_rules.specs.CloneData.{KnownName}
 use Rattle.remote_rules.specs.Mirror.{Mirror}
-use Rattle.remote_rules.specs.Serving.{Serves}
+use Rattle.remote_rules.specs.Serving.{IsServing}
 use Rattle.remote_rules.specs.Asking.{AsksForNames}
 use Rattle.remote_rules.specs.declared.MirrorFault.{MirrorFault}
-use Rattle.lazy_names.specs.Cache.{Entry, PlainCache, Keeps, ids_of}
+use Rattle.lazy_names.specs.Cache.{Entry, PlainCache, Keeps, cached_ids}
 use Rattle.lazy_names.specs.declared.fault.LazyFault.{LazyFault}
 use Rattle.lazy_names.specs.declared.fault.LazyFault.TheVariants as lazy
 use Rattle.step_rules.specs.declared.Refusal.{Refusal}
@@ -66,7 +66,7 @@ test_in payloads w rows refuse name = named (is_asked_in payloads w rows name) (
 
 -- the mirrors serve the commits of the world that were cloned
 abbrev pub AreServing : List Payload → World Name → List Mirror → Type 0
-AreServing payloads w mirrors = AllByRecursion (Serves (cloned_count payloads) w) mirrors
+AreServing payloads w mirrors = AllByRecursion (IsServing (cloned_count payloads) w) mirrors
 
 -- What an answer over the world rests on: each of its commits has a stored name, so that no mirror is asked, or the mirrors serve it.
 abbrev pub AreRight : List Payload → World Name → List Mirror → Type 0
@@ -131,7 +131,7 @@ pub record Asked (payloads : List Payload) (w : World Name) (name : Name) (old n
 
 -- a cache has each id once, and no more than there is room for
 pub record IsSoundCache (c : PlainCache) : Type 0 where
-  pub once : AreDistinct (ids_of c.entries)
+  pub once : AreDistinct (cached_ids c.entries)
   pub fits : length c.entries ≤ c.capacity
 
 -- the name's id in the view, if it is there

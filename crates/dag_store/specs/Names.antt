@@ -8,7 +8,7 @@ use Rattle.name_map.specs.Added.{Placed}
 use Rattle.lazy_names.specs.declared.fetched.FetchedName.{FetchedName}
 use Rattle.payload_tables.specs.declared.base.BaseRef.{BaseRef}
 use Rattle.payload_tables.specs.Bases.{IsBaseOf}
-use Rattle.payload_tables.specs.Pending.{IdRow, PlainPending, HoldsRows}
+use Rattle.payload_tables.specs.Pending.{HeldRow, PlainPending, HoldsRows}
 
 -- the twenty bytes at a place
 abbrev pub name_at : List ℕ → ℕ → Name
@@ -20,8 +20,8 @@ known_at bytes place [] = []
 known_at bytes place (id ∷ ids) = record { id = id; name = name_at bytes (place + 8) } ∷ known_at bytes (place + 28) ids
 
 -- those of all parts of a map
-abbrev pub known_in : List ℕ → List PlainPart → List Known
-known_in bytes parts = flat_map (λ part. known_at bytes part.start part.ids) parts
+abbrev pub known_in_parts : List ℕ → List PlainPart → List Known
+known_in_parts bytes parts = flat_map (λ part. known_at bytes part.start part.ids) parts
 
 -- so many ids from this one on, with names that stand one after another from this place on
 abbrev pub others_at : List ℕ → ℕ → ℕ → ℕ → List Known
@@ -31,7 +31,7 @@ others_at bytes id place (suc n) = record { id = id; name = name_at bytes place 
 -- all ids of a base with a stored name, and these names, as the log's bytes have them
 abbrev pub stored_at : BaseRef → List Known
 stored_at base =
-    filter (λ k. nat_lt k.id base.below) (known_in base.bytes.now base.tables.now.names.parts)
+    filter (λ k. nat_lt k.id base.below) (known_in_parts base.bytes.now base.tables.now.names.parts)
     ++ others_at base.bytes.now (2 ^ 56) base.others.now.names base.others.now.count
 
 -- the name of the first of these that has the id
@@ -73,7 +73,7 @@ named_front base pending fetched (id ∷ ids) = add (name_in base pending id) fe
 pub record IsLent (base : BaseRef) (pending : PlainPending) : Type 0 where
   pub added : List Placed
   pub base_of : IsBaseOf base added
-  pub rows : List IdRow
+  pub rows : List HeldRow
   pub held : HoldsRows pending rows
 
 -- what is still to come: contracts see the names of an answer as their list

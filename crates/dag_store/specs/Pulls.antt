@@ -18,7 +18,7 @@ use Rattle.change_rules.specs.Pull.{pulled}
 use Rattle.change_rules.specs.Tables.{cloned_count}
 use Rattle.flush_rebuild.specs.declared.plan.Change.{Change}
 use Rattle.flush_rebuild.specs.declared.fault.PlanFault.{PlanFault}
-use Rattle.flush_rebuild.specs.Plans.{IsChangeOf, first_of}
+use Rattle.flush_rebuild.specs.Plans.{IsChangeOf, first_fault}
 use Rattle.flush_rebuild.specs.Pulling.{told_rows, clone_fault, row_fault}
 use Rattle.step_rules.specs.declared.Refusal.{Refusal}
 use Rattle.step_rules.specs.declared.Refusal.TheVariants as why
@@ -27,7 +27,7 @@ use Rattle.step_rules.specs.Verb.{Pull}
 use Rattle.step_rules.specs.Reply.{Pulled, Refused as IsRefusal}
 use Rattle.step_rules.specs.Worlds.{after_flush}
 use Rattle.step_rules.specs.Tests.{first_some, refused_first, tests}
-use Rattle.step_rules.specs.Step.{CommandStep, Answered, pull_tests}
+use Rattle.step_rules.specs.Step.{CommandStep, AnsweredFirst, pull_tests}
 use Rattle.dag_store.specs.declared.replies.Flushed.{Flushed}
 use Rattle.dag_store.specs.declared.replies.Flushed.TheVariants.{Done, Refused, Disk}
 use Rattle.dag_store.specs.Kept.{PlainStore}
@@ -56,13 +56,13 @@ AllBeginWith st mirrors = AllByRecursion (BeginsWith (cloned_count st.payloads) 
 -- be taken.
 abbrev pub PullStep : ℕ → PlainStore → List Mirror → State → ℕ → List ℕ → Flushed → Type 0
 PullStep began old left st s payload (Done new counts clock) =
-    (rows : List (Row Name)) × Answered left rows
+    (rows : List (Row Name)) × AnsweredFirst left rows
     × CommandStep old.limits st s Pull (Pulled counts.master counts.others) (beside st (pull_end st.store s rows) left)
     × StandsBeside began new left (beside st (pull_end st.store s rows) left) × Stores clock st.store s (pull_of st.store rows) payload
 PullStep began old left st s payload (Refused same refusal) =
     CommandStep old.limits st s Pull (IsRefusal refusal) (beside st st.store left) × StandsBeside began same left (beside st st.store left)
 PullStep began old left st s payload (Disk fault) =
-    (rows : List (Row Name)) × Answered left rows
+    (rows : List (Row Name)) × AnsweredFirst left rows
     × CommandStep old.limits st s Pull (Pulled (length (pull_of st.store rows).master) (length (pull_of st.store rows).others)) (beside st (pull_end st.store s rows) left)
     × StoresBy st.store s (pull_of st.store rows) payload
 
@@ -80,7 +80,7 @@ fresh_refusal Memory = why.Memory
 abbrev pub mismatch_of : List Payload → PlainFresh → Option PlanFault
 mismatch_of payloads fresh =
     let cloned = cloned_count payloads in
-    first_of (clone_fault (first_unlike payloads cloned fresh.cloned)) (row_fault (first_bad_row payloads cloned fresh.cloned fresh.names))
+    first_fault (clone_fault (first_unlike payloads cloned fresh.cloned)) (row_fault (first_bad_row payloads cloned fresh.cloned fresh.names))
 
 -- the master rows that were told, where the cloned ones are those that are stored
 abbrev pub rows_told : Stored → PlainFresh → List (Row Name)

@@ -3,7 +3,7 @@ use Rattle.std.specs.Prelude.{◌≡◌, ◌<◌, ◌↔◌, ℕ, Some, map}
 use Rattle.id_groups.specs.Lists.{IsIn}
 use Rattle.id_groups.specs.Name.{Name}
 use Rattle.change_rules.specs.Change.{text_of}
-use Rattle.payload_tables.specs.Pending.{IdRow as HeldRow, HoldsRows}
+use Rattle.payload_tables.specs.Pending.{HeldRow, HoldsRows}
 use Rattle.step_rules.specs.Stands.{IdRow, KeptStore}
 use Rattle.dag_store.specs.Kept.{PlainStore, session_at, sixteen}
 

@@ -8,7 +8,7 @@ use Rattle.change_rules.specs.Holding.{HoldPayloads}
 use Rattle.change_rules.specs.Lazy.{has_lazy}
 use Rattle.payload_tables.specs.Bases.{ArePending}
 use Rattle.remote_rules.specs.Mirror.{Mirror}
-use Rattle.lazy_names.specs.Cache.{PlainCache, ids_of}
+use Rattle.lazy_names.specs.Cache.{PlainCache, cached_ids}
 use Rattle.step_rules.specs.State.{State, Stored, IsStore, IsOutside, Session, session, world_at}
 use Rattle.step_rules.specs.Served.{IsServed}
 use Rattle.dag_store.specs.Kept.{PlainSession, PlainStore, session_at, sixteen}
@@ -36,7 +36,7 @@ Stands began kept st = HoldsFor began kept.log kept.sessions st
 -- The names that are kept, and these mirrors, are what is outside in the state. In which order names were used is no part of it.
 pub record IsOutsideOf (cache : PlainCache) (mirrors : List Mirror) (st : State) : Type 0 where
   pub has : (id : ℕ) (name : Name) → (st.outside.cache id ≡ Some name) ↔ IsIn (id, name) cache.entries
-  pub once : AreDistinct (ids_of cache.entries)
+  pub once : AreDistinct (cached_ids cache.entries)
   pub fits : length cache.entries ≤ cache.capacity
   pub room : st.outside.room ≡ cache.capacity
   pub mirrors_are : st.outside.mirrors ≡ mirrors
@@ -49,5 +49,5 @@ pub record StandsBeside (began : ℕ) (kept : PlainStore) (mirrors : List Mirror
 
 -- What the steps of a state rest on: each commit of its stored world has a stored name, so that no mirror is asked for one, or its
 -- mirrors serve that world.
-abbrev pub IsRight : State → Type 0
-IsRight st = (has_lazy st.store.payloads st.store.stored ≡ false) ⊎ IsServed st
+abbrev pub IsAnswerable : State → Type 0
+IsAnswerable st = (has_lazy st.store.payloads st.store.stored ≡ false) ⊎ IsServed st

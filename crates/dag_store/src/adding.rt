@@ -8,14 +8,14 @@ ghost use Rattle.name_map.specs.Added.{Placed, payloads_of, AllStand};
 ghost use Rattle.change_rules.specs.Lazy.{has_lazy};
 ghost use Rattle.payload_tables.specs.Kept.{AreTablesOf};
 ghost use Rattle.payload_tables.specs.Bases.{IsBaseOf, MayView};
-ghost use Rattle.payload_tables.specs.Pending.{IdRow, HoldsRows, row_names};
+ghost use Rattle.payload_tables.specs.Pending.{HeldRow, HoldsRows, row_names};
 ghost use Rattle.step_rules.specs.State.{State, Stored, base_of, session};
 ghost use Rattle.step_rules.specs.Tests.{twice, tests};
 ghost use Rattle.step_rules.specs.Verb.{Add as ToAdd, IdOf};
 ghost use Rattle.dag_store.specs.Kept.{IsSessionOf, base_added};
 ghost use Rattle.dag_store.specs.Looking.{AreTablesBehind, Sees, AsksAlike, IsSoundCache, refusal_in};
 ghost use Rattle.dag_store.specs.Adding.{FindsOne, FindsAll, FindsParents, IsTwice, Seeks, MayBeParents, Appends, IsSeen, AddsRow, items_of};
-ghost use Rattle.dag_store.specs.Stands.{IsRight, Stands, StandsBeside};
+ghost use Rattle.dag_store.specs.Stands.{IsAnswerable, Stands, StandsBeside};
 ghost use Rattle.dag_store.specs.Steps.{ChangesOnly, KeepsAll, Leads, add_reply, id_reply};
 
 use crate::lookup::{are_names, find, has_parents, has_unnamed};
@@ -225,10 +225,10 @@ fn append(
     name: &Name,
     parents: &[Id],
 ) -> Result<Added, Refusal>
-    requires rows { (rows : List IdRow) × HoldsRows pending.old rows }
+    requires rows { (rows : List HeldRow) × HoldsRows pending.old rows }
     requires limit { most ≤ 65536 }
     requires parents { MayBeParents pending.old.first (length pending.old.places) parents.now }
-    ensures appends { (rows : List IdRow) → HoldsRows pending.old rows → (IsIn name.now (row_names rows) → ⊥) → Appends most pending.old rows name.now parents.now result pending.new }
+    ensures appends { (rows : List HeldRow) → HoldsRows pending.old rows → (IsIn name.now (row_names rows) → ⊥) → Appends most pending.old rows name.now parents.now result pending.new }
     ensures unchanged { OnErr result (pending.new ≡ pending.old) }
 {
     let count = pending.len();
@@ -334,7 +334,7 @@ impl Store {
         requires session { s < 16 }
         requires few { length parents.now ≤ 8 }
         ensures step { let first = map (λ b. (⟦<dyn Remote as Remote>⟧ b.vtable).shown b.value) mirrors.old.list.items in let left = map (λ b. (⟦<dyn Remote as Remote>⟧ b.vtable).shown b.value) mirrors.new.list.items in
-            (began : ℕ) (st : State) → StandsBeside began self.old first st → IsRight st → Leads began self.old.limits st s (ToAdd name.now parents.now) (add_reply result) self.new left }
+            (began : ℕ) (st : State) → StandsBeside began self.old first st → IsAnswerable st → Leads began self.old.limits st s (ToAdd name.now parents.now) (add_reply result) self.new left }
         ensures asks { let first = map (λ b. (⟦<dyn Remote as Remote>⟧ b.vtable).shown b.value) mirrors.old.list.items in let left = map (λ b. (⟦<dyn Remote as Remote>⟧ b.vtable).shown b.value) mirrors.new.list.items in
             (began : ℕ) (st : Stored) → Stands began self.old st
             → AsksAlike (take (began + (session st s).base) st.payloads) (base_of st s) (tests self.old.limits st s (ToAdd name.now parents.now)) first left (refusal_in result) }
@@ -362,7 +362,7 @@ impl Store {
     pub fn id(&mut self, s: u8, mirrors: &mut Mirrors, name: &Name) -> Result<Id, Refusal>
         requires { s < 16 }
         ensures step { let first = map (λ b. (⟦<dyn Remote as Remote>⟧ b.vtable).shown b.value) mirrors.old.list.items in let left = map (λ b. (⟦<dyn Remote as Remote>⟧ b.vtable).shown b.value) mirrors.new.list.items in
-            (began : ℕ) (st : State) → StandsBeside began self.old first st → IsRight st → Leads began self.old.limits st s (IdOf name.now) (id_reply result) self.new left }
+            (began : ℕ) (st : State) → StandsBeside began self.old first st → IsAnswerable st → Leads began self.old.limits st s (IdOf name.now) (id_reply result) self.new left }
         ensures asks { let first = map (λ b. (⟦<dyn Remote as Remote>⟧ b.vtable).shown b.value) mirrors.old.list.items in let left = map (λ b. (⟦<dyn Remote as Remote>⟧ b.vtable).shown b.value) mirrors.new.list.items in
             (began : ℕ) (st : Stored) → Stands began self.old st
             → AsksAlike (take (began + (session st s).base) st.payloads) (base_of st s) (tests self.old.limits st s (IdOf name.now)) first left (refusal_in result) }

@@ -19,7 +19,7 @@ ghost use Rattle.dag_store.specs.Loading.{IsOnNewest};
 ghost use Rattle.dag_store.specs.Looking.{IsSoundCache};
 ghost use Rattle.dag_store.specs.Changes.{AreOver, IsOn, IsPrepared, PreparesFlush, Reloads, added_behind};
 ghost use Rattle.dag_store.specs.Flushes.{HasRoom, FlushLeaves, IsQuiet};
-ghost use Rattle.dag_store.specs.Finishes.{EndsAs, Finishes, IsBehind, IsToFinish, payload_in};
+ghost use Rattle.dag_store.specs.Finishes.{FinishesAs, Finishes, IsBehind, IsToFinish, payload_in};
 
 use crate::planning::{plan, rebased};
 use crate::replies::{Counts, Flushed};
@@ -281,7 +281,7 @@ pub(crate) fn finish<D: Disk>(
 ) -> Flushed
     requires begins { IfSome (D.told disk.old) (IsOnDisk log) }
     requires made { (old : Held) × (before : PlainTables) × IsToFinish old log before tables.value sessions.items limits at next }
-    ensures ends { EndsAs log sessions.items limits names at next result }
+    ensures ends { FinishesAs log sessions.items limits names at next result }
     ensures leaves { Goes (FlushLeaves (record { log = log; sessions = sessions.items; limits = limits; cache = names }) (payload_in next) result) (D.told disk.old) (D.told disk.new) }
     ensures quiet { IsQuiet result → disk.new ≡ disk.old }
     ensures later { D.faults disk.old ≤ D.faults disk.new }

@@ -11,7 +11,7 @@ ghost use Rattle.commit_graph.specs.World.{Row, World, rows_of};
 ghost use Rattle.name_map.specs.Added.{Placed, payloads_of};
 ghost use Rattle.change_rules.specs.Tables.{StandFor};
 ghost use Rattle.payload_tables.specs.Bases.{ArePending};
-ghost use Rattle.payload_tables.specs.Pending.{IdRow, HoldsRows};
+ghost use Rattle.payload_tables.specs.Pending.{HeldRow, HoldsRows};
 ghost use Rattle.remote_trait.specs.Calls.{Refreshes};
 ghost use Rattle.mirror_set.specs.Asking.{Asks, IsItsClone};
 ghost use Rattle.change_rules.specs.Standard.{AreLimits};
@@ -71,7 +71,7 @@ fn check_empty(tables: &Tables) -> Result<(), Refusal>
 
 /// Refuses where the session has rows.
 pub(crate) fn check_pending(session: &Session) -> Result<(), Refusal>
-    requires { (rows : List IdRow) × HoldsRows session.now.pending rows }
+    requires { (rows : List HeldRow) × HoldsRows session.now.pending rows }
     ensures { (w : World NameBytes) (rows : List (Row NameBytes)) → ArePending w session.now.pending rows → MatchResult result
         (λ done. length rows ≡ 0) (λ refusal. (refusal ≡ why.Pending (length rows)) × (0 < length rows)) }
 {

@@ -6,7 +6,7 @@ ghost use Rattle.id_groups.specs.Name.{Name as NameBytes};
 ghost use Rattle.commit_graph.specs.World.{Row, World, names_of};
 ghost use Rattle.change_rules.specs.Lazy.{has_lazy};
 ghost use Rattle.payload_tables.specs.Bases.{IsBaseOf, MayView};
-ghost use Rattle.payload_tables.specs.Pending.{IdRow, HoldsRows};
+ghost use Rattle.payload_tables.specs.Pending.{HeldRow, HoldsRows};
 ghost use Rattle.dag_store.specs.Kept.{IsSessionOf};
 ghost use Rattle.dag_store.specs.Looking.{AreTablesBehind, IsSoundCache, Sees};
 ghost use Rattle.dag_store.specs.Adding.{items_of};
@@ -105,7 +105,7 @@ pub(crate) fn look_up_rows<R: Remote>(
     ensures finds { (added : List Placed) (w : World NameBytes) (names : List NameBytes) → Sees newest.now none.now added w [] → AreTablesBehind tables.now bytes.now added
         → HaveNames session.now.pending names → unnamed ≡ has_lazy (payloads_of added) w
         → FindsRows added w names (map R.shown mirrors.old.items) (map R.shown mirrors.new.items) cache.old cache.new (items_of result) }
-    ensures count { (rows : List IdRow) → HoldsRows session.now.pending rows → IfOk result (λ found. length found.items ≡ length rows) }
+    ensures count { (rows : List HeldRow) → HoldsRows session.now.pending rows → IfOk result (λ found. length found.items ≡ length rows) }
     ensures sound { IsSoundCache cache.old → IsSoundCache cache.new }
     ensures len { length mirrors.new.items ≡ length mirrors.old.items }
 {
@@ -131,7 +131,7 @@ pub(crate) fn take_rows(
     found: &mut [Option<Id>],
 )
     requires heads { length found.old ≡ length heads.now }
-    requires rows { (held : List IdRow) × HoldsRows pending.now held × (length rows.now ≡ length held) }
+    requires rows { (held : List HeldRow) × HoldsRows pending.now held × (length rows.now ≡ length held) }
     ensures taken { (names : List NameBytes) → HaveNames pending.now names → (i : ℕ) → i < length heads.now
         → IsTaken names rows.now (slice_index_or heads.now i []) (slice_index_or found.old i None) (slice_index_or found.new i None) }
     ensures len { length found.new ≡ length found.old }
@@ -143,7 +143,7 @@ pub(crate) fn take_rows(
 
 /// What was found of a head; or, where it was found nowhere, of the pending row with its name.
 fn taken(pending: &PendingRows, rows: &[Option<Id>], head: &Name, found: Option<Id>) -> Option<Id>
-    requires { (held : List IdRow) × HoldsRows pending.now held × (length rows.now ≡ length held) }
+    requires { (held : List HeldRow) × HoldsRows pending.now held × (length rows.now ≡ length held) }
     ensures { (names : List NameBytes) → HaveNames pending.now names → IsTaken names rows.now head.now found result }
 {
     match found {
@@ -154,7 +154,7 @@ fn taken(pending: &PendingRows, rows: &[Option<Id>], head: &Name, found: Option<
 
 /// What was found of the pending row with the name; none where none has it.
 fn found_row(pending: &PendingRows, rows: &[Option<Id>], name: &Name) -> Option<Id>
-    requires { (held : List IdRow) × HoldsRows pending.now held × (length rows.now ≡ length held) }
+    requires { (held : List HeldRow) × HoldsRows pending.now held × (length rows.now ≡ length held) }
     ensures { (names : List NameBytes) → HaveNames pending.now names → IsRowOf names rows.now name.now result }
 {
     match pending.find(name.lend()) {

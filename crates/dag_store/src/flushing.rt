@@ -7,7 +7,7 @@ ghost use Rattle.gated_log.specs.Holding.{IsOnDisk};
 ghost use Rattle.step_rules.specs.State.{State, Stored};
 ghost use Rattle.step_rules.specs.Tests.{tests};
 ghost use Rattle.step_rules.specs.Verb.{Flush as ToFlush, Reload as ToReload};
-ghost use Rattle.dag_store.specs.Stands.{IsRight, Stands, StandsBeside};
+ghost use Rattle.dag_store.specs.Stands.{IsAnswerable, Stands, StandsBeside};
 ghost use Rattle.dag_store.specs.Looking.{AsksAlike, refusal_in};
 ghost use Rattle.dag_store.specs.Steps.{ChangesOnly, KeepsAll, Leads, reload_reply};
 ghost use Rattle.dag_store.specs.Flushes.{FlushStep, FlushLeaves, IsQuiet, LeavesStore, refused_flush};
@@ -31,7 +31,7 @@ impl Store {
     pub fn reload(&mut self, s: u8, mirrors: &mut Mirrors) -> Result<u32, Refusal>
         requires { s < 16 }
         ensures step { let first = map (λ b. (⟦<dyn Remote as Remote>⟧ b.vtable).shown b.value) mirrors.old.list.items in let left = map (λ b. (⟦<dyn Remote as Remote>⟧ b.vtable).shown b.value) mirrors.new.list.items in
-            (began : ℕ) (st : State) → StandsBeside began self.old first st → IsRight st → Leads began self.old.limits st s ToReload (reload_reply result) self.new left }
+            (began : ℕ) (st : State) → StandsBeside began self.old first st → IsAnswerable st → Leads began self.old.limits st s ToReload (reload_reply result) self.new left }
         ensures asks { let first = map (λ b. (⟦<dyn Remote as Remote>⟧ b.vtable).shown b.value) mirrors.old.list.items in let left = map (λ b. (⟦<dyn Remote as Remote>⟧ b.vtable).shown b.value) mirrors.new.list.items in
             (began : ℕ) (st : Stored) → Stands began self.old st → AsksAlike st.payloads st.stored (tests self.old.limits st s ToReload) first left (refusal_in result) }
         ensures alone { OnOk result (ChangesOnly s self.old self.new) }
@@ -68,7 +68,7 @@ impl Store {
         requires begins { IfSome (D.told disk.old) (IsOnDisk self.log) }
         ensures step { let first = map (λ b. (⟦<dyn Remote as Remote>⟧ b.vtable).shown b.value) mirrors.old.list.items in let left = map (λ b. (⟦<dyn Remote as Remote>⟧ b.vtable).shown b.value) mirrors.new.list.items in
             (payload : List ℕ) × Goes (FlushLeaves self payload result) (D.told disk.old) (D.told disk.new)
-            × ((began : ℕ) (st : State) → StandsBeside began self first st → IsRight st → FlushStep began self st s heads.now left payload result) }
+            × ((began : ℕ) (st : State) → StandsBeside began self first st → IsAnswerable st → FlushStep began self st s heads.now left payload result) }
         ensures asks { let first = map (λ b. (⟦<dyn Remote as Remote>⟧ b.vtable).shown b.value) mirrors.old.list.items in let left = map (λ b. (⟦<dyn Remote as Remote>⟧ b.vtable).shown b.value) mirrors.new.list.items in
             (began : ℕ) (st : Stored) → Stands began self st → AsksAlike st.payloads st.stored (tests self.limits st s (ToFlush heads.now)) first left (refused_flush result) }
         ensures leaves { LeavesStore self s result }

@@ -3,7 +3,7 @@
 ghost use Rattle.std.specs.Prelude.{◌≡◌, ◌<◌, ◌+◌, ◌^◌, List, IfSome, map, slice_get};
 ghost use Rattle.name_map.specs.Added.{Placed};
 ghost use Rattle.payload_tables.specs.Bases.{IsBaseOf};
-ghost use Rattle.payload_tables.specs.Pending.{IdRow, HoldsRows};
+ghost use Rattle.payload_tables.specs.Pending.{HeldRow, HoldsRows};
 ghost use Rattle.dag_store.specs.Names.{fetched_name, lent_name, name_in, named_front, names_left, pending_name};
 ghost use Rattle.span_set.specs.Down.{ids_left};
 
@@ -40,7 +40,7 @@ impl<'a> Model for Names<'a> {
 
 /// The name of the pending row with the id.
 fn name_of_row<'a>(pending: &'a PendingRows, id: Id) -> Option<NameRef<'a>>
-    requires { (rows : List IdRow) × HoldsRows pending.now rows }
+    requires { (rows : List HeldRow) × HoldsRows pending.now rows }
     ensures { lent_name result ≡ pending_name pending.now id }
 {
     let place = id.number().checked_sub(FIRST_OTHER + pending.first())?;
@@ -53,7 +53,7 @@ fn name_of_row<'a>(pending: &'a PendingRows, id: Id) -> Option<NameRef<'a>>
 /// The name of an id, which is stored or pending.
 fn name_of_id<'a>(base: &BaseRef<'a>, pending: &'a PendingRows, id: Id) -> Option<NameRef<'a>>
     requires base { (added : List Placed) × IsBaseOf base.now added }
-    requires pending { (rows : List IdRow) × HoldsRows pending.now rows }
+    requires pending { (rows : List HeldRow) × HoldsRows pending.now rows }
     ensures { lent_name result ≡ name_in base.now pending.now id }
 {
     if let Some(name) = base.name(id) {
@@ -83,7 +83,7 @@ impl<'a> Names<'a> {
         fetched: &'a Fetched,
     ) -> Names<'a>
         requires base { (added : List Placed) × IsBaseOf base added }
-        requires pending { (rows : List IdRow) × HoldsRows pending.now rows }
+        requires pending { (rows : List HeldRow) × HoldsRows pending.now rows }
         ensures { names_left result ≡ named_front base.entry pending.now (map fetched_name fetched.now) (ids_left ids.entry) }
     {
         Names {

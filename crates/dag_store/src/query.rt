@@ -16,7 +16,7 @@ ghost use Rattle.step_rules.specs.State.{State, Stored, base_of, pending_of, ses
 ghost use Rattle.step_rules.specs.Tests.{tests};
 ghost use Rattle.step_rules.specs.Verb.{Query as ToQuery, Count as ToCount};
 ghost use Rattle.dag_store.specs.Kept.{IsSessionOf, base_added};
-ghost use Rattle.dag_store.specs.Stands.{IsRight, Stands, StandsBeside};
+ghost use Rattle.dag_store.specs.Stands.{IsAnswerable, Stands, StandsBeside};
 ghost use Rattle.dag_store.specs.Looking.{AreTablesBehind, Sees, AreRight, AsksAlike, IsSoundCache, refusal_in};
 ghost use Rattle.dag_store.specs.Adding.{FindsAll, IsSeen, items_of};
 ghost use Rattle.dag_store.specs.Bounds.{EndsWithoutParents, ancestors_of, most_looks};
@@ -222,7 +222,7 @@ impl Store {
     pub fn query(&mut self, s: u8, mirrors: &mut Mirrors, expr: &Expr) -> Result<Found, Refusal>
         requires { s < 16 }
         ensures step { let first = map (λ b. (⟦<dyn Remote as Remote>⟧ b.vtable).shown b.value) mirrors.old.list.items in let left = map (λ b. (⟦<dyn Remote as Remote>⟧ b.vtable).shown b.value) mirrors.new.list.items in
-            (began : ℕ) (st : State) → StandsBeside began self.old first st → IsRight st → QueryStep began self.old.limits st s (tree_of expr.now) result self.new left }
+            (began : ℕ) (st : State) → StandsBeside began self.old first st → IsAnswerable st → QueryStep began self.old.limits st s (tree_of expr.now) result self.new left }
         ensures asks { let first = map (λ b. (⟦<dyn Remote as Remote>⟧ b.vtable).shown b.value) mirrors.old.list.items in let left = map (λ b. (⟦<dyn Remote as Remote>⟧ b.vtable).shown b.value) mirrors.new.list.items in
             (began : ℕ) (st : Stored) → Stands began self.old st
             → AsksQuery self.old.limits.answer (take (began + (session st s).base) st.payloads) (base_of st s) (tests self.old.limits st s (ToQuery (tree_of expr.now))) first left result }
@@ -230,7 +230,7 @@ impl Store {
         ensures few { (began : ℕ) (st : Stored) (name : NameBytes) → Stands began self.old st → tree_of expr.now ≡ ancestors_of name
             → IfOk result (λ found. found.answer.steps ≤ most_looks (base_of st s) (pending_of st s) found.answer.set) }
         ensures one { let first = map (λ b. (⟦<dyn Remote as Remote>⟧ b.vtable).shown b.value) mirrors.old.list.items in
-            (began : ℕ) (st : State) (name : NameBytes) → StandsBeside began self.old first st → IsRight st → tree_of expr.now ≡ ancestors_of name
+            (began : ℕ) (st : State) (name : NameBytes) → StandsBeside began self.old first st → IsAnswerable st → tree_of expr.now ≡ ancestors_of name
             → EndsWithoutParents (base_of st.store s) (id_in same_name (view_of st.store s) name) → IfOk result (λ found. found.answer.steps ≤ 8) }
     {
         let session = &self.sessions[usize::from(s)];
@@ -250,7 +250,7 @@ impl Store {
     pub fn count(&mut self, s: u8, mirrors: &mut Mirrors, expr: &Expr) -> Result<Answer, Refusal>
         requires { s < 16 }
         ensures step { let first = map (λ b. (⟦<dyn Remote as Remote>⟧ b.vtable).shown b.value) mirrors.old.list.items in let left = map (λ b. (⟦<dyn Remote as Remote>⟧ b.vtable).shown b.value) mirrors.new.list.items in
-            (began : ℕ) (st : State) → StandsBeside began self.old first st → IsRight st → CountStep began self.old.limits st s (tree_of expr.now) result self.new left }
+            (began : ℕ) (st : State) → StandsBeside began self.old first st → IsAnswerable st → CountStep began self.old.limits st s (tree_of expr.now) result self.new left }
         ensures asks { let first = map (λ b. (⟦<dyn Remote as Remote>⟧ b.vtable).shown b.value) mirrors.old.list.items in let left = map (λ b. (⟦<dyn Remote as Remote>⟧ b.vtable).shown b.value) mirrors.new.list.items in
             (began : ℕ) (st : Stored) → Stands began self.old st
             → AsksAlike (take (began + (session st s).base) st.payloads) (base_of st s) (tests self.old.limits st s (ToCount (tree_of expr.now))) first left (refusal_in result) }
@@ -258,7 +258,7 @@ impl Store {
         ensures few { (began : ℕ) (st : Stored) (name : NameBytes) → Stands began self.old st → tree_of expr.now ≡ ancestors_of name
             → IfOk result (λ answer. answer.steps ≤ most_looks (base_of st s) (pending_of st s) answer.set) }
         ensures one { let first = map (λ b. (⟦<dyn Remote as Remote>⟧ b.vtable).shown b.value) mirrors.old.list.items in
-            (began : ℕ) (st : State) (name : NameBytes) → StandsBeside began self.old first st → IsRight st → tree_of expr.now ≡ ancestors_of name
+            (began : ℕ) (st : State) (name : NameBytes) → StandsBeside began self.old first st → IsAnswerable st → tree_of expr.now ≡ ancestors_of name
             → EndsWithoutParents (base_of st.store s) (id_in same_name (view_of st.store s) name) → IfOk result (λ answer. answer.steps ≤ 8) }
     {
         let session = &self.sessions[usize::from(s)];

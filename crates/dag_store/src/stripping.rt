@@ -18,7 +18,7 @@ ghost use Rattle.step_rules.specs.State.{State, Stored};
 ghost use Rattle.step_rules.specs.Tests.{tests};
 ghost use Rattle.step_rules.specs.Verb.{Strip as ToStrip};
 ghost use Rattle.dag_store.specs.Kept.{IsSessionOf};
-ghost use Rattle.dag_store.specs.Stands.{IsRight, Stands, StandsBeside};
+ghost use Rattle.dag_store.specs.Stands.{IsAnswerable, Stands, StandsBeside};
 ghost use Rattle.dag_store.specs.Looking.{AreTablesBehind, AsksAlike, IsSoundCache, Sees};
 ghost use Rattle.dag_store.specs.Adding.{items_of};
 ghost use Rattle.dag_store.specs.Changes.{AreOver, IsOn, IsPrepared};
@@ -216,7 +216,7 @@ impl Store {
         requires begins { IfSome (D.told disk.old) (IsOnDisk self.log) }
         ensures step { let first = map (λ b. (⟦<dyn Remote as Remote>⟧ b.vtable).shown b.value) mirrors.old.list.items in let left = map (λ b. (⟦<dyn Remote as Remote>⟧ b.vtable).shown b.value) mirrors.new.list.items in
             (payload : List ℕ) × Goes (FlushLeaves self payload result) (D.told disk.old) (D.told disk.new)
-            × ((began : ℕ) (st : State) → StandsBeside began self first st → IsRight st → StripStep began self st s names.now left payload result) }
+            × ((began : ℕ) (st : State) → StandsBeside began self first st → IsAnswerable st → StripStep began self st s names.now left payload result) }
         ensures asks { let first = map (λ b. (⟦<dyn Remote as Remote>⟧ b.vtable).shown b.value) mirrors.old.list.items in let left = map (λ b. (⟦<dyn Remote as Remote>⟧ b.vtable).shown b.value) mirrors.new.list.items in
             (began : ℕ) (st : Stored) → Stands began self st → AsksAlike st.payloads st.stored (tests self.limits st s (ToStrip names.now)) first left (refused_flush result) }
         ensures leaves { LeavesStore self s result }

@@ -11,7 +11,7 @@ use Rattle.flat_segments.specs.declared.fault.FlatFault.TheVariants.{BadSegment}
 use Rattle.segment_codec.proofs.Records.{one-record}
 use Rattle.flat_segments.specs.Entries.{PlainEntry}
 use Rattle.segment_codec.specs.Turns.{goes_on, StandInTurn, IsFirstBroken, place_behind}
-use Rattle.flat_segments.specs.Placed.{Placed, placed, AreRecords, MasterMayStandAt}
+use Rattle.flat_segments.specs.Placed.{PlacedSegment, placed_segments, AreRecords, MasterMayStandAt}
 use Rattle.flat_segments.specs.Kept.{entry_of, kept_of}
 
 -- the records that are left of those of a batch, and what is still to come of them
@@ -22,7 +22,7 @@ pub record Keeps (first at : ℕ) (records : List ℕ) (old new : List PlainEntr
   pub stand : StandInTurn (MasterMayStandAt first) next left → StandInTurn (MasterMayStandAt first) first segments
   pub broken : (k : ℕ) → IsFirstBroken (MasterMayStandAt first) next left k → IsFirstBroken (MasterMayStandAt first) first segments (number + k)
   pub behind : place_behind next left ≡ place_behind first segments
-  pub kept : new ++ kept_of (placed (at + (length records - length rest)) left) ≡ old ++ kept_of (placed at segments)
+  pub kept : new ++ kept_of (placed_segments (at + (length records - length rest)) left) ≡ old ++ kept_of (placed_segments at segments)
   pub many : number + length left ≡ length segments
 
 pub record Appending (first at : ℕ) (records : List ℕ) (old new : List PlainEntry) (next number : ℕ) (rest : List ℕ) : Type 0 where
@@ -45,18 +45,18 @@ starts first at records old small = record {
     stand = λ s. s;
     broken = λ k b. let none : k ≡ 0 + k = omega arith in subst (IsFirstBroken (MasterMayStandAt first) first segments) none b;
     behind = refl;
-    kept = let place : at + (length records - length records) ≡ at = omega arith in ap (λ n. old ++ kept_of (placed n segments)) place;
+    kept = let place : at + (length records - length records) ≡ at = omega arith in ap (λ n. old ++ kept_of (placed_segments n segments)) place;
     many = omega arith;
   };
 }
 
-kept-case : (p : Placed) (ps : List Placed) (b : Bool)
+kept-case : (p : PlacedSegment) (ps : List PlacedSegment) (b : Bool)
     → map entry_of (cond b (p ∷ filter (λ r. not (goes_on r.segment)) ps) (filter (λ r. not (goes_on r.segment)) ps))
     ≡ map entry_of (cond b (p ∷ []) []) ++ map entry_of (filter (λ r. not (goes_on r.segment)) ps)
 kept-case p ps true = refl
 kept-case p ps false = refl
 
-pub kept-cons : (p : Placed) (ps : List Placed) → kept_of (p ∷ ps) ≡ kept_of (p ∷ []) ++ kept_of ps
+pub kept-cons : (p : PlacedSegment) (ps : List PlacedSegment) → kept_of (p ∷ ps) ≡ kept_of (p ∷ []) ++ kept_of ps
 kept-cons p ps = kept-case p ps (not (goes_on p.segment))
 
 nonempty : (s : Segment) (after : List ℕ) → [] ≡ segment_bytes s ++ after → ⊥
@@ -120,7 +120,7 @@ module _ (first at : ℕ) (records : List ℕ) (old new : List PlainEntry) (next
             let p = h.keeps segments are in
             let l = left-first s rest after p.left i e p.each p.rest_is in
             let behind : place + length (segment_bytes s) ≡ at + (length records - length after) = omega arith in
-            let later = kept_of (placed (at + (length records - length after)) l.more) in
+            let later = kept_of (placed_segments (at + (length records - length after)) l.more) in
             record {
               left = l.more;
               each = l.each;
@@ -132,10 +132,10 @@ module _ (first at : ℕ) (records : List ℕ) (old new : List PlainEntry) (next
               behind = ap (λ q. place_behind next q) (sym l.is) ∙ p.behind;
               kept =
                   ap (λ z. z ++ later) new2-is ∙ append_assoc new here later
-                  ∙ ap (λ n. new ++ (here ++ kept_of (placed n l.more))) (sym behind)
-                  ∙ ap (λ z. new ++ z) (sym (kept-cons (record { place = place; segment = s }) (placed (place + length (segment_bytes s)) l.more)))
-                  ∙ ap (λ n. new ++ kept_of (placed n (s ∷ l.more))) place-is
-                  ∙ ap (λ q. new ++ kept_of (placed (at + (length records - length rest)) q)) (sym l.is)
+                  ∙ ap (λ n. new ++ (here ++ kept_of (placed_segments n l.more))) (sym behind)
+                  ∙ ap (λ z. new ++ z) (sym (kept-cons (record { place = place; segment = s }) (placed_segments (place + length (segment_bytes s)) l.more)))
+                  ∙ ap (λ n. new ++ kept_of (placed_segments n (s ∷ l.more))) place-is
+                  ∙ ap (λ q. new ++ kept_of (placed_segments (at + (length records - length rest)) q)) (sym l.is)
                   ∙ p.kept;
               many = let m = p.many in let n = ap length l.is in omega (arith, m, n);
             };
@@ -145,7 +145,7 @@ module _ (first at : ℕ) (records : List ℕ) (old new : List PlainEntry) (next
   pub record All (segments : List Segment) : Type 0 where
     pub stand : StandInTurn (MasterMayStandAt first) first segments
     pub end : next ≡ place_behind first segments
-    pub kept : new ≡ old ++ kept_of (placed at segments)
+    pub kept : new ≡ old ++ kept_of (placed_segments at segments)
 
   pub is-all : (segments : List Segment) → AreRecords segments records → ((s : Segment) (after : List ℕ) → IsSegment s → rest ≡ segment_bytes s ++ after → ⊥) → All segments
   is-all segments are none =
@@ -154,7 +154,7 @@ module _ (first at : ℕ) (records : List ℕ) (old new : List PlainEntry) (next
       record {
         stand = p.stand (subst (λ (q : List Segment). StandInTurn (MasterMayStandAt first) next q) (sym l) tt);
         end = ap (λ q. place_behind next q) (sym l) ∙ p.behind;
-        kept = sym (append-nil new) ∙ ap (λ q. new ++ kept_of (placed (at + (length records - length rest)) q)) (sym l) ∙ p.kept;
+        kept = sym (append-nil new) ∙ ap (λ q. new ++ kept_of (placed_segments (at + (length records - length rest)) q)) (sym l) ∙ p.kept;
       }
 
   -- those that were there before are there still

@@ -8,14 +8,14 @@ use Rattle.std.proofs.lemmas.List.Concat.{flat_map-cons, flat_map-append}
 use Rattle.segment_codec.specs.Record.{Segment, IsSegment, segment_bytes, HasFront}
 use Rattle.segment_codec.specs.Table.{Follow}
 use Rattle.flat_segments.specs.declared.view.FlatView.{FlatView}
-use Rattle.flat_segments.specs.Placed.{Placed, placed, AreRecords, Stand}
-use Rattle.flat_segments.specs.Kept.{Kept, IsTableOf}
+use Rattle.flat_segments.specs.Placed.{PlacedSegment, placed_segments, AreRecords, Stand}
+use Rattle.flat_segments.specs.Kept.{KeptFlats, IsTableOf}
 use Rattle.flat_segments.specs.Views.{master_flats, master_count}
 use Rattle.flat_segments.proofs.Adding.{all-append, placed-length}
 use Rattle.flat_segments.proofs.Looking.{view-facts}
 
 -- records that stand one after another
-pub placed-stand : (bytes more : List ℕ) (at : ℕ) (segments : List Segment) → drop at bytes ≡ flat_map segment_bytes segments ++ more → Stand bytes (placed at segments)
+pub placed-stand : (bytes more : List ℕ) (at : ℕ) (segments : List Segment) → drop at bytes ≡ flat_map segment_bytes segments ++ more → Stand bytes (placed_segments at segments)
 placed-stand bytes more at [] e = tt
 placed-stand bytes more at (s ∷ others) e =
     let parts : drop at bytes ≡ segment_bytes s ++ (flat_map segment_bytes others ++ more) =
@@ -25,7 +25,7 @@ placed-stand bytes more at (s ∷ others) e =
     ((flat_map segment_bytes others ++ more, parts), placed-stand bytes more (at + length (segment_bytes s)) others behind)
 
 -- and stand there still when more bytes come
-pub stand-longer : (bytes more : List ℕ) (records : List Placed) → AllByRecursion (λ (r : Placed). r.place ≤ length bytes) records → Stand bytes records → Stand (bytes ++ more) records
+pub stand-longer : (bytes more : List ℕ) (records : List PlacedSegment) → AllByRecursion (λ (r : PlacedSegment). r.place ≤ length bytes) records → Stand bytes records → Stand (bytes ++ more) records
 stand-longer bytes more [] w h = tt
 stand-longer bytes more (r ∷ records) w h =
     let first = h.0 in
@@ -72,17 +72,17 @@ read-all bytes rest room h e =
     (h.done, record { each = h.each; bytes_are = h.parts ∙ ap (λ z. flat_map segment_bytes h.done ++ z) e ∙ append-nil (flat_map segment_bytes h.done) }, omega (arith, many))
 
 -- the table after the records that stand in a log were added
-pub added-here : (log behind records : List ℕ) (at len most : ℕ) (new : Kept) (before : List Placed) (segments : List Segment) → Stand log before → length before ≤ most
-    → AreRecords segments records → length segments ≤ 1000 → behind ≡ drop at log → records ≡ take len behind → IsTableOf new (before ++ placed at segments)
-    → (x : List Placed) × IsTableOf new x × Stand log x × (length x ≤ most + 1000)
+pub added-here : (log behind records : List ℕ) (at len most : ℕ) (new : KeptFlats) (before : List PlacedSegment) (segments : List Segment) → Stand log before → length before ≤ most
+    → AreRecords segments records → length segments ≤ 1000 → behind ≡ drop at log → records ≡ take len behind → IsTableOf new (before ++ placed_segments at segments)
+    → (x : List PlacedSegment) × IsTableOf new x × Stand log x × (length x ≤ most + 1000)
 added-here log behind records at len most new before segments stand few are some back front table =
     let parts : drop at log ≡ flat_map segment_bytes segments ++ drop len behind =
     sym back ∙ sym (take-append-drop len behind) ∙ ap (λ z. z ++ drop len behind) (sym front ∙ are.bytes_are) in
-    let long = length-append before (placed at segments) in
+    let long = length-append before (placed_segments at segments) in
     let many = placed-length at segments in (
-      before ++ placed at segments,
+      before ++ placed_segments at segments,
       table,
-      all-append (λ (r : Placed). HasFront (segment_bytes r.segment) (drop r.place log)) before (placed at segments) stand (placed-stand log (drop len behind) at segments parts),
+      all-append (λ (r : PlacedSegment). HasFront (segment_bytes r.segment) (drop r.place log)) before (placed_segments at segments) stand (placed-stand log (drop len behind) at segments parts),
       omega (arith, long, many, few, some),
     )
 

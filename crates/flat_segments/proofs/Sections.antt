@@ -13,21 +13,21 @@ use Rattle.flat_segments.specs.Entries.{PlainEntry}
 use Rattle.flat_segments.specs.declared.run.Run.{Run}
 use Rattle.flat_segments.specs.declared.view.FlatView.{FlatView}
 use Rattle.flat_segments.specs.Maximal.{begin_of}
-use Rattle.flat_segments.specs.Placed.{Placed, segments_of}
+use Rattle.flat_segments.specs.Placed.{PlacedSegment, segments_of}
 use Rattle.flat_segments.specs.Runs.{flats_in}
 use Rattle.flat_segments.specs.Views.{flats_of, master_flats, other_flats}
 use Rattle.flat_segments.specs.Joined.{StandAs, MayJoin}
 use Rattle.flat_segments.proofs.Rising.{follow-begin, follow-rise, follow-up_to}
 use Rattle.flat_segments.proofs.Looking.{flats-length}
 use Rattle.flat_segments.proofs.Standing.{IsRunOf, run-of, all-segments}
-use Rattle.flat_segments.specs.Kept.{Kept, entry_of, IsSectionOf, MayPush}
+use Rattle.flat_segments.specs.Kept.{KeptFlats, entry_of, IsSectionOf, MayPush}
 use Rattle.flat_segments.proofs.Adding.{all-append}
 
 -- the section with one more entry
-abbrev pub with_record : Kept → Placed → Kept
+abbrev pub with_record : KeptFlats → PlacedSegment → KeptFlats
 with_record section r = record { entries = section.entries ++ entry_of r ∷ []; end = r.segment.high + 1 }
 
-pub pushed : (section : Kept) (records : List Placed) (r : Placed) → MayPush section r.segment → IsSectionOf section records → IsSectionOf (with_record section r) (records ++ r ∷ [])
+pub pushed : (section : KeptFlats) (records : List PlacedSegment) (r : PlacedSegment) → MayPush section r.segment → IsSectionOf section records → IsSectionOf (with_record section r) (records ++ r ∷ [])
 pushed section [] r may is =
     let order = may.flat.segment.ascending in
     record {
@@ -44,15 +44,15 @@ pushed section (q ∷ records) r may is =
     let one : Follow section.end (r.segment.high + 1) (r.segment ∷ []) = (low, omega (arith, order, low), refl) in
     record {
       first = is.first;
-      flat = all-append (λ (p : Placed). IsFlat p.segment) (q ∷ records) (r ∷ []) is.flat (may.flat, tt);
-      in_turn = subst (λ (z : List Segment). Follow is.first (r.segment.high + 1) z) (sym (map-append (λ (p : Placed). p.segment) (q ∷ records) (r ∷ [])))
+      flat = all-append (λ (p : PlacedSegment). IsFlat p.segment) (q ∷ records) (r ∷ []) is.flat (may.flat, tt);
+      in_turn = subst (λ (z : List Segment). Follow is.first (r.segment.high + 1) z) (sym (map-append (λ (p : PlacedSegment). p.segment) (q ∷ records) (r ∷ [])))
           (follow-append is.first section.end (r.segment.high + 1) (segments_of (q ∷ records)) (segments_of (r ∷ [])) is.in_turn one);
       others = is.others;
       kept = ap (λ z. z ++ entry_of r ∷ []) is.kept ∙ sym (map-append entry_of (q ∷ records) (r ∷ []));
     }
 
 -- as the code makes it
-pub made : (section : Kept) (records : List Placed) (r : Placed) (entries : List PlainEntry) (end : ℕ) → entries ≡ section.entries ++ entry_of r ∷ [] → end ≡ r.segment.high + 1
+pub made : (section : KeptFlats) (records : List PlacedSegment) (r : PlacedSegment) (entries : List PlainEntry) (end : ℕ) → entries ≡ section.entries ++ entry_of r ∷ [] → end ≡ r.segment.high + 1
     → IsSectionOf (with_record section r) (records ++ r ∷ []) → IsSectionOf (record { entries = entries; end = end }) (records ++ r ∷ [])
 made section records r entries end e f is =
     subst (λ (z : List PlainEntry). IsSectionOf (record { entries = z; end = end }) (records ++ r ∷ [])) (sym e)
@@ -67,11 +67,11 @@ follow-once start end first last s more h g = go (s.high + 1) more h.2 g.2
     go n [] a b = sym a ∙ b
     go n (x ∷ xs) a b = go (x.high + 1) xs a.2 b.2
 
-module _ (section : Kept) (bytes : List ℕ) (small : length bytes < 2 ^ 64) (start e : ℕ) (none : section.entries ≡ [] → e ≡ start) (some : section.entries ≢ [] → e ≡ section.end) where
-  kept-some : (r : Placed) (records : List Placed) → section.entries ≡ map entry_of (r ∷ records) → section.entries ≢ []
+module _ (section : KeptFlats) (bytes : List ℕ) (small : length bytes < 2 ^ 64) (start e : ℕ) (none : section.entries ≡ [] → e ≡ start) (some : section.entries ≢ [] → e ≡ section.end) where
+  kept-some : (r : PlacedSegment) (records : List PlacedSegment) → section.entries ≡ map entry_of (r ∷ records) → section.entries ≢ []
   kept-some r records k n = cc
 
-  pub section-run : (records : List Placed) → StandAs section bytes records → IsRunOf bytes e section.entries (segments_of records)
+  pub section-run : (records : List PlacedSegment) → StandAs section bytes records → IsRunOf bytes e section.entries (segments_of records)
   section-run [] h = subst (λ (z : List PlainEntry). IsRunOf bytes e z []) (sym h.section_of.kept) (run-of bytes e [] small tt tt tt tt)
   section-run (r ∷ records) h =
       let is = h.section_of in
@@ -82,12 +82,12 @@ module _ (section : Kept) (bytes : List ℕ) (small : length bytes < 2 ^ 64) (st
       (subst (AllByRecursion IsFlat) (sym same) (all-segments (r ∷ records) is.flat)) in
       subst (λ (z : List PlainEntry). IsRunOf bytes e z (segments_of (r ∷ records))) (sym is.kept) (subst (λ (z : List Segment). IsRunOf bytes e (map entry_of (r ∷ records)) z) same run)
 
-  pub section-end : (records : List Placed) (end : ℕ) → StandAs section bytes records → Follow start end (segments_of records) → e ≡ end
+  pub section-end : (records : List PlacedSegment) (end : ℕ) → StandAs section bytes records → Follow start end (segments_of records) → e ≡ end
   section-end [] end h f = none h.section_of.kept ∙ f
   section-end (r ∷ records) end h f =
       some (kept-some r records h.section_of.kept) ∙ sym (follow-once start end h.section_of.first section.end r.segment (segments_of records) f h.section_of.in_turn)
 
-  pub section-begin : (records : List Placed) (end : ℕ) → StandAs section bytes records → Follow start end (segments_of records) → begin_of e (flats_in bytes e section.entries) ≡ start
+  pub section-begin : (records : List PlacedSegment) (end : ℕ) → StandAs section bytes records → Follow start end (segments_of records) → begin_of e (flats_in bytes e section.entries) ≡ start
   section-begin records end h f =
       let run = section-run records h in
       ap (begin_of e) run.flats_are ∙ ap (λ n. begin_of n (segments_of records)) (section-end records end h f) ∙ follow-begin start end (segments_of records) f
@@ -134,7 +134,7 @@ other-placed master end count all same follow flats parents s i =
           ⊎_elim (λ (a : p < master). inl a) (λ (b : 2 ^ 56 ≤ p). inr (b, omega (arith, lt, order, high, same))) (all-pass (λ p. (p < master) ⊎ (2 ^ 56 ≤ p)) s.parents here p j);
     }
 
-pub joined-lawful : (view : FlatView) (others : Kept) (other_bytes : List ℕ) (pending : Kept) (pending_bytes : List ℕ) → (may : MayJoin view others other_bytes pending pending_bytes)
+pub joined-lawful : (view : FlatView) (others : KeptFlats) (other_bytes : List ℕ) (pending : KeptFlats) (pending_bytes : List ℕ) → (may : MayJoin view others other_bytes pending pending_bytes)
     → (back : List Segment) (end : ℕ) → back ≡ segments_of may.first ++ segments_of may.second → end ≡ may.end
     → is_lawful view.master.end (end - 2 ^ 56) (master_flats view) back ≡ true
 joined-lawful view others other_bytes pending pending_bytes may back end same end-is =
@@ -161,11 +161,11 @@ pub record JoinFacts (v : FlatView) (o p : Run) : Type 0 where
   pub pending_ids : begin_of p.end (flats_of p) ≡ o.end
   pub few : length v.master.entries.now + length o.entries.now + length p.entries.now < 2 ^ 32
 
-segments-length : (records : List Placed) → length (segments_of records) ≡ length records
+segments-length : (records : List PlacedSegment) → length (segments_of records) ≡ length records
 segments-length [] = refl
 segments-length (r ∷ records) = ap suc (segments-length records)
 
-pub joined : (v : FlatView) (others : Kept) (other_bytes : List ℕ) (pending : Kept) (pending_bytes : List ℕ) → (may : MayJoin v others other_bytes pending pending_bytes)
+pub joined : (v : FlatView) (others : KeptFlats) (other_bytes : List ℕ) (pending : KeptFlats) (pending_bytes : List ℕ) → (may : MayJoin v others other_bytes pending pending_bytes)
     → (o p : Run) → flats_of o ≡ segments_of may.first
     → ((end : ℕ) → Follow (2 ^ 56) end (segments_of may.first) → begin_of o.end (flats_of o) ≡ 2 ^ 56)
     → ((end : ℕ) → Follow (2 ^ 56) end (segments_of may.first) → o.end ≡ end)

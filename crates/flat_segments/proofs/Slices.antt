@@ -12,7 +12,7 @@ use Rattle.segment_codec.specs.Number.{number_bytes, numbers_in}
 use Rattle.segment_codec.specs.Record.{Segment, flags_of, segment_bytes, head_bytes, parents_bytes, HasFront}
 use Rattle.segment_codec.specs.Flat.{IsFlat}
 use Rattle.segment_codec.proofs.Lengths.{parents-are}
-use Rattle.flat_segments.specs.Placed.{Placed}
+use Rattle.flat_segments.specs.Placed.{PlacedSegment}
 use Rattle.flat_segments.specs.Kept.{entry_of}
 use Rattle.flat_segments.specs.Runs.{slice_in, segment_in, is_read}
 
@@ -28,11 +28,11 @@ some-head : (s : Segment) → 2 ≤ length (head_bytes s)
 some-head s = omega arith
 
 -- what the entry names is the record's parents
-pub record Named (bytes : List ℕ) (r : Placed) : Type 0 where
+pub record Named (bytes : List ℕ) (r : PlacedSegment) : Type 0 where
   pub within : (entry_of r).place + (entry_of r).len ≤ length bytes
   pub is : slice_in bytes (entry_of r) ≡ parents_bytes r.segment
 
-pub named : (bytes : List ℕ) (r : Placed) → length bytes < 2 ^ 64 → HasFront (segment_bytes r.segment) (drop r.place bytes) → Named bytes r
+pub named : (bytes : List ℕ) (r : PlacedSegment) → length bytes < 2 ^ 64 → HasFront (segment_bytes r.segment) (drop r.place bytes) → Named bytes r
 named bytes r small h =
     let parts : drop r.place bytes ≡ head_bytes r.segment ++ (parents_bytes r.segment ++ h.0) =
     h.1 ∙ ap (λ z. z ++ h.0) (record-parts r.segment) ∙ append_assoc (head_bytes r.segment) (parents_bytes r.segment) h.0 in
@@ -51,7 +51,7 @@ named bytes r small h =
           ∙ take_at (parents_bytes r.segment) h.0 (length (parents_bytes r.segment)) refl;
     }
 
-module _ (bytes : List ℕ) (r : Placed) (small : length bytes < 2 ^ 64) (flat : IsFlat r.segment) (h : HasFront (segment_bytes r.segment) (drop r.place bytes)) where
+module _ (bytes : List ℕ) (r : PlacedSegment) (small : length bytes < 2 ^ 64) (flat : IsFlat r.segment) (h : HasFront (segment_bytes r.segment) (drop r.place bytes)) where
   pub parents-there : numbers_in (slice_in bytes (entry_of r)) ≡ r.segment.parents
   parents-there =
       let k : id_end ≤ 2 ^ 57 = lit≤ tt in

@@ -14,19 +14,19 @@ use Rattle.segment_codec.proofs.Tables.{all-pass, follow-within}
 use Rattle.flat_segments.specs.Entries.{PlainEntry}
 use Rattle.segment_codec.specs.Turns.{goes_on}
 use Rattle.flat_segments.specs.Maximal.{begin_of, up_to, maximal, cut}
-use Rattle.flat_segments.specs.Placed.{Placed, segments_of, Stand}
-use Rattle.flat_segments.specs.Kept.{Kept, entry_of, IsTableOf}
+use Rattle.flat_segments.specs.Placed.{PlacedSegment, segments_of, Stand}
+use Rattle.flat_segments.specs.Kept.{KeptFlats, entry_of, IsTableOf}
 use Rattle.flat_segments.specs.Runs.{segment_in, flats_in, is_read, low_of, do_rise, is_run}
 use Rattle.flat_segments.proofs.Rising.{Rise, rise-follow, follow-rise}
 use Rattle.flat_segments.proofs.Slices.{ended-there, read-there}
 use Rattle.flat_segments.proofs.Cutting.{filter-map, all-filter, rise-filter, begins_below, begin-cut, rise-cut, cut-is, maximal-begins, up_to-flat, all-flat}
 
-begin-there : (bytes : List ℕ) (end : ℕ) (records : List Placed) → begin_of end (map (segment_in bytes) (map entry_of records)) ≡ begin_of end (segments_of records)
+begin-there : (bytes : List ℕ) (end : ℕ) (records : List PlacedSegment) → begin_of end (map (segment_in bytes) (map entry_of records)) ≡ begin_of end (segments_of records)
 begin-there bytes end [] = refl
 begin-there bytes end (r ∷ more) = refl
 
 -- what is read of records that stand in the bytes are their segments, each up to the next
-pub all-read : (bytes : List ℕ) (end : ℕ) (records : List Placed) → length bytes < 2 ^ 64 → AllByRecursion (λ (r : Placed). IsFlat r.segment) records → Stand bytes records
+pub all-read : (bytes : List ℕ) (end : ℕ) (records : List PlacedSegment) → length bytes < 2 ^ 64 → AllByRecursion (λ (r : PlacedSegment). IsFlat r.segment) records → Stand bytes records
     → (list_all (is_read bytes) (map entry_of records) ≡ true) × (flats_in bytes end (map entry_of records) ≡ up_to end (segments_of records))
 all-read bytes end [] small f h = (refl, refl)
 all-read bytes end (r ∷ more) small f h =
@@ -37,11 +37,11 @@ all-read bytes end (r ∷ more) small f h =
           ∙ ap (λ z. record r.segment { high = begin_of end (segments_of more) - 1 } ∷ z) rest.1,
     )
 
-low-begin : (end : ℕ) (records : List Placed) → low_of end (map entry_of records) ≡ begin_of end (segments_of records)
+low-begin : (end : ℕ) (records : List PlacedSegment) → low_of end (map entry_of records) ≡ begin_of end (segments_of records)
 low-begin end [] = refl
 low-begin end (r ∷ more) = refl
 
-pub rise-decided : (end : ℕ) (records : List Placed) → Rise end (segments_of records) → do_rise end (map entry_of records) ≡ true
+pub rise-decided : (end : ℕ) (records : List PlacedSegment) → Rise end (segments_of records) → do_rise end (map entry_of records) ≡ true
 rise-decided end [] h = refl
 rise-decided end (r ∷ more) h =
     both_true (nat_lt r.segment.low (low_of end (map entry_of more))) (do_rise end (map entry_of more))
@@ -52,7 +52,7 @@ pub record IsRunOf (bytes : List ℕ) (end : ℕ) (es : List PlainEntry) (flats 
   pub run : is_run bytes end es ≡ true
   pub flats_are : flats_in bytes end es ≡ flats
 
-pub run-of : (bytes : List ℕ) (end : ℕ) (records : List Placed) → length bytes < 2 ^ 64 → AllByRecursion (λ (r : Placed). IsFlat r.segment) records → Stand bytes records
+pub run-of : (bytes : List ℕ) (end : ℕ) (records : List PlacedSegment) → length bytes < 2 ^ 64 → AllByRecursion (λ (r : PlacedSegment). IsFlat r.segment) records → Stand bytes records
     → Rise end (segments_of records) → AllByRecursion IsFlat (up_to end (segments_of records)) → IsRunOf bytes end (map entry_of records) (up_to end (segments_of records))
 run-of bytes end records small f h r flat =
     let read = all-read bytes end records small f h in
@@ -64,22 +64,22 @@ run-of bytes end records small f h r flat =
       flats_are = are;
     }
 
-pub all-segments : (records : List Placed) → AllByRecursion (λ (r : Placed). IsFlat r.segment) records → AllByRecursion IsFlat (segments_of records)
+pub all-segments : (records : List PlacedSegment) → AllByRecursion (λ (r : PlacedSegment). IsFlat r.segment) records → AllByRecursion IsFlat (segments_of records)
 all-segments [] h = tt
 all-segments (r ∷ more) h = (h.0, all-segments more h.1)
 
 -- ---- a table's run below a number
 
-module _ (bytes : List ℕ) (small : length bytes < 2 ^ 64) (table : Kept) (records : List Placed) (is : IsTableOf table records) (stand : Stand bytes records) (below : ℕ) (le : below ≤ table.end) where
+module _ (bytes : List ℕ) (small : length bytes < 2 ^ 64) (table : KeptFlats) (records : List PlacedSegment) (is : IsTableOf table records) (stand : Stand bytes records) (below : ℕ) (le : below ≤ table.end) where
   begins : Segment → Bool
   begins s = not (goes_on s)
 
   -- the records that begin a segment
-  abbrev firsts : List Placed
-  firsts = filter (λ (r : Placed). not (goes_on r.segment)) records
+  abbrev firsts : List PlacedSegment
+  firsts = filter (λ (r : PlacedSegment). not (goes_on r.segment)) records
 
   firsts-are : segments_of firsts ≡ filter (λ (s : Segment). not (goes_on s)) (segments_of records)
-  firsts-are = sym (filter-map (λ (r : Placed). r.segment) (λ (s : Segment). not (goes_on s)) records)
+  firsts-are = sym (filter-map (λ (r : PlacedSegment). r.segment) (λ (s : Segment). not (goes_on s)) records)
 
   rise-all : Rise table.end (segments_of firsts)
   rise-all = subst (Rise table.end) (sym firsts-are) (rise-filter (λ (s : Segment). not (goes_on s)) table.end (segments_of records) (follow-rise 0 table.end (segments_of records) is.in_turn))
@@ -87,11 +87,11 @@ module _ (bytes : List ℕ) (small : length bytes < 2 ^ 64) (table : Kept) (reco
   pub table-rises : do_rise table.end table.entries ≡ true
   table-rises = ap (do_rise table.end) is.kept ∙ rise-decided table.end firsts rise-all
 
-  abbrev lower : List Placed
-  lower = filter (λ (r : Placed). nat_lt r.segment.low below) firsts
+  abbrev lower : List PlacedSegment
+  lower = filter (λ (r : PlacedSegment). nat_lt r.segment.low below) firsts
 
   lower-are : segments_of lower ≡ filter (begins_below below) (segments_of firsts)
-  lower-are = sym (filter-map (λ (r : Placed). r.segment) (begins_below below) firsts)
+  lower-are = sym (filter-map (λ (r : PlacedSegment). r.segment) (begins_below below) firsts)
 
   lower-entries : filter (λ (e : PlainEntry). nat_lt e.low below) table.entries ≡ map entry_of lower
   lower-entries = ap (filter (λ (e : PlainEntry). nat_lt e.low below)) is.kept ∙ filter-map entry_of (λ (e : PlainEntry). nat_lt e.low below) firsts
@@ -99,13 +99,13 @@ module _ (bytes : List ℕ) (small : length bytes < 2 ^ 64) (table : Kept) (reco
   rise-lower : Rise below (segments_of lower)
   rise-lower = subst (Rise below) (sym lower-are) (rise-cut below table.end (segments_of firsts) rise-all le)
 
-  flat-lower : AllByRecursion (λ (r : Placed). IsFlat r.segment) lower
-  flat-lower = all-filter (λ (r : Placed). IsFlat r.segment) (λ (r : Placed). nat_lt r.segment.low below) firsts (all-filter (λ (r : Placed). IsFlat r.segment) (λ (r : Placed). not (goes_on r.segment)) records is.flat)
+  flat-lower : AllByRecursion (λ (r : PlacedSegment). IsFlat r.segment) lower
+  flat-lower = all-filter (λ (r : PlacedSegment). IsFlat r.segment) (λ (r : PlacedSegment). nat_lt r.segment.low below) firsts (all-filter (λ (r : PlacedSegment). IsFlat r.segment) (λ (r : PlacedSegment). not (goes_on r.segment)) records is.flat)
 
   stand-lower : Stand bytes lower
   stand-lower =
-      all-filter (λ (r : Placed). HasFront (segment_bytes r.segment) (drop r.place bytes)) (λ (r : Placed). nat_lt r.segment.low below) firsts
-      (all-filter (λ (r : Placed). HasFront (segment_bytes r.segment) (drop r.place bytes)) (λ (r : Placed). not (goes_on r.segment)) records stand)
+      all-filter (λ (r : PlacedSegment). HasFront (segment_bytes r.segment) (drop r.place bytes)) (λ (r : PlacedSegment). nat_lt r.segment.low below) firsts
+      (all-filter (λ (r : PlacedSegment). HasFront (segment_bytes r.segment) (drop r.place bytes)) (λ (r : PlacedSegment). not (goes_on r.segment)) records stand)
 
   lower-flat : AllByRecursion IsFlat (up_to below (segments_of lower))
   lower-flat = let master = is.master in up_to-flat below (segments_of lower) (all-segments lower flat-lower) rise-lower (omega arith)
@@ -170,7 +170,7 @@ alone-flats flats same b1 e1 es1 b2 e2 es2 is n1 n2 =
 pub alone-begin : (bytes : List ℕ) (end : ℕ) (es : List PlainEntry) (n : ℕ) → es ≡ [] → end ≡ n → begin_of end (flats_in bytes end es) ≡ n
 alone-begin bytes end es n e is = ap (begin_of end) (none-flats bytes end es e) ∙ is
 
-pub alone-lawful : (bytes : List ℕ) (small : length bytes < 2 ^ 64) (table : Kept) (records : List Placed) (is : IsTableOf table records) (stand : Stand bytes records) (below : ℕ) (le : below ≤ table.end)
+pub alone-lawful : (bytes : List ℕ) (small : length bytes < 2 ^ 64) (table : KeptFlats) (records : List PlacedSegment) (is : IsTableOf table records) (stand : Stand bytes records) (below : ℕ) (le : below ≤ table.end)
     → (flats : List Segment) → flats ≡ cut below (maximal table.end (segments_of records))
     → (b1 : List ℕ) (e1 : ℕ) (es1 : List PlainEntry) (b2 : List ℕ) (e2 : ℕ) (es2 : List PlainEntry) → es1 ≡ [] → es2 ≡ [] → e2 ≡ 2 ^ 56
     → is_lawful below (e2 - 2 ^ 56) flats (flats_in b1 e1 es1 ++ flats_in b2 e2 es2) ≡ true
@@ -188,7 +188,7 @@ alone-lawful bytes small table records is stand below le flats same b1 e1 es1 b2
     ∙ ap (λ z. is_lawful below 0 z (flats_in b1 e1 es1 ++ flats_in b2 e2 es2)) same
     ∙ ap (λ z. is_lawful below 0 cuts (z ++ flats_in b2 e2 es2)) (none-flats b1 e1 es1 n1) ∙ ap (is_lawful below 0 cuts) (none-flats b2 e2 es2 n2) ∙ whole
 
-pub alone-few : (table : Kept) (records : List Placed) (n : ℕ) (es es1 es2 : List PlainEntry) → IsTableOf table records → es ≡ table.entries → es1 ≡ [] → es2 ≡ []
+pub alone-few : (table : KeptFlats) (records : List PlacedSegment) (n : ℕ) (es es1 es2 : List PlainEntry) → IsTableOf table records → es ≡ table.entries → es1 ≡ [] → es2 ≡ []
     → length (take n es) + length es1 + length es2 < 2 ^ 32
 alone-few table records n es es1 es2 is e n1 n2 =
     let few = is.few in let same = ap length e in let l1 = ap length n1 in let l2 = ap length n2 in

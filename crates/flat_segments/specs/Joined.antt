@@ -3,20 +3,20 @@ use Rattle.std.specs.Prelude.{◌<◌, ◌≤◌, ◌^◌, ◌+◌, ◌⊎◌, �
 use Rattle.std.specs.List.{AllByRecursion}
 use Rattle.segment_codec.specs.Table.{Follow}
 use Rattle.flat_segments.specs.declared.view.FlatView.{FlatView}
-use Rattle.flat_segments.specs.Placed.{Placed, segments_of, Stand}
-use Rattle.flat_segments.specs.Kept.{Kept, IsSectionOf}
+use Rattle.flat_segments.specs.Placed.{PlacedSegment, segments_of, Stand}
+use Rattle.flat_segments.specs.Kept.{KeptFlats, IsSectionOf}
 use Rattle.flat_segments.specs.Views.{master_flats, master_count}
 
 -- the records are those of the section, and stand in the bytes
-pub record StandAs (section : Kept) (bytes : List ℕ) (records : List Placed) : Type 0 where
+pub record StandAs (section : KeptFlats) (bytes : List ℕ) (records : List PlacedSegment) : Type 0 where
   pub section_of : IsSectionOf section records
   pub stand : Stand bytes records
 
 -- The two sections may be joined to the view, one behind the other: together they have the other ids from the first on, in
 -- turn, their parents are master ids of the view or other ids, and with the view's there are few enough segments.
-pub record MayJoin (view : FlatView) (others : Kept) (other_bytes : List ℕ) (pending : Kept) (pending_bytes : List ℕ) : Type 0 where
-  pub first : List Placed
-  pub second : List Placed
+pub record MayJoin (view : FlatView) (others : KeptFlats) (other_bytes : List ℕ) (pending : KeptFlats) (pending_bytes : List ℕ) : Type 0 where
+  pub first : List PlacedSegment
+  pub second : List PlacedSegment
   pub others_stand : StandAs others other_bytes first
   pub pending_stand : StandAs pending pending_bytes second
   pub end : ℕ

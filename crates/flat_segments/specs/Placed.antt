@@ -5,21 +5,21 @@ use Rattle.segment_codec.specs.Record.{Segment, IsSegment, segment_bytes, HasFro
 use Rattle.segment_codec.specs.Turns.{MayStandAt}
 
 -- a record and the place where it stands
-pub record Placed : Type 0 where
+pub record PlacedSegment : Type 0 where
   pub place : ℕ
   pub segment : Segment
 
 -- records that stand one after another, from a place on
-abbrev pub placed : ℕ → List Segment → List Placed
-placed at [] = []
-placed at (s ∷ more) = record { place = at; segment = s } ∷ placed (at + length (segment_bytes s)) more
+abbrev pub placed_segments : ℕ → List Segment → List PlacedSegment
+placed_segments at [] = []
+placed_segments at (s ∷ more) = record { place = at; segment = s } ∷ placed_segments (at + length (segment_bytes s)) more
 
 -- the segments alone
-abbrev pub segments_of : List Placed → List Segment
+abbrev pub segments_of : List PlacedSegment → List Segment
 segments_of records = map (λ r. r.segment) records
 
 -- each record stands at its place in the bytes
-abbrev pub Stand : List ℕ → List Placed → Type 0
+abbrev pub Stand : List ℕ → List PlacedSegment → Type 0
 Stand bytes records = AllByRecursion (λ r. HasFront (segment_bytes r.segment) (drop r.place bytes)) records
 
 -- the bytes are the records of these segments, one after another

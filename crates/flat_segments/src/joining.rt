@@ -3,7 +3,7 @@
 ghost use Rattle.std.specs.Prelude.{◌≡◌, ◌≢◌, ◌++◌, [], List, ℕ};
 ghost use Rattle.segment_codec.specs.Table.{Follow};
 ghost use Rattle.flat_segments.specs.Maximal.{begin_of};
-ghost use Rattle.flat_segments.specs.Placed.{Placed, segments_of};
+ghost use Rattle.flat_segments.specs.Placed.{PlacedSegment, segments_of};
 ghost use Rattle.flat_segments.specs.Views.{flats_of, master_flats, other_flats, master_count};
 ghost use Rattle.flat_segments.specs.Joined.{StandAs, MayJoin};
 
@@ -26,11 +26,11 @@ fn end_from(section: &Section, start: u64) -> u64
 
 /// The run of a section whose records stand in the bytes.
 fn run_of<'a>(section: &'a Section, bytes: &'a [u8], start: u64) -> Run<'a>
-    requires { (records : List Placed) × StandAs section.now bytes.now records }
-    ensures flats { (records : List Placed) → StandAs section.now bytes.now records → flats_of result ≡ segments_of records }
-    ensures begin { (records : List Placed) (end : ℕ) → StandAs section.now bytes.now records → Follow start end (segments_of records)
+    requires { (records : List PlacedSegment) × StandAs section.now bytes.now records }
+    ensures flats { (records : List PlacedSegment) → StandAs section.now bytes.now records → flats_of result ≡ segments_of records }
+    ensures begin { (records : List PlacedSegment) (end : ℕ) → StandAs section.now bytes.now records → Follow start end (segments_of records)
         → begin_of result.end (flats_of result) ≡ start }
-    ensures end { (records : List Placed) (end : ℕ) → StandAs section.now bytes.now records → Follow start end (segments_of records) → result.end ≡ end }
+    ensures end { (records : List PlacedSegment) (end : ℕ) → StandAs section.now bytes.now records → Follow start end (segments_of records) → result.end ≡ end }
 {
     are_countable(bytes);
     let end = end_from(section, start);
@@ -53,7 +53,7 @@ impl<'a> FlatView<'a> {
         pending_bytes: &'a [u8],
     ) -> FlatView<'a>
         requires { MayJoin self others.now other_bytes.now pending.now pending_bytes.now }
-        ensures others { (first second : List Placed) → StandAs others.now other_bytes.now first → StandAs pending.now pending_bytes.now second
+        ensures others { (first second : List PlacedSegment) → StandAs others.now other_bytes.now first → StandAs pending.now pending_bytes.now second
             → other_flats result ≡ segments_of first ++ segments_of second }
         ensures master { master_flats result ≡ master_flats self.entry }
         ensures count { master_count result ≡ master_count self.entry }

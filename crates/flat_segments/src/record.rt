@@ -5,7 +5,7 @@ ghost use Rattle.segment_codec.specs.Record.{Segment, IsSegment};
 ghost use Rattle.segment_codec.specs.Lent.{segment_of};
 ghost use Rattle.segment_codec.specs.Flat.{IsFlat};
 ghost use Rattle.segment_codec.specs.Turns.{StandInTurn, IsFirstBroken, place_behind};
-ghost use Rattle.flat_segments.specs.Placed.{placed, AreRecords, MasterMayStandAt};
+ghost use Rattle.flat_segments.specs.Placed.{placed_segments, AreRecords, MasterMayStandAt};
 ghost use Rattle.flat_segments.specs.Kept.{kept_of};
 ghost use Rattle.flat_segments.specs.declared.fault.FlatFault.{FlatFault as Fault};
 
@@ -53,7 +53,7 @@ pub(crate) fn append(
     ensures stand { IfOk result (λ end. (segments : List Segment) → AreRecords segments records.now → StandInTurn (MasterMayStandAt first) first segments) }
     ensures end { IfOk result (λ end. (segments : List Segment) → AreRecords segments records.now → end ≡ place_behind first segments) }
     ensures kept { IfOk result (λ end. (segments : List Segment) → AreRecords segments records.now
-        → entries.new.items ≡ entries.old.items ++ kept_of (placed at segments)) }
+        → entries.new.items ≡ entries.old.items ++ kept_of (placed_segments at segments)) }
     ensures small { IfOk result (λ end. end ≤ 2 ^ 56) }
     ensures bad { (segments : List Segment) (k : ℕ) → AreRecords segments records.now → result ≡ Err (Fault.BadSegment k) → IsFirstBroken (MasterMayStandAt first) first segments k }
     ensures err { OnErr result (take (length entries.old.items) entries.new.items ≡ entries.old.items) }

@@ -2,7 +2,7 @@
 
 ghost use Rattle.std.specs.Prelude.{◌≡◌, ◌++◌, [], ◌∷◌, List, length, take, OnOk, OnErr, IfOk};
 ghost use Rattle.segment_codec.specs.Lent.{segment_of};
-ghost use Rattle.flat_segments.specs.Placed.{Placed};
+ghost use Rattle.flat_segments.specs.Placed.{PlacedSegment};
 ghost use Rattle.flat_segments.specs.Kept.{IsSectionOf, MayPush};
 
 use crate::entry::{Entry, copied};
@@ -21,9 +21,9 @@ pub struct Section {
 }
 
 impl Model for Section {
-    ghost use Rattle.flat_segments.specs.Kept.{Kept};
+    ghost use Rattle.flat_segments.specs.Kept.{KeptFlats};
 
-    ghost Value = { Kept };
+    ghost Value = { KeptFlats };
 
     ghost view = { λ s. record { entries = s.entries.items; end = s.end } };
 }
@@ -43,7 +43,7 @@ impl Section {
     /// stand, at the place `at`. The first one begins anywhere. Want of memory leaves the section as it was.
     pub fn push(&mut self, segment: SegmentRef<'_>, at: u64) -> Result<(), AllocError>
         requires { MayPush self.old (segment_of segment) }
-        ensures section { OnOk result ((records : List Placed) → IsSectionOf self.old records
+        ensures section { OnOk result ((records : List PlacedSegment) → IsSectionOf self.old records
             → IsSectionOf self.new (records ++ record { place = at; segment = segment_of segment.entry } ∷ [])) }
         ensures unchanged { OnErr result (self.new ≡ self.old) }
     {

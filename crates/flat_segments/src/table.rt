@@ -4,7 +4,7 @@ ghost use Rattle.std.specs.Prelude.{◌≡◌, ◌≤◌, ◌<◌, ◌^◌, ◌+
 ghost use Rattle.segment_codec.specs.Record.{Segment};
 ghost use Rattle.flat_segments.specs.Maximal.{maximal, cut};
 ghost use Rattle.segment_codec.specs.Turns.{StandInTurn, IsFirstBroken};
-ghost use Rattle.flat_segments.specs.Placed.{Placed, placed, segments_of, Stand, AreRecords, MasterMayStandAt};
+ghost use Rattle.flat_segments.specs.Placed.{PlacedSegment, placed_segments, segments_of, Stand, AreRecords, MasterMayStandAt};
 ghost use Rattle.flat_segments.specs.Kept.{IsTableOf, MayExtend};
 ghost use Rattle.flat_segments.specs.Runs.{do_rise};
 ghost use Rattle.flat_segments.specs.Views.{view_flats, master_flats, master_count};
@@ -27,9 +27,9 @@ pub struct FlatTable {
 }
 
 impl Model for FlatTable {
-    ghost use Rattle.flat_segments.specs.Kept.{Kept};
+    ghost use Rattle.flat_segments.specs.Kept.{KeptFlats};
 
-    ghost Value = { Kept };
+    ghost Value = { KeptFlats };
 
     ghost view = { λ t. record { entries = t.entries.items; end = t.count } };
 }
@@ -67,8 +67,8 @@ impl FlatTable {
     pub fn extend(&mut self, _bytes: &[u8], records: &[u8], at: u64) -> Result<(), FlatFault>
         requires records { MayExtend self.old records.now }
         requires place { at + length records.now < 2 ^ 63 }
-        ensures table { OnOk result ((before : List Placed) (segments : List Segment) → IsTableOf self.old before → AreRecords segments records.now
-            → IsTableOf self.new (before ++ placed at segments)) }
+        ensures table { OnOk result ((before : List PlacedSegment) (segments : List Segment) → IsTableOf self.old before → AreRecords segments records.now
+            → IsTableOf self.new (before ++ placed_segments at segments)) }
         ensures lawful { OnOk result ((segments : List Segment) → AreRecords segments records.now → StandInTurn (MasterMayStandAt self.old.end) self.old.end segments) }
         ensures bad { (segments : List Segment) (k : ℕ) → AreRecords segments records.now → result ≡ Err (Fault.BadSegment k)
             → IsFirstBroken (MasterMayStandAt self.old.end) self.old.end segments k }
@@ -116,9 +116,9 @@ impl FlatTable {
     /// The segments below a master count, which is at most that of the table. The records that were added stand in the
     /// bytes at their places.
     pub fn view<'a>(&'a self, bytes: &'a [u8], below: u64) -> FlatView<'a>
-        requires records { (records : List Placed) × IsTableOf self.now records × Stand bytes.now records }
+        requires records { (records : List PlacedSegment) × IsTableOf self.now records × Stand bytes.now records }
         requires below { below ≤ self.now.end }
-        ensures flats { (records : List Placed) → IsTableOf self.now records → Stand bytes.now records
+        ensures flats { (records : List PlacedSegment) → IsTableOf self.now records → Stand bytes.now records
             → view_flats result ≡ cut below (maximal self.now.end (segments_of records)) }
         ensures master { master_flats result ≡ view_flats result }
         ensures count { master_count result ≡ below }

@@ -20,7 +20,7 @@ use Rattle.segment_rules.specs.Flat.{followers, segment_parents, flat_segments_o
 use Rattle.segment_rules.proofs.Flats.{flat-keeps}
 use Rattle.batch_codec.specs.Payload.{Payload}
 use Rattle.batch_codec.specs.Grammar.{cut_below}
-use Rattle.remote_rules.specs.CloneData.{CloneData, first_broken, first_false, first_of as first_some}
+use Rattle.remote_rules.specs.CloneData.{CloneData, first_broken, first_false, first_some}
 use Rattle.mirror_set.specs.Fresh.{PlainFresh, count_from}
 use Rattle.change_rules.specs.Tables.{StandFor, cloned_count}
 use Rattle.change_rules.specs.Disagree.{same_segment, segments_agree, first_unlike}

@@ -14,13 +14,13 @@ use Rattle.batch_codec.specs.Payload.{known_names}
 use Rattle.batch_codec.specs.Grammar.{count_after}
 use Rattle.change_rules.specs.Lawful.{AreLawful}
 use Rattle.name_map.specs.Added.{Placed, AllStand, payloads_of, known_of}
-use Rattle.flat_segments.specs.Placed.{Placed as PlacedSegment, placed}
+use Rattle.flat_segments.specs.Placed.{PlacedSegment, placed_segments}
 use Rattle.assign_ids.specs.Numbers.{AreBelow}
 use Rattle.change_rules.specs.Tables.{newest, other_names_in}
 use Rattle.change_rules.specs.Change.{known_from}
 use Rattle.payload_tables.specs.Kept.{PlainTables, AreTablesOf}
-use Rattle.payload_tables.specs.Pending.{IdRow, PlainPending, HoldsRows, segments_from}
-use Rattle.payload_tables.specs.Bases.{id_row, stored_in}
+use Rattle.payload_tables.specs.Pending.{HeldRow, PlainPending, HoldsRows, segments_from}
+use Rattle.payload_tables.specs.Bases.{held_row, stored_in}
 use Rattle.payload_tables.proofs.Lists.{names-length}
 use Rattle.payload_tables.proofs.Naming.{whole-names}
 use Rattle.flush_rebuild.specs.Asked.{others_count, IsFoundIn, HaveParents, MayStore, MayPlan}
@@ -36,7 +36,7 @@ parents-fit : (m k id : ℕ) → id ≡ 2 ^ 56 + k → (ps : List ℕ) → AllBy
 parents-fit m k id e [] h g = tt
 parents-fit m k id e (p ∷ ps) h g = (⊎_elim (λ a. inl a) (λ b. inr (b, (let lt = h.0 in omega (arith, lt, e)))) g.0, parents-fit m k id e ps h.1 g.1)
 
-rows-fit : (m k id at : ℕ) → id ≡ 2 ^ 56 + k → (rows : List IdRow) → AllByRecursion (λ (r : PlacedSegment). IsFlat r.segment) (placed at (segments_from id rows)) → HaveParents m rows → AllRows (Behind m) k rows
+rows-fit : (m k id at : ℕ) → id ≡ 2 ^ 56 + k → (rows : List HeldRow) → AllByRecursion (λ (r : PlacedSegment). IsFlat r.segment) (placed_segments at (segments_from id rows)) → HaveParents m rows → AllRows (Behind m) k rows
 rows-fit m k id at e [] h g = tt
 rows-fit m k id at e (r ∷ rows) h g = (
   (parents-fit m k id e r.parents h.0.segment.below g.0, h.0.segment.distinct, h.0.segment.level_parents),
@@ -76,7 +76,7 @@ asked tables bytes pending numbers added t stand s below =
     let w = st.of_world in
     let rows = st.pending in
     let first : pending.first ≡ length w.others = s.first ∙ ap (length {A = Name}) st.stand.names ∙ names-length w.others in
-    let many : length s.rows ≡ length rows = ap (length {A = IdRow}) st.rows_are ∙ length-map rows (id_row (with_pending w rows)) in
+    let many : length s.rows ≡ length rows = ap (length {A = HeldRow}) st.rows_are ∙ length-map rows (held_row (with_pending w rows)) in
     let h = heads-of w rows st.view numbers (subst (λ n. AreBelow n numbers) (let l = length-append w.others rows in let z : pending.first + length s.rows ≡ length (w.others ++ rows) = omega (arith, first, many, l) in z) below) in (
       w,
       rows,

@@ -10,7 +10,7 @@ use Rattle.segment_rules.specs.Flat.{single, with_id, flat_segments_of, parents_
 use Rattle.batch_codec.specs.Payload.{Payload}
 use Rattle.batch_codec.specs.Grammar.{cut_below}
 use Rattle.name_map.specs.Added.{Placed, payloads_of, AllStand}
-use Rattle.remote_rules.specs.CloneData.{CloneData, first_false, first_of}
+use Rattle.remote_rules.specs.CloneData.{CloneData, first_false, first_some}
 use Rattle.change_rules.specs.Tables.{StandFor, known_in, cloned_count}
 use Rattle.change_rules.specs.Disagree.{first_unlike, segments_agree}
 use Rattle.payload_tables.specs.declared.base.BaseRef.{BaseRef}
@@ -50,7 +50,7 @@ cut-append below (s ∷ a) b = by_test (nat_lt s.low below) (cut-append below a 
 
 -- ---- the base
 
-first-joined : (a b c : Option ℕ) → first_of a (first_of b c) ≡ first_of (first_of a b) c
+first-joined : (a b c : Option ℕ) → first_some a (first_some b c) ≡ first_some (first_some a b) c
 first-joined None b c = refl
 first-joined (Some n) b c = refl
 
@@ -89,12 +89,12 @@ module _ (tables : PlainTables) (bytes : List ℕ) (none : PlainPending) (held :
     -- the first unlike item is that of the base's segments, or else of the names
     pub first-told : (told : CloneData) (segment name : Option ℕ) → segment ≡ unlike_segment told.segments flats cloned (length told.segments + length told.names + length told.heads)
         → name ≡ unlike_name told.names (known_in (payloads_of added)) cloned (length told.segments)
-        → first_unlike (payloads_of added) (cloned_count (payloads_of added)) told ≡ first_of segment name
+        → first_unlike (payloads_of added) (cloned_count (payloads_of added)) told ≡ first_some segment name
     first-told told segment name a b =
         let items = length told.segments + length told.names + length told.heads in
         ap (λ n. first_unlike (payloads_of added) n told) (sym is)
         ∙ first-joined (first_false 0 (segments_agree (cut_below cloned told.segments) (cut_below cloned mine))) (first_false items (nat_le (length (cut_below cloned mine)) (length (cut_below cloned told.segments)) ∷ []))
         (unlike_name told.names (known_in (payloads_of added)) cloned (length told.segments))
-        ∙ ap₂ first_of
-        (ap (λ (l : List Segment). first_of (first_false 0 (segments_agree (cut_below cloned told.segments) l)) (first_false items (nat_le (length l) (length (cut_below cloned told.segments)) ∷ []))) (sym flats-cut) ∙ sym a)
+        ∙ ap₂ first_some
+        (ap (λ (l : List Segment). first_some (first_false 0 (segments_agree (cut_below cloned told.segments) l)) (first_false items (nat_le (length l) (length (cut_below cloned told.segments)) ∷ []))) (sym flats-cut) ∙ sym a)
         (sym b)

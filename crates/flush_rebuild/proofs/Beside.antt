@@ -19,7 +19,7 @@ use Rattle.batch_codec.specs.Grammar.{cut_below}
 use Rattle.remote_rules.specs.Lawful.{MayStandHere}
 use Rattle.remote_rules.proofs.Unbroken.{unbroken-is-lawful}
 use Rattle.remote_trait.proofs.Items.{in-more}
-use Rattle.remote_rules.specs.CloneData.{CloneData, KnownName, names_at, first_false, first_of, first_broken}
+use Rattle.remote_rules.specs.CloneData.{CloneData, KnownName, names_at, first_false, first_some, first_broken}
 use Rattle.change_rules.specs.Disagree.{same_segment, segments_agree}
 use Rattle.flush_rebuild.specs.Pulling.{HasSeen, cut_at, unlike_segment, is_told}
 
@@ -28,7 +28,7 @@ use Rattle.flush_rebuild.specs.Pulling.{HasSeen, cut_at, unlike_segment, is_told
 -- the first unlike one of these, the first of which has this number
 abbrev pub unlike_from : ℕ → List Segment → List Segment → ℕ → ℕ → Option ℕ
 unlike_from k told stored below items =
-    first_of (first_false k (segments_agree (cut_below below told) (cut_below below stored)))
+    first_some (first_false k (segments_agree (cut_below below told) (cut_below below stored)))
     (first_false items (nat_le (length (cut_below below stored)) (length (cut_below below told)) ∷ []))
 
 cut-first : (below : ℕ) (s : Segment) (ss : List Segment) → s.low < below → cut_below below (s ∷ ss) ≡ cut_at below s ∷ cut_below below ss
@@ -100,8 +100,8 @@ module _ (told stored : List Segment) (below items k : ℕ) (so_far : unlike_seg
       let ss = drop (k + 1) told in let ts = drop (k + 1) stored in
       so_far
       ∙ ap₂ (λ a b. unlike_from k a b below items) (behind-at told k s at) (behind-at stored k t there)
-      ∙ ap₂ (λ (a b : List Segment). first_of (first_false k (segments_agree a b)) (first_false items (nat_le (length b) (length a) ∷ []))) (cut-first below s ss ls) (cut-first below t ts lt)
-      ∙ ap₂ first_of
+      ∙ ap₂ (λ (a b : List Segment). first_some (first_false k (segments_agree a b)) (first_false items (nat_le (length b) (length a) ∷ []))) (cut-first below s ss ls) (cut-first below t ts lt)
+      ∙ ap₂ first_some
       (ap (λ b. if b then first_false (k + 1) (segments_agree (cut_below below ss) (cut_below below ts)) else Some k) same)
       (ap (λ b. first_false items (b ∷ [])) (le-next (length (cut_below below ts)) (length (cut_below below ss))))
 
@@ -111,8 +111,8 @@ module _ (told stored : List Segment) (below items k : ℕ) (so_far : unlike_seg
       → unlike_segment told stored below items ≡ Some k
   unlike-here s at ls rising other =
       so_far ∙ ap (λ a. unlike_from k a (drop k stored) below items) (behind-at told k s at)
-      ∙ ap (λ (a : List Segment). first_of (first_false k (segments_agree a (cut_below below (drop k stored)))) (first_false items (nat_le (length (cut_below below (drop k stored))) (length a) ∷ []))) (cut-first below s (drop (k + 1) told) ls)
-      ∙ ap (λ o. first_of o (first_false items (nat_le (length (cut_below below (drop k stored))) (length (cut_at below s ∷ cut_below below (drop (k + 1) told))) ∷ []))) (by_item (slice_get stored k) refl)
+      ∙ ap (λ (a : List Segment). first_some (first_false k (segments_agree a (cut_below below (drop k stored)))) (first_false items (nat_le (length (cut_below below (drop k stored))) (length a) ∷ []))) (cut-first below s (drop (k + 1) told) ls)
+      ∙ ap (λ o. first_some o (first_false items (nat_le (length (cut_below below (drop k stored))) (length (cut_at below s ∷ cut_below below (drop (k + 1) told))) ∷ []))) (by_item (slice_get stored k) refl)
     where
       rest : List Segment
       rest = cut_below below (drop (k + 1) told)
@@ -141,7 +141,7 @@ module _ (told stored : List Segment) (below items k : ℕ) (so_far : unlike_seg
 
   -- nothing more is told
   told-out : cut_below below (drop k told) ≡ [] → unlike_segment told stored below items ≡ first_false items (nat_le (length (cut_below below (drop k stored))) 0 ∷ [])
-  told-out e = so_far ∙ ap (λ (a : List Segment). first_of (first_false k (segments_agree a (cut_below below (drop k stored)))) (first_false items (nat_le (length (cut_below below (drop k stored))) (length a) ∷ []))) e
+  told-out e = so_far ∙ ap (λ (a : List Segment). first_some (first_false k (segments_agree a (cut_below below (drop k stored)))) (first_false items (nat_le (length (cut_below below (drop k stored))) (length a) ∷ []))) e
 
   pub unlike-none : AreRising told → ((s : Segment) → slice_get told k ≡ Some s → s.low < below → ⊥) → AreRising stored → ((t : Segment) → slice_get stored k ≡ Some t → t.low < below → ⊥)
       → unlike_segment told stored below items ≡ None

@@ -17,8 +17,8 @@ use Rattle.flush_rebuild.specs.Moves.{node_of}
 use Rattle.commit_graph.proofs.Histories.{in-append}
 use Rattle.commit_graph.proofs.Down.{in-left, in-right}
 use Rattle.commit_graph.proofs.Places.{id-in-others, name-at}
-use Rattle.payload_tables.specs.Pending.{IdRow, row_names}
-use Rattle.payload_tables.specs.Bases.{id_row}
+use Rattle.payload_tables.specs.Pending.{HeldRow, row_names}
+use Rattle.payload_tables.specs.Bases.{held_row}
 use Rattle.flush_rebuild.specs.Plans.{stored_id, first_unknown}
 use Rattle.payload_tables.proofs.Joined.{seen-id}
 
@@ -46,18 +46,18 @@ module _ (w : World Name) (rows : List (Row Name)) (whole : IsWorld (with_pendin
   not-stored : (o : Option ℕ) → o ≡ stored_id w head → is_some o ≡ false → IsIn head (names_of (rows_of w)) → ⊥
   not-stored o e s i = true≢false (ap is_some (sym (e ∙ stored-or true (there same_name same_name-exact same_name-self head (names_of (rows_of w)) i))) ∙ s)
 
-  names-of-rows : (v : World Name) (some : List (Row Name)) → row_names (map (id_row v) some) ≡ names_of some
+  names-of-rows : (v : World Name) (some : List (Row Name)) → row_names (map (held_row v) some) ≡ names_of some
   names-of-rows v [] = refl
   names-of-rows v (r ∷ some) = ap (λ l. r.name ∷ l) (names-of-rows v some)
 
-  pub head-nowhere : (o : Option ℕ) → o ≡ stored_id w head → is_some o ≡ false → (IsIn head (row_names (map (id_row (with_pending w rows)) rows)) → ⊥) → IsHead None
+  pub head-nowhere : (o : Option ℕ) → o ≡ stored_id w head → is_some o ≡ false → (IsIn head (row_names (map (held_row (with_pending w rows)) rows)) → ⊥) → IsHead None
   head-nowhere o e s none i = ⊎_elim (not-stored o e s) (λ j. none (subst (IsIn head) (sym (names-of-rows (with_pending w rows) rows)) j)) (in-append head (names_of (rows_of w)) (names_of rows) (subst (IsIn head) names-parts i))
 
-  row-of-map : (v : World Name) (some : List (Row Name)) (k : ℕ) (q : IdRow) → slice_get (map (id_row v) some) k ≡ Some q → (r : Row Name) × (slice_get some k ≡ Some r) × (r.name ≡ q.name)
+  row-of-map : (v : World Name) (some : List (Row Name)) (k : ℕ) (q : HeldRow) → slice_get (map (held_row v) some) k ≡ Some q → (r : Row Name) × (slice_get some k ≡ Some r) × (r.name ≡ q.name)
   row-of-map v [] k q e = absurd (true≢false (sym (ap is_some e)))
   row-of-map v (r ∷ some) zero q e = (r, refl, ap (name_or q) e)
     where
-      name_or : IdRow → Option IdRow → Name
+      name_or : HeldRow → Option HeldRow → Name
       name_or d None = d.name
       name_or d (Some x) = x.name
   row-of-map v (r ∷ some) (suc k) q e = row-of-map v some k q e
@@ -66,7 +66,7 @@ module _ (w : World Name) (rows : List (Row Name)) (whole : IsWorld (with_pendin
   get-behind [] k r e = ap (slice_get rows) (let z : 0 + k ≡ k = omega arith in z) ∙ e
   get-behind (x ∷ xs) k r e = ap (slice_get (x ∷ (xs ++ rows))) (let z : length (x ∷ xs) + k ≡ suc (length xs + k) = omega arith in z) ∙ get-behind xs k r e
 
-  pub head-pending : (k : ℕ) (q : IdRow) → slice_get (map (id_row (with_pending w rows)) rows) k ≡ Some q → q.name ≡ head
+  pub head-pending : (k : ℕ) (q : HeldRow) → slice_get (map (held_row (with_pending w rows)) rows) k ≡ Some q → q.name ≡ head
       → IsIn head (names_of (rows_of (with_pending w rows))) × (other_id (length w.others + k) ≡ id_in same_name (with_pending w rows) head)
   head-pending k q e n =
       let r = row-of-map (with_pending w rows) rows k q e in (

@@ -23,7 +23,7 @@ use Rattle.payload_tables.specs.Kept.{PlainTables, AreTablesOf}
 use Rattle.payload_tables.specs.Pending.{PlainPending}
 use Rattle.flush_rebuild.specs.declared.plan.Change.{Change}
 use Rattle.flush_rebuild.specs.declared.fault.PlanFault.{PlanFault}
-use Rattle.flush_rebuild.specs.Plans.{MayFlush, IsPlanOf, IsChangeOf, IsStorable, MayBeStored, first_unknown, unknown_fault, first_of, size_refusal, flush_refusal}
+use Rattle.flush_rebuild.specs.Plans.{MayFlush, IsPlanOf, IsChangeOf, IsStorable, MayBeStored, first_unknown, unknown_fault, first_fault, size_refusal, flush_refusal}
 use Rattle.flush_rebuild.specs.Following.{with_payload, FollowChange, StandForNext}
 use Rattle.flush_rebuild.proofs.Planning.{whole-names}
 
@@ -45,7 +45,7 @@ known-all v (x ∷ heads) e = by_test (is_in same_name x (names_of (rows_of v)))
     )
     by_test false t more = absurd (true≢false (ap is_some (sym (ap (λ b. if b then first_unknown v heads else Some x) t) ∙ e)))
 
-none-first : (o : Option Name) (later : Option PlanFault) → first_of (unknown_fault o) later ≡ None → o ≡ None
+none-first : (o : Option Name) (later : Option PlanFault) → first_fault (unknown_fault o) later ≡ None → o ≡ None
 none-first None later e = refl
 none-first (Some x) later e = absurd (true≢false (ap is_some e))
 

@@ -8,7 +8,7 @@ use Rattle.segment_codec.specs.Record.{Segment}
 use Rattle.segment_codec.specs.Table.{IsLawful, parents_at}
 use Rattle.segment_codec.proofs.Tables.{parent-below}
 use Rattle.commit_graph.proofs.Naming.{all-each}
-use Rattle.flush_rebuild.specs.Flat.{Span, single, with_id, flat_segments}
+use Rattle.flush_rebuild.specs.Flat.{Span, single_span, with_id_span, flat_segments}
 use Rattle.flush_rebuild.specs.Moves.{grown}
 
 pub any-default : {X : Type 0} (xs : List X) (i : ℕ) (a b : X) → i < length xs → get_or xs i a ≡ get_or xs i b
@@ -22,15 +22,15 @@ ending s id = record { low = s.low; high = id; parents = s.parents }
 -- The segments of one id more are those with it behind them.
 
 with-first : (id : ℕ) (ps : List ℕ) (r : Span) (more : List Span) (b : Bool) → pointwise nat_eq r.parents (id ∷ []) ≡ b
-    → with_id id ps (r ∷ more) ≡ (if b then record { low = id; high = r.high; parents = ps } ∷ more else single id ps ∷ r ∷ more)
-with-first id ps r more b e = ap (λ z. if z then record { low = id; high = r.high; parents = ps } ∷ more else single id ps ∷ r ∷ more) e
+    → with_id_span id ps (r ∷ more) ≡ (if b then record { low = id; high = r.high; parents = ps } ∷ more else single_span id ps ∷ r ∷ more)
+with-first id ps r more b e = ap (λ z. if z then record { low = id; high = r.high; parents = ps } ∷ more else single_span id ps ∷ r ∷ more) e
 
 grown-one : (r : Span) (last : ℕ) (qs : List ℕ) (c : Bool) → pointwise nat_eq qs (r.high ∷ []) ≡ c
-    → grown (r ∷ []) last qs ≡ (if c then record { low = r.low; high = last; parents = r.parents } ∷ [] else r ∷ single last qs ∷ [])
-grown-one r last qs c e = ap (λ z. if z then record { low = r.low; high = last; parents = r.parents } ∷ [] else r ∷ single last qs ∷ []) e
+    → grown (r ∷ []) last qs ≡ (if c then record { low = r.low; high = last; parents = r.parents } ∷ [] else r ∷ single_span last qs ∷ [])
+grown-one r last qs c e = ap (λ z. if z then record { low = r.low; high = last; parents = r.parents } ∷ [] else r ∷ single_span last qs ∷ []) e
 
 -- an id before segments that have one id more behind them
-with-grown : (id last : ℕ) (ps qs : List ℕ) (spans : List Span) (r : Span) → grown (with_id id ps (r ∷ spans)) last qs ≡ with_id id ps (grown (r ∷ spans) last qs)
+with-grown : (id last : ℕ) (ps qs : List ℕ) (spans : List Span) (r : Span) → grown (with_id_span id ps (r ∷ spans)) last qs ≡ with_id_span id ps (grown (r ∷ spans) last qs)
 with-grown id last ps qs [] r = by_test (pointwise nat_eq r.parents (id ∷ [])) (pointwise nat_eq qs (r.high ∷ [])) refl refl
   where
     whole : Span
@@ -39,28 +39,28 @@ with-grown id last ps qs [] r = by_test (pointwise nat_eq r.parents (id ∷ []))
     longer : Span
     longer = record { low = r.low; high = last; parents = r.parents }
 
-    by_test : (b c : Bool) → pointwise nat_eq r.parents (id ∷ []) ≡ b → pointwise nat_eq qs (r.high ∷ []) ≡ c → grown (with_id id ps (r ∷ [])) last qs ≡ with_id id ps (grown (r ∷ []) last qs)
+    by_test : (b c : Bool) → pointwise nat_eq r.parents (id ∷ []) ≡ b → pointwise nat_eq qs (r.high ∷ []) ≡ c → grown (with_id_span id ps (r ∷ [])) last qs ≡ with_id_span id ps (grown (r ∷ []) last qs)
     by_test true true eb ec = ap (λ l. grown l last qs) (with-first id ps r [] true eb) ∙ grown-one whole last qs true ec
-        ∙ sym (ap (with_id id ps) (grown-one r last qs true ec) ∙ with-first id ps longer [] true eb)
+        ∙ sym (ap (with_id_span id ps) (grown-one r last qs true ec) ∙ with-first id ps longer [] true eb)
     by_test true false eb ec = ap (λ l. grown l last qs) (with-first id ps r [] true eb) ∙ grown-one whole last qs false ec
-        ∙ sym (ap (with_id id ps) (grown-one r last qs false ec) ∙ with-first id ps r (single last qs ∷ []) true eb)
-    by_test false true eb ec = ap (λ l. grown l last qs) (with-first id ps r [] false eb) ∙ ap (λ l. single id ps ∷ l) (grown-one r last qs true ec)
-        ∙ sym (ap (with_id id ps) (grown-one r last qs true ec) ∙ with-first id ps longer [] false eb)
-    by_test false false eb ec = ap (λ l. grown l last qs) (with-first id ps r [] false eb) ∙ ap (λ l. single id ps ∷ l) (grown-one r last qs false ec)
-        ∙ sym (ap (with_id id ps) (grown-one r last qs false ec) ∙ with-first id ps r (single last qs ∷ []) false eb)
+        ∙ sym (ap (with_id_span id ps) (grown-one r last qs false ec) ∙ with-first id ps r (single_span last qs ∷ []) true eb)
+    by_test false true eb ec = ap (λ l. grown l last qs) (with-first id ps r [] false eb) ∙ ap (λ l. single_span id ps ∷ l) (grown-one r last qs true ec)
+        ∙ sym (ap (with_id_span id ps) (grown-one r last qs true ec) ∙ with-first id ps longer [] false eb)
+    by_test false false eb ec = ap (λ l. grown l last qs) (with-first id ps r [] false eb) ∙ ap (λ l. single_span id ps ∷ l) (grown-one r last qs false ec)
+        ∙ sym (ap (with_id_span id ps) (grown-one r last qs false ec) ∙ with-first id ps r (single_span last qs ∷ []) false eb)
 with-grown id last ps qs (q ∷ more) r = by_test (pointwise nat_eq r.parents (id ∷ []))
   where
-    by_test : (b : Bool) → grown (if b then record { low = id; high = r.high; parents = ps } ∷ q ∷ more else single id ps ∷ r ∷ q ∷ more) last qs
-        ≡ (if b then record { low = id; high = r.high; parents = ps } ∷ grown (q ∷ more) last qs else single id ps ∷ r ∷ grown (q ∷ more) last qs)
+    by_test : (b : Bool) → grown (if b then record { low = id; high = r.high; parents = ps } ∷ q ∷ more else single_span id ps ∷ r ∷ q ∷ more) last qs
+        ≡ (if b then record { low = id; high = r.high; parents = ps } ∷ grown (q ∷ more) last qs else single_span id ps ∷ r ∷ grown (q ∷ more) last qs)
     by_test true = refl
     by_test false = refl
 
 pub flat-grown : (first last : ℕ) (ps : List (List ℕ)) (q : List ℕ) → last ≡ first + length ps → flat_segments first (ps ++ q ∷ []) ≡ grown (flat_segments first ps) last q
-flat-grown first last [] q e = ap (λ n. single n q ∷ []) (let f : first ≡ last = omega (arith, e) in f)
+flat-grown first last [] q e = ap (λ n. single_span n q ∷ []) (let f : first ≡ last = omega (arith, e) in f)
 flat-grown first last (p ∷ ps) q e =
-    ap (with_id first p) (flat-grown (first + 1) last ps q (omega (arith, e))) ∙ by_rest (flat_segments (first + 1) ps)
+    ap (with_id_span first p) (flat-grown (first + 1) last ps q (omega (arith, e))) ∙ by_rest (flat_segments (first + 1) ps)
   where
-    by_rest : (spans : List Span) → with_id first p (grown spans last q) ≡ grown (with_id first p spans) last q
+    by_rest : (spans : List Span) → with_id_span first p (grown spans last q) ≡ grown (with_id_span first p spans) last q
     by_rest [] = refl
     by_rest (r ∷ spans) = sym (with-grown first last p q spans r)
 
@@ -82,7 +82,7 @@ grown-on [] s id ps e = grown-one s id ps true e
 grown-on (r ∷ []) s id ps e = ap (λ l. r ∷ l) (grown-one s id ps true e)
 grown-on (r ∷ t ∷ done) s id ps e = ap (λ l. r ∷ l) (grown-on (t ∷ done) s id ps e)
 
-pub grown-off : (done : List Span) (s : Span) (id : ℕ) (ps : List ℕ) → pointwise nat_eq ps (s.high ∷ []) ≡ false → grown (done ++ s ∷ []) id ps ≡ (done ++ s ∷ []) ++ single id ps ∷ []
+pub grown-off : (done : List Span) (s : Span) (id : ℕ) (ps : List ℕ) → pointwise nat_eq ps (s.high ∷ []) ≡ false → grown (done ++ s ∷ []) id ps ≡ (done ++ s ∷ []) ++ single_span id ps ∷ []
 grown-off [] s id ps e = grown-one s id ps false e
 grown-off (r ∷ []) s id ps e = ap (λ l. r ∷ l) (grown-one s id ps false e)
 grown-off (r ∷ t ∷ done) s id ps e = ap (λ l. r ∷ l) (grown-off (t ∷ done) s id ps e)
@@ -93,7 +93,7 @@ grown-behind [] t [] last q = by_test (pointwise nat_eq q (t.high ∷ [])) refl
   where
     by_test : (b : Bool) → pointwise nat_eq q (t.high ∷ []) ≡ b → (u : Span) × (us : List Span) × (grown (t ∷ []) last q ≡ u ∷ us)
     by_test true e = (record { low = t.low; high = last; parents = t.parents }, [], grown-one t last q true e)
-    by_test false e = (t, single last q ∷ [], grown-one t last q false e)
+    by_test false e = (t, single_span last q ∷ [], grown-one t last q false e)
 grown-behind [] t (v ∷ tail) last q = (t, grown (v ∷ tail) last q, refl)
 grown-behind (r ∷ []) t tail last q = let g = grown-behind [] t tail last q in (g.0, g.1, ap (λ l. r ∷ l) g.2)
 grown-behind (r ∷ s ∷ done) t tail last q = let g = grown-behind (s ∷ done) t tail last q in (g.0, g.1, ap (λ l. r ∷ l) g.2)
@@ -121,10 +121,10 @@ pub run-segment : (P : Span → Type 0) (first : ℕ) (f : ℕ → List ℕ) (nu
 run-segment P first f numbers i done run lt e test all =
     let next = sym (runs-next first (first + i) f numbers i (flat_segments first (map f (take i numbers))) lt refl refl)
     ∙ ap (λ l. grown l (first + i) (f (get_or numbers i 0))) e ∙ grown-off done run (first + i) (f (get_or numbers i 0)) test in
-    let r = stays-front (map f (drop (i + 1) numbers)) first (map f (take (i + 1) numbers)) (done ++ run ∷ []) (single (first + i) (f (get_or numbers i 0))) [] next in
+    let r = stays-front (map f (drop (i + 1) numbers)) first (map f (take (i + 1) numbers)) (done ++ run ∷ []) (single_span (first + i) (f (get_or numbers i 0))) [] next in
     let whole = sym (map-append f (take (i + 1) numbers) (drop (i + 1) numbers)) ∙ ap (map f) (take-append-drop (i + 1) numbers) in
     in-front P done run (r.0 ∷ r.1) (subst (AllByRecursion P) (sym (ap (flat_segments first) whole) ∙ r.2) all)
 
-pub first-run : (first : ℕ) (f : ℕ → List ℕ) (numbers : List ℕ) → 0 < length numbers → flat_segments first (map f (take 1 numbers)) ≡ single first (f (get_or numbers 0 0)) ∷ []
+pub first-run : (first : ℕ) (f : ℕ → List ℕ) (numbers : List ℕ) → 0 < length numbers → flat_segments first (map f (take 1 numbers)) ≡ single_span first (f (get_or numbers 0 0)) ∷ []
 first-run first f [] lt = absurd (omega (arith, lt))
 first-run first f (k ∷ ks) lt = refl

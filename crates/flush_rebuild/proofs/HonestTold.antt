@@ -16,7 +16,7 @@ use Rattle.commit_graph.proofs.Places.{world-master}
 use Rattle.segment_rules.specs.Flat.{parents_listed}
 use Rattle.segment_rules.proofs.Flats.{flat-keeps}
 use Rattle.batch_codec.specs.Payload.{Payload}
-use Rattle.batch_codec.specs.Grammar.{IsFlush, IsClone, IsWhole, count_after}
+use Rattle.batch_codec.specs.Grammar.{IsFlush, IsClone, IsWholePayload, count_after}
 use Rattle.name_map.specs.Added.{Placed, payloads_of}
 use Rattle.remote_rules.specs.CloneData.{CloneData}
 use Rattle.remote_rules.specs.Known.{master_world}
@@ -31,7 +31,7 @@ use Rattle.change_rules.proofs.Agreeing.{none-unlike, none-bad}
 use Rattle.change_rules.proofs.Relation.{clones-are}
 use Rattle.payload_tables.proofs.Lists.{count-last}
 use Rattle.mirror_set.specs.Fresh.{PlainFresh}
-use Rattle.flush_rebuild.specs.Plans.{first_of}
+use Rattle.flush_rebuild.specs.Plans.{first_fault}
 use Rattle.flush_rebuild.specs.Pulling.{names_at_all, rows_with, told_names, told_rows, clone_fault, row_fault, mismatch}
 
 -- ---- names by their places
@@ -107,7 +107,7 @@ cloned-within payloads w hold = subst (λ n. cloned_count payloads ≤ n) hold.s
         let up = grown (p ∷ []) more h.1 in
         ⊎_elim
         (λ (f : IsFlush p). let e = f.cloned in omega (arith, e))
-        (⊎_elim (λ (f : IsClone p). let e = f.cloned in omega (arith, e, up)) (λ (f : IsWhole p). let le = f.cloned in omega (arith, le, up)))
+        (⊎_elim (λ (f : IsClone p). let e = f.cloned in omega (arith, e, up)) (λ (f : IsWholePayload p). let le = f.cloned in omega (arith, le, up)))
         h.0.whole.by_kind
 
 pub told-agrees : (added : List Placed) (w : World Name) (rows more : List (Row Name)) (fresh : PlainFresh) → HoldPayloads (payloads_of added) w → rows ≡ take (cloned_count (payloads_of added)) w.master ++ more
@@ -128,7 +128,7 @@ told-agrees added w rows more fresh hold are named told fetched =
     let row : first_bad_row payloads cloned fresh.cloned fresh.names ≡ None =
     ap₂ (λ (n : ℕ) (t : CloneData). first_bad_row payloads n t fresh.names) (sym long) tells ∙ ap (first_bad_row payloads (length front) (clone_data_of (master_world (front ++ more)))) names
     ∙ none-bad payloads w front rest more hold mine world in
-    ap₂ (λ (a b : Option ℕ). first_of (clone_fault a) (row_fault b)) first row
+    ap₂ (λ (a b : Option ℕ). first_fault (clone_fault a) (row_fault b)) first row
 
 -- both, of clone data by what holds of each item
 pub honest-told : (added : List Placed) (w : World Name) (rows more : List (Row Name)) (fresh : PlainFresh) → HoldPayloads (payloads_of added) w → IsNamedWorld (master_world rows)

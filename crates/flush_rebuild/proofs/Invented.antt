@@ -22,8 +22,8 @@ use Rattle.name_map.proofs.Ids.{in-upward}
 use Rattle.segment_rules.specs.Flat.{followers}
 use Rattle.segment_rules.specs.Flat.{segment_parents, parents_listed as parents_in}
 use Rattle.change_rules.specs.Tables.{newest, others_in, other_names_in, StandFor}
-use Rattle.payload_tables.specs.Pending.{IdRow, row_names}
-use Rattle.payload_tables.specs.Bases.{id_row}
+use Rattle.payload_tables.specs.Pending.{HeldRow, row_names}
+use Rattle.payload_tables.specs.Bases.{held_row}
 use Rattle.payload_tables.proofs.Lists.{all-append, parents-known, count-last}
 use Rattle.payload_tables.proofs.Joined.{get-map, seen-id}
 use Rattle.payload_tables.proofs.Standing.{lawful-follow}
@@ -162,7 +162,7 @@ listed-from Q base f k end (s ∷ more) h own =
     (subst (λ n. Follow n end more) (let z : s.high + 1 ≡ base + (k + length (segment_parents s)) = omega (arith, e, le, m) in z) h.2) own.1)
 
 -- names and parents together
-zipped : List Name → List (List ℕ) → List IdRow
+zipped : List Name → List (List ℕ) → List HeldRow
 zipped [] parents = []
 zipped (x ∷ names) [] = []
 zipped (x ∷ names) (ps ∷ parents) = record { name = x; parents = ps } ∷ zipped names parents
@@ -173,7 +173,7 @@ zipped-names [] parents e = refl
 zipped-names (x ∷ names) [] e = absurd (omega (arith, e))
 zipped-names (x ∷ names) (ps ∷ parents) e = ap (λ l. x ∷ l) (zipped-names names parents (omega (arith, e)))
 
-zipped-parents : (names : List Name) (parents : List (List ℕ)) → length names ≡ length parents → map (λ (r : IdRow). r.parents) (zipped names parents) ≡ parents
+zipped-parents : (names : List Name) (parents : List (List ℕ)) → length names ≡ length parents → map (λ (r : HeldRow). r.parents) (zipped names parents) ≡ parents
 unfolding zipped
 zipped-parents [] [] e = refl
 zipped-parents [] (ps ∷ parents) e = absurd (omega (arith, e))
@@ -230,14 +230,14 @@ others-own m (s ∷ more) h g =
     ((λ j e. let o = flat-own s h.0 in (subst (λ n. AllByRecursion (λ p. (p < m) ⊎ ((2 ^ 56 ≤ p) × (p < n))) s.parents) e g.0, o.1, o.2)), others-own m more h.1 g.1)
 
 -- rows behind so many others, whose parents lie before them
-pub record FitAmong (payloads : List Payload) (rows : List IdRow) : Type 0 where
+pub record FitAmong (payloads : List Payload) (rows : List HeldRow) : Type 0 where
   pub parents : AllRows (Behind (count_after 0 payloads)) (length (other_names_in (newest payloads))) rows
   pub distinct : AreDistinct (row_names rows)
   pub few : length rows ≤ 2 ^ 32
   pub new : (x : Name) → IsIn x (row_names rows) → IsIn x (flat_map known_names payloads) ⊎ IsIn x (other_names_in (newest payloads)) → ⊥
 
 -- the same of rows that may be pending
-pub record FitBehind (payloads : List Payload) (rows : List IdRow) : Type 0 where
+pub record FitBehind (payloads : List Payload) (rows : List HeldRow) : Type 0 where
   pub parents : AllRows (Behind (count_after 0 payloads)) (length (other_names_in (newest payloads))) rows
   pub distinct : AreDistinct (row_names rows)
   pub whole : AllByRecursion IsName (row_names rows)
@@ -245,15 +245,15 @@ pub record FitBehind (payloads : List Payload) (rows : List IdRow) : Type 0 wher
   pub new : (x : Name) → IsIn x (row_names rows) → IsIn x (flat_map known_names payloads) ⊎ IsIn x (other_names_in (newest payloads)) → ⊥
 
 -- a world for which payloads stand, and the rows of a session that sees it
-pub record Stands (payloads : List Payload) (rows : List IdRow) : Type 0 where
+pub record Stands (payloads : List Payload) (rows : List HeldRow) : Type 0 where
   pub of_world : World Name
   pub pending : List (Row Name)
   pub stand : StandFor payloads of_world
   pub named : IsNamedWorld of_world
   pub view : IsWorld (with_pending of_world pending)
-  pub rows_are : rows ≡ map (id_row (with_pending of_world pending)) pending
+  pub rows_are : rows ≡ map (held_row (with_pending of_world pending)) pending
 
-module _ (payloads : List Payload) (lawful : AreLawful [] payloads) (rows : List IdRow) (fit : FitAmong payloads rows) where
+module _ (payloads : List Payload) (lawful : AreLawful [] payloads) (rows : List HeldRow) (fit : FitAmong payloads rows) where
   turn : InTurn 0 payloads
   turn = in-turn [] payloads lawful
 
@@ -277,7 +277,7 @@ module _ (payloads : List Payload) (lawful : AreLawful [] payloads) (rows : List
       let a = length-map used family in
       let b = length-append (map (λ (k : Known). k.name) known) (others ++ row_names rows) in
       let c = length-append others (row_names rows) in
-      let d = length-map rows (λ (r : IdRow). r.name) in
+      let d = length-map rows (λ (r : HeldRow). r.name) in
       let e = length-map known (λ (k : Known). k.name) in
       let f = facts.few in let g = fit.few in let h = known-few 0 payloads turn in let i = count-small 0 payloads (let z : 0 ≤ 16777216 = lit≤ tt in z) turn in
       omega (arith, a, b, c, d, e, f, g, h, i)
@@ -324,7 +324,7 @@ module _ (payloads : List Payload) (lawful : AreLawful [] payloads) (rows : List
   names_long : length names ≡ length masters
   names_long = length-map (upward 0 (count_after 0 payloads)) name ∙ upward-long 0 (count_after 0 payloads) ∙ sym masters_long
 
-  abbrev ms : List IdRow
+  abbrev ms : List HeldRow
   ms = zipped names masters
 
   ms_names : row_names ms ≡ names
@@ -343,13 +343,13 @@ module _ (payloads : List Payload) (lawful : AreLawful [] payloads) (rows : List
   others_long : length others ≡ length other_parents
   others_long = let l = listed-long (2 ^ 56) (2 ^ 56 + length others) (others_in (newest payloads)) facts.follow in omega (arith, l)
 
-  abbrev os : List IdRow
+  abbrev os : List HeldRow
   os = zipped others other_parents
 
   os_names : row_names os ≡ others
   os_names = zipped-names others other_parents others_long
 
-  abbrev bs : List IdRow
+  abbrev bs : List HeldRow
   bs = os ++ rows
 
   bs_behind : AllRows (Behind (count_after 0 payloads)) 0 bs
@@ -363,7 +363,7 @@ module _ (payloads : List Payload) (lawful : AreLawful [] payloads) (rows : List
   small = let l = ms_long in let c = count-small 0 payloads (let z : 0 ≤ 16777216 = lit≤ tt in z) turn in omega (arith, l, c)
 
   names_are : row_names (ms ++ bs) ≡ names ++ (others ++ row_names rows)
-  names_are = map-append (λ (x : IdRow). x.name) ms bs ∙ ap₂ (λ a b. a ++ b) ms_names (map-append (λ (x : IdRow). x.name) os rows ∙ ap (λ l. l ++ row_names rows) os_names)
+  names_are = map-append (λ (x : HeldRow). x.name) ms bs ∙ ap₂ (λ a b. a ++ b) ms_names (map-append (λ (x : HeldRow). x.name) os rows ∙ ap (λ l. l ++ row_names rows) os_names)
 
   id-fits : (id : ℕ) → IsIn id (upward 0 (count_after 0 payloads)) → id < 2 ^ 64
   id-fits id i = let lt = (in-upward id 0 (count_after 0 payloads) i).1 in let c = count-small 0 payloads (let z : 0 ≤ 16777216 = lit≤ tt in z) turn in omega (arith, lt, c)
@@ -382,7 +382,7 @@ module _ (payloads : List Payload) (lawful : AreLawful [] payloads) (rows : List
   bs_stand : AllRows (Behind (length ms)) 0 bs
   bs_stand = subst (λ n. AllRows (Behind n) 0 bs) (sym ms_long) bs_behind
 
-  abbrev to_row : IdRow → Row Name
+  abbrev to_row : HeldRow → Row Name
   to_row x = row ms bs all_apart small ms_below bs_stand x
 
   abbrev of_world : World Name
@@ -397,18 +397,18 @@ module _ (payloads : List Payload) (lawful : AreLawful [] payloads) (rows : List
   view : IsWorld (with_pending of_world pending)
   view = subst IsWorld view_is (is-world ms bs all_apart small ms_below bs_stand)
 
-  again : (x : IdRow) → IsIn x (ms ++ bs) → map (id_in same_name (with_pending of_world pending)) (to_row x).parents ≡ x.parents
+  again : (x : HeldRow) → IsIn x (ms ++ bs) → map (id_in same_name (with_pending of_world pending)) (to_row x).parents ≡ x.parents
   again x i = subst (λ v. map (id_in same_name v) (to_row x).parents ≡ x.parents) view_is (row-again ms bs all_apart small ms_below bs_stand x i)
 
-  parents-again : (some : List IdRow) → ((x : IdRow) → IsIn x some → IsIn x (ms ++ bs)) → parent_ids same_name (with_pending of_world pending) (map to_row some) ≡ map (λ (x : IdRow). x.parents) some
+  parents-again : (some : List HeldRow) → ((x : HeldRow) → IsIn x some → IsIn x (ms ++ bs)) → parent_ids same_name (with_pending of_world pending) (map to_row some) ≡ map (λ (x : HeldRow). x.parents) some
   parents-again [] f = refl
   parents-again (x ∷ some) f = ap₂ (λ a b. a ∷ b) (again x (f x (inl refl))) (parents-again some (λ y i. f y (inr i)))
 
-  rows-again : (some : List IdRow) → ((x : IdRow) → IsIn x some → IsIn x (ms ++ bs)) → some ≡ map (id_row (with_pending of_world pending)) (map to_row some)
+  rows-again : (some : List HeldRow) → ((x : HeldRow) → IsIn x some → IsIn x (ms ++ bs)) → some ≡ map (held_row (with_pending of_world pending)) (map to_row some)
   rows-again [] f = refl
   rows-again (x ∷ some) f = ap₂ (λ a b. a ∷ b) (ap (λ ps. record { name = x.name; parents = ps }) (sym (again x (f x (inl refl))))) (rows-again some (λ y i. f y (inr i)))
 
-  names-again : (some : List IdRow) → names_of (map to_row some) ≡ row_names some
+  names-again : (some : List HeldRow) → names_of (map to_row some) ≡ row_names some
   names-again [] = refl
   names-again (x ∷ some) = ap (λ l. x.name ∷ l) (names-again some)
 
@@ -425,10 +425,10 @@ module _ (payloads : List Payload) (lawful : AreLawful [] payloads) (rows : List
       (sym (seen-all r.parents (λ p i. in-all p r.parents (names_of (rows_of of_world)) i (parents-known [] (rows_of of_world) old_world r (f r (inl refl))))))
       (seen-rows some (λ q i. f q (inr i)))
 
-  in-ms : (x : IdRow) → IsIn x ms → IsIn x (ms ++ bs)
+  in-ms : (x : HeldRow) → IsIn x ms → IsIn x (ms ++ bs)
   in-ms x i = in-left x ms bs i
 
-  in-bs : (x : IdRow) → IsIn x bs → IsIn x (ms ++ bs)
+  in-bs : (x : HeldRow) → IsIn x bs → IsIn x (ms ++ bs)
   in-bs x i = in-right x ms bs i
 
   master-stands : masters ≡ parent_ids same_name of_world (map to_row ms)
@@ -467,5 +467,5 @@ module _ (payloads : List Payload) (lawful : AreLawful [] payloads) (rows : List
     rows_are = rows-again rows (λ x i. in-bs x (in-right x os rows i));
   }
 
-pub some-world : (payloads : List Payload) → AreLawful [] payloads → (rows : List IdRow) → FitBehind payloads rows → Stands payloads rows
+pub some-world : (payloads : List Payload) → AreLawful [] payloads → (rows : List HeldRow) → FitBehind payloads rows → Stands payloads rows
 some-world payloads lawful rows fit = world-among payloads lawful rows (record { parents = fit.parents; distinct = fit.distinct; few = (let f = fit.few in let k : 16777216 ≤ 2 ^ 32 = lit≤ tt in omega (arith, f, k)); new = fit.new })

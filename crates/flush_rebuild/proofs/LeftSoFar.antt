@@ -9,11 +9,11 @@ use Rattle.commit_graph.proofs.Histories.{in-append}
 use Rattle.commit_graph.proofs.Down.{in-left, in-right}
 use Rattle.batch_codec.specs.Grammar.{count_after}
 use Rattle.segment_codec.specs.Flat.{IsFlat}
-use Rattle.flat_segments.specs.Placed.{Placed as PlacedSegment, placed}
+use Rattle.flat_segments.specs.Placed.{PlacedSegment, placed_segments}
 use Rattle.name_map.specs.Added.{Placed, payloads_of}
 use Rattle.change_rules.specs.Tables.{newest, other_names_in}
 use Rattle.payload_tables.specs.declared.base.BaseRef.{BaseRef}
-use Rattle.payload_tables.specs.Pending.{IdRow, PlainPending, row_names, segments_from}
+use Rattle.payload_tables.specs.Pending.{HeldRow, PlainPending, row_names, segments_from}
 use Rattle.payload_tables.specs.Bases.{IsBaseOf}
 use Rattle.payload_tables.proofs.Lists.{all-append, distinct-join}
 use Rattle.payload_tables.proofs.Rows.{get-below, count-rows}
@@ -31,25 +31,25 @@ all-weaker P Q f [] h = tt
 all-weaker P Q f (x ∷ xs) h = (f x h.0, all-weaker P Q f xs h.1)
 
 -- the parents of the row with this number are few and lie below it
-pub row-parents-below : (id at : ℕ) (rows : List IdRow) → AllByRecursion (λ (r : PlacedSegment). IsFlat r.segment) (placed at (segments_from id rows)) → (k : ℕ) (row : IdRow) → slice_get rows k ≡ Some row
+pub row-parents-below : (id at : ℕ) (rows : List HeldRow) → AllByRecursion (λ (r : PlacedSegment). IsFlat r.segment) (placed_segments at (segments_from id rows)) → (k : ℕ) (row : HeldRow) → slice_get rows k ≡ Some row
     → AllByRecursion (λ p. p < id + k) row.parents × (length row.parents ≤ 8)
 row-parents-below id at [] h k row e = absurd (true≢false (sym (ap is_some e)))
 row-parents-below id at (r ∷ rows) h zero row e =
     let same : r ≡ row = ap some_or e in
-    (subst (λ (q : IdRow). AllByRecursion (λ p. p < id + 0) q.parents) same (all-weaker (λ p. p < id) (λ p. p < id + 0) (λ x l. omega (arith, l)) r.parents h.0.segment.below), subst (λ (q : IdRow). length q.parents ≤ 8) same h.0.segment.level_parents)
+    (subst (λ (q : HeldRow). AllByRecursion (λ p. p < id + 0) q.parents) same (all-weaker (λ p. p < id) (λ p. p < id + 0) (λ x l. omega (arith, l)) r.parents h.0.segment.below), subst (λ (q : HeldRow). length q.parents ≤ 8) same h.0.segment.level_parents)
   where
-    some_or : Option IdRow → IdRow
+    some_or : Option HeldRow → HeldRow
     some_or None = r
     some_or (Some a) = a
 row-parents-below id at (r ∷ rows) h (suc k) row e =
     let t = row-parents-below (id + 1) _ rows h.1 k row e in
     (all-weaker (λ p. p < id + 1 + k) (λ p. p < id + suc k) (λ x l. omega (arith, l)) row.parents t.0, t.1)
 
-pub parents-at : (P : IdRow → Type 0) (rows : List IdRow) (k : ℕ) (row : IdRow) → AllByRecursion P rows → slice_get rows k ≡ Some row → P row
+pub parents-at : (P : HeldRow → Type 0) (rows : List HeldRow) (k : ℕ) (row : HeldRow) → AllByRecursion P rows → slice_get rows k ≡ Some row → P row
 parents-at P [] k row h e = absurd (true≢false (sym (ap is_some e)))
 parents-at P (r ∷ rows) zero row h e = subst P (ap some_or e) h.0
   where
-    some_or : Option IdRow → IdRow
+    some_or : Option HeldRow → HeldRow
     some_or None = r
     some_or (Some a) = a
 parents-at P (r ∷ rows) (suc k) row h e = parents-at P rows k row h.1 e
@@ -92,13 +92,13 @@ new-parents : (m o : ℕ) (ps : List ℕ) → AllByRecursion (IsNewId m o) ps �
 new-parents m o [] h = tt
 new-parents m o (p ∷ ps) h = (⊎_elim (λ a. inl a) (λ b. inr b.0) h.0, new-parents m o ps h.1)
 
-not-front : (front rest : List IdRow) (row : IdRow) → AreDistinct (row_names (front ++ row ∷ rest)) → IsIn row.name (row_names front) → ⊥
+not-front : (front rest : List HeldRow) (row : HeldRow) → AreDistinct (row_names (front ++ row ∷ rest)) → IsIn row.name (row_names front) → ⊥
 not-front [] rest row d i = i
-not-front (r ∷ front) rest row d (inl e) = d.0 (subst (IsIn r.name) (sym (map-append (λ (q : IdRow). q.name) front (row ∷ rest))) (in-right r.name (row_names front) (row_names (row ∷ rest)) (inl (sym e))))
+not-front (r ∷ front) rest row d (inl e) = d.0 (subst (IsIn r.name) (sym (map-append (λ (q : HeldRow). q.name) front (row ∷ rest))) (in-right r.name (row_names front) (row_names (row ∷ rest)) (inl (sym e))))
 not-front (r ∷ front) rest row d (inr i) = not-front front rest row d.1 i
 
 -- one more row, which was found
-pub found-so-far : (added : List Placed) (front : List IdRow) (row : IdRow) (ids : List ℕ) (kept : PlainPending) → LeftSoFar added front ids kept
+pub found-so-far : (added : List Placed) (front : List HeldRow) (row : HeldRow) (ids : List ℕ) (kept : PlainPending) → LeftSoFar added front ids kept
     → (id : ℕ) → IsFoundIn added row.name (Some id) → LeftSoFar added (front ++ row ∷ []) (ids ++ id ∷ []) kept
 found-so-far added front row ids kept l id f =
     let len = length-append front (row ∷ []) in let leni = length-append ids (id ∷ []) in let few = l.few in let il = l.ids_long in
@@ -108,7 +108,7 @@ found-so-far added front row ids kept l id f =
       first = l.first;
       parents = l.parents;
       distinct = l.distinct;
-      within = λ x i. subst (IsIn x) (sym (map-append (λ (q : IdRow). q.name) front (row ∷ []))) (in-left x (row_names front) (row.name ∷ []) (l.within x i));
+      within = λ x i. subst (IsIn x) (sym (map-append (λ (q : HeldRow). q.name) front (row ∷ []))) (in-left x (row_names front) (row.name ∷ []) (l.within x i));
       fresh = l.fresh;
       few = omega (arith, len, few);
       ids_long = omega (arith, len, leni, il);
@@ -117,13 +117,13 @@ found-so-far added front row ids kept l id f =
     }
 
 -- one more row, which is left
-pub kept-so-far : (added : List Placed) (front rest : List IdRow) (row : IdRow) (ids : List ℕ) (kept next : PlainPending) → AreDistinct (row_names (front ++ row ∷ rest)) → LeftSoFar added front ids kept
+pub kept-so-far : (added : List Placed) (front rest : List HeldRow) (row : HeldRow) (ids : List ℕ) (kept next : PlainPending) → AreDistinct (row_names (front ++ row ∷ rest)) → LeftSoFar added front ids kept
     → (id : ℕ) (moved : List ℕ) → IsFoundIn added row.name None → IsKept kept next row.name moved id
     → ((others : ℕ) → AllByRecursion (IsNewId (count_after 0 (payloads_of added)) (others_count added + others)) ids → AllByRecursion (IsNewId (count_after 0 (payloads_of added)) (others_count added + others)) moved)
     → LeftSoFar added (front ++ row ∷ []) (ids ++ id ∷ []) next
 kept-so-far added front rest row ids kept next d l id moved f h new =
     let len = length-append front (row ∷ []) in let leni = length-append ids (id ∷ []) in let few = l.few in let il = l.ids_long in
-    let r : IdRow = record { name = row.name; parents = moved } in
+    let r : HeldRow = record { name = row.name; parents = moved } in
     let more = length-append l.some (r ∷ []) in
     let many = count-rows kept l.some l.held in
     let a = h.id_is in let fst = l.first in
@@ -133,15 +133,15 @@ kept-so-far added front rest row ids kept next d l id moved f h new =
       some = l.some ++ r ∷ [];
       held = h.rows l.some l.held;
       first = h.first ∙ l.first;
-      parents = all-append (λ (q : IdRow). AllByRecursion (λ p. (p < count_after 0 (payloads_of added)) ⊎ (2 ^ 56 ≤ p)) q.parents) l.some (r ∷ []) l.parents
+      parents = all-append (λ (q : HeldRow). AllByRecursion (λ p. (p < count_after 0 (payloads_of added)) ⊎ (2 ^ 56 ≤ p)) q.parents) l.some (r ∷ []) l.parents
           (new-parents (count_after 0 (payloads_of added)) (others_count added + length l.some) moved (new (length l.some) l.ids_new), tt);
-      distinct = subst AreDistinct (sym (map-append (λ (q : IdRow). q.name) l.some (r ∷ [])))
+      distinct = subst AreDistinct (sym (map-append (λ (q : HeldRow). q.name) l.some (r ∷ [])))
           (distinct-join (row_names l.some) (row.name ∷ []) l.distinct ((λ i. i), tt) (λ x i j. ⊎_elim (λ e. not-front front rest row d (subst (λ z. IsIn z (row_names front)) e (l.within x i))) (λ e. e) j));
-      within = λ x i. subst (IsIn x) (sym (map-append (λ (q : IdRow). q.name) front (row ∷ [])))
+      within = λ x i. subst (IsIn x) (sym (map-append (λ (q : HeldRow). q.name) front (row ∷ [])))
           (⊎_elim (λ j. in-left x (row_names front) (row.name ∷ []) (l.within x j)) (λ j. in-right x (row_names front) (row.name ∷ []) j)
-          (in-append x (row_names l.some) (row.name ∷ []) (subst (IsIn x) (map-append (λ (q : IdRow). q.name) l.some (r ∷ [])) i)));
+          (in-append x (row_names l.some) (row.name ∷ []) (subst (IsIn x) (map-append (λ (q : HeldRow). q.name) l.some (r ∷ [])) i)));
       fresh = λ x i s. ⊎_elim (λ j. l.fresh x j s) (λ j. ⊎_elim (λ e. f (subst (IsStored added) e s)) (λ e. e) j)
-          (in-append x (row_names l.some) (row.name ∷ []) (subst (IsIn x) (map-append (λ (q : IdRow). q.name) l.some (r ∷ [])) i));
+          (in-append x (row_names l.some) (row.name ∷ []) (subst (IsIn x) (map-append (λ (q : HeldRow). q.name) l.some (r ∷ [])) i));
       few = omega (arith, len, few, more);
       ids_long = omega (arith, len, leni, il);
       ids_new = all-append (IsNewId (count_after 0 (payloads_of added)) (others_count added + length (l.some ++ r ∷ []))) ids (id ∷ []) (wider ids l.ids_new)

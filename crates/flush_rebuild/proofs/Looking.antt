@@ -15,7 +15,7 @@ use Rattle.assign_ids.specs.Numbers.{AreBelow, others_of}
 use Rattle.assign_ids.specs.declared.graph.Node.{Node}
 use Rattle.assign_ids.specs.declared.graph.Node.TheVariants.{Placed, Other}
 use Rattle.flush_rebuild.specs.Moves.{node_of}
-use Rattle.payload_tables.specs.Pending.{IdRow, PlainPending, HoldsRows}
+use Rattle.payload_tables.specs.Pending.{HeldRow, PlainPending, HoldsRows}
 use Rattle.flush_rebuild.specs.Plans.{MayLook}
 use Rattle.flush_rebuild.proofs.Renumber.{below-append}
 use Rattle.payload_tables.proofs.Rows.{get-below}
@@ -39,7 +39,7 @@ if-some o id P h e = subst (λ z. IfSome z P) e h
 abbrev pub IsBelow : ℕ → ℕ → Type 0
 IsBelow n id = (id < 2 ^ 56) ⊎ ((2 ^ 56 ≤ id) × (id < other_id n))
 
-pub look-below : (p : PlainPending) (heads : List Name) (found : List (Option ℕ)) (rows : List IdRow) → MayLook p heads found → (i : ℕ) (h : Name) (o : Option ℕ) (id : ℕ)
+pub look-below : (p : PlainPending) (heads : List Name) (found : List (Option ℕ)) (rows : List HeldRow) → MayLook p heads found → (i : ℕ) (h : Name) (o : Option ℕ) (id : ℕ)
     → i < length heads → h ≡ get_or heads i h → o ≡ get_or found i o → (o ≡ Some id) ⊎ ((2 ^ 56 ≤ id) × (id < other_id (p.first + length rows))) → IsBelow (p.first + length rows) id
 look-below p heads found rows m i h o id lt eh eo (inl e) =
     ⊎_elim (λ a. inl a) (λ b. inr (b.0, (let hi = b.1 in omega (arith, hi))))
@@ -63,7 +63,7 @@ node-below n id (inr b) =
 pub more-below : (n id : ℕ) (numbers new : List ℕ) → IsBelow n id → AreBelow n numbers → new ≡ numbers ++ others_of (node_of id ∷ []) → AreBelow n new
 more-below n id numbers new b h e = subst (AreBelow n) (sym e) (below-append n numbers (others_of (node_of id ∷ [])) h (node-below n id b))
 
-pub id-fits : (p : PlainPending) (rows : List IdRow) (id : ℕ) → HoldsRows p rows → IsBelow (p.first + length rows) id → id < 2 ^ 56 + 2 ^ 32
+pub id-fits : (p : PlainPending) (rows : List HeldRow) (id : ℕ) → HoldsRows p rows → IsBelow (p.first + length rows) id → id < 2 ^ 56 + 2 ^ 32
 id-fits p rows id h (inl lt) = omega (arith, lt)
 id-fits p rows id h (inr b) = let a = h.room in let c = h.few in let hi = b.1 in omega (arith, a, c, hi)
 

@@ -12,7 +12,7 @@ use Rattle.commit_graph.proofs.Down.{in-right}
 use Rattle.commit_graph.proofs.Places.{left-out, over-master}
 use Rattle.batch_codec.specs.Payload.{Known}
 use Rattle.batch_codec.specs.Grammar.{count_after}
-use Rattle.name_map.specs.Added.{Placed, payloads_of, known_of, Follow}
+use Rattle.name_map.specs.Added.{Placed, payloads_of, known_of, FollowInLog}
 use Rattle.name_map.specs.Map.{NamesAs, IsIdOf}
 use Rattle.name_map.proofs.Orders.{known-small, known-within}
 use Rattle.change_rules.specs.Change.{known_from}
@@ -57,14 +57,14 @@ under (y ∷ xs) zero x e = omega arith
 under (y ∷ xs) (suc i) x e = let r = under xs i x e in omega (arith, r)
 
 -- known ids of the first payloads lie below their count
-known-below : (front behind : List Placed) (n : ℕ) → Follow n (front ++ behind) → (k : Known) → IsIn k (known_of front) → k.id < count_after n (payloads_of front)
+known-below : (front behind : List Placed) (n : ℕ) → FollowInLog n (front ++ behind) → (k : Known) → IsIn k (known_of front) → k.id < count_after n (payloads_of front)
 known-below [] behind n h k i = absurd i
 known-below (a ∷ front) behind n h k i = ⊎_elim
     (λ j. let w = (known-within a.payload h.0 k j).1 in let g = after-grows front behind a.payload.after h.2 in omega (arith, w, g))
     (λ j. known-below front behind a.payload.after h.2 k j)
     (in-append k a.payload.known (known_of front) i)
   where
-    after-grows : (front behind : List Placed) (n : ℕ) → Follow n (front ++ behind) → n ≤ count_after n (payloads_of front)
+    after-grows : (front behind : List Placed) (n : ℕ) → FollowInLog n (front ++ behind) → n ≤ count_after n (payloads_of front)
     after-grows [] behind n h = omega arith
     after-grows (b ∷ front) behind n h = let r = after-grows front behind b.payload.after h.2 in let g = h.0.counts.grows in let e = h.1 in omega (arith, r, g, e)
 

@@ -10,26 +10,26 @@ use Rattle.commit_graph.specs.World.{Row, World, IsWorld, IsHistory}
 use Rattle.commit_graph.specs.Ids.{id_in}
 use Rattle.commit_graph.proofs.Naming.{each}
 use Rattle.commit_graph.proofs.Places.{chosen, left-out, below-master, over-master, id-in-master, id-in-others}
-use Rattle.payload_tables.specs.Pending.{IdRow, row_names}
+use Rattle.payload_tables.specs.Pending.{HeldRow, row_names}
 use Rattle.payload_tables.proofs.Lists.{distinct-parts}
 use Rattle.flush_rebuild.proofs.Renumber.{map-in-back}
 use Rattle.payload_tables.proofs.Rows.{get-below}
 use Rattle.payload_tables.proofs.Joined.{get-map}
 
 -- what holds of each row's parents, and of the number of the row
-abbrev pub AllRows : (ℕ → List ℕ → Type 0) → ℕ → List IdRow → Type 0
+abbrev pub AllRows : (ℕ → List ℕ → Type 0) → ℕ → List HeldRow → Type 0
 AllRows Q k [] = Unit {0}
 AllRows Q k (row ∷ rows) = Q k row.parents × AllRows Q (k + 1) rows
 
-pub rows-join : (Q : ℕ → List ℕ → Type 0) (k : ℕ) (xs ys : List IdRow) → AllRows Q k xs → AllRows Q (k + length xs) ys → AllRows Q k (xs ++ ys)
+pub rows-join : (Q : ℕ → List ℕ → Type 0) (k : ℕ) (xs ys : List HeldRow) → AllRows Q k xs → AllRows Q (k + length xs) ys → AllRows Q k (xs ++ ys)
 rows-join Q k [] ys h g = subst (λ n. AllRows Q n ys) (let z : k + 0 ≡ k = omega arith in z) g
 rows-join Q k (x ∷ xs) ys h g = (h.0, rows-join Q (k + 1) xs ys h.1 (subst (λ n. AllRows Q n ys) (let z : k + suc (length xs) ≡ k + 1 + length xs = omega arith in z) g))
 
-pub rows-weaker : (P Q : ℕ → List ℕ → Type 0) (end : ℕ) → ((k : ℕ) (ps : List ℕ) → k < end → P k ps → Q k ps) → (k : ℕ) (rows : List IdRow) → k + length rows ≤ end → AllRows P k rows → AllRows Q k rows
+pub rows-weaker : (P Q : ℕ → List ℕ → Type 0) (end : ℕ) → ((k : ℕ) (ps : List ℕ) → k < end → P k ps → Q k ps) → (k : ℕ) (rows : List HeldRow) → k + length rows ≤ end → AllRows P k rows → AllRows Q k rows
 rows-weaker P Q end f k [] le h = tt
 rows-weaker P Q end f k (r ∷ rows) le h = (f k r.parents (omega (arith, le)) h.0, rows-weaker P Q end f (k + 1) rows (omega (arith, le)) h.1)
 
-pub rows-moved : (P Q : ℕ → List ℕ → Type 0) (by : ℕ) → ((k : ℕ) (ps : List ℕ) → P k ps → Q (by + k) ps) → (k : ℕ) (rows : List IdRow) → AllRows P k rows → AllRows Q (by + k) rows
+pub rows-moved : (P Q : ℕ → List ℕ → Type 0) (by : ℕ) → ((k : ℕ) (ps : List ℕ) → P k ps → Q (by + k) ps) → (k : ℕ) (rows : List HeldRow) → AllRows P k rows → AllRows Q (by + k) rows
 rows-moved P Q by f k [] h = tt
 rows-moved P Q by f k (r ∷ rows) h = (f k r.parents h.0, subst (λ n. AllRows Q n rows) (let z : by + (k + 1) ≡ by + k + 1 = omega arith in z) (rows-moved P Q by f (k + 1) rows h.1))
 
@@ -87,11 +87,11 @@ map-twice : (f : ℕ → Name) (g : Name → ℕ) (xs : List ℕ) → map g (map
 map-twice f g [] = refl
 map-twice f g (x ∷ xs) = ap (λ l. g (f x) ∷ l) (map-twice f g xs)
 
-names-long : (rows : List IdRow) → length (row_names rows) ≡ length rows
-names-long rows = length-map rows (λ (r : IdRow). r.name)
+names-long : (rows : List HeldRow) → length (row_names rows) ≡ length rows
+names-long rows = length-map rows (λ (r : HeldRow). r.name)
 
-get-name : (rows : List IdRow) (k : ℕ) (x : IdRow) → slice_get rows k ≡ Some x → get_or (row_names rows) k [] ≡ x.name
-get-name rows k x e = get-some (row_names rows) k x.name (get-map (λ (r : IdRow). r.name) rows k x e)
+get-name : (rows : List HeldRow) (k : ℕ) (x : HeldRow) → slice_get rows k ≡ Some x → get_or (row_names rows) k [] ≡ x.name
+get-name rows k x e = get-some (row_names rows) k x.name (get-map (λ (r : HeldRow). r.name) rows k x e)
 
 get-back : (xs ys : List Name) (k : ℕ) → get_or (xs ++ ys) (length xs + k) [] ≡ get_or ys k []
 get-back [] ys k = ap (λ n. get_or ys n []) (let z : 0 + k ≡ k = omega arith in z)
@@ -99,7 +99,7 @@ get-back (x ∷ xs) ys k = ap (λ n. get_or (x ∷ (xs ++ ys)) n []) (let z : le
 
 -- ---- the world
 
-module _ (ms bs : List IdRow) (apart : AreDistinct (row_names (ms ++ bs))) (small : length ms ≤ 2 ^ 56) (of_ms : AllRows Below 0 ms) (of_bs : AllRows (Behind (length ms)) 0 bs) where
+module _ (ms bs : List HeldRow) (apart : AreDistinct (row_names (ms ++ bs))) (small : length ms ≤ 2 ^ 56) (of_ms : AllRows Below 0 ms) (of_bs : AllRows (Behind (length ms)) 0 bs) where
   -- the place of an id among all rows
   abbrev pub place : ℕ → ℕ
   place p = if is_master_id p then p else length ms + (p - 2 ^ 56)
@@ -108,7 +108,7 @@ module _ (ms bs : List IdRow) (apart : AreDistinct (row_names (ms ++ bs))) (smal
   abbrev pub naming : ℕ → Name
   naming p = get_or (row_names (ms ++ bs)) (place p) []
 
-  abbrev pub row : IdRow → Row Name
+  abbrev pub row : HeldRow → Row Name
   row x = record { name = x.name; parents = map naming x.parents }
 
   abbrev pub world : World Name
@@ -164,10 +164,10 @@ module _ (ms bs : List IdRow) (apart : AreDistinct (row_names (ms ++ bs))) (smal
       (rows-moved (λ k ps. Stands (length ms + k) ps) Stands (length ms) (λ k ps h. h) 0 bs
       (rows-weaker (Behind (length ms)) (λ k ps. Stands (length ms + k) ps) (length bs) (λ k ps lt h. (behind-stand k lt ps h.0, h.1, h.2)) 0 bs (omega arith) of_bs)))
 
-  history : (front rest : List IdRow) → ms ++ bs ≡ front ++ rest → AllRows Stands (length front) rest → IsHistory (row_names front) (map row rest)
+  history : (front rest : List HeldRow) → ms ++ bs ≡ front ++ rest → AllRows Stands (length front) rest → IsHistory (row_names front) (map row rest)
   history front [] e h = tt
   history front (r ∷ rest) e h =
-      let names : row_names (ms ++ bs) ≡ row_names front ++ row_names (r ∷ rest) = ap row_names e ∙ map-append (λ (x : IdRow). x.name) front (r ∷ rest) in
+      let names : row_names (ms ++ bs) ≡ row_names front ++ row_names (r ∷ rest) = ap row_names e ∙ map-append (λ (x : HeldRow). x.name) front (r ∷ rest) in
       let parts = distinct-parts (row_names front) (row_names (r ∷ rest)) (subst AreDistinct names apart) in (
         record {
           fresh = λ i. parts.2 r.name i (inl refl);
@@ -180,7 +180,7 @@ module _ (ms bs : List IdRow) (apart : AreDistinct (row_names (ms ++ bs))) (smal
               (λ p q i j f. naming-one p q (each (λ p. IsHere p × (place p < length front)) r.parents h.0.0 p i).0 (each (λ p. IsHere p × (place p < length front)) r.parents h.0.0 q j).0 f) h.0.1;
           few = (let l = length-map r.parents naming in let f = h.0.2 in omega (arith, l, f));
         },
-        subst (λ b. IsHistory b (map row rest)) (map-append (λ (x : IdRow). x.name) front (r ∷ []))
+        subst (λ b. IsHistory b (map row rest)) (map-append (λ (x : HeldRow). x.name) front (r ∷ []))
             (history (front ++ r ∷ []) rest (e ∙ sym (append_assoc front (r ∷ []) rest)) (subst (λ n. AllRows Stands n rest) (let l = length-append front (r ∷ []) in let z : length front + 1 ≡ length (front ++ r ∷ []) = omega (arith, l) in z) h.1)),
       )
 
@@ -192,7 +192,7 @@ module _ (ms bs : List IdRow) (apart : AreDistinct (row_names (ms ++ bs))) (smal
   id-of-name p (inl lt) =
       let x = get-below ms p lt in
       let name : naming p ≡ x.0.name =
-      ap (λ k. get_or (row_names (ms ++ bs)) k []) (place-master p lt) ∙ ap (λ l. get_or l p []) (map-append (λ (r : IdRow). r.name) ms bs)
+      ap (λ k. get_or (row_names (ms ++ bs)) k []) (place-master p lt) ∙ ap (λ l. get_or l p []) (map-append (λ (r : HeldRow). r.name) ms bs)
       ∙ get-or-front (row_names ms) (row_names bs) p (let n = names-long ms in omega (arith, n, lt)) ∙ get-name ms p x.0 x.1 in
       ap (id_in same_name world) name ∙ id-in-master same_name same_name-exact same_name-self world is-world p (row x.0) (get-map row ms p x.0 x.1)
   id-of-name p (inr b) =
@@ -200,18 +200,18 @@ module _ (ms bs : List IdRow) (apart : AreDistinct (row_names (ms ++ bs))) (smal
       let x = get-below bs (p - 2 ^ 56) (omega (arith, lo, hi)) in
       let name : naming p ≡ x.0.name =
       ap (λ k. get_or (row_names (ms ++ bs)) k []) (place-other p lo ∙ (let n = names-long ms in let z : length ms + (p - 2 ^ 56) ≡ length (row_names ms) + (p - 2 ^ 56) = omega (arith, n) in z))
-      ∙ ap (λ l. get_or l (length (row_names ms) + (p - 2 ^ 56)) []) (map-append (λ (r : IdRow). r.name) ms bs)
+      ∙ ap (λ l. get_or l (length (row_names ms) + (p - 2 ^ 56)) []) (map-append (λ (r : HeldRow). r.name) ms bs)
       ∙ get-back (row_names ms) (row_names bs) (p - 2 ^ 56) ∙ get-name bs (p - 2 ^ 56) x.0 x.1 in
       ap (id_in same_name world) name ∙ id-in-others same_name same_name-exact same_name-self world is-world (p - 2 ^ 56) (row x.0) (get-map row bs (p - 2 ^ 56) x.0 x.1)
       ∙ (let z : other_id (p - 2 ^ 56) ≡ p = omega (arith, lo) in z)
 
-  one-of : (k : ℕ) (rows : List IdRow) → AllRows Stands k rows → (x : IdRow) → IsIn x rows → (j : ℕ) × Stands j x.parents
+  one-of : (k : ℕ) (rows : List HeldRow) → AllRows Stands k rows → (x : HeldRow) → IsIn x rows → (j : ℕ) × Stands j x.parents
   one-of k [] h x i = absurd i
-  one-of k (r ∷ rows) h x (inl e) = (k, subst (λ (z : IdRow). Stands k z.parents) (sym e) h.0)
+  one-of k (r ∷ rows) h x (inl e) = (k, subst (λ (z : HeldRow). Stands k z.parents) (sym e) h.0)
   one-of k (r ∷ rows) h x (inr i) = one-of (k + 1) rows h.1 x i
 
   -- each row by its parents' ids again
-  pub row-again : (x : IdRow) → IsIn x (ms ++ bs) → map (id_in same_name world) (row x).parents ≡ x.parents
+  pub row-again : (x : HeldRow) → IsIn x (ms ++ bs) → map (id_in same_name world) (row x).parents ≡ x.parents
   row-again x i =
       let s = one-of 0 (ms ++ bs) all-stand x i in
       map-twice naming (id_in same_name world) x.parents ∙ same-each (λ p. id_in same_name world (naming p)) x.parents (λ p j. id-of-name p (each (λ p. IsHere p × (place p < s.0)) x.parents s.1.0 p j).0)

@@ -12,7 +12,7 @@ use Rattle.change_rules.specs.Rebase.{left_of, has_parents, conflicts, first_con
 use Rattle.payload_tables.specs.declared.base.BaseRef.{BaseRef}
 use Rattle.payload_tables.specs.Kept.{PlainTables}
 use Rattle.payload_tables.specs.Pending.{PlainPending, HoldsRows}
-use Rattle.payload_tables.specs.Bases.{ArePending, AreSegmentsOf, id_row}
+use Rattle.payload_tables.specs.Bases.{ArePending, AreSegmentsOf, held_row}
 use Rattle.payload_tables.proofs.Lists.{names-length}
 use Rattle.payload_tables.proofs.Joined.{get-map}
 use Rattle.payload_tables.proofs.Rows.{get-below}
@@ -56,13 +56,13 @@ module _ (tables : PlainTables) (bytes : List ℕ) (base : BaseRef) (pending : P
   pub check-end : (i : ℕ) → length rows ≤ i → first_conflict same_name w (take i rows) ≡ None → first_conflict same_name w rows ≡ None
   check-end i le h = subst (λ q. first_conflict same_name w q ≡ None) (all-taken rows i le) h
 
-  pub rows-long : length (map (id_row (with_pending old rows)) rows) ≡ length rows
-  rows-long = length-map rows (id_row (with_pending old rows))
+  pub rows-long : length (map (held_row (with_pending old rows)) rows) ≡ length rows
+  rows-long = length-map rows (held_row (with_pending old rows))
 
-  pub row-of : (i : ℕ) → i < length (map (id_row (with_pending old rows)) rows) → (r : Row Name) × (slice_get rows i ≡ Some r) × (slice_get (map (id_row (with_pending old rows)) rows) i ≡ Some (id_row (with_pending old rows) r))
-  row-of i lt = let e = rows-long in let r = get-below rows i (omega (arith, lt, e)) in (r.0, r.1, get-map (id_row (with_pending old rows)) rows i r.0 r.1)
+  pub row-of : (i : ℕ) → i < length (map (held_row (with_pending old rows)) rows) → (r : Row Name) × (slice_get rows i ≡ Some r) × (slice_get (map (held_row (with_pending old rows)) rows) i ≡ Some (held_row (with_pending old rows) r))
+  row-of i lt = let e = rows-long in let r = get-below rows i (omega (arith, lt, e)) in (r.0, r.1, get-map (held_row (with_pending old rows)) rows i r.0 r.1)
 
-  pub found-in : (i : ℕ) → i < length (map (id_row (with_pending old rows)) rows) → i < length found
+  pub found-in : (i : ℕ) → i < length (map (held_row (with_pending old rows)) rows) → i < length found
   found-in i lt = let e = rows-long in let a = ap (length {A = Option ℕ}) f.found_are in let b = length-map (names_of rows) (stored_id w) in let c = length-map rows (λ (q : Row Name). q.name) in omega (arith, lt, e, a, b, c)
 
   found-row : (i : ℕ) (r : Row Name) (o : Option ℕ) → slice_get rows i ≡ Some r → slice_get found i ≡ Some o → o ≡ stored_id w r.name
@@ -77,17 +77,17 @@ module _ (tables : PlainTables) (bytes : List ℕ) (base : BaseRef) (pending : P
     parts = split-at rows i r at
 
     -- whether a row that was found is stored with its parents
-    conflict-is : (id : ℕ) → o ≡ Some id → (flats : List Segment) → AreSegmentsOf w flats → (same : Bool) → AreStoredAs f.before f.added pending.first found (parents_at flats id) (id_row (with_pending old rows) r).parents same → conflicts same_name w r ≡ not same
+    conflict-is : (id : ℕ) → o ≡ Some id → (flats : List Segment) → AreSegmentsOf w flats → (same : Bool) → AreStoredAs f.before f.added pending.first found (parents_at flats id) (held_row (with_pending old rows) r).parents same → conflicts same_name w r ≡ not same
     conflict-is id e flats segs same h =
         let t = found-there f.added f.before w old rows f.stand_for f.world small f.base_stands f.pending_rows.view f.grows f.missing r.name o id (found-row i r o at g) e in
         row-agrees f.added f.before w old rows f.stand_for f.world small f.base_stands f.pending_rows.view f.grows f.missing pending.first f.pending_rows.first flats segs (take i rows) (drop (suc i) rows) r parts id t.0 t.1 same
-        (subst (λ l. AreStoredAs f.before f.added pending.first l (parents_at flats id) (id_row (with_pending old rows) r).parents same) f.found_are h)
+        (subst (λ l. AreStoredAs f.before f.added pending.first l (parents_at flats id) (held_row (with_pending old rows) r).parents same) f.found_are h)
 
-    pub check-more : (id : ℕ) → o ≡ Some id → (flats : List Segment) → AreSegmentsOf w flats → AreStoredAs f.before f.added pending.first found (parents_at flats id) (id_row (with_pending old rows) r).parents true
+    pub check-more : (id : ℕ) → o ≡ Some id → (flats : List Segment) → AreSegmentsOf w flats → AreStoredAs f.before f.added pending.first found (parents_at flats id) (held_row (with_pending old rows) r).parents true
         → first_conflict same_name w (take i rows) ≡ None → first_conflict same_name w (take (i + 1) rows) ≡ None
     check-more id e flats segs h none = subst (λ q. first_conflict same_name w q ≡ None) (sym (take-next rows i r at)) (none-at w (take i rows) r none (conflict-is id e flats segs true h))
 
-    pub check-fault : (id : ℕ) → o ≡ Some id → (flats : List Segment) → AreSegmentsOf w flats → AreStoredAs f.before f.added pending.first found (parents_at flats id) (id_row (with_pending old rows) r).parents false
+    pub check-fault : (id : ℕ) → o ≡ Some id → (flats : List Segment) → AreSegmentsOf w flats → AreStoredAs f.before f.added pending.first found (parents_at flats id) (held_row (with_pending old rows) r).parents false
         → first_conflict same_name w (take i rows) ≡ None → conflict_fault (first_conflict same_name w rows) ≡ Some (Conflict r.name)
     check-fault id e flats segs h none = ap conflict_fault (ap (first_conflict same_name w) parts ∙ conflict-at w (take i rows) (drop (suc i) rows) r none (conflict-is id e flats segs false h))
 
@@ -98,32 +98,32 @@ module _ (tables : PlainTables) (bytes : List ℕ) (base : BaseRef) (pending : P
         subst (λ q. first_conflict same_name w q ≡ None) (sym (take-next rows i r at))
         (none-at w (take i rows) r none (ap (λ b. b && not (has_parents same_name (row_named same_name (rows_of w) r.name) r.parents)) out))
 
-    step : (p : Option ℕ) → o ≡ p → (flats : List Segment) → AreSegmentsOf w flats → AreStoredWhere f.before f.added pending.first found flats p (id_row (with_pending old rows) r).parents true
+    step : (p : Option ℕ) → o ≡ p → (flats : List Segment) → AreSegmentsOf w flats → AreStoredWhere f.before f.added pending.first found flats p (held_row (with_pending old rows) r).parents true
         → first_conflict same_name w (take i rows) ≡ None → first_conflict same_name w (take (i + 1) rows) ≡ None
     step None e flats segs h none = check-skip e none
     step (Some id) e flats segs h none = check-more id e flats segs h none
 
     -- one more row is checked
-    pub check-step : (flats : List Segment) → AreSegmentsOf w flats → AreStoredWhere f.before f.added pending.first found flats o (id_row (with_pending old rows) r).parents true
+    pub check-step : (flats : List Segment) → AreSegmentsOf w flats → AreStoredWhere f.before f.added pending.first found flats o (held_row (with_pending old rows) r).parents true
         → first_conflict same_name w (take i rows) ≡ None → first_conflict same_name w (take (i + 1) rows) ≡ None
     check-step flats segs h none = step o refl flats segs h none
 
-    fail : (p : Option ℕ) → o ≡ p → (flats : List Segment) → AreSegmentsOf w flats → AreStoredWhere f.before f.added pending.first found flats p (id_row (with_pending old rows) r).parents false
+    fail : (p : Option ℕ) → o ≡ p → (flats : List Segment) → AreSegmentsOf w flats → AreStoredWhere f.before f.added pending.first found flats p (held_row (with_pending old rows) r).parents false
         → first_conflict same_name w (take i rows) ≡ None → conflict_fault (first_conflict same_name w rows) ≡ Some (Conflict r.name)
     fail None e flats segs h none = absurd (true≢false (sym h))
     fail (Some id) e flats segs h none = check-fault id e flats segs h none
 
-    pub check-fail : (flats : List Segment) → AreSegmentsOf w flats → (fault : PlanFault) → (fault ≡ Memory) ⊎ ((fault ≡ Conflict r.name) × AreStoredWhere f.before f.added pending.first found flats o (id_row (with_pending old rows) r).parents false)
+    pub check-fail : (flats : List Segment) → AreSegmentsOf w flats → (fault : PlanFault) → (fault ≡ Memory) ⊎ ((fault ≡ Conflict r.name) × AreStoredWhere f.before f.added pending.first found flats o (held_row (with_pending old rows) r).parents false)
         → first_conflict same_name w (take i rows) ≡ None → (fault ≡ Memory) ⊎ (conflict_fault (first_conflict same_name w rows) ≡ Some fault)
     check-fail flats segs fault h none = ⊎_elim (λ a. inl a) (λ d. inr (fail o refl flats segs d.1 none ∙ ap Some (sym d.0))) h
 
     module _ (ids : List ℕ) (kept : PlainPending) (l : LeftIn w (take i rows) ids kept) where
-      moved-facts : (moved : List ℕ) → AllZip (IsMoved f.before f.added pending.first ids) (id_row (with_pending old rows) r).parents moved
+      moved-facts : (moved : List ℕ) → AllZip (IsMoved f.before f.added pending.first ids) (held_row (with_pending old rows) r).parents moved
           → ((p : Name) → IsIn p r.parents → IsIn p (names_of (rows_of (with_pending w (left_of same_name w (take i rows)))))) × (moved ≡ map (id_in same_name (with_pending w (left_of same_name w (take i rows)))) r.parents)
       moved-facts moved z = moved-all f.added f.before w old rows f.stand_for f.world small f.base_stands f.pending_rows.view f.grows f.missing (take i rows) (r ∷ drop (suc i) rows) parts pending.first ids f.pending_rows.first l.ids_are r.parents
           (earlier f.added f.before w old rows f.stand_for f.world small f.base_stands f.pending_rows.view f.grows f.missing (take i rows) (drop (suc i) rows) r parts) moved z
 
-      more : (o : Option ℕ) → o ≡ stored_id w r.name → (next : PlainPending) (id : ℕ) → IsRebased f.before f.added pending.first ids o kept next (id_row (with_pending old rows) r) id → LeftIn w (take i rows ++ r ∷ []) (ids ++ id ∷ []) next
+      more : (o : Option ℕ) → o ≡ stored_id w r.name → (next : PlainPending) (id : ℕ) → IsRebased f.before f.added pending.first ids o kept next (held_row (with_pending old rows) r) id → LeftIn w (take i rows ++ r ∷ []) (ids ++ id ∷ []) next
       more (Some stored) e next id h =
           let t = found-there f.added f.before w old rows f.stand_for f.world small f.base_stands f.pending_rows.view f.grows f.missing r.name (Some stored) stored e refl in
           subst (λ p. LeftIn w (take i rows ++ r ∷ []) (ids ++ id ∷ []) p) (sym h.1)
@@ -133,10 +133,10 @@ module _ (tables : PlainTables) (bytes : List ℕ) (base : BaseRef) (pending : P
           let m = moved-facts h.0 h.1 in
           row-kept f.added f.before w old rows f.stand_for f.world small f.base_stands f.pending_rows.view f.grows f.missing (take i rows) (drop (suc i) rows) r parts ids kept next l out h.0 m.0 m.1 id h.3
 
-      pub world-more : (next : PlainPending) (id : ℕ) → IsRebased f.before f.added pending.first ids o kept next (id_row (with_pending old rows) r) id → LeftIn w (take (i + 1) rows) (ids ++ id ∷ []) next
+      pub world-more : (next : PlainPending) (id : ℕ) → IsRebased f.before f.added pending.first ids o kept next (held_row (with_pending old rows) r) id → LeftIn w (take (i + 1) rows) (ids ++ id ∷ []) next
       world-more next id h = subst (λ q. LeftIn w q (ids ++ id ∷ []) next) (sym (take-next rows i r at)) (more o (found-row i r o at g) next id h)
 
-      lost-at : (o : Option ℕ) → o ≡ stored_id w r.name → (fault : PlanFault) → IsNotLeft f.before f.added pending.first ids o (id_row (with_pending old rows) r) fault → lost_fault (first_lost same_name w rows) ≡ Some fault
+      lost-at : (o : Option ℕ) → o ≡ stored_id w r.name → (fault : PlanFault) → IsNotLeft f.before f.added pending.first ids o (held_row (with_pending old rows) r) fault → lost_fault (first_lost same_name w rows) ≡ Some fault
       lost-at (Some stored) e fault h = absurd h
       lost-at None e fault (inl h) =
           let out = found-none f.added f.before w old rows f.stand_for f.world small f.base_stands f.pending_rows.view f.grows f.missing r.name None e refl in
@@ -146,5 +146,5 @@ module _ (tables : PlainTables) (bytes : List ℕ) (base : BaseRef) (pending : P
           let m = moved-facts h.1 h.2 in
           absurd (h.3 (moved-distinct f.added f.before w old rows f.stand_for f.world small f.base_stands f.pending_rows.view f.grows f.missing (take i rows) (drop (suc i) rows) r parts l.lossless h.1 m.0 m.1))
 
-      pub world-fault : (fault : PlanFault) → (fault ≡ Memory) ⊎ IsNotLeft f.before f.added pending.first ids o (id_row (with_pending old rows) r) fault → (fault ≡ Memory) ⊎ (lost_fault (first_lost same_name w rows) ≡ Some fault)
+      pub world-fault : (fault : PlanFault) → (fault ≡ Memory) ⊎ IsNotLeft f.before f.added pending.first ids o (held_row (with_pending old rows) r) fault → (fault ≡ Memory) ⊎ (lost_fault (first_lost same_name w rows) ≡ Some fault)
       world-fault fault h = ⊎_elim (λ a. inl a) (λ d. inr (lost-at o (found-row i r o at g) fault d)) h

@@ -27,15 +27,15 @@ use Rattle.change_rules.specs.Flush.{flushed}
 use Rattle.change_rules.specs.Change.{flush_change}
 use Rattle.change_rules.specs.Tables.{StandFor, newest, other_names_in}
 use Rattle.payload_tables.specs.Kept.{PlainTables, AreTablesOf}
-use Rattle.payload_tables.specs.Pending.{IdRow, PlainPending, row_names, segments_from}
+use Rattle.payload_tables.specs.Pending.{HeldRow, PlainPending, row_names, segments_from}
 use Rattle.flush_rebuild.specs.Plans.{MayMove}
 use Rattle.flush_rebuild.specs.Facts.{MoveFacts}
 use Rattle.name_map.specs.Added.{Placed, AllStand, payloads_of}
-use Rattle.flat_segments.specs.Placed.{Placed as PlacedSegment, placed}
+use Rattle.flat_segments.specs.Placed.{PlacedSegment, placed_segments}
 use Rattle.payload_tables.proofs.Basing.{table-end, base-others}
 use Rattle.payload_tables.proofs.Lists.{all-append, names-length}
 use Rattle.flush_rebuild.specs.Moves.{node_of, nodes_in, name_at, rest_of, change_in}
-use Rattle.payload_tables.specs.Bases.{MayBase, ArePending, AreSegmentsOf, id_row}
+use Rattle.payload_tables.specs.Bases.{MayBase, ArePending, AreSegmentsOf, held_row}
 use Rattle.payload_tables.proofs.Joined.{back-parents}
 use Rattle.flush_rebuild.proofs.Moving.{older, at-below, order-below, change-same, master-size, others-size, master-rows, others-rows}
 use Rattle.payload_tables.proofs.Naming.{name-in-bytes}
@@ -170,19 +170,19 @@ module _ (w : World Name) (rows : List (Row Name)) (whole : IsWorld (with_pendin
   new-others-rows = others-rows view whole small parents (name_at bytes) parents-are no-parents names-are heads known
 
 -- What the code has of a session, for a world that it may stand for.
-names-of-rows : (v : World Name) (rows : List (Row Name)) → row_names (map (id_row v) rows) ≡ names_of rows
+names-of-rows : (v : World Name) (rows : List (Row Name)) → row_names (map (held_row v) rows) ≡ names_of rows
 names-of-rows v [] = refl
 names-of-rows v (r ∷ rows) = ap (λ l. r.name ∷ l) (names-of-rows v rows)
 
-pub whole-names : (v : World Name) (rows : List (Row Name)) → AllByRecursion (λ (row : IdRow). IsName row.name) (map (id_row v) rows) → AllByRecursion IsName (names_of rows)
+pub whole-names : (v : World Name) (rows : List (Row Name)) → AllByRecursion (λ (row : HeldRow). IsName row.name) (map (held_row v) rows) → AllByRecursion IsName (names_of rows)
 whole-names v [] h = tt
 whole-names v (r ∷ rows) h = (h.0, whole-names v rows h.1)
 
-pub placed-long : (at : ℕ) (segments : List Segment) → length (placed at segments) ≡ length segments
+pub placed-long : (at : ℕ) (segments : List Segment) → length (placed_segments at segments) ≡ length segments
 placed-long at [] = refl
 placed-long at (s ∷ more) = ap suc (placed-long (at + length (segment_bytes s)) more)
 
-pub segments-long : (id : ℕ) (rows : List IdRow) → length (segments_from id rows) ≡ length rows
+pub segments-long : (id : ℕ) (rows : List HeldRow) → length (segments_from id rows) ≡ length rows
 segments-long id [] = refl
 segments-long id (r ∷ rows) = ap suc (segments-long (id + 1) rows)
 
@@ -205,8 +205,8 @@ move-facts tables bytes pending numbers flats stored behind count more before w 
     let parts : names_of (w.others ++ rows) ≡ names_of w.others ++ names_of rows = map-append (λ (r : Row Name). r.name) w.others rows in
     let end = table-end tables m.added m.tables_of in
     let stand = m.stand_for.count in
-    let places = ap (length {A = ℕ}) held.places ∙ length-map (placed 0 (segments_from (other_id pending.first) (map (id_row v) rows))) (λ (r : PlacedSegment). r.place)
-    ∙ placed-long 0 (segments_from (other_id pending.first) (map (id_row v) rows)) ∙ segments-long (other_id pending.first) (map (id_row v) rows) ∙ length-map rows (id_row v) in
+    let places = ap (length {A = ℕ}) held.places ∙ length-map (placed_segments 0 (segments_from (other_id pending.first) (map (held_row v) rows))) (λ (r : PlacedSegment). r.place)
+    ∙ placed-long 0 (segments_from (other_id pending.first) (map (held_row v) rows)) ∙ segments-long (other_id pending.first) (map (held_row v) rows) ∙ length-map rows (held_row v) in
     let others : length (other_names_in (newest (payloads_of m.added))) ≡ length w.others = ap (length {A = Name}) m.stand_for.names ∙ names-length w.others in
     record {
       may = m;
@@ -217,7 +217,7 @@ move-facts tables bytes pending numbers flats stored behind count more before w 
       before_is = he ∙ end ∙ stand;
       small = (let s = facts.small in omega (arith, s, end, stand));
       names_whole = subst (AllByRecursion IsName) (sym parts) (all-append IsName (names_of w.others) (names_of rows) (subst (AllByRecursion IsName) m.stand_for.names facts.whole) (whole-names v rows held.whole));
-      few = (let a = facts.few in let b = held.few in let c = length-map rows (id_row v) in let l = length-append w.others rows in omega (arith, a, b, c, l, others));
+      few = (let a = facts.few in let b = held.few in let c = length-map rows (held_row v) in let l = length-append w.others rows in omega (arith, a, b, c, l, others));
     }
 
 -- the names of the stored other ids stand within the log

@@ -35,12 +35,12 @@ use Rattle.change_rules.proofs.Lawful.{change-follows}
 use Rattle.mirror_set.specs.Fresh.{PlainFresh}
 use Rattle.payload_tables.specs.Kept.{PlainTables, AreTablesOf}
 use Rattle.payload_tables.specs.Pending.{PlainPending, HoldsRows}
-use Rattle.payload_tables.specs.Bases.{ArePending, id_row}
+use Rattle.payload_tables.specs.Bases.{ArePending, held_row}
 use Rattle.flush_rebuild.specs.declared.plan.Change.{Change}
 use Rattle.flush_rebuild.specs.declared.fault.PlanFault.{PlanFault}
 use Rattle.flush_rebuild.specs.declared.fault.PlanFault.TheVariants.{Memory, Full}
 use Rattle.flush_rebuild.specs.Moves.{node_of}
-use Rattle.flush_rebuild.specs.Plans.{over, first_of, length_with, conflict_fault, size_refusal, MayMove, IsPlanOf, IsChangeOf, IsStorable, MayComeNext, MayBeStored}
+use Rattle.flush_rebuild.specs.Plans.{over, first_fault, length_with, conflict_fault, size_refusal, MayMove, IsPlanOf, IsChangeOf, IsStorable, MayComeNext, MayBeStored}
 use Rattle.flush_rebuild.specs.Following.{with_payload, FollowChange, StandForNext}
 use Rattle.flush_rebuild.specs.Pulling.{MayPull, mismatch, pull_refusal}
 use Rattle.flush_rebuild.specs.Taken.{AreTaken, MayTake, MayPut, pull_sizes, any_others}
@@ -105,7 +105,7 @@ module _ (tables : PlainTables) (bytes ids : List ℕ) (left : PlainPending) (w 
     where
       bound : (x : Name) → IsIn x (names_of (rows_of view)) → id_in same_name view x < 2 ^ 56 + 2 ^ 32
       bound x i =
-          let long = length-map (left_of same_name w rows) (id_row view) in let l = length-append w.others (left_of same_name w rows) in let held = p.taken.held.few in
+          let long = length-map (left_of same_name w rows) (held_row view) in let l = length-append w.others (left_of same_name w rows) in let held = p.taken.held.few in
           ⊎_elim
           (λ m. let e = m.4 in let lt = under w.master m.0 m.1 m.2 in let s = small in let k : 16777216 ≤ 2 ^ 56 = lit≤ tt in omega (arith, e, lt, s, k))
           (λ o. let e = o.4 in let lt = under (w.others ++ left_of same_name w rows) o.0 o.1 o.2 in let f = few in let k : 65536 + 16777216 ≤ 2 ^ 32 = lit≤ tt in omega (arith, e, lt, long, l, held, f, k))
@@ -168,7 +168,7 @@ module _ (tables : PlainTables) (bytes ids : List ℕ) (left : PlainPending) (w 
   others-few = let s = filter-short (λ (r : Row Name). not (is_in same_name r.name (names_of new.master))) w.others in let f = few in omega (arith, s, f)
 
   sizes-are : (limits : Limits) (log : ℕ) (payload : List ℕ) → size_refusal (any_others limits) log new payload ≡ pull_sizes limits log new payload
-  sizes-are limits log payload = ap (λ b. first_of (if b then Some (Full Others 65536) else None) (pull_sizes limits log new payload)) (le-ltb 65536 (length new.others) others-few)
+  sizes-are limits log payload = ap (λ b. first_fault (if b then Some (Full Others 65536) else None) (pull_sizes limits log new payload)) (le-ltb 65536 (length new.others) others-few)
 
   -- what the move answers is what the pull does
   pub pull-means : (limits wide : Limits) → wide ≡ any_others limits → (log : ℕ) (payload : List ℕ) (r : Result Change PlanFault)
@@ -221,15 +221,15 @@ pub pull-fault : (limits : Limits) (log : ℕ) (added : List Placed) (fresh : Pl
     → (fault ≡ Memory) ⊎ ((mismatch added fresh ≡ Some fault) ⊎ ((mismatch added fresh ≡ None) × (conflict_fault (first_conflict same_name w rows) ≡ Some fault)))
     → (fault ≡ Memory) ⊎ (pull_refusal limits log added fresh w rows new payload ≡ Some fault)
 pull-fault limits log added fresh w rows new payload fault (inl e) = inl e
-pull-fault limits log added fresh w rows new payload fault (inr (inl e)) = inr (ap (λ o. first_of o (first_of (conflict_fault (first_conflict same_name w rows)) (pull_sizes limits log new payload))) e)
+pull-fault limits log added fresh w rows new payload fault (inr (inl e)) = inr (ap (λ o. first_fault o (first_fault (conflict_fault (first_conflict same_name w rows)) (pull_sizes limits log new payload))) e)
 pull-fault limits log added fresh w rows new payload fault (inr (inr e)) =
-    inr (ap (λ o. first_of o (first_of (conflict_fault (first_conflict same_name w rows)) (pull_sizes limits log new payload))) e.0 ∙ ap (λ o. first_of o (pull_sizes limits log new payload)) e.1)
+    inr (ap (λ o. first_fault o (first_fault (conflict_fault (first_conflict same_name w rows)) (pull_sizes limits log new payload))) e.0 ∙ ap (λ o. first_fault o (pull_sizes limits log new payload)) e.1)
 
 pub sizes-alone : (limits : Limits) (log : ℕ) (added : List Placed) (fresh : PlainFresh) (w : World Name) (rows : List (Row Name)) (new : World Name) (payload : List ℕ)
     → mismatch added fresh ≡ None → first_conflict same_name w rows ≡ None → pull_refusal limits log added fresh w rows new payload ≡ pull_sizes limits log new payload
 sizes-alone limits log added fresh w rows new payload none calm =
-    ap (λ o. first_of o (first_of (conflict_fault (first_conflict same_name w rows)) (pull_sizes limits log new payload))) none
-    ∙ ap (λ o. first_of (conflict_fault o) (pull_sizes limits log new payload)) calm
+    ap (λ o. first_fault o (first_fault (conflict_fault (first_conflict same_name w rows)) (pull_sizes limits log new payload))) none
+    ∙ ap (λ o. first_fault (conflict_fault o) (pull_sizes limits log new payload)) calm
 
 -- ---- the tables that follow
 

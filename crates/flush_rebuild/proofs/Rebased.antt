@@ -26,7 +26,7 @@ use Rattle.change_rules.specs.Rebase.{left_of, has_parents, conflicts, first_con
 use Rattle.change_rules.proofs.Flushes.{name-in, filtered-names}
 use Rattle.change_rules.proofs.Changed.{rebase-lossless}
 use Rattle.payload_tables.specs.Pending.{PlainPending, HoldsRows}
-use Rattle.payload_tables.specs.Bases.{id_row, stored_in, AreSegmentsOf}
+use Rattle.payload_tables.specs.Bases.{held_row, stored_in, AreSegmentsOf}
 use Rattle.payload_tables.proofs.Lists.{parents-known}
 use Rattle.payload_tables.proofs.Joined.{seen-id}
 use Rattle.payload_tables.proofs.Rows.{count-rows}
@@ -149,7 +149,7 @@ pub record LeftIn (w : World Name) (front : List (Row Name)) (ids : List ℕ) (k
   pub lossless : first_lost same_name w front ≡ None
   pub ids_are : ids ≡ map (id_in same_name (with_pending w (left_of same_name w front))) (names_of front)
   pub first : kept.first ≡ length w.others
-  pub held : HoldsRows kept (map (id_row (with_pending w (left_of same_name w front))) (left_of same_name w front))
+  pub held : HoldsRows kept (map (held_row (with_pending w (left_of same_name w front))) (left_of same_name w front))
 
 module _ (w : World Name) where
   pub none-front : (front more : List (Row Name)) → first_conflict same_name w front ≡ None → first_conflict same_name w (front ++ more) ≡ first_conflict same_name w more
@@ -358,7 +358,7 @@ module _ (added before : List Placed) (w old : World Name) (rows : List (Row Nam
       (none-outside (names_of (rows_of w) ++ names_of (left_of same_name w front)) r.parents (λ p i. subst (IsIn p) (new-names front) (f p i)))
 
   rows-same : (front : List (Row Name)) (r : Row Name) → is_in same_name r.name (names_of (rows_of w)) ≡ false → (some : List (Row Name)) → ((q : Row Name) → IsIn q some → (p : Name) → IsIn p q.parents → IsIn p (names_of (rows_of (new_at front))))
-      → map (id_row (new_at front)) some ≡ map (id_row (new_at (front ++ r ∷ []))) some
+      → map (held_row (new_at front)) some ≡ map (held_row (new_at (front ++ r ∷ []))) some
   rows-same front r e [] f = refl
   rows-same front r e (q ∷ some) f = ap₂ (λ a b. a ∷ b)
       (ap (λ ps. record { name = q.name; parents = ps }) (mapped-same (new_id front) (new_id (front ++ r ∷ [])) q.parents (λ p i. next-id front r e p (f q (inl refl) p i))))
@@ -375,8 +375,8 @@ module _ (added before : List Placed) (w old : World Name) (rows : List (Row Nam
       let later = front-world (front ++ r ∷ []) rest parts lossless in
       let at : slice_get (w.others ++ left_of same_name w (front ++ r ∷ [])) (length w.others + length (left_of same_name w front)) ≡ Some r =
       place-right w.others (left_of same_name w (front ++ r ∷ [])) (length (left_of same_name w front)) r (ap (λ q. slice_get q (length (left_of same_name w front))) (left-new w front r out) ∙ seam (left_of same_name w front) r []) in
-      let many = count-rows kept (map (id_row (new_at front)) (left_of same_name w front)) l.held in
-      let long = length-map (left_of same_name w front) (id_row (new_at front)) in
+      let many = count-rows kept (map (held_row (new_at front)) (left_of same_name w front)) l.held in
+      let long = length-map (left_of same_name w front) (held_row (new_at front)) in
       let a = h.id_is in let b = l.first in
       let id_is : id ≡ new_id (front ++ r ∷ []) r.name = (let z : id ≡ other_id (length w.others + length (left_of same_name w front)) = omega (arith, a, b, many, long) in z)
       ∙ sym (id-in-others same_name same_name-exact same_name-self (new_at (front ++ r ∷ [])) later (length w.others + length (left_of same_name w front)) r at) in
@@ -389,8 +389,8 @@ module _ (added before : List Placed) (w old : World Name) (rows : List (Row Nam
             (ap₂ (λ ms ps. ms ++ record { name = r.name; parents = ps } ∷ [])
             (rows-same front r out (left_of same_name w front) (λ q i p j. in-all p q.parents (names_of (rows_of (new_at front))) j (parents-known [] (rows_of (new_at front)) world q (in-right q w.master (w.others ++ left_of same_name w front) (in-right q w.others (left_of same_name w front) i)))))
             (m ∙ mapped-same (new_id front) (new_id (front ++ r ∷ [])) r.parents (λ p i. next-id front r out p (there_all p i)))
-            ∙ sym (ap (map (id_row (new_at (front ++ r ∷ [])))) (left-new w front r out) ∙ map-append (id_row (new_at (front ++ r ∷ []))) (left_of same_name w front) (r ∷ [])))
-            (h.rows (map (id_row (new_at front)) (left_of same_name w front)) l.held);
+            ∙ sym (ap (map (held_row (new_at (front ++ r ∷ [])))) (left-new w front r out) ∙ map-append (held_row (new_at (front ++ r ∷ []))) (left_of same_name w front) (r ∷ [])))
+            (h.rows (map (held_row (new_at front)) (left_of same_name w front)) l.held);
       }
     where
       seam : (xs : List (Row Name)) (x : Row Name) (ys : List (Row Name)) → slice_get (xs ++ x ∷ ys) (length xs) ≡ Some x
@@ -407,12 +407,12 @@ module _ (added before : List Placed) (w old : World Name) (rows : List (Row Nam
         ids_are = ap₂ (λ a b. a ++ b ∷ []) l.ids_are (e ∙ sym (w-id front r.name i)) ∙ sym (ap (map (new_id front)) (map-append (λ (q : Row Name). q.name) front (r ∷ [])) ∙ map-append (new_id front) (names_of front) (r.name ∷ []))
             ∙ ap (λ q. map (id_in same_name (with_pending w q)) (names_of (front ++ r ∷ []))) same;
         first = l.first;
-        held = subst (λ q. HoldsRows kept (map (id_row (with_pending w q)) q)) same l.held;
+        held = subst (λ q. HoldsRows kept (map (held_row (with_pending w q)) q)) same l.held;
       }
 
   -- the first of a row's parents that is lost is the first of all
   pub row-loses : (front rest : List (Row Name)) (r : Row Name) → rows ≡ front ++ r ∷ rest → (ids : List ℕ) (kept : PlainPending) → LeftIn w front ids kept
-      → is_in same_name r.name (names_of (rows_of w)) ≡ false → (first : ℕ) → first ≡ length old.others → (fault : PlanFault) → LosesFirst before added first ids (id_row seen r).parents fault
+      → is_in same_name r.name (names_of (rows_of w)) ≡ false → (first : ℕ) → first ≡ length old.others → (fault : PlanFault) → LosesFirst before added first ids (held_row seen r).parents fault
       → (name : Name) × (fault ≡ Lost name) × (first_lost same_name w rows ≡ Some name)
   row-loses front rest r e ids kept l out first fe fault d =
       let p = get-map-back (id_in same_name seen) r.parents d.k d.parent d.parent_at in
@@ -625,7 +625,7 @@ module _ (added before : List Placed) (w old : World Name) (rows : List (Row Nam
 
       -- whether a row that the world has conflicts with it
       pub row-agrees : (front rest : List (Row Name)) (r : Row Name) → rows ≡ front ++ r ∷ rest → (id : ℕ) → IsIn r.name (names_of (rows_of w)) → id ≡ id_in same_name w r.name → (same : Bool)
-          → AreStoredAs before added first (map (stored_id w) (names_of rows)) (parents_at flats id) (id_row seen r).parents same → conflicts same_name w r ≡ not same
+          → AreStoredAs before added first (map (stored_id w) (names_of rows)) (parents_at flats id) (held_row seen r).parents same → conflicts same_name w r ≡ not same
       row-agrees front rest r e id i ie same h =
           let s = stored-row r.name i in
           let is : conflicts same_name w r ≡ not (pointwise same_name s.row.parents r.parents) =
@@ -635,7 +635,7 @@ module _ (added before : List Placed) (w old : World Name) (rows : List (Row Nam
           in-map : (xs : List Name) (y : ℕ) → IsIn y (map (id_in same_name seen) xs) → (x : Name) × IsIn x xs × (y ≡ id_in same_name seen x)
           in-map xs y j = map-in-back (id_in same_name seen) y xs j
 
-          by_case : (s : Stored r.name) → AreStoredAs before added first (map (stored_id w) (names_of rows)) (parents_at flats id) (id_row seen r).parents same → pointwise same_name s.row.parents r.parents ≡ same
+          by_case : (s : Stored r.name) → AreStoredAs before added first (map (stored_id w) (names_of rows)) (parents_at flats id) (held_row seen r).parents same → pointwise same_name s.row.parents r.parents ≡ same
           by_case s (inl n) =
               let p = in-map r.parents n.1.0 n.1.1 in
               false_from_ne_true (pointwise same_name s.row.parents r.parents)

@@ -15,7 +15,7 @@ use Rattle.payload_tables.specs.Kept.{PlainTables, AreTablesOf}
 use Rattle.payload_tables.specs.Pending.{PlainPending}
 use Rattle.change_rules.specs.Tables.{StandFor}
 use Rattle.payload_tables.specs.Bases.{ArePending, AreSegmentsOf}
-use Rattle.flush_rebuild.specs.Plans.{MayMove, over, first_of, length_with, size_refusal}
+use Rattle.flush_rebuild.specs.Plans.{MayMove, over, first_fault, length_with, size_refusal}
 use Rattle.payload_tables.proofs.Adding.{masters-fit}
 use Rattle.flush_rebuild.specs.Facts.{MoveFacts}
 use Rattle.flush_rebuild.proofs.Planning.{move-facts}
@@ -38,22 +38,22 @@ over-zero limit which = by_test (nat_lt limit 0) refl
 module _ (limits : Limits) (log : ℕ) (next : World Name) (payload : List ℕ) where
   pub refused-others : (limit o : ℕ) (fault : PlanFault) → limit ≡ limits.others → o ≡ length next.others → over limit o Others ≡ Some fault → size_refusal limits log next payload ≡ Some fault
   refused-others limit o fault a b e =
-      ap (λ x. first_of x (first_of (over limits.master (length next.master) Master) (over limits.log (length_with log payload) Log))) (sym (ap₂ (λ x y. over x y Others) a b) ∙ e)
+      ap (λ x. first_fault x (first_fault (over limits.master (length next.master) Master) (over limits.log (length_with log payload) Log))) (sym (ap₂ (λ x y. over x y Others) a b) ∙ e)
 
   no-others : (limit o : ℕ) → limit ≡ limits.others → o ≡ length next.others → over limit o Others ≡ None
-      → size_refusal limits log next payload ≡ first_of (over limits.master (length next.master) Master) (over limits.log (length_with log payload) Log)
+      → size_refusal limits log next payload ≡ first_fault (over limits.master (length next.master) Master) (over limits.log (length_with log payload) Log)
   no-others limit o a b e =
-      ap (λ x. first_of x (first_of (over limits.master (length next.master) Master) (over limits.log (length_with log payload) Log))) (sym (ap₂ (λ x y. over x y Others) a b) ∙ e)
+      ap (λ x. first_fault x (first_fault (over limits.master (length next.master) Master) (over limits.log (length_with log payload) Log))) (sym (ap₂ (λ x y. over x y Others) a b) ∙ e)
 
   pub refused-master : (limit o limit2 m : ℕ) (fault : PlanFault) → limit ≡ limits.others → o ≡ length next.others → over limit o Others ≡ None
       → limit2 ≡ limits.master → m ≡ length next.master → over limit2 m Master ≡ Some fault → size_refusal limits log next payload ≡ Some fault
   refused-master limit o limit2 m fault a b e a2 b2 e2 =
-      no-others limit o a b e ∙ ap (λ x. first_of x (over limits.log (length_with log payload) Log)) (sym (ap₂ (λ x y. over x y Master) a2 b2) ∙ e2)
+      no-others limit o a b e ∙ ap (λ x. first_fault x (over limits.log (length_with log payload) Log)) (sym (ap₂ (λ x y. over x y Master) a2 b2) ∙ e2)
 
   pub down-to-log : (limit o limit2 m : ℕ) → limit ≡ limits.others → o ≡ length next.others → over limit o Others ≡ None
       → limit2 ≡ limits.master → m ≡ length next.master → over limit2 m Master ≡ None → size_refusal limits log next payload ≡ over limits.log (length_with log payload) Log
   down-to-log limit o limit2 m a b e a2 b2 e2 =
-      no-others limit o a b e ∙ ap (λ x. first_of x (over limits.log (length_with log payload) Log)) (sym (ap₂ (λ x y. over x y Master) a2 b2) ∙ e2)
+      no-others limit o a b e ∙ ap (λ x. first_fault x (over limits.log (length_with log payload) Log)) (sym (ap₂ (λ x y. over x y Master) a2 b2) ∙ e2)
 
   pub nothing-written : payload ≡ [] → over limits.log (length_with log payload) Log ≡ None
   nothing-written e = ap (λ p. over limits.log (length_with log p) Log) e ∙ over-zero limits.log Log

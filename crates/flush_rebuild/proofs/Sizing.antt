@@ -18,7 +18,7 @@ use Rattle.change_rules.specs.Flush.{flushed}
 use Rattle.change_rules.specs.Change.{flush_change}
 use Rattle.payload_tables.specs.Kept.{PlainTables}
 use Rattle.flush_rebuild.specs.Plans.{IsChangeOf}
-use Rattle.payload_tables.specs.Pending.{PlainPending, IdRow, row_names, segments_from}
+use Rattle.payload_tables.specs.Pending.{PlainPending, HeldRow, row_names, segments_from}
 use Rattle.flush_rebuild.specs.Moves.{node_of, nodes_in, rest_of, change_in}
 use Rattle.commit_graph.specs.Ids.{id_in, place_of}
 use Rattle.change_rules.proofs.Flushes.{flush-world, flush-names}
@@ -29,12 +29,12 @@ use Rattle.id_groups.specs.Id.{other_id}
 use Rattle.id_groups.proofs.Listing.{found}
 use Rattle.segment_codec.specs.Table.{parents_at}
 use Rattle.batch_codec.proofs.Entries.{names-size}
-use Rattle.flat_segments.specs.Placed.{Placed as PlacedSegment, placed}
+use Rattle.flat_segments.specs.Placed.{PlacedSegment, placed_segments}
 use Rattle.name_map.specs.Added.{Placed, payloads_of}
 use Rattle.payload_tables.specs.declared.base.BaseRef.{BaseRef}
 use Rattle.flush_rebuild.specs.declared.fault.PlanFault.{PlanFault}
 use Rattle.change_rules.specs.Tables.{StandFor}
-use Rattle.payload_tables.specs.Bases.{MayBase, MayView, ArePending, id_row}
+use Rattle.payload_tables.specs.Bases.{MayBase, MayView, ArePending, held_row}
 use Rattle.payload_tables.proofs.Lists.{names-length}
 use Rattle.flush_rebuild.proofs.Moving.{by-numbers}
 use Rattle.flush_rebuild.specs.Facts.{MoveFacts}
@@ -160,15 +160,15 @@ module _ (tables : PlainTables) (bytes : List ℕ) (pending : PlainPending) (num
 
 pub pending-count : (w : World Name) (pending : PlainPending) (rows : List (Row Name)) → ArePending w pending rows → length pending.places ≡ length rows
 pending-count w pending rows p =
-    ap (length {A = ℕ}) p.held.places ∙ length-map (placed 0 (segments_from (other_id pending.first) (map (id_row (with_pending w rows)) rows))) (λ (r : PlacedSegment). r.place)
-    ∙ placed-long 0 (segments_from (other_id pending.first) (map (id_row (with_pending w rows)) rows)) ∙ segments-long (other_id pending.first) (map (id_row (with_pending w rows)) rows) ∙ length-map rows (id_row (with_pending w rows))
+    ap (length {A = ℕ}) p.held.places ∙ length-map (placed_segments 0 (segments_from (other_id pending.first) (map (held_row (with_pending w rows)) rows))) (λ (r : PlacedSegment). r.place)
+    ∙ placed-long 0 (segments_from (other_id pending.first) (map (held_row (with_pending w rows)) rows)) ∙ segments-long (other_id pending.first) (map (held_row (with_pending w rows)) rows) ∙ length-map rows (held_row (with_pending w rows))
 
 pub pending-size : (w : World Name) (pending : PlainPending) (rows : List (Row Name)) → ArePending w pending rows → length pending.names ≡ 20 * length pending.places
 pending-size w pending rows p =
-    ap (length {A = ℕ}) p.held.names ∙ names-size (row_names (map (id_row (with_pending w rows)) rows)) (names-whole (map (id_row (with_pending w rows)) rows) p.held.whole)
-    ∙ ap (λ n. 20 * n) (length-map (map (id_row (with_pending w rows)) rows) (λ (r : IdRow). r.name) ∙ length-map rows (id_row (with_pending w rows)) ∙ sym (pending-count w pending rows p))
+    ap (length {A = ℕ}) p.held.names ∙ names-size (row_names (map (held_row (with_pending w rows)) rows)) (names-whole (map (held_row (with_pending w rows)) rows) p.held.whole)
+    ∙ ap (λ n. 20 * n) (length-map (map (held_row (with_pending w rows)) rows) (λ (r : HeldRow). r.name) ∙ length-map rows (held_row (with_pending w rows)) ∙ sym (pending-count w pending rows p))
   where
-    names-whole : (rows : List IdRow) → AllByRecursion (λ (row : IdRow). IsName row.name) rows → AllByRecursion IsName (row_names rows)
+    names-whole : (rows : List HeldRow) → AllByRecursion (λ (row : HeldRow). IsName row.name) rows → AllByRecursion IsName (row_names rows)
     names-whole [] h = tt
     names-whole (r ∷ rows) h = (h.0, names-whole rows h.1)
 
@@ -185,7 +185,7 @@ id-bounds v x = by_test (is_in same_name x (names_of v.master)) refl
 pub may-view : (b : BaseRef) (added : List Placed) (pending : PlainPending) (w : World Name) (rows : List (Row Name)) → MayBase b.bytes.now b.tables.now b.others.now b.below added
     → StandFor (payloads_of added) w → ArePending w pending rows → MayView b added pending
 may-view b added pending w rows base stand p = record {
-  rows = map (id_row (with_pending w rows)) rows;
+  rows = map (held_row (with_pending w rows)) rows;
   held = p.held;
   first = p.first ∙ sym (ap (length {A = Name}) stand.names ∙ names-length w.others);
   parents = each-row rows;
@@ -195,7 +195,7 @@ may-view b added pending w rows base stand p = record {
     each-parent [] = tt
     each-parent (x ∷ xs) = (⊎_elim (λ l. inl (let c = base.count in let s = stand.count in omega (arith, l, c, s))) (λ r. inr r) (id-bounds (with_pending w rows) x), each-parent xs)
 
-    each-row : (some : List (Row Name)) → AllByRecursion (λ (row : IdRow). AllByRecursion (λ q. (q < b.below) ⊎ (2 ^ 56 ≤ q)) row.parents) (map (id_row (with_pending w rows)) some)
+    each-row : (some : List (Row Name)) → AllByRecursion (λ (row : HeldRow). AllByRecursion (λ q. (q < b.below) ⊎ (2 ^ 56 ≤ q)) row.parents) (map (held_row (with_pending w rows)) some)
     each-row [] = tt
     each-row (r ∷ some) = (each-parent r.parents, each-row some)
 

@@ -30,15 +30,15 @@ use Rattle.change_rules.proofs.Lawful.{history-distinct}
 use Rattle.change_rules.proofs.Cloned.{filter-back}
 use Rattle.payload_tables.specs.declared.base.BaseRef.{BaseRef}
 use Rattle.payload_tables.specs.Kept.{PlainTables}
-use Rattle.payload_tables.specs.Pending.{IdRow, PlainPending, HoldsRows, row_names}
-use Rattle.payload_tables.specs.Bases.{IsBaseOf, ArePending, AreSegmentsOf, id_row}
+use Rattle.payload_tables.specs.Pending.{HeldRow, PlainPending, HoldsRows, row_names}
+use Rattle.payload_tables.specs.Bases.{IsBaseOf, ArePending, AreSegmentsOf, held_row}
 use Rattle.payload_tables.proofs.Lists.{names-length, get-front, distinct-join, distinct-parts}
 use Rattle.payload_tables.proofs.Rows.{get-below}
 use Rattle.payload_tables.proofs.Joined.{get-map}
 use Rattle.flush_rebuild.specs.declared.fault.PlanFault.{PlanFault}
 use Rattle.flush_rebuild.specs.declared.fault.PlanFault.TheVariants.{Memory}
 use Rattle.flush_rebuild.specs.Asked.{IsStored}
-use Rattle.flush_rebuild.specs.Plans.{first_of}
+use Rattle.flush_rebuild.specs.Plans.{first_fault}
 use Rattle.flush_rebuild.specs.Pulling.{MayPullOn, told_names, names_at_all, rows_with, told_rows, clone_fault, row_fault, mismatch}
 use Rattle.flush_rebuild.specs.Taken.{Beside, MayTake, MayWalk}
 use Rattle.flush_rebuild.proofs.Asking.{stored-names}
@@ -52,7 +52,7 @@ use Rattle.flush_rebuild.proofs.Agreed.{cloned-same, all-true}
 
 -- ---- what no mismatch means
 
-none-first : (a b : Option PlanFault) → first_of a b ≡ None → (a ≡ None) × (b ≡ None)
+none-first : (a b : Option PlanFault) → first_fault a b ≡ None → (a ≡ None) × (b ≡ None)
 none-first None b e = (refl, e)
 none-first (Some fault) b e = absurd (no-some fault e)
 
@@ -222,10 +222,10 @@ module _ (tables : PlainTables) (bytes : List ℕ) (fresh : PlainFresh) (added :
   abbrev is_new : Name → Bool
   is_new x = not (is_in same_name x stored)
 
-  abbrev row : Name → IdRow
+  abbrev row : Name → HeldRow
   row x = record { name = x; parents = [] }
 
-  abbrev rows : List IdRow
+  abbrev rows : List HeldRow
   rows = map row (filter is_new fresh.names)
 
   names : Fit (map (λ (k : Known). k.name) (filter (λ (k : Known). nat_lt k.id c) (known_in payloads))) [] fresh.names
@@ -262,7 +262,7 @@ module _ (tables : PlainTables) (bytes : List ℕ) (fresh : PlainFresh) (added :
   pending-named : names_of st.pending ≡ filter is_new fresh.names
   pending-named = sym (ap row_names st.rows_are ∙ id-names st.pending) ∙ rows-named (filter is_new fresh.names)
     where
-      id-names : (some : List (Row Name)) → row_names (map (id_row (with_pending w st.pending)) some) ≡ names_of some
+      id-names : (some : List (Row Name)) → row_names (map (held_row (with_pending w st.pending)) some) ≡ names_of some
       id-names [] = refl
       id-names (r ∷ some) = ap (λ l. r.name ∷ l) (id-names some)
 

@@ -12,7 +12,7 @@ use Rattle.segment_rules.specs.Flat.{flat_segments_of}
 use Rattle.segment_rules.specs.NewLevels.{new_levels}
 use Rattle.batch_codec.specs.Payload.{Payload}
 use Rattle.change_rules.specs.Change.{known_from, flush_change}
-use Rattle.flush_rebuild.specs.Flat.{Span, single, with_id, flat_segments}
+use Rattle.flush_rebuild.specs.Flat.{Span, single_span, with_id_span, flat_segments}
 use Rattle.flush_rebuild.specs.Moves.{flat_record}
 
 abbrev pub span_change : World Name → World Name → Payload
@@ -43,13 +43,13 @@ same-only n (x ∷ y ∷ ys) = by_test (nat_eq x n)
     by_test true = refl
     by_test false = refl
 
-same-with : (id : ℕ) (parents : List ℕ) (spans : List Span) → rules.with_id id parents (map flat_record spans) ≡ map flat_record (with_id id parents spans)
+same-with : (id : ℕ) (parents : List ℕ) (spans : List Span) → rules.with_id id parents (map flat_record spans) ≡ map flat_record (with_id_span id parents spans)
 same-with id parents [] = refl
 same-with id parents (next ∷ more) = ap (λ b. if b then record { low = id; high = next.high; level = 0; parents = parents } ∷ map flat_record more else rules.single id parents ∷ flat_record next ∷ map flat_record more) (same-only id next.parents)
     ∙ by_test (pointwise nat_eq next.parents (id ∷ []))
   where
     by_test : (b : Bool) → (if b then record { low = id; high = next.high; level = 0; parents = parents } ∷ map flat_record more else rules.single id parents ∷ flat_record next ∷ map flat_record more)
-        ≡ map flat_record (if b then record { low = id; high = next.high; parents = parents } ∷ more else single id parents ∷ next ∷ more)
+        ≡ map flat_record (if b then record { low = id; high = next.high; parents = parents } ∷ more else single_span id parents ∷ next ∷ more)
     by_test true = refl
     by_test false = refl
 

@@ -8,7 +8,7 @@ use Rattle.batch_codec.specs.Grammar.{count_after}
 use Rattle.name_map.specs.Added.{Placed, payloads_of, AllStand}
 use Rattle.payload_tables.specs.declared.base.BaseRef.{BaseRef}
 use Rattle.payload_tables.specs.Kept.{PlainTables, AreTablesOf}
-use Rattle.payload_tables.specs.Pending.{IdRow, PlainPending, HoldsRows, row_names}
+use Rattle.payload_tables.specs.Pending.{HeldRow, PlainPending, HoldsRows, row_names}
 use Rattle.payload_tables.specs.Bases.{IsBaseOf, MayBase, MayView}
 use Rattle.payload_tables.proofs.Basing.{base-others, table-end}
 use Rattle.flush_rebuild.specs.Asked.{others_count, IsFoundIn, MayRebaseOn, MayStore}
@@ -50,12 +50,12 @@ all-weaker : (P Q : ℕ → Type 0) → ((x : ℕ) → P x → Q x) → (xs : Li
 all-weaker P Q f [] h = tt
 all-weaker P Q f (x ∷ xs) h = (f x h.0, all-weaker P Q f xs h.1)
 
-zip-found : (added : List Placed) (rows : List IdRow) (found : List (Option ℕ)) (i : ℕ) (row : IdRow) (o : Option ℕ) → AllZip (IsFoundIn added) (row_names rows) found → slice_get rows i ≡ Some row → slice_get found i ≡ Some o → IsFoundIn added row.name o
+zip-found : (added : List Placed) (rows : List HeldRow) (found : List (Option ℕ)) (i : ℕ) (row : HeldRow) (o : Option ℕ) → AllZip (IsFoundIn added) (row_names rows) found → slice_get rows i ≡ Some row → slice_get found i ≡ Some o → IsFoundIn added row.name o
 zip-found added [] found i row o h e f = absurd (true≢false (sym (ap is_some e)))
 zip-found added (r ∷ rows) [] i row o h e f = absurd h
-zip-found added (r ∷ rows) (p ∷ found) zero row o h e f = subst (λ (q : IdRow). IsFoundIn added q.name o) (ap row_or e) (subst (IsFoundIn added r.name) (ap option_or f) h.0)
+zip-found added (r ∷ rows) (p ∷ found) zero row o h e f = subst (λ (q : HeldRow). IsFoundIn added q.name o) (ap row_or e) (subst (IsFoundIn added r.name) (ap option_or f) h.0)
   where
-    row_or : Option IdRow → IdRow
+    row_or : Option HeldRow → HeldRow
     row_or None = r
     row_or (Some a) = a
 
@@ -70,8 +70,8 @@ zip-long R [] (y ∷ ys) h = absurd h
 zip-long R (x ∷ xs) [] h = absurd h
 zip-long R (x ∷ xs) (y ∷ ys) h = ap suc (zip-long R xs ys h.1)
 
-pub found-under : (added : List Placed) (rows : List IdRow) (found : List (Option ℕ)) (i : ℕ) → AllZip (IsFoundIn added) (row_names rows) found → i < length rows → i < length found
-found-under added rows found i h lt = let a = zip-long (IsFoundIn added) (row_names rows) found h in let b = length-map rows (λ (r : IdRow). r.name) in omega (arith, a, b, lt)
+pub found-under : (added : List Placed) (rows : List HeldRow) (found : List (Option ℕ)) (i : ℕ) → AllZip (IsFoundIn added) (row_names rows) found → i < length rows → i < length found
+found-under added rows found i h lt = let a = zip-long (IsFoundIn added) (row_names rows) found h in let b = length-map rows (λ (r : HeldRow). r.name) in omega (arith, a, b, lt)
 
 pub get-is : {X : Type 0} (xs : List X) (i : ℕ) (x : X) → i < length xs → x ≡ get_or xs i x → slice_get xs i ≡ Some x
 get-is [] i x lt e = absurd (let z : ⊥ = omega (arith, lt) in z)
@@ -111,7 +111,7 @@ first-left added none e h = record {
 }
 
 module _ (tables : PlainTables) (bytes : List ℕ) (base : BaseRef) (pending : PlainPending) (found : List (Option ℕ)) (added before : List Placed) (m : MayRebaseOn tables bytes base pending found added before)
-    (newer : BaseRef) (n : IsBaseOf newer added) (i : ℕ) (row : IdRow) (at : slice_get m.rows i ≡ Some row) (ids : List ℕ) (kept : PlainPending) (l : LeftSoFar added (take i m.rows) ids kept) where
+    (newer : BaseRef) (n : IsBaseOf newer added) (i : ℕ) (row : HeldRow) (at : slice_get m.rows i ≡ Some row) (ids : List ℕ) (kept : PlainPending) (l : LeftSoFar added (take i m.rows) ids kept) where
   ids-count : length ids ≡ i
   ids-count = l.ids_long ∙ take-long m.rows i row at
 
@@ -124,7 +124,7 @@ module _ (tables : PlainTables) (bytes : List ℕ) (base : BaseRef) (pending : P
   new-of : (moved : List ℕ) → AllZip (IsMoved before added pending.first ids) row.parents moved → (others : ℕ) → AllByRecursion (IsNewId (count_after 0 (payloads_of added)) (others_count added + others)) ids
       → AllByRecursion (IsNewId (count_after 0 (payloads_of added)) (others_count added + others)) moved
   new-of moved z others new = moved-new newer base added before n n.count m.grows pending.first ids others m.first new row.parents moved
-      (parents-at (λ (q : IdRow). AllByRecursion (λ p. (p < base.below) ⊎ (2 ^ 56 ≤ p)) q.parents) m.rows i row m.parents at) parents-under z
+      (parents-at (λ (q : HeldRow). AllByRecursion (λ p. (p < base.below) ⊎ (2 ^ 56 ≤ p)) q.parents) m.rows i row m.parents at) parents-under z
 
   pub moved-few : (moved : List ℕ) → AllZip (IsMoved before added pending.first ids) row.parents moved → length moved ≤ 8
   moved-few moved z = let e = zip-long (IsMoved before added pending.first ids) row.parents moved z in let f = parents-few in omega (arith, e, f)
@@ -149,10 +149,10 @@ module _ (tables : PlainTables) (bytes : List ℕ) (base : BaseRef) (pending : P
 
 -- the parents of a row lie below the rows of which something was found
 pub parents-found : (tables : PlainTables) (bytes : List ℕ) (base : BaseRef) (pending : PlainPending) (found : List (Option ℕ)) (added before : List Placed) (m : MayRebaseOn tables bytes base pending found added before)
-    → (i : ℕ) (row : IdRow) → slice_get m.rows i ≡ Some row → AllByRecursion (λ p. p < other_id (pending.first + length found)) row.parents
+    → (i : ℕ) (row : HeldRow) → slice_get m.rows i ≡ Some row → AllByRecursion (λ p. p < other_id (pending.first + length found)) row.parents
 parents-found tables bytes base pending found added before m i row at =
     let lt = found-under added m.rows found i m.found_are (under m.rows i row at) in
     all-weaker (λ p. p < other_id pending.first + i) (λ p. p < other_id (pending.first + length found)) (λ x l. omega (arith, l, lt)) row.parents (row-parents-below (other_id pending.first) 0 m.rows m.held.section.flat i row at).0
 
-pub stored-left : (added : List Placed) (rows : List IdRow) (ids : List ℕ) (kept : PlainPending) → LeftSoFar added rows ids kept → MayStore kept added
+pub stored-left : (added : List Placed) (rows : List HeldRow) (ids : List ℕ) (kept : PlainPending) → LeftSoFar added rows ids kept → MayStore kept added
 stored-left added rows ids kept l = record { rows = l.some; held = l.held; first = l.first; parents = l.parents; distinct = l.distinct; fresh = l.fresh }

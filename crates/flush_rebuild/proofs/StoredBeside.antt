@@ -10,7 +10,7 @@ use Rattle.id_groups.proofs.Listing.{all-in, implied, implies, in-all-true, foun
 use Rattle.commit_graph.specs.World.{names_of}
 use Rattle.commit_graph.proofs.Naming.{each}
 use Rattle.batch_codec.specs.Payload.{Payload, Known}
-use Rattle.batch_codec.specs.Grammar.{IsFlush, IsClone, IsWhole}
+use Rattle.batch_codec.specs.Grammar.{IsFlush, IsClone, IsWholePayload}
 use Rattle.name_map.specs.Added.{Placed, payloads_of, known_of}
 use Rattle.name_map.specs.Map.{IsIdOf, IsNameOf}
 use Rattle.remote_rules.specs.CloneData.{CloneData, KnownName, first_false}
@@ -156,7 +156,7 @@ cloned-small tables added t = by_first (payloads_of added) t.lawful
         let top = h.0.whole.counts.master in
         ⊎_elim
         (λ (f : IsFlush p). let e = f.cloned in omega (arith, e))
-        (⊎_elim (λ (f : IsClone p). let e = f.cloned in omega (arith, e, top)) (λ (f : IsWhole p). let le = f.cloned in omega (arith, le, top)))
+        (⊎_elim (λ (f : IsClone p). let e = f.cloned in omega (arith, e, top)) (λ (f : IsWholePayload p). let le = f.cloned in omega (arith, le, top)))
         h.0.whole.by_kind
 
 module _ (stored names : List Name) (told : CloneData) (cloned i : ℕ) (so_far : first_false cloned (rows_fit stored [] told cloned names) ≡ first_false (cloned + i) (rows_fit stored (take i names) told (cloned + i) (drop i names))) where

@@ -23,7 +23,7 @@ use Rattle.payload_tables.specs.Kept.{PlainTables}
 use Rattle.payload_tables.proofs.Lists.{names-length}
 use Rattle.flush_rebuild.specs.declared.plan.Change.{Change}
 use Rattle.flush_rebuild.specs.declared.fault.PlanFault.TheVariants.{Emptied}
-use Rattle.flush_rebuild.specs.Plans.{IsChangeOf, IsPlanOf, IsStorable, MayComeNext, over, first_of, length_with}
+use Rattle.flush_rebuild.specs.Plans.{IsChangeOf, IsPlanOf, IsStorable, MayComeNext, over, first_fault, length_with}
 use Rattle.flush_rebuild.specs.Following.{with_payload, FollowChange, StandForNext}
 use Rattle.flush_rebuild.specs.Stripping.{AreKeptIds, IsStrip, MayStrip, strip_payload, emptied, strip_refusal}
 use Rattle.flush_rebuild.proofs.Refusing.{written, has-bytes, nothing-written}
@@ -59,12 +59,12 @@ module _ (added : List Placed) (names : List ℕ) (graph : List (List ℕ)) (n b
 
   -- where nothing is left
   pub refused-empty : (limits : Limits) (log : ℕ) (payload : List ℕ) → before + length kept ≡ 0 → strip_refusal limits log w (stripped same_name w given) payload ≡ Some (Emptied (before + n))
-  refused-empty limits log payload e = ap (λ o. first_of o (over limits.log (length_with log payload) Log)) (is-emptied e)
+  refused-empty limits log payload e = ap (λ o. first_fault o (over limits.log (length_with log payload) Log)) (is-emptied e)
 
   -- else the log alone can refuse
   pub refused : (limits : Limits) (log : ℕ) (payload : List ℕ) → 0 < before + length kept
       → strip_refusal limits log w (stripped same_name w given) payload ≡ over limits.log (length_with log payload) Log
-  refused limits log payload lt = ap (λ o. first_of o (over limits.log (length_with log payload) Log)) (not-emptied lt)
+  refused limits log payload lt = ap (λ o. first_fault o (over limits.log (length_with log payload) Log)) (not-emptied lt)
 
   pub differs : (length kept ≡ n → ⊥) → stripped same_name w given ≡ w → ⊥
   differs h s = h (sym m.size ∙ ap (λ (z : World Name). length z.others) s ∙ sym m.n_is)

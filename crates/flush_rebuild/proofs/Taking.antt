@@ -19,7 +19,7 @@ use Rattle.commit_graph.proofs.Places.{item-at, at-name, id-in-master, id-in-oth
 use Rattle.segment_codec.specs.Record.{Segment}
 use Rattle.segment_codec.specs.Table.{parents_at}
 use Rattle.batch_codec.specs.Payload.{Known, names_bytes}
-use Rattle.batch_codec.specs.Reading.{names_in}
+use Rattle.batch_codec.specs.Reading.{names_read}
 use Rattle.batch_codec.proofs.Entries.{names-again}
 use Rattle.name_map.specs.Added.{Placed, payloads_of}
 use Rattle.name_map.specs.Map.{IsIdOf}
@@ -27,8 +27,8 @@ use Rattle.change_rules.specs.Rebase.{left_of, has_parents, conflicts, first_con
 use Rattle.change_rules.specs.Tables.{StandFor}
 use Rattle.change_rules.proofs.Flushes.{filtered-names}
 use Rattle.payload_tables.specs.declared.base.BaseRef.{BaseRef}
-use Rattle.payload_tables.specs.Pending.{PlainPending, IdRow, HoldsRows, row_names}
-use Rattle.payload_tables.specs.Bases.{IsBaseOf, id_row, stored_in}
+use Rattle.payload_tables.specs.Pending.{PlainPending, HeldRow, HoldsRows, row_names}
+use Rattle.payload_tables.specs.Bases.{IsBaseOf, held_row, stored_in}
 use Rattle.payload_tables.proofs.Lists.{names-length, get-front}
 use Rattle.payload_tables.proofs.Rows.{count-rows, names-whole}
 use Rattle.flush_rebuild.specs.declared.fault.PlanFault.{PlanFault}
@@ -66,14 +66,14 @@ drop-long (suc n) [] le = absurd (let z : ⊥ = omega (arith, le) in z)
 drop-long (suc n) (x ∷ xs) le = let r = drop-long n xs (omega (arith, le)) in omega (arith, r)
 
 -- the names of rows that are held are one list
-held-names : (p : PlainPending) (a b : List IdRow) → HoldsRows p a → HoldsRows p b → row_names a ≡ row_names b
+held-names : (p : PlainPending) (a b : List HeldRow) → HoldsRows p a → HoldsRows p b → row_names a ≡ row_names b
 held-names p a b h g =
     sym (names-again (row_names a) (names-whole a h.whole))
-    ∙ ap₂ (λ n bytes. names_in n bytes) (long a h ∙ sym (long b g)) (sym h.names ∙ g.names)
+    ∙ ap₂ (λ n bytes. names_read n bytes) (long a h ∙ sym (long b g)) (sym h.names ∙ g.names)
     ∙ names-again (row_names b) (names-whole b g.whole)
   where
-    long : (rows : List IdRow) → HoldsRows p rows → length (row_names rows) ≡ length p.places
-    long rows r = length-map rows (λ (row : IdRow). row.name) ∙ sym (count-rows p rows r)
+    long : (rows : List HeldRow) → HoldsRows p rows → length (row_names rows) ≡ length p.places
+    long rows r = length-map rows (λ (row : HeldRow). row.name) ∙ sym (count-rows p rows r)
 
 -- ---- the rows so far
 
@@ -147,8 +147,8 @@ module _ (newest : BaseRef) (flats : List Segment) (cloned : ℕ) (w : World Nam
     -- an id of the world lies below the next one
     id-below : (x : Name) → IsIn x (names_of (rows_of (new_at front))) → new_id front x < other_id (left.first + length left.places)
     id-below x i =
-        let many = count-rows left (map (id_row (new_at front)) (left_of same_name w front)) t.held in
-        let long = length-map (left_of same_name w front) (id_row (new_at front)) in
+        let many = count-rows left (map (held_row (new_at front)) (left_of same_name w front)) t.held in
+        let long = length-map (left_of same_name w front) (held_row (new_at front)) in
         let l = length-append w.others (left_of same_name w front) in let first = t.first in
         ⊎_elim
         (λ m. let e = m.4 in let lt = under w.master m.0 m.1 m.2 in let s = b.small in let k : 16777216 ≤ 2 ^ 56 = lit≤ tt in omega (arith, e, lt, s, k))
@@ -179,12 +179,12 @@ module _ (newest : BaseRef) (flats : List Segment) (cloned : ℕ) (w : World Nam
           each (p ∷ ps) f = (id-below p (f p (inl refl)), each ps (λ q i. f q (inr i)))
 
       -- no row that is left has the name
-      pub row-is-new : (held : List IdRow) → HoldsRows left held → IsIn row.name (row_names held) → ⊥
+      pub row-is-new : (held : List HeldRow) → HoldsRows left held → IsIn row.name (row_names held) → ⊥
       row-is-new held h i =
-          let j : IsIn row.name (names_of (left_of same_name w front)) = subst (IsIn row.name) (held-names left held (map (id_row (new_at front)) (left_of same_name w front)) h t.held ∙ id-names (left_of same_name w front)) i in
+          let j : IsIn row.name (names_of (left_of same_name w front)) = subst (IsIn row.name) (held-names left held (map (held_row (new_at front)) (left_of same_name w front)) h t.held ∙ id-names (left_of same_name w front)) i in
           fresh-name front rest row parts (left-in front row.name j)
         where
-          id-names : (some : List (Row Name)) → row_names (map (id_row (new_at front)) some) ≡ names_of some
+          id-names : (some : List (Row Name)) → row_names (map (held_row (new_at front)) some) ≡ names_of some
           id-names [] = refl
           id-names (r ∷ some) = ap (λ l. r.name ∷ l) (id-names some)
 
@@ -261,7 +261,7 @@ module _ (newest : BaseRef) (flats : List Segment) (cloned : ℕ) (ids : List �
   pub add-numbers : AllByRecursion (λ n. n < cloned + length ids) numbers
   add-numbers = numbers-there newest flats cloned w rows m.beside front rest row m.parts m.behind ids left m.taken numbers m.parents_are
 
-  pub add-new : (held : List IdRow) → HoldsRows left held → IsIn name (row_names held) → ⊥
+  pub add-new : (held : List HeldRow) → HoldsRows left held → IsIn name (row_names held) → ⊥
   add-new held h i = row-is-new newest flats cloned w rows m.beside front rest row m.parts m.behind ids left m.taken numbers m.parents_are held h (subst (λ n. IsIn n (row_names held)) (sym m.name_is) i)
 
   pub add-apart : AreDistinct (map (beside cloned ids) numbers)

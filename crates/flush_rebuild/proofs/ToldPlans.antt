@@ -19,18 +19,18 @@ use Rattle.payload_tables.specs.Kept.{PlainTables}
 use Rattle.flush_rebuild.specs.declared.plan.Change.{Change}
 use Rattle.flush_rebuild.specs.declared.fault.PlanFault.{PlanFault}
 use Rattle.flush_rebuild.specs.declared.fault.PlanFault.TheVariants.{Memory}
-use Rattle.flush_rebuild.specs.Plans.{over, first_of, length_with, IsPlanOf}
+use Rattle.flush_rebuild.specs.Plans.{over, first_fault, length_with, IsPlanOf}
 use Rattle.flush_rebuild.specs.Following.{with_payload, FollowChange}
 use Rattle.flush_rebuild.specs.Cloning.{told_count, told_payload, broken_fault, counts_refusal, log_refusal, told_refusal, IsToldPlan, clone_payload, clone_refusal, IsToldBy, StandForClone}
 use Rattle.flush_rebuild.proofs.Refusing.{over-none, written, has-bytes}
 
-pub first-here : (a b : Option PlanFault) (fault : PlanFault) → a ≡ Some fault → first_of a b ≡ Some fault
-first-here a b fault e = ap (λ o. first_of o b) e
+pub first-here : (a b : Option PlanFault) (fault : PlanFault) → a ≡ Some fault → first_fault a b ≡ Some fault
+first-here a b fault e = ap (λ o. first_fault o b) e
 
-pub first-later : (a b : Option PlanFault) → a ≡ None → first_of a b ≡ b
-first-later a b e = ap (λ o. first_of o b) e
+pub first-later : (a b : Option PlanFault) → a ≡ None → first_fault a b ≡ b
+first-later a b e = ap (λ o. first_fault o b) e
 
-first-first : (a b c : Option PlanFault) → first_of (first_of a b) c ≡ first_of a (first_of b c)
+first-first : (a b c : Option PlanFault) → first_fault (first_fault a b) c ≡ first_fault a (first_fault b c)
 first-first None b c = refl
 first-first (Some fault) b c = refl
 
@@ -65,7 +65,7 @@ module _ (rows : List (Row Name)) (named : IsNamedWorld (master_world rows)) whe
   refusal-is limits log =
       first-later (broken_fault (first_broken (clone_data_of r))) _ (ap broken_fault (never-broken r named))
       ∙ first-first (over most_heads (length (heads_of r)) Heads) _ _
-      ∙ ap₂ (λ n p. first_of (over most_heads (length (heads_of r)) Heads) (first_of (over limits.master n Master) (over limits.log (length_with log p) Log))) count-is payload-is
+      ∙ ap₂ (λ n p. first_fault (over most_heads (length (heads_of r)) Heads) (first_fault (over limits.master n Master) (over limits.log (length_with log p) Log))) count-is payload-is
 
   pub plan-is : (change : Change) → IsToldPlan change (clone_data_of r) → IsPlanOf change empty_world r (clone_payload r)
   plan-is change p = record {
@@ -116,7 +116,7 @@ honest-stands log tables change (row ∷ rows) named few heads plan f =
     differs true e = absurd (let l = ap (λ (w : World Name). length w.master) (plan.same.0 e) in omega (arith, l))
     differs false e = e
 
-first-none : (a b : Option PlanFault) → first_of a b ≡ None → (a ≡ None) × (b ≡ None)
+first-none : (a b : Option PlanFault) → first_fault a b ≡ None → (a ≡ None) × (b ≡ None)
 first-none None b e = (refl, e)
 first-none (Some fault) b e = absurd (true≢false (ap is_some e))
 

@@ -17,7 +17,7 @@ use Rattle.segment_codec.specs.Turns.{StandInTurn, place_behind}
 use Rattle.segment_codec.proofs.Tables.{le_or_lt}
 use Rattle.segment_rules.specs.Flat.{parents_listed}
 use Rattle.batch_codec.specs.Payload.{Payload, Known, known_ids}
-use Rattle.batch_codec.specs.Grammar.{count_after, IsFlush, IsClone, IsWhole}
+use Rattle.batch_codec.specs.Grammar.{count_after, IsFlush, IsClone, IsWholePayload}
 use Rattle.name_map.specs.Added.{Placed, payloads_of, known_of}
 use Rattle.remote_rules.specs.CloneData.{CloneData, first_broken}
 use Rattle.remote_rules.specs.Known.{master_world}
@@ -216,7 +216,7 @@ joined (y ∷ xs) x e = cc
 
 later-flush : (before : List Payload) (p : Payload) → before ≢ [] → MayFollow before p → IsFlush p
 later-flush before p some m = ⊎_elim (λ f. f)
-    (λ o. ⊎_elim (λ (c : IsClone p). absurd (some (m.clone_first c.kind))) (λ (w : IsWhole p). absurd (some (m.whole_first w.kind))) o) m.whole.by_kind
+    (λ o. ⊎_elim (λ (c : IsClone p). absurd (some (m.clone_first c.kind))) (λ (w : IsWholePayload p). absurd (some (m.whole_first w.kind))) o) m.whole.by_kind
 
 in-ids : (xs ys : List Known) (n : ℕ) → IsIn n (map (λ (k : Known). k.id) xs) ⊎ IsIn n (map (λ (k : Known). k.id) ys) → IsIn n (map (λ (k : Known). k.id) (xs ++ ys))
 in-ids xs ys n h = subst (IsIn n) (sym (map-append (λ (k : Known). k.id) xs ys))
@@ -243,7 +243,7 @@ uncloned-known (p ∷ more) h id le lt = ⊎_elim
     first-known : id < p.after → IsIn id (known_ids p)
     first-known b = ⊎_elim
         (λ (f : IsFlush p). f.all_known id (let c = h.0.count in omega (arith, c)) b)
-        (λ o. ⊎_elim (λ (c : IsClone p). absurd (let e = c.cloned in let z : ⊥ = omega (arith, e, le, b) in z)) (λ (v : IsWhole p). v.all_known id le b) o)
+        (λ o. ⊎_elim (λ (c : IsClone p). absurd (let e = c.cloned in let z : ⊥ = omega (arith, e, le, b) in z)) (λ (v : IsWholePayload p). v.all_known id le b) o)
         h.0.whole.by_kind
 
 -- the cloned rows are among those of master
@@ -251,7 +251,7 @@ pub cloned-few : (payloads : List Payload) → AreLawful [] payloads → cloned_
 cloned-few [] h = omega arith
 cloned-few (p ∷ more) h =
     let rises = later (p ∷ []) more h.1 in
-    let first : p.cloned ≤ p.after = ⊎_elim (λ (f : IsFlush p). let c = f.cloned in omega (arith, c)) (λ o. ⊎_elim (λ (c : IsClone p). let e = c.cloned in omega (arith, e)) (λ (v : IsWhole p). v.cloned) o) h.0.whole.by_kind in
+    let first : p.cloned ≤ p.after = ⊎_elim (λ (f : IsFlush p). let c = f.cloned in omega (arith, c)) (λ o. ⊎_elim (λ (c : IsClone p). let e = c.cloned in omega (arith, e)) (λ (v : IsWholePayload p). v.cloned) o) h.0.whole.by_kind in
     omega (arith, rises, first)
   where
     later : (before more : List Payload) → AreLawful before more → count_after 0 before ≤ count_after (count_after 0 before) more

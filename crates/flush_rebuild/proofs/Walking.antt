@@ -18,7 +18,7 @@ use Rattle.change_rules.proofs.Flushes.{row-found, name-in}
 use Rattle.mirror_set.specs.Fresh.{PlainFresh}
 use Rattle.payload_tables.specs.declared.base.BaseRef.{BaseRef}
 use Rattle.payload_tables.specs.Pending.{PlainPending, HoldsRows}
-use Rattle.payload_tables.specs.Bases.{id_row}
+use Rattle.payload_tables.specs.Bases.{held_row}
 use Rattle.flush_rebuild.specs.Taken.{AreTaken, MayAdd, MayWalk}
 use Rattle.flush_rebuild.proofs.Marking.{all-taken}
 use Rattle.flush_rebuild.proofs.Stepping.{split-at, take-next, under}
@@ -67,7 +67,7 @@ module _ (newest : BaseRef) (flats : List Segment) (cloned : ℕ) (fresh : Plain
         lossless = ap (Rattle.change_rules.specs.Rebase.first_missing same_name (names_of (rows_of w))) gone;
         ids_are = none ∙ ap (λ l. map (id_in same_name (with_pending w (left_of same_name w (take cloned rows)))) (names_of l)) (sym (drop-taken cloned rows));
         first = first;
-        held = subst (λ l. HoldsRows left (map (id_row (with_pending w l)) l)) (sym gone) held;
+        held = subst (λ l. HoldsRows left (map (held_row (with_pending w l)) l)) (sym gone) held;
       }
 
   abbrev numbers : Segment → ℕ → List ℕ

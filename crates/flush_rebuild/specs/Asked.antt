@@ -9,7 +9,7 @@ use Rattle.name_map.specs.Added.{Placed, payloads_of, AllStand}
 use Rattle.payload_tables.specs.declared.base.BaseRef.{BaseRef}
 use Rattle.change_rules.specs.Tables.{newest, other_names_in}
 use Rattle.payload_tables.specs.Kept.{PlainTables, AreTablesOf}
-use Rattle.payload_tables.specs.Pending.{IdRow, PlainPending, HoldsRows, row_names}
+use Rattle.payload_tables.specs.Pending.{HeldRow, PlainPending, HoldsRows, row_names}
 use Rattle.payload_tables.specs.Bases.{IsBaseOf, stored_in}
 
 -- how many other ids the base of these payloads has
@@ -30,13 +30,13 @@ IsFoundIn added name None = IsStored added name → ⊥
 IsFoundIn added name (Some id) = IsBaseId added id
 
 -- parents that are among so many master ids, or other ids
-abbrev pub HaveParents : ℕ → List IdRow → Type 0
+abbrev pub HaveParents : ℕ → List HeldRow → Type 0
 HaveParents masters rows = AllByRecursion (λ row. AllByRecursion (λ p. (p < masters) ⊎ (2 ^ 56 ≤ p)) row.parents) rows
 
 -- Pending rows that a payload behind these may store: they begin where the other ids end, their master parents are in the
 -- base, and their names are new there.
 pub record MayStore (pending : PlainPending) (added : List Placed) : Type 0 where
-  pub rows : List IdRow
+  pub rows : List HeldRow
   pub held : HoldsRows pending rows
   pub first : pending.first ≡ others_count added
   pub parents : HaveParents (count_after 0 (payloads_of added)) rows
@@ -59,7 +59,7 @@ pub record MayRebaseOn (tables : PlainTables) (bytes : List ℕ) (base : BaseRef
   pub stand : AllStand bytes added
   pub base_of : IsBaseOf base before
   pub grows : base.below ≤ count_after 0 (payloads_of added)
-  pub rows : List IdRow
+  pub rows : List HeldRow
   pub held : HoldsRows pending rows
   pub first : pending.first ≡ others_count before
   pub parents : HaveParents base.below rows

@@ -16,7 +16,7 @@ use Rattle.payload_tables.specs.Kept.{PlainTables, AreTablesOf}
 use Rattle.flush_rebuild.specs.declared.plan.Change.{Change}
 use Rattle.flush_rebuild.specs.declared.fault.PlanFault.{PlanFault}
 use Rattle.flush_rebuild.specs.declared.fault.PlanFault.TheVariants.{BadClone}
-use Rattle.flush_rebuild.specs.Plans.{over, first_of, length_with}
+use Rattle.flush_rebuild.specs.Plans.{over, first_fault, length_with}
 use Rattle.flush_rebuild.specs.Following.{with_payload}
 
 -- how many commits the segments have that a remote told
@@ -33,7 +33,7 @@ broken_fault (Some at) = Some (BadClone at)
 
 -- why a clone is refused for its heads and commits, and for the log of so many bytes that it would be put behind
 abbrev pub counts_refusal : Limits → CloneData → Option PlanFault
-counts_refusal limits told = first_of (over most_heads (length told.heads) Heads) (over limits.master (told_count told) Master)
+counts_refusal limits told = first_fault (over most_heads (length told.heads) Heads) (over limits.master (told_count told) Master)
 
 abbrev pub log_refusal : Limits → ℕ → CloneData → Option PlanFault
 log_refusal limits log told = over limits.log (length_with log (told_payload told)) Log
@@ -41,7 +41,7 @@ log_refusal limits log told = over limits.log (length_with log (told_payload tol
 -- Why a clone is refused: for the first item that breaks its rule, or for the first of the heads, the commits and the log's bytes
 -- that are above their limit.
 abbrev pub told_refusal : Limits → ℕ → CloneData → Option PlanFault
-told_refusal limits log told = first_of (broken_fault (first_broken told)) (first_of (counts_refusal limits told) (log_refusal limits log told))
+told_refusal limits log told = first_fault (broken_fault (first_broken told)) (first_fault (counts_refusal limits told) (log_refusal limits log told))
 
 -- The change is that of what a remote told; where it has no commits, there is nothing to write.
 pub record IsToldPlan (plan : Change) (told : CloneData) : Type 0 where
@@ -57,8 +57,8 @@ clone_payload r = if nat_lt 0 (length r.master) then text_of (clone_change r) el
 -- why a clone of a world's master is refused: for the first of these numbers that is above its limit
 abbrev pub clone_refusal : Limits → ℕ → World Name → Option PlanFault
 clone_refusal limits log r =
-    first_of (over most_heads (length (heads_of r)) Heads)
-    (first_of (over limits.master (length r.master) Master)
+    first_fault (over most_heads (length (heads_of r)) Heads)
+    (first_fault (over limits.master (length r.master) Master)
     (over limits.log (length_with log (clone_payload r)) Log))
 
 -- an honest remote whose master has these rows tells this

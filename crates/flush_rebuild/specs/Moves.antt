@@ -14,7 +14,7 @@ use Rattle.segment_codec.specs.Table.{parents_at}
 use Rattle.segment_rules.specs.Flat.{flat_segments_of}
 use Rattle.segment_rules.specs.NewLevels.{new_levels}
 use Rattle.batch_codec.specs.Payload.{Payload}
-use Rattle.flush_rebuild.specs.Flat.{Span, single, flat_segments}
+use Rattle.flush_rebuild.specs.Flat.{Span, single_span, flat_segments}
 use Rattle.change_rules.specs.Change.{known_from}
 
 -- the record of a segment
@@ -66,8 +66,8 @@ new_id ids id = if is_master_id id then id else slice_index ids (id - 2 ^ 56)
 
 -- the segments with one id more behind them
 abbrev pub grown : List Span → ℕ → List ℕ → List Span
-grown [] id parents = single id parents ∷ []
-grown (s ∷ []) id parents = if pointwise nat_eq parents (s.high ∷ []) then record s { high = id } ∷ [] else s ∷ single id parents ∷ []
+grown [] id parents = single_span id parents ∷ []
+grown (s ∷ []) id parents = if pointwise nat_eq parents (s.high ∷ []) then record s { high = id } ∷ [] else s ∷ single_span id parents ∷ []
 grown (s ∷ t ∷ more) id parents = s ∷ grown (t ∷ more) id parents
 
 -- the name of a number, in bytes with a name for each

@@ -18,7 +18,7 @@ use Rattle.change_rules.specs.Rebase.{first_conflict, first_lost}
 use Rattle.change_rules.specs.Change.{flush_change}
 use Rattle.change_rules.specs.Tables.{StandFor}
 use Rattle.payload_tables.specs.Kept.{PlainTables, AreTablesOf}
-use Rattle.payload_tables.specs.Pending.{IdRow, PlainPending, HoldsRows}
+use Rattle.payload_tables.specs.Pending.{HeldRow, PlainPending, HoldsRows}
 use Rattle.id_groups.specs.Id.{other_id}
 use Rattle.std.specs.List.{AllZip}
 use Rattle.payload_tables.specs.Bases.{ArePending, IsBaseOf}
@@ -44,9 +44,9 @@ first_unknown w (name ∷ more) = if is_in same_name name (names_of (rows_of w))
 abbrev pub over : ℕ → ℕ → Limit → Option PlanFault
 over limit n which = if nat_lt limit n then Some (Full which limit) else None
 
-abbrev pub first_of : Option PlanFault → Option PlanFault → Option PlanFault
-first_of (Some fault) later = Some fault
-first_of None later = later
+abbrev pub first_fault : Option PlanFault → Option PlanFault → Option PlanFault
+first_fault (Some fault) later = Some fault
+first_fault None later = later
 
 abbrev pub unknown_fault : Option Name → Option PlanFault
 unknown_fault None = None
@@ -60,13 +60,13 @@ length_with log (byte ∷ more) = log + 9 + length (byte ∷ more)
 -- why a change is refused: the first of these numbers that is above its limit
 abbrev pub size_refusal : Limits → ℕ → World Name → List ℕ → Option PlanFault
 size_refusal limits log new payload =
-    first_of (over limits.others (length new.others) Others)
-    (first_of (over limits.master (length new.master) Master)
+    first_fault (over limits.others (length new.others) Others)
+    (first_fault (over limits.master (length new.master) Master)
     (over limits.log (length_with log payload) Log))
 
 -- why a flush of a view is refused: a head that isn't there, or a size
 abbrev pub flush_refusal : Limits → ℕ → World Name → World Name → List Name → List ℕ → Option PlanFault
-flush_refusal limits log view new heads payload = first_of (unknown_fault (first_unknown view heads)) (size_refusal limits log new payload)
+flush_refusal limits log view new heads payload = first_fault (unknown_fault (first_unknown view heads)) (size_refusal limits log new payload)
 
 -- The plan is that of the change from the old world to the new one; where they are the same, there is nothing to write.
 pub record IsPlanOf (plan : Change) (old new : World Name) (payload : List ℕ) : Type 0 where
@@ -118,7 +118,7 @@ lost_fault (Some name) = Some (Lost name)
 
 -- why a rebase is refused: a row that is stored with other parents, or else a parent that is lost
 abbrev pub rebase_refusal : World Name → List (Row Name) → Option PlanFault
-rebase_refusal w rows = first_of (conflict_fault (first_conflict same_name w rows)) (lost_fault (first_lost same_name w rows))
+rebase_refusal w rows = first_fault (conflict_fault (first_conflict same_name w rows)) (lost_fault (first_lost same_name w rows))
 
 -- What a session flushes, where all heads are there: these are the numbers of those that aren't in master.
 pub record MayMove (tables : PlainTables) (bytes : List ℕ) (pending : PlainPending) (numbers : List ℕ) (w : World Name) (rows : List (Row Name)) (heads : List Name) : Type 0 where
@@ -133,7 +133,7 @@ pub record MayMove (tables : PlainTables) (bytes : List ℕ) (pending : PlainPen
 
 -- pending rows, and of each head an id that is a master id or below theirs, or none
 pub record MayLook (pending : PlainPending) (heads : List Name) (found : List (Option ℕ)) : Type 0 where
-  pub rows : List IdRow
+  pub rows : List HeldRow
   pub held : HoldsRows pending rows
   pub found_are : AllZip (λ name o. IfSome o (λ id. (id < 2 ^ 56) ⊎ ((2 ^ 56 ≤ id) × (id < other_id pending.first)))) heads found
 

@@ -10,7 +10,7 @@ use Rattle.commit_graph.specs.World.{Row, World, IsNamedWorld, names_of}
 use Rattle.segment_codec.specs.Record.{Segment}
 use Rattle.batch_codec.specs.Payload.{Known, Payload}
 use Rattle.batch_codec.specs.Grammar.{cut_below}
-use Rattle.remote_rules.specs.CloneData.{CloneData, KnownName, first_broken, first_false, first_of as first_some}
+use Rattle.remote_rules.specs.CloneData.{CloneData, KnownName, first_broken, first_false, first_some}
 use Rattle.remote_rules.specs.Known.{master_world}
 use Rattle.segment_rules.specs.Flat.{parents_listed}
 use Rattle.mirror_set.specs.Fresh.{PlainFresh, count_from}
@@ -23,7 +23,7 @@ use Rattle.change_rules.specs.Disagree.{first_unlike, first_bad_row, segments_ag
 use Rattle.payload_tables.specs.Kept.{PlainTables, AreTablesOf}
 use Rattle.flush_rebuild.specs.declared.fault.PlanFault.{PlanFault}
 use Rattle.flush_rebuild.specs.declared.fault.PlanFault.TheVariants.{BadClone, BadRow}
-use Rattle.flush_rebuild.specs.Plans.{over, first_of, length_with, conflict_fault}
+use Rattle.flush_rebuild.specs.Plans.{over, first_fault, length_with, conflict_fault}
 
 -- The names of a remote's ids, where the first are those of the world's master rows, so many, and the others were fetched.
 abbrev pub told_names : World Name → ℕ → List Name → List Name
@@ -76,14 +76,14 @@ abbrev pub mismatch : List Placed → PlainFresh → Option PlanFault
 mismatch added fresh =
     let payloads = payloads_of added in
     let cloned = cloned_count payloads in
-    first_of (clone_fault (first_unlike payloads cloned fresh.cloned)) (row_fault (first_bad_row payloads cloned fresh.cloned fresh.names))
+    first_fault (clone_fault (first_unlike payloads cloned fresh.cloned)) (row_fault (first_bad_row payloads cloned fresh.cloned fresh.names))
 
 -- why a pull is refused: a mismatch, a row that the world has with other parents, or a size
 abbrev pub pull_refusal : Limits → ℕ → List Placed → PlainFresh → World Name → List (Row Name) → World Name → List ℕ → Option PlanFault
 pull_refusal limits log added fresh w rows new payload =
-    first_of (mismatch added fresh)
-    (first_of (conflict_fault (first_conflict same_name w rows))
-    (first_of (over limits.master (length new.master) Master)
+    first_fault (mismatch added fresh)
+    (first_fault (conflict_fault (first_conflict same_name w rows))
+    (first_fault (over limits.master (length new.master) Master)
     (over limits.log (length_with log payload) Log)))
 
 -- the first segment that isn't the stored one of its place, below an id; or how many items there are, where one is missing

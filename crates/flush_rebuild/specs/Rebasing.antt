@@ -11,7 +11,7 @@ use Rattle.batch_codec.specs.Payload.{Known}
 use Rattle.batch_codec.specs.Grammar.{count_after}
 use Rattle.name_map.specs.Added.{Placed, payloads_of}
 use Rattle.change_rules.specs.Tables.{newest, other_names_in}
-use Rattle.payload_tables.specs.Pending.{PlainPending, IdRow, HoldsRows, row_names}
+use Rattle.payload_tables.specs.Pending.{PlainPending, HeldRow, HoldsRows, row_names}
 use Rattle.payload_tables.specs.Bases.{stored_in}
 use Rattle.flush_rebuild.specs.declared.fault.PlanFault.{PlanFault}
 use Rattle.flush_rebuild.specs.declared.fault.PlanFault.TheVariants.{Lost, Conflict}
@@ -75,16 +75,16 @@ AreStoredWhere before added first found flats (Some id) parents same = AreStored
 pub record IsKept (old new : PlainPending) (name : Name) (parents : List ℕ) (id : ℕ) : Type 0 where
   pub id_is : id ≡ other_id (old.first + length old.places)
   pub first : new.first ≡ old.first
-  pub rows : (rows : List IdRow) → HoldsRows old rows → HoldsRows new (rows ++ record { name = name; parents = parents } ∷ [])
+  pub rows : (rows : List HeldRow) → HoldsRows old rows → HoldsRows new (rows ++ record { name = name; parents = parents } ∷ [])
 
 -- a row that was found stays where it is, and is left no more; or it is put behind the rows that are left, with its new parents
-abbrev pub IsRebased : List Placed → List Placed → ℕ → List ℕ → Option ℕ → PlainPending → PlainPending → IdRow → ℕ → Type 0
+abbrev pub IsRebased : List Placed → List Placed → ℕ → List ℕ → Option ℕ → PlainPending → PlainPending → HeldRow → ℕ → Type 0
 IsRebased before added first ids (Some stored) old new row id = (id ≡ stored) × (new ≡ old)
 IsRebased before added first ids None old new row id =
     (moved : List ℕ) × AllZip (IsMoved before added first ids) row.parents moved × AreDistinct moved × IsKept old new row.name moved id
 
 -- why a row that wasn't found can't be left: a parent is lost, or two of them are at one id
-abbrev pub IsNotLeft : List Placed → List Placed → ℕ → List ℕ → Option ℕ → IdRow → PlanFault → Type 0
+abbrev pub IsNotLeft : List Placed → List Placed → ℕ → List ℕ → Option ℕ → HeldRow → PlanFault → Type 0
 IsNotLeft before added first ids (Some stored) row fault = ⊥
 IsNotLeft before added first ids None row fault =
     LosesFirst before added first ids row.parents fault
@@ -95,8 +95,8 @@ abbrev pub IsNewId : ℕ → ℕ → ℕ → Type 0
 IsNewId masters others id = (id < masters) ⊎ ((2 ^ 56 ≤ id) × (id < other_id others))
 
 -- What is left of the first pending rows, and the ids that they all have, whatever world it is.
-pub record LeftSoFar (added : List Placed) (front : List IdRow) (ids : List ℕ) (kept : PlainPending) : Type 0 where
-  pub some : List IdRow
+pub record LeftSoFar (added : List Placed) (front : List HeldRow) (ids : List ℕ) (kept : PlainPending) : Type 0 where
+  pub some : List HeldRow
   pub held : HoldsRows kept some
   pub first : kept.first ≡ others_count added
   pub parents : HaveParents (count_after 0 (payloads_of added)) some

@@ -23,7 +23,7 @@ use Rattle.flush_rebuild.specs.Asked.{others_count}
 use Rattle.flush_rebuild.specs.Flat.{flat_segments}
 use Rattle.flush_rebuild.specs.Moves.{flat_record, new_id, name_at}
 use Rattle.flush_rebuild.specs.Rows.{AreRowsBelow}
-use Rattle.flush_rebuild.specs.Plans.{over, first_of, length_with}
+use Rattle.flush_rebuild.specs.Plans.{over, first_fault, length_with}
 
 -- whether a parent is marked, by its id
 abbrev pub is_marked : List Bool → ℕ → Bool
@@ -69,7 +69,7 @@ emptied old new = if nat_lt 0 (length (rows_of new)) then None else Some (Emptie
 
 -- why a strip is refused: nothing would be left, or the log would be too long
 abbrev pub strip_refusal : Limits → ℕ → World Name → World Name → List ℕ → Option PlanFault
-strip_refusal limits log old new payload = first_of (emptied old new) (over limits.log (length_with log payload) Log)
+strip_refusal limits log old new payload = first_fault (emptied old new) (over limits.log (length_with log payload) Log)
 
 -- the new ids of the numbers below n that stay, in their order
 pub record AreKeptIds (n : ℕ) (kept ids : List ℕ) : Type 0 where

@@ -20,11 +20,11 @@ use Rattle.mirror_set.specs.Fresh.{PlainFresh, count_from}
 use Rattle.payload_tables.specs.declared.base.BaseRef.{BaseRef}
 use Rattle.payload_tables.specs.Kept.{PlainTables, AreTablesOf}
 use Rattle.payload_tables.specs.Pending.{PlainPending, HoldsRows}
-use Rattle.payload_tables.specs.Bases.{IsBaseOf, AreSegmentsOf, id_row, stored_in}
+use Rattle.payload_tables.specs.Bases.{IsBaseOf, AreSegmentsOf, held_row, stored_in}
 use Rattle.flush_rebuild.specs.declared.fault.PlanFault.{PlanFault}
 use Rattle.flush_rebuild.specs.declared.fault.PlanFault.TheVariants.{Memory, Conflict}
 use Rattle.flush_rebuild.specs.Asked.{IsStored}
-use Rattle.flush_rebuild.specs.Plans.{over, first_of, length_with}
+use Rattle.flush_rebuild.specs.Plans.{over, first_fault, length_with}
 use Rattle.flush_rebuild.specs.Pulling.{MayPullOn, told_rows}
 use Rattle.flush_rebuild.specs.Rebasing.{IsKept}
 
@@ -51,7 +51,7 @@ pub record AreTaken (w : World Name) (cloned : ℕ) (front : List (Row Name)) (i
   pub lossless : first_lost same_name w front ≡ None
   pub ids_are : ids ≡ map (id_in same_name (with_pending w (left_of same_name w front))) (names_of (drop cloned front))
   pub first : left.first ≡ length w.others
-  pub held : HoldsRows left (map (id_row (with_pending w (left_of same_name w front))) (left_of same_name w front))
+  pub held : HoldsRows left (map (held_row (with_pending w (left_of same_name w front))) (left_of same_name w front))
 
 -- The base is that of the world, whose segments these are. The remote's cloned rows are the world's, and each other name of its that
 -- the world has is stored.
@@ -107,7 +107,7 @@ pub record MayPut (tables : PlainTables) (bytes : List ℕ) (ids : List ℕ) (le
 
 -- why a pull is refused for its sizes: the first of these numbers that is above its limit; others don't become more
 abbrev pub pull_sizes : Limits → ℕ → World Name → List ℕ → Option PlanFault
-pull_sizes limits log new payload = first_of (over limits.master (length new.master) Master) (over limits.log (length_with log payload) Log)
+pull_sizes limits log new payload = first_fault (over limits.master (length new.master) Master) (over limits.log (length_with log payload) Log)
 
 -- the limits of a run, but for that of others, which is the most that a payload has room for
 abbrev pub any_others : Limits → Limits

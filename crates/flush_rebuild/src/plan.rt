@@ -13,7 +13,7 @@ ghost use Rattle.change_rules.specs.Tables.{StandFor};
 ghost use Rattle.flush_rebuild.specs.Facts.{IsMove};
 ghost use Rattle.flush_rebuild.specs.Moves.{node_of, rest_of};
 ghost use Rattle.payload_tables.specs.Bases.{ArePending};
-ghost use Rattle.payload_tables.specs.Pending.{IdRow, HoldsRows};
+ghost use Rattle.payload_tables.specs.Pending.{HeldRow, HoldsRows};
 ghost use Rattle.change_rules.specs.Standard.{AreLimits};
 ghost use Rattle.flush_rebuild.specs.Plans.{MayLook, MayFind, stored_id, unknown_fault, first_unknown, MayFlush, MayMove, flush_refusal, size_refusal, over, IsPlanOf, IsChangeOf, MayBeStored};
 ghost use Rattle.flush_rebuild.specs.Asked.{MayPlan};
@@ -103,7 +103,7 @@ pub(crate) fn names_of<'a>(
 ) -> Names<'a>
     requires stored { others.now.names + 20 * others.now.count ≤ length bytes.now }
     requires pending { length pending.now.names ≡ 20 * length pending.now.places }
-    requires rows { (rows : List IdRow) × HoldsRows pending.now rows }
+    requires rows { (rows : List HeldRow) × HoldsRows pending.now rows }
     ensures stored { result.stored.now ≡ take (20 * others.now.count) (drop others.now.names bytes.now) }
     ensures pending { result.pending.now ≡ pending.now.names }
     ensures count { result.count ≡ others.now.count }
@@ -238,8 +238,8 @@ pub(crate) fn plan_moves<'x>(
 
 /// The id of a head in a session's view: the one that was found in the stored world, or that of a pending row.
 fn head_id(pending: &PendingRows, head: &Name, found: Option<Id>) -> Option<Id>
-    requires { (rows : List IdRow) × HoldsRows pending.now rows }
-    ensures small { (rows : List IdRow) → HoldsRows pending.now rows → IfSome result (λ id. (found ≡ Some id) ⊎ ((2 ^ 56 ≤ id) × (id < other_id (pending.now.first + length rows)))) }
+    requires { (rows : List HeldRow) × HoldsRows pending.now rows }
+    ensures small { (rows : List HeldRow) → HoldsRows pending.now rows → IfSome result (λ id. (found ≡ Some id) ⊎ ((2 ^ 56 ≤ id) × (id < other_id (pending.now.first + length rows)))) }
     ensures worlds { (w : World NameBytes) (rows : List (Row NameBytes)) → ArePending w pending.now rows → found ≡ stored_id w head.now
         → MatchOption result (IsIn head.now (names_of (rows_of (with_pending w rows))) → ⊥) (λ id. IsIn head.now (names_of (rows_of (with_pending w rows))) × (id ≡ id_in same_name (with_pending w rows) head.now)) }
 {
@@ -269,7 +269,7 @@ fn head_numbers(
     found: &[Option<Id>],
 ) -> Result<Vec<u32>, PlanFault>
     requires { MayLook pending.now heads.now found.now }
-    ensures below { (rows : List IdRow) → HoldsRows pending.now rows → IfOk result (λ numbers. AreBelow (pending.now.first + length rows) numbers.items) }
+    ensures below { (rows : List HeldRow) → HoldsRows pending.now rows → IfOk result (λ numbers. AreBelow (pending.now.first + length rows) numbers.items) }
     ensures worlds { (w : World NameBytes) (rows : List (Row NameBytes)) → MayFind pending.now heads.now found.now w rows
         → MatchResult result
         (λ numbers. AreAllIn heads.now (names_of (rows_of (with_pending w rows))) × (numbers.items ≡ others_of (map node_of (map (id_in same_name (with_pending w rows)) heads.now))))

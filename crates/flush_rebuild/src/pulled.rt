@@ -14,7 +14,7 @@ ghost use Rattle.change_rules.specs.Rebase.{first_conflict, left_of};
 ghost use Rattle.change_rules.specs.Tables.{cloned_count};
 ghost use Rattle.mirror_set.specs.Fresh.{PlainFresh};
 ghost use Rattle.payload_tables.specs.Bases.{IsBaseOf, ArePending};
-ghost use Rattle.payload_tables.specs.Pending.{IdRow, HoldsRows, row_names};
+ghost use Rattle.payload_tables.specs.Pending.{HeldRow, HoldsRows, row_names};
 ghost use Rattle.flush_rebuild.specs.declared.fault.PlanFault.TheVariants.{Memory};
 ghost use Rattle.flush_rebuild.specs.Plans.{conflict_fault};
 ghost use Rattle.flush_rebuild.specs.Rebasing.{IsKept};
@@ -67,8 +67,8 @@ fn parents_beside(
 /// Puts a row that isn't there behind those that are left, with these parents. The answer is its id. Where there is no room for
 /// one more, that counts as want of memory.
 fn add_new(name: &Name, parents: &[Id], left: &mut PendingRows) -> Result<Id, PlanFault>
-    requires rows { (rows : List IdRow) × HoldsRows left.old rows }
-    requires new { (rows : List IdRow) → HoldsRows left.old rows → IsIn name.now (row_names rows) → ⊥ }
+    requires rows { (rows : List HeldRow) × HoldsRows left.old rows }
+    requires new { (rows : List HeldRow) → HoldsRows left.old rows → IsIn name.now (row_names rows) → ⊥ }
     requires few { length parents.now ≤ 8 }
     requires distinct { AreDistinct parents.now }
     requires below { AllByRecursion (λ p. p < other_id (left.old.first + length left.old.places)) parents.now }
@@ -93,8 +93,8 @@ fn row_beside(
     left: &mut PendingRows,
 ) -> Result<Id, PlanFault>
     requires newest { (added : List Placed) × IsBaseOf newest.now added }
-    requires rows { (rows : List IdRow) × HoldsRows left.old rows }
-    requires new { (rows : List IdRow) → HoldsRows left.old rows → IsIn name.now (row_names rows) → ⊥ }
+    requires rows { (rows : List HeldRow) × HoldsRows left.old rows }
+    requires new { (rows : List HeldRow) → HoldsRows left.old rows → IsIn name.now (row_names rows) → ⊥ }
     requires few { length parents.now ≤ 8 }
     requires distinct { AreDistinct parents.now }
     requires below { AllByRecursion (λ p. p < other_id (left.old.first + length left.old.places)) parents.now }

@@ -13,7 +13,7 @@ ghost use Rattle.flush_rebuild.specs.declared.fault.PlanFault.TheVariants.{Memor
 ghost use Rattle.name_map.specs.Added.{Placed};
 ghost use Rattle.payload_tables.specs.Kept.{PlainTables};
 ghost use Rattle.payload_tables.specs.Bases.{IsBaseOf, ArePending};
-ghost use Rattle.payload_tables.specs.Pending.{IdRow, HoldsRows};
+ghost use Rattle.payload_tables.specs.Pending.{HeldRow, HoldsRows};
 ghost use Rattle.change_rules.specs.Rebase.{first_conflict, first_lost, left_of};
 ghost use Rattle.flush_rebuild.specs.Plans.{MayRebase, conflict_fault, lost_fault, rebase_refusal};
 ghost use Rattle.flush_rebuild.specs.Asked.{others_count, MayStore, MayRebaseOn};
@@ -110,9 +110,9 @@ fn is_stored_so(
 ) -> Result<bool, AllocError>
     requires newest { (added : List Placed) × IsBaseOf newest.now added }
     requires base { (before : List Placed) × IsBaseOf base.now before × (pending.now.first ≡ others_count before) }
-    requires row { (rows : List IdRow) × (row : IdRow) × HoldsRows pending.now rows × (slice_get rows i ≡ Some row)
+    requires row { (rows : List HeldRow) × (row : HeldRow) × HoldsRows pending.now rows × (slice_get rows i ≡ Some row)
         × AllByRecursion (λ p. p < other_id (pending.now.first + length found.now)) row.parents }
-    ensures { (added before : List Placed) (rows : List IdRow) (row : IdRow) → IsBaseOf newest.now added → IsBaseOf base.now before
+    ensures { (added before : List Placed) (rows : List HeldRow) (row : HeldRow) → IsBaseOf newest.now added → IsBaseOf base.now before
         → pending.now.first ≡ others_count before → HoldsRows pending.now rows → slice_get rows i ≡ Some row
         → IfOk result (AreStoredAs before added pending.now.first found.now (parents_at (flats_in view.now) id) row.parents) }
 {
@@ -139,9 +139,9 @@ fn check_row(
 ) -> Result<(), PlanFault>
     requires newest { (added : List Placed) × IsBaseOf newest.now added }
     requires base { (before : List Placed) × IsBaseOf base.now before × (pending.now.first ≡ others_count before) }
-    requires row { (rows : List IdRow) × (row : IdRow) × HoldsRows pending.now rows × (slice_get rows i ≡ Some row)
+    requires row { (rows : List HeldRow) × (row : HeldRow) × HoldsRows pending.now rows × (slice_get rows i ≡ Some row)
         × AllByRecursion (λ p. p < other_id (pending.now.first + length found.now)) row.parents }
-    ensures { (added before : List Placed) (rows : List IdRow) (row : IdRow) → IsBaseOf newest.now added → IsBaseOf base.now before
+    ensures { (added before : List Placed) (rows : List HeldRow) (row : HeldRow) → IsBaseOf newest.now added → IsBaseOf base.now before
         → pending.now.first ≡ others_count before → HoldsRows pending.now rows → slice_get rows i ≡ Some row
         → MatchResult result
         (λ done. AreStoredWhere before added pending.now.first found.now (flats_in view.now) own row.parents true)
@@ -262,7 +262,7 @@ fn are_distinct(ids: &[Id]) -> bool
 /// it counts as stored with others.
 fn keep_row(name: &Name, parents: &[Id], left: &mut PendingRows) -> Result<Id, PlanFault>
     requires few { length parents.now ≤ 8 }
-    requires rows { (rows : List IdRow) × HoldsRows left.old rows × (length rows < 16777216) }
+    requires rows { (rows : List HeldRow) × HoldsRows left.old rows × (length rows < 16777216) }
     requires below { AllByRecursion (λ p. p < other_id (left.old.first + length left.old.places)) parents.now }
     ensures { MatchResult result
         (λ id. AreDistinct parents.now × IsKept left.old left.new name.now parents.now id)
@@ -288,9 +288,9 @@ fn row_parents(
 ) -> Result<Vec<Id>, PlanFault>
     requires newest { (added : List Placed) × IsBaseOf newest.now added }
     requires base { (before : List Placed) × IsBaseOf base.now before × (pending.now.first ≡ others_count before) }
-    requires row { (rows : List IdRow) × (row : IdRow) × HoldsRows pending.now rows × (slice_get rows i ≡ Some row)
+    requires row { (rows : List HeldRow) × (row : HeldRow) × HoldsRows pending.now rows × (slice_get rows i ≡ Some row)
         × AllByRecursion (λ p. p < other_id (pending.now.first + length ids.now)) row.parents }
-    ensures { (added before : List Placed) (rows : List IdRow) (row : IdRow) → IsBaseOf newest.now added → IsBaseOf base.now before
+    ensures { (added before : List Placed) (rows : List HeldRow) (row : HeldRow) → IsBaseOf newest.now added → IsBaseOf base.now before
         → pending.now.first ≡ others_count before → HoldsRows pending.now rows → slice_get rows i ≡ Some row
         → MatchResult result
         (λ moved. AllZip (IsMoved before added pending.now.first ids.now) row.parents moved.items)
@@ -316,8 +316,8 @@ fn left_row(
 ) -> Result<Id, PlanFault>
     requires newest { (added : List Placed) × IsBaseOf newest.now added }
     requires row { (tables : PlainTables) × (bytes : List ℕ) × (all : List (Option ℕ)) × (added before : List Placed) × (m : MayRebaseOn tables bytes base.now pending.now all added before)
-        × (row : IdRow) × IsBaseOf newest.now added × (slice_get m.rows i ≡ Some row) × LeftSoFar added (take i m.rows) ids.now left.old }
-    ensures { (added before : List Placed) (rows : List IdRow) (row : IdRow) → IsBaseOf newest.now added → IsBaseOf base.now before
+        × (row : HeldRow) × IsBaseOf newest.now added × (slice_get m.rows i ≡ Some row) × LeftSoFar added (take i m.rows) ids.now left.old }
+    ensures { (added before : List Placed) (rows : List HeldRow) (row : HeldRow) → IsBaseOf newest.now added → IsBaseOf base.now before
         → pending.now.first ≡ others_count before → HoldsRows pending.now rows → slice_get rows i ≡ Some row
         → MatchResult result
         (IsRebased before added pending.now.first ids.now found left.old left.new row)

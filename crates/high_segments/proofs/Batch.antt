@@ -12,9 +12,9 @@ use Rattle.segment_codec.specs.Turns.{goes_on, StandInTurn, place_behind}
 use Rattle.segment_codec.proofs.Flats.{parts-lawful, follow-append}
 use Rattle.segment_codec.proofs.Tables.{all-pass, follow-ends, follow-within}
 use Rattle.segment_codec.proofs.Turns.{begins-there, turn-follow}
-use Rattle.flat_segments.specs.Kept.{Kept as FlatKept, IsTableOf}
+use Rattle.flat_segments.specs.Kept.{KeptFlats as FlatKept, IsTableOf}
 use Rattle.flat_segments.specs.Maximal.{begin_of, up_to, maximal}
-use Rattle.flat_segments.specs.Placed.{Placed, segments_of, MasterMayStandAt}
+use Rattle.flat_segments.specs.Placed.{PlacedSegment, segments_of, MasterMayStandAt}
 use Rattle.flat_segments.specs.Runs.{is_read}
 use Rattle.flat_segments.proofs.Adding.{all-append}
 use Rattle.flat_segments.proofs.Cutting.{all-filter, rise-filter, up_to-flat}
@@ -22,10 +22,10 @@ use Rattle.flat_segments.proofs.Graphs.{maximal-ids}
 use Rattle.flat_segments.proofs.Rising.{follow-rise}
 use Rattle.flat_segments.proofs.Standing.{all-segments}
 use Rattle.segment_rules.specs.Levels.{complete, count_grouped}
-use Rattle.segment_levels.specs.Kept.{Kept, PlainLevel, PlainGroups, segments_in, AreLevelsAbove}
-use Rattle.segment_levels.specs.Whole.{IsWhole, Grows}
+use Rattle.segment_levels.specs.Kept.{KeptLevels, PlainLevel, PlainGroups, segments_in, AreLevelsAbove}
+use Rattle.segment_levels.specs.Whole.{IsWholeTo, Grows}
 use Rattle.high_segments.specs.Growing.{MayGrow, MayBecome}
-use Rattle.high_segments.specs.Extending.{MayFollow, MayExtend, begun, begins_in, firsts}
+use Rattle.high_segments.specs.Extending.{MayGrowBy, MayExtendLevels, begun, begins_in, firsts}
 use Rattle.segment_levels.specs.Flats.{flats_of, extended}
 use Rattle.high_segments.proofs.Groups.{up_to-append}
 use Rattle.segment_levels.proofs.Grouping.{count-most}
@@ -35,7 +35,7 @@ use Rattle.high_segments.proofs.Places.{segments-length}
 
 -- ---- whole groups
 
-pub whole-of : (end : ℕ) (segments : List Segment) → AllByRecursion IsFlat segments → Follow 0 end segments → end ≤ 2 ^ 56 → IsWhole (maximal end segments) end
+pub whole-of : (end : ℕ) (segments : List Segment) → AllByRecursion IsFlat segments → Follow 0 end segments → end ≤ 2 ^ 56 → IsWholeTo (maximal end segments) end
 whole-of end segments flat h le =
     let ids = maximal-ids end segments flat h in
     let begins = λ (s : Segment). not (goes_on s) in
@@ -57,7 +57,7 @@ whole-of end segments flat h le =
       follow = ids;
     }
 
-pub table-whole : (table : FlatKept) (records : List Placed) → IsTableOf table records → IsWhole (flats_of table records) table.end
+pub table-whole : (table : FlatKept) (records : List PlacedSegment) → IsTableOf table records → IsWholeTo (flats_of table records) table.end
 table-whole table records is = whole-of table.end (segments_of records) (all-segments records is.flat) is.in_turn is.master
 
 stand-flat : (first place : ℕ) (segments : List Segment) → StandInTurn (MasterMayStandAt first) place segments → AllByRecursion IsFlat segments
@@ -68,7 +68,7 @@ pub all-level : (segments : List Segment) → AllByRecursion IsFlat segments →
 all-level [] h = tt
 all-level (s ∷ more) h = (h.0.flat, all-level more h.1)
 
-module _ (table : FlatKept) (bytes records : List ℕ) (before : List Placed) (segments : List Segment) (f : MayFollow table bytes records before segments) where
+module _ (table : FlatKept) (bytes records : List ℕ) (before : List PlacedSegment) (segments : List Segment) (f : MayGrowBy table bytes records before segments) where
   pub added-flat : AllByRecursion IsFlat segments
   added-flat = stand-flat table.end table.end segments f.in_turn
 
@@ -77,7 +77,7 @@ module _ (table : FlatKept) (bytes records : List ℕ) (before : List Placed) (s
       follow-append 0 table.end (place_behind table.end segments) (segments_of before) segments f.table_of.in_turn
       (turn-follow (MasterMayStandAt table.end) (λ place s may. begins-there table.end place s may.0) table.end segments f.in_turn)
 
-  pub new-whole : IsWhole (extended table before segments) (place_behind table.end segments)
+  pub new-whole : IsWholeTo (extended table before segments) (place_behind table.end segments)
   new-whole =
       let small = f.small in let wide : 16777216 ≤ 2 ^ 56 = lit≤ tt in
       whole-of (place_behind table.end segments) (segments_of before ++ segments) (all-append IsFlat (segments_of before) segments (all-segments before f.table_of.flat) added-flat) added-follow (omega (arith, small, wide))
@@ -183,7 +183,7 @@ take-drop (suc from) n (x ∷ xs) = take-drop from n xs ∙ ap (λ k. drop (suc 
 
 -- ---- the first level
 
-module _ (levels : Kept) (table : FlatKept) (bytes records : List ℕ) (h : MayExtend levels table bytes records) (from : ℕ) (first : PlainGroups) (others : List PlainGroups) (are : levels.levels ≡ first ∷ others) (from-is : from ≡ first.grouped)
+module _ (levels : KeptLevels) (table : FlatKept) (bytes records : List ℕ) (h : MayExtendLevels levels table bytes records) (from : ℕ) (first : PlainGroups) (others : List PlainGroups) (are : levels.levels ≡ first ∷ others) (from-is : from ≡ first.grouped)
     (l : PlainLevel) (begins : begins_in l ≡ map begun (drop from (flats_of table h.before)) ++ map begun (firsts h.segments)) (end : l.end ≡ place_behind table.end h.segments) where
   old : List Segment
   old = flats_of table h.before
@@ -234,7 +234,7 @@ module _ (levels : Kept) (table : FlatKept) (bytes records : List ℕ) (h : MayE
   pub few-new : length (extended table h.before h.segments) < 2 ^ 32
   few-new =
       let a = lengths-new in let b = firsts-few (segments_of h.before) in let c = firsts-few h.segments in
-      let d = length-map h.before (λ (r : Placed). r.segment) in let few = h.follow.few in omega (arith, a, b, c, d, few)
+      let d = length-map h.before (λ (r : PlacedSegment). r.segment) in let few = h.follow.few in omega (arith, a, b, c, d, few)
 
   module _ (now : PlainLevel) (level : now.level ≡ 0) (read : list_all (is_read now.bytes) now.entries ≡ true)
       (shorter : segments_in now ≡ take (length (segments_in l) - 1) (segments_in l)) (ends : now.end ≡ begin_of l.end (drop (length (segments_in l) - 1) (segments_in l))) where
@@ -299,7 +299,7 @@ pub first-is : (flats : List Segment) (levels : List PlainGroups) (at : PlainGro
 first-is flats [] at h e = absurd (omega (arith, h))
 first-is flats (x ∷ xs) at h e = record { others = xs; are = ap (λ z. z ∷ xs) (sym e) }
 
-pub from-within : (levels : Kept) (table : FlatKept) (bytes records : List ℕ) (h : MayExtend levels table bytes records) (from : ℕ) (first : PlainGroups) → First levels.levels first → from ≡ first.grouped
+pub from-within : (levels : KeptLevels) (table : FlatKept) (bytes records : List ℕ) (h : MayExtendLevels levels table bytes records) (from : ℕ) (first : PlainGroups) → First levels.levels first → from ≡ first.grouped
     → from ≤ length (flats_of table h.before)
 from-within levels table bytes records h from first f e =
     let above = subst (AreLevelsAbove (flats_of table h.before) 0) f.are h.levels_of.levels in

@@ -9,15 +9,15 @@ use Rattle.segment_codec.specs.Record.{Segment}
 use Rattle.segment_codec.specs.Table.{segment_at, parents_in, parents_at, IsHeld, IsHeaded, Follow}
 use Rattle.segment_codec.specs.Flat.{if_ends}
 use Rattle.segment_codec.proofs.Tables.{follow-held}
-use Rattle.flat_segments.specs.Kept.{Kept as FlatKept}
-use Rattle.flat_segments.specs.Placed.{Placed}
+use Rattle.flat_segments.specs.Kept.{KeptFlats as FlatKept}
+use Rattle.flat_segments.specs.Placed.{PlacedSegment}
 use Rattle.flat_segments.specs.Views.{view_flats, master_flats, other_flats, master_count}
 use Rattle.flat_segments.specs.declared.view.FlatView.{FlatView}
 use Rattle.flat_segments.proofs.Graphs.{cut-ids, cut-parents}
 use Rattle.flat_segments.proofs.Looking.{at-front}
 use Rattle.segment_rules.specs.Levels.{level_segments, top_level}
-use Rattle.segment_levels.specs.Kept.{Kept, PlainGroups, AreLevelsAbove}
-use Rattle.segment_levels.specs.Whole.{IsWhole}
+use Rattle.segment_levels.specs.Kept.{KeptLevels, PlainGroups, AreLevelsAbove}
+use Rattle.segment_levels.specs.Whole.{IsWholeTo}
 use Rattle.segment_levels.specs.Flats.{flats_of}
 use Rattle.segment_levels.specs.Tests.{is_kept, is_ending, are_levels}
 use Rattle.segment_levels.specs.Endings.{at_level, held_from, high_ending, ending_in, level_ending, BelongTogether}
@@ -57,7 +57,7 @@ at-ends n id (Some s) = go (nat_eq s.high id)
     go false = refl
 
 -- what ends in the levels that are kept is what ends in those of the flat segments
-pub same-endings : (whole : List Segment) (end count : ℕ) (levels : List PlainGroups) (j id : ℕ) → IsWhole whole end → end ≤ 16777216 → length whole < 2 ^ 32 → AreLevelsAbove whole 0 levels
+pub same-endings : (whole : List Segment) (end count : ℕ) (levels : List PlainGroups) (j id : ℕ) → IsWholeTo whole end → end ≤ 16777216 → length whole < 2 ^ 32 → AreLevelsAbove whole 0 levels
     → high_ending count levels (suc j) id ≡ level_ending whole count (suc j) id
 same-endings whole end count levels j id w small few h =
     let n = above-count whole 0 levels h in
@@ -82,7 +82,7 @@ same-endings whole end count levels j id w small few h =
     and-false true b e = e
     and-false false b e = refl
 
-module _ (whole flats : List Segment) (end count : ℕ) (w : IsWhole whole end) (small : end ≤ 16777216) (few : length whole < 2 ^ 32) (same : (x : ℕ) → x < count → parents_at flats x ≡ parents_at whole x) (held : (x : ℕ) → x < count → IsHeld flats x) where
+module _ (whole flats : List Segment) (end count : ℕ) (w : IsWholeTo whole end) (small : end ≤ 16777216) (few : length whole < 2 ^ 32) (same : (x : ℕ) → x < count → parents_at flats x ≡ parents_at whole x) (held : (x : ℕ) → x < count → IsHeld flats x) where
   -- a segment of a level that ends below the count
   ending-facts : (j : ℕ) (s : Segment) → suc j ≤ 7 → IsIn s (level_segments whole (suc j)) → s.high < count → EndingFacts flats (suc j) s.high s
   ending-facts j s le i lt =
@@ -129,8 +129,8 @@ module _ (whole flats : List Segment) (end count : ℕ) (w : IsWhole whole end) 
 
 -- ---- a view
 
-module _ (v : FlatView) (levels : Kept) (table : FlatKept) (records : List Placed) (b : BelongTogether v levels table records) where
-  whole-is : IsWhole (flats_of table records) table.end
+module _ (v : FlatView) (levels : KeptLevels) (table : FlatKept) (records : List PlacedSegment) (b : BelongTogether v levels table records) where
+  whole-is : IsWholeTo (flats_of table records) table.end
   whole-is = table-whole table records b.table_of
 
   ids : Follow 0 (master_count v) (master_flats v)

@@ -5,7 +5,7 @@ use Rattle.std.proofs.lemmas.Bool.{lt-ltb, le-ltb}
 use Rattle.std.proofs.lemmas.List.{append-nil, length-append}
 use Rattle.segment_codec.specs.Record.{Segment}
 use Rattle.segment_rules.specs.Levels.{level_segments}
-use Rattle.segment_levels.specs.Kept.{Kept, PlainGroups, AreLevelsAbove, AreLevelsOf}
+use Rattle.segment_levels.specs.Kept.{KeptLevels, PlainGroups, AreLevelsAbove, AreLevelsOf}
 use Rattle.segment_rules.specs.Levels.{before_none, level_counts}
 use Rattle.segment_levels.specs.Counts.{kept_counts}
 use Rattle.high_segments.proofs.Growth.{level-fewer}
@@ -31,17 +31,17 @@ all-lengths flats k (l ∷ more) h =
     ap (λ n. n ∷ map (λ (l : PlainGroups). l.count) more) h.0.count
     ∙ ap (λ z. length (level_segments flats (suc k)) ∷ z) (all-lengths flats (suc k) more h.1 ∙ ap (λ n. map (λ j. length (level_segments flats j)) (range_with_len n (length more))) (sym one))
 
-pub counts-are : (kept : Kept) (flats : List Segment) → AreLevelsOf kept flats → kept_counts kept ≡ level_counts flats
+pub counts-are : (kept : KeptLevels) (flats : List Segment) → AreLevelsOf kept flats → kept_counts kept ≡ level_counts flats
 counts-are kept flats h =
     let n = above-count flats 0 kept.levels h.levels in
     let seven : length kept.levels ≡ 7 = omega (arith, n) in
     ap (λ k. k ∷ lens kept.levels) h.count
     ∙ ap (λ z. length flats ∷ before_none z) (all-lengths flats 0 kept.levels h.levels ∙ ap (λ k. map (λ j. length (level_segments flats j)) (range_with_len 1 k)) seven)
 
-pub record Counting (kept : Kept) (counts : List ℕ) (rest : List PlainGroups) : Type 0 where
+pub record Counting (kept : KeptLevels) (counts : List ℕ) (rest : List PlainGroups) : Type 0 where
   pub goes : (flats : List Segment) → AreLevelsOf kept flats → (counts ++ lens rest ≡ kept_counts kept) × (length counts + length rest ≡ 8) × AreFew rest
 
-pub counting-none : (kept : Kept) (counts : List ℕ) (rest : List PlainGroups) → kept.flat_count < 2 ^ 32 → counts ≡ kept.flat_count ∷ [] → rest ≡ kept.levels → Counting kept counts rest
+pub counting-none : (kept : KeptLevels) (counts : List ℕ) (rest : List PlainGroups) → kept.flat_count < 2 ^ 32 → counts ≡ kept.flat_count ∷ [] → rest ≡ kept.levels → Counting kept counts rest
 counting-none kept counts rest small c e = record {
   goes = λ flats h.
       let n = above-count flats 0 kept.levels h.levels in let len = ap length c in let more = ap length e in let is = h.count in (
@@ -51,7 +51,7 @@ counting-none kept counts rest small c e = record {
       );
 }
 
-module _ (kept : Kept) (counts : List ℕ) (rest : List PlainGroups) (l : PlainGroups) (others : List PlainGroups) (e : rest ≡ l ∷ others) (g : Counting kept counts rest) (count : ℕ) (is : l.count < 2 ^ 32 → count ≡ l.count) where
+module _ (kept : KeptLevels) (counts : List ℕ) (rest : List PlainGroups) (l : PlainGroups) (others : List PlainGroups) (e : rest ≡ l ∷ others) (g : Counting kept counts rest) (count : ℕ) (is : l.count < 2 ^ 32 → count ≡ l.count) where
   count-is : (flats : List Segment) → AreLevelsOf kept flats → count ≡ l.count
   count-is flats h = is (subst AreFew e (g.goes flats h).2).0
 
@@ -84,5 +84,5 @@ module _ (kept : Kept) (counts : List ℕ) (rest : List PlainGroups) (l : PlainG
       not-zero zero h = absurd (h refl)
       not-zero (suc n) h = omega arith
 
-pub counting-all : (kept : Kept) (counts : List ℕ) (rest : List PlainGroups) → rest ≡ [] → Counting kept counts rest → (flats : List Segment) → AreLevelsOf kept flats → counts ≡ level_counts flats
+pub counting-all : (kept : KeptLevels) (counts : List ℕ) (rest : List PlainGroups) → rest ≡ [] → Counting kept counts rest → (flats : List Segment) → AreLevelsOf kept flats → counts ≡ level_counts flats
 counting-all kept counts rest e g flats h = sym (append-nil counts) ∙ ap (λ z. counts ++ lens z) (sym e) ∙ (g.goes flats h).0 ∙ counts-are kept flats h

@@ -8,7 +8,7 @@ use Rattle.segment_codec.specs.Table.{segment_at}
 use Rattle.segment_rules.specs.Levels.{level_segments}
 use Rattle.segment_levels.specs.Kept.{PlainGroup, PlainGroups, groups_in, made_in, IsAlone, IsLevelOf, AreLevelsAbove}
 use Rattle.segment_levels.specs.Sound.{IsReadable}
-use Rattle.segment_levels.specs.Whole.{IsWhole, Grows}
+use Rattle.segment_levels.specs.Whole.{IsWholeTo, Grows}
 use Rattle.segment_levels.specs.Endings.{or_else, at_level, held_on, held_from}
 use Rattle.segment_levels.proofs.Ascending.{all-from-in, in-left}
 use Rattle.segment_levels.proofs.Leveled.{one-end, leveled, level-grows}
@@ -16,7 +16,7 @@ use Rattle.segment_levels.proofs.Viewing.{one-more}
 use Rattle.high_segments.specs.Growing.{AreMixed, AreReadable, MayBecome}
 
 -- a level of a whole group can be read
-pub readable : (flats : List Segment) (end : ℕ) → IsWhole flats end → end ≤ 16777216 → (level : ℕ) (l : PlainGroups) → IsLevelOf flats level l → IsReadable l
+pub readable : (flats : List Segment) (end : ℕ) → IsWholeTo flats end → end ≤ 16777216 → (level : ℕ) (l : PlainGroups) → IsLevelOf flats level l → IsReadable l
 readable flats end w small level l is =
     let at = leveled flats end w (suc level) in
     let same = one-end 0 l.end at.last (level_segments flats (suc level)) is.follow at.follow in
@@ -124,7 +124,7 @@ mixed-readable old new m level zero (l ∷ more) h = (readable old m.old_end m.o
 mixed-readable old new m level (suc k) [] h = tt
 mixed-readable old new m level (suc k) (l ∷ more) h = (readable new m.new_end m.new_whole m.small level l h.0, mixed-readable old new m (suc level) k more h.1)
 
-pub whole-readable : (flats : List Segment) (end : ℕ) → IsWhole flats end → end ≤ 16777216 → (level : ℕ) (levels : List PlainGroups) → AreLevelsAbove flats level levels → AreReadable levels
+pub whole-readable : (flats : List Segment) (end : ℕ) → IsWholeTo flats end → end ≤ 16777216 → (level : ℕ) (levels : List PlainGroups) → AreLevelsAbove flats level levels → AreReadable levels
 whole-readable flats end w small level [] h = tt
 whole-readable flats end w small level (l ∷ more) h = (readable flats end w small level l h.0, whole-readable flats end w small (suc level) more h.1)
 

@@ -11,7 +11,7 @@ use Rattle.segment_rules.specs.Levels.{merged, groups, count_grouped, level_segm
 use Rattle.segment_levels.specs.Kept.{PlainLevel, PlainGroup, PlainGroups, IsAlone, IsLevelOf, AreLevelsAbove, Rise, segments_in, groups_in, made_in, entry_of}
 use Rattle.segment_levels.specs.Sound.{IsReadable, HasFront}
 use Rattle.segment_levels.specs.Endings.{at_level, held_from}
-use Rattle.segment_levels.specs.Whole.{IsWhole, Grows}
+use Rattle.segment_levels.specs.Whole.{IsWholeTo, Grows}
 use Rattle.high_segments.specs.declared.kept.Mark.{Mark}
 
 -- with a segment that begins at an id, whose parents are spelled so, up to an end
@@ -140,8 +140,8 @@ pub record IsLeft (old new : List Segment) (level : ℕ) (run : PlainLevel) : Ty
 pub record MayBecome (old new : List Segment) : Type 0 where
   pub old_end : ℕ
   pub new_end : ℕ
-  pub old_whole : IsWhole old old_end
-  pub new_whole : IsWhole new new_end
+  pub old_whole : IsWholeTo old old_end
+  pub new_whole : IsWholeTo new new_end
   pub grows : Grows old new
   pub order : old_end ≤ new_end
   pub small : new_end ≤ 16777216

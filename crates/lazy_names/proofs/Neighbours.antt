@@ -10,7 +10,7 @@ use Rattle.id_groups.proofs.Listing.{and_true, both_true, not_true}
 use Rattle.segment_codec.specs.Record.{Segment}
 use Rattle.segment_codec.specs.Table.{IsLawful, IsHeld, IsInSegment}
 use Rattle.segment_codec.proofs.Tables.{lawful-at, segment-in, le_or_lt}
-use Rattle.lazy_names.specs.Cache.{Entry, ids_of}
+use Rattle.lazy_names.specs.Cache.{Entry, cached_ids}
 use Rattle.remote_rules.specs.Mirror.{Mirror}
 use Rattle.lazy_names.specs.declared.fault.LazyFault.{LazyFault}
 use Rattle.lazy_names.specs.declared.fetched.FetchedName.{FetchedName}
@@ -19,7 +19,7 @@ use Rattle.lazy_names.specs.Neighbours.{low_in, low_of, goes_down, count_runs}
 use Rattle.lazy_names.proofs.Runs.{uncached-true, key-true, uncached-run}
 
 uncached-fact : (entries : List Entry) (id : ℕ) → is_uncached entries id ≡ true → IsUncached entries id
-uncached-fact entries id e = λ name i. not_true (is_in nat_eq id (ids_of entries)) e (key-true entries id name i)
+uncached-fact entries id e = λ name i. not_true (is_in nat_eq id (cached_ids entries)) e (key-true entries id name i)
 
 -- the flat segment of ids between one of them and where its segment begins
 pub low-within : (flats : List Segment) → IsLawful flats → (s : Segment) → IsIn s flats → (first : ℕ) → IsInSegment first s → (id : ℕ) → s.low ≤ id → id ≤ first → low_of flats id ≡ s.low
@@ -81,7 +81,7 @@ module _ (flats : List Segment) (entries : List Entry) where
   -- the first id has a name in the cache
   pub cached-run : (ids : List ℕ) (first : ℕ) (name : Name) → slice_get ids 0 ≡ Some first → IsIn (first, name) entries → count_runs flats entries ids ≡ count_runs flats entries (drop 1 ids)
   cached-run [] first name e i = cc
-  cached-run (id ∷ ids) first name e i = let is : id ≡ first = cc in run-cached id ids (ap not (subst (λ n. is_in nat_eq n (ids_of entries) ≡ true) (sym is) (key-true entries first name i)))
+  cached-run (id ∷ ids) first name e i = let is : id ≡ first = cc in run-cached id ids (ap not (subst (λ n. is_in nat_eq n (cached_ids entries) ≡ true) (sym is) (key-true entries first name i)))
 
   -- The first ids, so many, are a run, and the next one doesn't go on from it: behind them there is one run fewer.
   pub run-whole : (count : ℕ) (ids : List ℕ) (first low : ℕ) → ((id : ℕ) → low ≤ id → id ≤ first → low_of flats id ≡ low) → IsRun entries ids first low count → 0 < count

@@ -8,7 +8,7 @@ use Rattle.batch_codec.specs.Payload.{Known}
 use Rattle.segment_codec.specs.Record.{Segment}
 use Rattle.remote_rules.specs.Mirror.{Mirror}
 use Rattle.remote_rules.specs.Calls.{IsAskedFor}
-use Rattle.remote_rules.specs.Asking.{Asks as IsOneAsk, AsksInTurn, AsksForNames, total as sum-of}
+use Rattle.remote_rules.specs.Asking.{IsOneAsk, AsksInTurn, AsksForNames, total as sum-of}
 use Rattle.remote_rules.specs.declared.MirrorFault.{MirrorFault}
 use Rattle.remote_rules.specs.declared.MirrorFault.TheVariants as mirror
 use Rattle.remote_trait.specs.Calls.{Leaves, raised}

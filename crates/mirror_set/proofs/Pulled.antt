@@ -6,7 +6,7 @@ use Rattle.id_groups.specs.Name.{Name}
 use Rattle.commit_graph.specs.World.{Row}
 use Rattle.remote_rules.specs.Mirror.{Mirror}
 use Rattle.remote_rules.specs.Calls.{IsPulled, RowsFrom, MasterGoesOn}
-use Rattle.remote_rules.specs.Asking.{Asks as IsOneAsk}
+use Rattle.remote_rules.specs.Asking.{IsOneAsk}
 use Rattle.remote_rules.specs.declared.MirrorFault.TheVariants as ask
 use Rattle.remote_trait.specs.Calls.{ToldSo}
 use Rattle.remote_trait.proofs.Ruled.{cloned-from, tells, where-both, sound-as}

@@ -5,8 +5,8 @@ use Rattle.std.specs.declared.result.Result.{Result}
 use Rattle.std.specs.List.{AllZip}
 use Rattle.remote_rules.specs.CloneData.{CloneData}
 use Rattle.remote_rules.specs.Mirror.{Mirror}
-use Rattle.remote_rules.specs.Calls.{IsAskedFor, IsCloned, Fails as Failing}
-use Rattle.remote_rules.specs.Asking.{Asks as IsOneAsk, AsksInTurn, none_answered}
+use Rattle.remote_rules.specs.Calls.{IsAskedFor, IsCloned, Failing}
+use Rattle.remote_rules.specs.Asking.{IsOneAsk, AsksInTurn, none_answered}
 use Rattle.remote_rules.specs.declared.MirrorFault.{MirrorFault}
 use Rattle.remote_rules.specs.declared.MirrorFault.TheVariants.{NoRemote, AllFailed, Memory}
 use Rattle.remote_trait.specs.Calls.{Leaves, Refreshes, raised}

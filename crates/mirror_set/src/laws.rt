@@ -5,7 +5,7 @@ ghost use Rattle.std.specs.declared.result.Result.{Result};
 ghost use Rattle.remote_rules.specs.CloneData.{CloneData};
 ghost use Rattle.remote_rules.specs.Mirror.{Mirror};
 ghost use Rattle.remote_rules.specs.Calls.{IsAskedFor, IsCloned, IsPulled};
-ghost use Rattle.remote_rules.specs.Asking.{Asks as IsOneAsk, AsksInTurn};
+ghost use Rattle.remote_rules.specs.Asking.{IsOneAsk, AsksInTurn};
 ghost use Rattle.remote_rules.specs.declared.MirrorFault.{MirrorFault};
 ghost use Rattle.remote_trait.specs.Calls.{Refreshes};
 ghost use Rattle.mirror_set.specs.declared.fresh.FreshFault.{FreshFault};

@@ -10,7 +10,7 @@ use Rattle.name_index.specs.Index.{Finds}
 use Rattle.name_index.specs.Runs.{entry_of, IsRun, AreRuns, joined, HaveCommon, name_in}
 use Rattle.name_index.proofs.Keys.{each-of, all-of}
 use Rattle.name_index.proofs.Moves.{all-moved, in-moved}
-use Rattle.name_index.specs.Named.{NamedPlace, Stand, StandFrom, StandsAt, StandsFrom, names_in}
+use Rattle.name_index.specs.Named.{NamedPlace, NamesStand, StandFrom, NameStandsAt, StandsFrom, names_in}
 
 module _ {X : Type 0} where
   pub in-left : (x : X) (xs ys : List X) → IsIn x xs → IsIn x (xs ++ ys)
@@ -63,7 +63,7 @@ finds-moved all held name None moved h = λ i. h (names-moved all held moved nam
 finds-moved all held name (Some place) moved h = in-moved all held moved _ h
 
 module _ (bytes : List ℕ) where
-  from-zero : (n : NamedPlace) → StandsAt bytes n → StandsFrom 0 bytes n
+  from-zero : (n : NamedPlace) → NameStandsAt bytes n → StandsFrom 0 bytes n
   from-zero n h = let same : n.place ≡ n.place - 0 = omega arith in record {
     behind = omega arith;
     whole = h.whole;
@@ -71,15 +71,15 @@ module _ (bytes : List ℕ) where
   }
 
   -- what stands in the bytes stands from the place 0
-  pub stand-from : (all : List NamedPlace) → Stand bytes all → StandFrom 0 bytes all
-  stand-from all h = all-of (StandsFrom 0 bytes) all (λ n i. from-zero n (each-of (StandsAt bytes) all h n i))
+  pub stand-from : (all : List NamedPlace) → NamesStand bytes all → StandFrom 0 bytes all
+  stand-from all h = all-of (StandsFrom 0 bytes) all (λ n i. from-zero n (each-of (NameStandsAt bytes) all h n i))
 
   split-joined : (held : List (List NamedPlace)) → StandFrom 0 bytes (joined held) → AllByRecursion (StandFrom 0 bytes) held
   split-joined [] h = tt
   split-joined (run ∷ runs) h = (all-left (StandsFrom 0 bytes) run (joined runs) h, split-joined runs (all-right (StandsFrom 0 bytes) run (joined runs) h))
 
   -- all runs of an index stand where its names do
-  pub runs-stand : (all : List NamedPlace) (held : List (List NamedPlace)) → IsPermutation all (joined held) → Stand bytes all → AllByRecursion (StandFrom 0 bytes) held
+  pub runs-stand : (all : List NamedPlace) (held : List (List NamedPlace)) → IsPermutation all (joined held) → NamesStand bytes all → AllByRecursion (StandFrom 0 bytes) held
   runs-stand all held moved h = split-joined held (all-moved (StandsFrom 0 bytes) all (joined held) moved (stand-from all h))
 
 module _ (at : ℕ) (bytes : List ℕ) (run : List Entry) (others : List (List Entry)) (name : Name) where

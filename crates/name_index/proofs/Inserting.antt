@@ -10,7 +10,7 @@ use Rattle.name_index.specs.Index.{IsIndexOf}
 use Rattle.name_index.specs.Runs.{IsRun, Holds, AreRuns, joined, HaveCommon}
 use Rattle.name_index.proofs.Moves.{all-moved, distinct-moved}
 use Rattle.name_index.proofs.Indexes.{name-right, name-either, names-moved, runs-stand, all-right, all-both}
-use Rattle.name_index.specs.Named.{NamedPlace, Stand, StandFrom, StandsFrom, names_in}
+use Rattle.name_index.specs.Named.{NamedPlace, NamesStand, StandFrom, StandsFrom, names_in}
 
 -- names of two lists together
 
@@ -158,7 +158,7 @@ put-behind runs kept merged all new is last distinct =
 
 -- the index behind an insert
 module _ (bytes : List ℕ) (at : ℕ) (added : List ℕ) (runs : List (List Entry)) (kept : ℕ) (run merged : List Entry) (all new : List NamedPlace) where
-  pub inserted : (is : IsIndexOf runs all) → Stand bytes all → StandFrom at added new → Holds run new → (AreDistinct (names_in (joined is.held)) → AreDistinct (names_in (joined is.held ++ new)))
+  pub inserted : (is : IsIndexOf runs all) → NamesStand bytes all → StandFrom at added new → Holds run new → (AreDistinct (names_in (joined is.held)) → AreDistinct (names_in (joined is.held ++ new)))
       → ((held : List (List NamedPlace)) (named : List NamedPlace) → AreRuns (drop kept runs) held → AllByRecursion (StandFrom 0 bytes) held → Holds run named → StandFrom at added named → Holds merged (joined held ++ named))
       → IsIndexOf (take kept runs ++ merged ∷ []) (all ++ new)
   inserted is stand stands holds distinct both =

@@ -12,7 +12,7 @@ use Rattle.id_groups.specs.Name.{Name}
 use Rattle.name_index.specs.declared.entry.Entry.{Entry}
 use Rattle.name_index.specs.Index.{IsIndexOf}
 use Rattle.name_index.specs.Runs.{entry_of, sort_key, key_in, keys_in, keys_of, IsAscending, IsRun, Holds, AreRuns, MayStandAt, joined}
-use Rattle.name_index.specs.Named.{NamedPlace, Stand, StandFrom, names_in}
+use Rattle.name_index.specs.Named.{NamedPlace, NamesStand, StandFrom, names_in}
 use Rattle.name_index.proofs.Keys.{less, order}
 use Rattle.name_index.proofs.Reading.{run-keys, rises, search-found}
 use Rattle.name_index.proofs.Moves.{distinct-moved}
@@ -118,7 +118,7 @@ pushed-one runs all entry n is e out =
       distinct = distinct-moved _ _ (IsPermutation-sym _ _ (IsPermutation-map (λ z. z.name) (all ++ n ∷ []) (joined is.held ++ n ∷ []) one)) once;
     }
 
-module _ (bytes : List ℕ) (runs : List (List Entry)) (all : List NamedPlace) (is : IsIndexOf runs all) (stand : Stand bytes all) where
+module _ (bytes : List ℕ) (runs : List (List Entry)) (all : List NamedPlace) (is : IsIndexOf runs all) (stand : NamesStand bytes all) where
   behind-stands : (kept : ℕ) → AllByRecursion (StandFrom 0 bytes) (drop kept is.held)
   behind-stands kept = all-right (StandFrom 0 bytes) (take kept is.held) (drop kept is.held) (subst (AllByRecursion (StandFrom 0 bytes)) (sym (take-append-drop kept is.held)) (runs-stand bytes all is.held is.same stand))
 

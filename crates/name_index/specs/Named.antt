@@ -17,13 +17,13 @@ abbrev pub places_in : List NamedPlace → List ℕ
 places_in named = map (λ n. n.place) named
 
 -- the name of 20 bytes stands in the bytes at its place
-pub record StandsAt (bytes : List ℕ) (named : NamedPlace) : Type 0 where
+pub record NameStandsAt (bytes : List ℕ) (named : NamedPlace) : Type 0 where
   pub whole : length named.name ≡ 20
   pub stands : take 20 (drop named.place bytes) ≡ named.name
 
 -- each name stands in the bytes at its place
-abbrev pub Stand : List ℕ → List NamedPlace → Type 0
-Stand bytes named = AllByRecursion (StandsAt bytes) named
+abbrev pub NamesStand : List ℕ → List NamedPlace → Type 0
+NamesStand bytes named = AllByRecursion (NameStandsAt bytes) named
 
 -- the same in bytes that stand, or will stand, at `at`
 pub record StandsFrom (at : ℕ) (bytes : List ℕ) (named : NamedPlace) : Type 0 where

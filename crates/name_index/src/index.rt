@@ -6,7 +6,7 @@ ghost use Rattle.id_groups.specs.Lists.{AreDistinct, IsIn};
 ghost use Rattle.name_index.specs.Index.{IsIndexOf, Finds};
 ghost use Rattle.name_index.specs.Runs.{AreRuns, Holds, HaveCommon, entry_of, front_of, joined};
 ghost use Rattle.name_index.specs.declared.index.IndexFault.{IndexFault as Fault};
-ghost use Rattle.name_index.specs.Named.{NamedPlace, Stand, StandFrom, names_in, places_in};
+ghost use Rattle.name_index.specs.Named.{NamedPlace, NamesStand, StandFrom, names_in, places_in};
 
 use crate::entry::{Entry, Stretch, front_of_name, name_at};
 use crate::run::Run;
@@ -238,7 +238,7 @@ impl NameIndex {
     /// The place of the name, read from the bytes in which the names of the index stand; `None` exactly where it is
     /// not held. A search in each run whose filter lets the name pass; places outside the bytes are read as no name.
     pub fn find(&self, bytes: &[u8], name: NameRef<'_>) -> Option<u64>
-        ensures { (all : List NamedPlace) → IsIndexOf self.now all → Stand bytes.now all → Finds all name.entry.bytes.now result }
+        ensures { (all : List NamedPlace) → IsIndexOf self.now all → NamesStand bytes.now all → Finds all name.entry.bytes.now result }
     {
         let front = front_of_name(name.bytes);
         find_in(&self.runs, &Stretch { bytes, at: 0 }, front, name.bytes)
@@ -282,8 +282,8 @@ impl NameIndex {
     /// The index of the names that stand at these places in the bytes, made at once. `Double` comes only where they aren't
     /// distinct.
     pub fn of_places(alloc: Global, bytes: &[u8], places: &[u64]) -> Result<NameIndex, IndexFault>
-        ensures made { IfOk result (λ index. (new : List NamedPlace) → Stand bytes.now new → places_in new ≡ places.now → IsIndexOf index new) }
-        ensures double { (new : List NamedPlace) → Stand bytes.now new → places_in new ≡ places.now → result ≡ Err Fault.Double → ¬ AreDistinct (names_in new) }
+        ensures made { IfOk result (λ index. (new : List NamedPlace) → NamesStand bytes.now new → places_in new ≡ places.now → IsIndexOf index new) }
+        ensures double { (new : List NamedPlace) → NamesStand bytes.now new → places_in new ≡ places.now → result ≡ Err Fault.Double → ¬ AreDistinct (names_in new) }
     {
         let stretch = Stretch { bytes, at: 0 };
         let run = Run::of_places(alloc, &stretch, places)?;
@@ -303,7 +303,7 @@ impl NameIndex {
         entry: Entry,
     ) -> Result<(), AllocError>
         requires { length self.old ≡ before + 1 }
-        ensures added { (all : List NamedPlace) (n : NamedPlace) → IsIndexOf self.old all → Stand bytes.now all → entry ≡ entry_of n → n.name ≡ name.now
+        ensures added { (all : List NamedPlace) (n : NamedPlace) → IsIndexOf self.old all → NamesStand bytes.now all → entry ≡ entry_of n → n.name ≡ name.now
             → (IsIn name.now (names_in all) → ⊥) → OnOk result (IsIndexOf self.new (all ++ n ∷ [])) }
         ensures unchanged { OnErr result (self.new ≡ self.old) }
     {
@@ -314,7 +314,7 @@ impl NameIndex {
 
     /// Begins a run of one entry, and merges the runs before it that are due. Want of memory changes nothing.
     fn begin_run(&mut self, bytes: &[u8], entry: Entry) -> Result<(), AllocError>
-        ensures added { (all : List NamedPlace) (n : NamedPlace) → IsIndexOf self.old all → Stand bytes.now all → entry ≡ entry_of n
+        ensures added { (all : List NamedPlace) (n : NamedPlace) → IsIndexOf self.old all → NamesStand bytes.now all → entry ≡ entry_of n
             → (IsIn n.name (names_in all) → ⊥) → OnOk result (IsIndexOf self.new (all ++ n ∷ [])) }
         ensures unchanged { OnErr result (self.new ≡ self.old) }
     {
@@ -338,7 +338,7 @@ impl NameIndex {
         name: NameRef<'_>,
         place: u64,
     ) -> Result<(), AllocError>
-        ensures added { (all : List NamedPlace) → IsIndexOf self.old all → Stand bytes.now all → (IsIn name.entry.bytes.now (names_in all) → ⊥)
+        ensures added { (all : List NamedPlace) → IsIndexOf self.old all → NamesStand bytes.now all → (IsIn name.entry.bytes.now (names_in all) → ⊥)
             → OnOk result (IsIndexOf self.new (all ++ record { place = place; name = name.entry.bytes.now } ∷ [])) }
         ensures unchanged { OnErr result (self.new ≡ self.old) }
     {
@@ -355,7 +355,7 @@ impl NameIndex {
     /// Puts a run of new names, no two of which are the same, behind the others, merged with those that are due. Want of memory
     /// changes nothing.
     fn put_run(&mut self, bytes: &[u8], new: &Stretch<'_>, run: Run) -> Result<(), AllocError>
-        ensures added { (all named : List NamedPlace) → IsIndexOf self.old all → Stand bytes.now all → StandFrom new.now.at new.now.bytes.now named → Holds run named
+        ensures added { (all named : List NamedPlace) → IsIndexOf self.old all → NamesStand bytes.now all → StandFrom new.now.at new.now.bytes.now named → Holds run named
             → AreDistinct (names_in (all ++ named)) → OnOk result (IsIndexOf self.new (all ++ named)) }
         ensures unchanged { OnErr result (self.new ≡ self.old) }
     {
@@ -375,7 +375,7 @@ impl NameIndex {
         added: &[u8],
         places: Vec<u64>,
     ) -> Result<(), AllocError>
-        ensures added { (all named : List NamedPlace) → IsIndexOf self.old all → Stand bytes.now all → StandFrom at added.now named → places_in named ≡ places.items
+        ensures added { (all named : List NamedPlace) → IsIndexOf self.old all → NamesStand bytes.now all → StandFrom at added.now named → places_in named ≡ places.items
             → AreDistinct (names_in (all ++ named)) → OnOk result (IsIndexOf self.new (all ++ named)) }
         ensures unchanged { OnErr result (self.new ≡ self.old) }
     {
@@ -395,8 +395,8 @@ impl NameIndex {
         added: &[u8],
         places: Vec<u64>,
     ) -> Result<(), IndexFault>
-        ensures added { (all new : List NamedPlace) → IsIndexOf self.old all → Stand bytes.now all → StandFrom at added.now new → places_in new ≡ places.items → OnOk result (IsIndexOf self.new (all ++ new)) }
-        ensures double { (all new : List NamedPlace) → IsIndexOf self.old all → Stand bytes.now all → StandFrom at added.now new → places_in new ≡ places.items → result ≡ Err Fault.Double → ¬ AreDistinct (names_in (all ++ new)) }
+        ensures added { (all new : List NamedPlace) → IsIndexOf self.old all → NamesStand bytes.now all → StandFrom at added.now new → places_in new ≡ places.items → OnOk result (IsIndexOf self.new (all ++ new)) }
+        ensures double { (all new : List NamedPlace) → IsIndexOf self.old all → NamesStand bytes.now all → StandFrom at added.now new → places_in new ≡ places.items → result ≡ Err Fault.Double → ¬ AreDistinct (names_in (all ++ new)) }
         ensures unchanged { OnErr result (self.new ≡ self.old) }
     {
         let old = Stretch { bytes, at: 0 };

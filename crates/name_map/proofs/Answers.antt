@@ -8,7 +8,7 @@ use Rattle.id_groups.specs.declared.name.NameRef.{NameRef}
 use Rattle.batch_codec.specs.Payload.{Known}
 use Rattle.name_index.specs.Index.{NamedPlace, Finds, names_in}
 use Rattle.name_map.specs.Part.{PlainPart, IsPlaceIn}
-use Rattle.name_map.specs.Added.{Placed, known_of, named_from, named_of, start_of, Follow, AllStand}
+use Rattle.name_map.specs.Added.{Placed, known_of, named_from, named_of, start_of, FollowInLog, AllStand}
 use Rattle.name_map.specs.Map.{IsIdOf, NamesAs}
 use Rattle.name_map.specs.Found.{BeginAbove, IsPartFor, IsPlaceOf}
 use Rattle.name_map.proofs.Lists.{in-append, in-left, in-right, in-map, one-of}
@@ -17,12 +17,12 @@ use Rattle.name_map.proofs.Standing.{entry-of, names-known, named-split, named-a
 
 -- ---- the place of an id's name
 
-pub none-above : (number : ℕ) (added : List Placed) → Follow 0 added → BeginAbove number added → IsPlaceOf added number None
+pub none-above : (number : ℕ) (added : List Placed) → FollowInLog 0 added → BeginAbove number added → IsPlaceOf added number None
 none-above number added follow above name i = let up = behind-above 0 number added follow above (record { id = number; name = name }) i in omega (arith, up)
 
-pub place-for : (number : ℕ) (added : List Placed) (part : PlainPart) → Follow 0 added → IsPartFor added number part → (r : Option ℕ) → IsPlaceIn part number r → IsPlaceOf added number r
+pub place-for : (number : ℕ) (added : List Placed) (part : PlainPart) → FollowInLog 0 added → IsPartFor added number part → (r : Option ℕ) → IsPlaceIn part number r → IsPlaceOf added number r
 place-for number added part follow f None h = λ name i.
-    let g = subst (λ (z : List Placed). Follow 0 z) f.whole follow in
+    let g = subst (λ (z : List Placed). FollowInLog 0 z) f.whole follow in
     let low = f.begins in
     let entry : Known = record { id = number; name = name } in
     let split = subst (λ (z : List Known). IsIn entry z) (ap known_of f.whole ∙ known-split f.front f.here f.behind) i in
@@ -51,7 +51,7 @@ place-for number added part follow f (Some place) h =
 
 -- ---- the name of an id
 
-pub name-for : (bytes : List ℕ) (added : List Placed) (id place : ℕ) → Follow 0 added → AllStand bytes added → IsPlaceOf added id (Some place)
+pub name-for : (bytes : List ℕ) (added : List Placed) (id place : ℕ) → FollowInLog 0 added → AllStand bytes added → IsPlaceOf added id (Some place)
     → (r : Option NameRef) → MatchOption r (length bytes < place + 20) (λ name. name.bytes.now ≡ take 20 (drop place bytes)) → NamesAs (known_of added) id r
 name-for bytes added id place follow stand is None h =
     let e = entry-of bytes added follow stand (record { place = place; name = is.0 }) is.2 in
@@ -75,7 +75,7 @@ pub record Reads (bytes : List ℕ) (added : List Placed) (name : Name) (place :
   pub within : place ≤ length bytes
   pub is : from_be_bytes w64 (take 8 (drop (place - 8) bytes)) ≡ id
 
-pub reads : (bytes : List ℕ) (added : List Placed) (name : Name) (place : ℕ) → Follow 0 added → AllStand bytes added → Finds (named_of added) name (Some place) → Reads bytes added name place
+pub reads : (bytes : List ℕ) (added : List Placed) (name : Name) (place : ℕ) → FollowInLog 0 added → AllStand bytes added → Finds (named_of added) name (Some place) → Reads bytes added name place
 reads bytes added name place follow stand i =
     let e = entry-of bytes added follow stand (record { place = place; name = name }) i in
     let within = e.within in
@@ -102,5 +102,5 @@ pub id-above : (added : List Placed) (name : Name) (below id : ℕ) → AreDisti
 id-above added name below id distinct le i = λ other lt j. let same = one-id added name other id distinct j i in omega (arith, lt, le, same)
 
 -- no id of the other group has a known name
-pub other-none : (added : List Placed) (id place : ℕ) → Follow 0 added → 2 ^ 56 ≤ id → IsPlaceOf added id (Some place) → ⊥
+pub other-none : (added : List Placed) (id place : ℕ) → FollowInLog 0 added → 2 ^ 56 ≤ id → IsPlaceOf added id (Some place) → ⊥
 other-none added id place follow le is = let small = known-small 0 added follow (record { id = id; name = is.0 }) is.1 in omega (arith, small, le)

@@ -13,9 +13,9 @@ use Rattle.name_index.specs.Index.{NamedPlace, IsIndexOf, names_in, places_in}
 use Rattle.name_index.specs.declared.entry.Entry.{Entry}
 use Rattle.name_map.specs.declared.build.OtherNames.{OtherNames}
 use Rattle.name_map.specs.Part.{PlainPart}
-use Rattle.name_map.specs.Added.{Placed, AllStand, StandsAt, payloads_of, known_of, named_of, named_from, start_of, every, Follow}
+use Rattle.name_map.specs.Added.{Placed, AllStand, StandsAt, payloads_of, known_of, named_of, named_from, start_of, every, FollowInLog}
 use Rattle.name_map.specs.Map.{IsMapOf, IsIdOf, part_of, parts_of, names_with}
-use Rattle.name_map.specs.Build.{PlainBuild, IsBuildOf, NamesFit, AreUnknown, MeetKnown, others_of, entry_places}
+use Rattle.name_map.specs.Build.{PlainNames, AreNamesOf, NamesFit, AreUnknown, MeetKnown, others_of, entry_places}
 use Rattle.name_map.proofs.Lists.{in-append, in-left, in-map, in-mapped, each-in, each-append, distinct-left, distinct-join, distinct-apart}
 use Rattle.name_map.proofs.Orders.{known-within, follow-at, follow-behind, front-below, follow-more, count-more, known-split}
 use Rattle.name_map.proofs.Standing.{names-known}
@@ -24,9 +24,9 @@ use Rattle.name_map.proofs.More.{parts-more, known-more, names-with, payload-nam
 
 -- ---- a payload more
 
-pub build-more : (build new : PlainBuild) (added : List Placed) (a : Placed) → IsBuildOf build added → IsPayload a.payload → a.payload.before ≡ build.masters
+pub build-more : (build new : PlainNames) (added : List Placed) (a : Placed) → AreNamesOf build added → IsPayload a.payload → a.payload.before ≡ build.masters
     → new.parts ≡ build.parts ++ part_of build.known a ∷ [] → new.others ≡ build.others ++ others_of a ∷ [] → new.masters ≡ a.payload.after
-    → new.known ≡ build.known + length a.payload.known → AreDistinct a.payload.other_names → IsBuildOf new (added ++ a ∷ [])
+    → new.known ≡ build.known + length a.payload.known → AreDistinct a.payload.other_names → AreNamesOf new (added ++ a ∷ [])
 build-more build new added a is h before parts others masters known distinct =
     let all = is.known in
     let more = ap (length {A = Known}) (known-more added a) in
@@ -77,7 +77,7 @@ front-distinct front a behind d =
     (distinct-left (map (λ (k : Known). k.name) (known_of front ++ a.payload.known)) (map (λ (k : Known). k.name) (known_of behind)) (subst (λ (z : List Name). AreDistinct z) names d))
 
 -- their ids lie below the payload's end
-front-ids : (front : List Placed) (a : Placed) (behind : List Placed) → Follow 0 (front ++ a ∷ behind) → (k : Known) → IsIn k (known_of front ++ a.payload.known) → k.id < a.payload.after
+front-ids : (front : List Placed) (a : Placed) (behind : List Placed) → FollowInLog 0 (front ++ a ∷ behind) → (k : Known) → IsIn k (known_of front ++ a.payload.known) → k.id < a.payload.after
 front-ids front a behind f k i =
     let h = follow-at 0 front a behind f in
     let up = h.counts.grows in
@@ -89,7 +89,7 @@ in-all front a behind k i =
     subst (λ (z : List Known). IsIn k z) (append_assoc (known_of front) a.payload.known (known_of behind) ∙ sym (known-split front a behind))
     (in-left k (known_of front ++ a.payload.known) (known_of behind) i)
 
-fit-here : (front : List Placed) (a : Placed) (behind : List Placed) → Follow 0 (front ++ a ∷ behind) → AreDistinct (map (λ (k : Known). k.name) (known_of (front ++ a ∷ behind)))
+fit-here : (front : List Placed) (a : Placed) (behind : List Placed) → FollowInLog 0 (front ++ a ∷ behind) → AreDistinct (map (λ (k : Known). k.name) (known_of (front ++ a ∷ behind)))
     → AreUnknown (known_of (front ++ a ∷ behind)) a → AreDistinct a.payload.other_names → AreDistinct (names_with (payloads_of front) a.payload)
 fit-here front a behind f d unknown own =
     subst (λ (z : List Name). AreDistinct z) (sym (names-with front a.payload))
@@ -102,30 +102,30 @@ fit-here front a behind f d unknown own =
         none m.0.id (front-ids front a behind f m.0 m.1)
         (subst (λ (x : Name). IsIn (record { id = m.0.id; name = x }) (known_of (front ++ a ∷ behind))) (sym m.2) (in-all front a behind m.0 m.1))
 
-fit-from : (front behind : List Placed) → Follow 0 (front ++ behind) → AreDistinct (map (λ (k : Known). k.name) (known_of (front ++ behind)))
+fit-from : (front behind : List Placed) → FollowInLog 0 (front ++ behind) → AreDistinct (map (λ (k : Known). k.name) (known_of (front ++ behind)))
     → AllByRecursion (AreUnknown (known_of (front ++ behind))) behind → AllByRecursion (λ (a : Placed). AreDistinct a.payload.other_names) behind → NamesFit (payloads_of front) (payloads_of behind)
 fit-from front [] f d unknown own = tt
 fit-from front (a ∷ behind) f d unknown own =
     let e = append_assoc front (a ∷ []) behind in
-    let rest = fit-from (front ++ a ∷ []) behind (subst (Follow 0) (sym e) f) (subst (λ z. AreDistinct (map (λ (k : Known). k.name) (known_of z))) (sym e) d)
+    let rest = fit-from (front ++ a ∷ []) behind (subst (FollowInLog 0) (sym e) f) (subst (λ z. AreDistinct (map (λ (k : Known). k.name) (known_of z))) (sym e) d)
     (subst (λ z. AllByRecursion (AreUnknown (known_of z)) behind) (sym e) unknown.1) own.1 in
     (fit-here front a behind f d unknown.0 own.0, subst (λ z. NamesFit z (payloads_of behind)) (payloads-more front a) rest)
 
-pub all-fit : (added : List Placed) → Follow 0 added → AreDistinct (names_in (named_of added)) → AllByRecursion (AreUnknown (known_of added)) added
+pub all-fit : (added : List Placed) → FollowInLog 0 added → AreDistinct (names_in (named_of added)) → AllByRecursion (AreUnknown (known_of added)) added
     → AllByRecursion (λ (a : Placed). AreDistinct a.payload.other_names) added → NamesFit [] (payloads_of added)
 all-fit added f d unknown own = fit-from [] added f (subst (λ (z : List Name). AreDistinct z) (names-known added) d) unknown own
 
 -- ---- names that don't
 
 -- ids behind are no lower
-ids-above : (count : ℕ) (behind : List Placed) → Follow count behind → (k : Known) → IsIn k (known_of behind) → count ≤ k.id
+ids-above : (count : ℕ) (behind : List Placed) → FollowInLog count behind → (k : Known) → IsIn k (known_of behind) → count ≤ k.id
 ids-above count [] f k i = absurd i
 ids-above count (a ∷ behind) f k i =
     let up = f.0.counts.grows in let at = f.1 in
     ⊎_elim (λ (j : IsIn k a.payload.known). let low = (known-within a.payload f.0 k j).0 in omega (arith, low, at))
     (λ (j : IsIn k (known_of behind)). let low = ids-above a.payload.after behind f.2 k j in omega (arith, low, up, at)) (in-append k a.payload.known (known_of behind) i)
 
-misfit-here : (front : List Placed) (a : Placed) (behind : List Placed) → Follow 0 (front ++ a ∷ behind) → AreDistinct (names_with (payloads_of front) a.payload) → MeetKnown (known_of (front ++ a ∷ behind)) a → ⊥
+misfit-here : (front : List Placed) (a : Placed) (behind : List Placed) → FollowInLog 0 (front ++ a ∷ behind) → AreDistinct (names_with (payloads_of front) a.payload) → MeetKnown (known_of (front ++ a ∷ behind)) a → ⊥
 misfit-here front a behind f d m =
     let k : Known = record { id = m.id; name = m.name } in
     let below = m.below in
@@ -136,15 +136,15 @@ misfit-here front a behind f d m =
     let named = subst (λ (z : List Name). IsIn m.name z) (known-names front a) (in-map (λ (x : Known). x.name) k (known_of front ++ a.payload.known) here) in
     distinct-apart (names_in (named_of front) ++ known_names a.payload) a.payload.other_names (subst (λ (z : List Name). AreDistinct z) (names-with front a.payload) d) m.name named m.other
 
-misfit-from : (front behind : List Placed) → Follow 0 (front ++ behind) → NamesFit (payloads_of front) (payloads_of behind) → (a : Placed) → IsIn a behind → MeetKnown (known_of (front ++ behind)) a → ⊥
+misfit-from : (front behind : List Placed) → FollowInLog 0 (front ++ behind) → NamesFit (payloads_of front) (payloads_of behind) → (a : Placed) → IsIn a behind → MeetKnown (known_of (front ++ behind)) a → ⊥
 misfit-from front [] f n a i m = i
 misfit-from front (b ∷ behind) f n a (inl e) m = misfit-here front b behind f n.0 (subst (MeetKnown (known_of (front ++ b ∷ behind))) e m)
 misfit-from front (b ∷ behind) f n a (inr i) m =
     let e = append_assoc front (b ∷ []) behind in
-    misfit-from (front ++ b ∷ []) behind (subst (Follow 0) (sym e) f) (subst (λ z. NamesFit z (payloads_of behind)) (sym (payloads-more front b)) n.1) a i
+    misfit-from (front ++ b ∷ []) behind (subst (FollowInLog 0) (sym e) f) (subst (λ z. NamesFit z (payloads_of behind)) (sym (payloads-more front b)) n.1) a i
     (subst (λ z. MeetKnown (known_of z) a) (sym e) m)
 
-pub none-met : (added : List Placed) → Follow 0 added → NamesFit [] (payloads_of added) → (a : Placed) → IsIn a added → MeetKnown (known_of added) a → ⊥
+pub none-met : (added : List Placed) → FollowInLog 0 added → NamesFit [] (payloads_of added) → (a : Placed) → IsIn a added → MeetKnown (known_of added) a → ⊥
 none-met added f n a i m = misfit-from [] added f n a i m
 
 fit-known : (before more : List Payload) → AreDistinct (flat_map known_names before) → NamesFit before more → AreDistinct (flat_map known_names (before ++ more))
@@ -210,7 +210,7 @@ stands-in bytes [] h a i = absurd i
 stands-in bytes (b ∷ added) h a (inl e) = subst (StandsAt bytes) (sym e) h.0
 stands-in bytes (b ∷ added) h a (inr i) = stands-in bytes added h.1 a i
 
-pub payload-in : (count : ℕ) (added : List Placed) → Follow count added → (a : Placed) → IsIn a added → IsPayload a.payload
+pub payload-in : (count : ℕ) (added : List Placed) → FollowInLog count added → (a : Placed) → IsIn a added → IsPayload a.payload
 payload-in count [] f a i = absurd i
 payload-in count (b ∷ added) f a (inl e) = subst (λ (z : Placed). IsPayload z.payload) (sym e) f.0
 payload-in count (b ∷ added) f a (inr i) = payload-in b.payload.after added f.2 a i
@@ -223,6 +223,6 @@ empty-parts n parts added e is = (
 
 -- ---- the map of all
 
-pub map-of : (build : PlainBuild) (index : List (List Entry)) (added : List Placed) → IsBuildOf build added → IsIndexOf index (named_of added)
+pub map-of : (build : PlainNames) (index : List (List Entry)) (added : List Placed) → AreNamesOf build added → IsIndexOf index (named_of added)
     → IsMapOf (record { parts = build.parts; index = index; masters = build.masters; known = build.known }) added
 map-of build index added b is = record { follow = b.follow; parts = b.parts; index = is; masters = b.masters; known = b.known }

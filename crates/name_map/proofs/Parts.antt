@@ -10,20 +10,20 @@ use Rattle.std.proofs.lemmas.List.Elements.{filter-append}
 use Rattle.id_groups.specs.Lists.{IsIn}
 use Rattle.batch_codec.specs.Payload.{Known}
 use Rattle.name_map.specs.Part.{PlainPart, count_below}
-use Rattle.name_map.specs.Added.{Placed, known_of, Follow}
+use Rattle.name_map.specs.Added.{Placed, known_of, FollowInLog}
 use Rattle.name_map.specs.Map.{part_of, parts_of, count_known}
 use Rattle.name_map.specs.Found.{BeginAbove, IsPartFor}
 use Rattle.name_map.proofs.Orders.{known-split, front-below, behind-above, follow-behind}
 
 -- the parts begin in ascending order
-begin-from : (count rank : ℕ) (added : List Placed) (j : ℕ) (d : PlainPart) → Follow count added → j < length (parts_of rank added) → count ≤ (get_or (parts_of rank added) j d).first
+begin-from : (count rank : ℕ) (added : List Placed) (j : ℕ) (d : PlainPart) → FollowInLog count added → j < length (parts_of rank added) → count ≤ (get_or (parts_of rank added) j d).first
 begin-from count rank [] j d h lt = absurd (omega (arith, lt))
 begin-from count rank (a ∷ added) zero d h lt = let e = h.1 in omega (arith, e)
 begin-from count rank (a ∷ added) (suc j) d h lt =
     let e = h.1 in let up = h.0.counts.grows in
     omega (arith, e, up, begin-from a.payload.after (rank + length a.payload.known) added j d h.2 (le_of_suc-le-suc lt))
 
-rise : (count rank : ℕ) (added : List Placed) → Follow count added → IsNonDecreasingBy (λ (p : PlainPart). p.first) (parts_of rank added)
+rise : (count rank : ℕ) (added : List Placed) → FollowInLog count added → IsNonDecreasingBy (λ (p : PlainPart). p.first) (parts_of rank added)
 rise count rank [] h i j d le lt = absurd (omega (arith, lt))
 rise count rank (a ∷ added) h zero zero d le lt = omega arith
 rise count rank (a ∷ added) h zero (suc j) d le lt =
@@ -32,7 +32,7 @@ rise count rank (a ∷ added) h zero (suc j) d le lt =
 rise count rank (a ∷ added) h (suc i) zero d le lt = absurd (omega (arith, le))
 rise count rank (a ∷ added) h (suc i) (suc j) d le lt = rise a.payload.after (rank + length a.payload.known) added h.2 i j d (le_of_suc-le-suc le) (le_of_suc-le-suc lt)
 
-pub parts-parted : (number count rank : ℕ) (added : List Placed) → Follow count added → IsPartitionedBy (λ (p : PlainPart). nat_le p.first number) (parts_of rank added)
+pub parts-parted : (number count rank : ℕ) (added : List Placed) → FollowInLog count added → IsPartitionedBy (λ (p : PlainPart). nat_le p.first number) (parts_of rank added)
 parts-parted number count rank added h = IsPartitionedBy-leb (λ (p : PlainPart). p.first) (parts_of rank added) number (rise count rank added h)
 
 -- where no part begins at the number or below it
@@ -116,12 +116,12 @@ count-append below xs ys =
     let p = λ (k : Known). nat_lt k.id below in
     ap (length {A = Known}) (filter-append p xs ys) ∙ length-append (filter p xs) (filter p ys)
 
-pub count-above : (below : ℕ) (added : List Placed) → Follow 0 added → BeginAbove below added → 0 ≡ count_known below (known_of added)
+pub count-above : (below : ℕ) (added : List Placed) → FollowInLog 0 added → BeginAbove below added → 0 ≡ count_known below (known_of added)
 count-above below added h above = sym (count-none below (known_of added) (λ k i. let up = behind-above 0 below added h above k i in omega (arith, up)))
 
-pub count-for : (below : ℕ) (added : List Placed) (part : PlainPart) (n : ℕ) → Follow 0 added → IsPartFor added below part → n ≡ part.rank + count_below below part.ids → n ≡ count_known below (known_of added)
+pub count-for : (below : ℕ) (added : List Placed) (part : PlainPart) (n : ℕ) → FollowInLog 0 added → IsPartFor added below part → n ≡ part.rank + count_below below part.ids → n ≡ count_known below (known_of added)
 count-for below added part n h f e =
-    let g = subst (λ (z : List Placed). Follow 0 z) f.whole h in
+    let g = subst (λ (z : List Placed). FollowInLog 0 z) f.whole h in
     let low = f.begins in
     let front = count-all below (known_of f.front) (λ k i. let small = front-below 0 f.front f.here f.behind g k i in omega (arith, small, low)) in
     let behind = count-none below (known_of f.behind) (λ k i. let up = behind-above f.here.payload.after below f.behind (follow-behind 0 f.front f.here f.behind g) f.above k i in omega (arith, up)) in

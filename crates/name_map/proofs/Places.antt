@@ -3,7 +3,7 @@ use Rattle.std.proofs.Common.{◌≡◌, ◌+◌, ◌-◌, ◌*◌, ℕ, zero, s
 use Rattle.std.proofs.lemmas.List.{length-take, length-drop, drop-drop}
 use Rattle.id_groups.specs.Name.{Name}
 use Rattle.batch_codec.specs.Payload.{Known}
-use Rattle.batch_codec.specs.Reading.{knowns_in, names_in as names_read}
+use Rattle.batch_codec.specs.Reading.{knowns_in, names_read}
 use Rattle.name_index.specs.Index.{NamedPlace, Stand, StandFrom, names_in, places_in}
 use Rattle.name_map.specs.Added.{named_from, names_from, every}
 

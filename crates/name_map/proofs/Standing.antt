@@ -13,7 +13,7 @@ use Rattle.batch_codec.specs.Grammar.{IsPayload}
 use Rattle.batch_codec.proofs.Entries.{FitsKnown}
 use Rattle.batch_codec.proofs.Places.{Stands, known-stands}
 use Rattle.name_index.specs.Index.{NamedPlace, StandsAt, Stand, names_in}
-use Rattle.name_map.specs.Added.{Placed, known_of, named_from, named_of, start_of, Follow, AllStand}
+use Rattle.name_map.specs.Added.{Placed, known_of, named_from, named_of, start_of, FollowInLog, AllStand}
 use Rattle.name_map.proofs.Lists.{in-append, in-left, in-right}
 use Rattle.name_map.proofs.Orders.{known-within}
 
@@ -93,7 +93,7 @@ known-in-log bytes a is h =
     let place = subst (λ (n : ℕ). take (length (flat_map known_bytes a.payload.known ++ k.behind)) (drop (a.at + n) bytes) ≡ flat_map known_bytes a.payload.known ++ k.behind) k.size back in
     (stand-parts (flat_map known_bytes a.payload.known) k.behind (start_of a) bytes place).0
 
-all-entries : (count : ℕ) (bytes : List ℕ) (all : List Known) (added : List Placed) → Follow count added → ((k : Known) → IsIn k (known_of added) → IsIn k all) → AllStand bytes added
+all-entries : (count : ℕ) (bytes : List ℕ) (all : List Known) (added : List Placed) → FollowInLog count added → ((k : Known) → IsIn k (known_of added) → IsIn k all) → AllStand bytes added
     → (named : NamedPlace) → IsIn named (named_of added) → HasEntry bytes all named
 all-entries count bytes all [] follow sub stand named i = absurd i
 all-entries count bytes all (a ∷ added) follow sub stand named i =
@@ -103,14 +103,14 @@ all-entries count bytes all (a ∷ added) follow sub stand named i =
     (λ (j : IsIn named (named_of added)). all-entries a.payload.after bytes all added follow.2 (λ k x. sub k (in-right k a.payload.known (known_of added) x)) stand.1 named j)
     (in-append named (named_from (start_of a) a.payload.known) (named_of added) i)
 
-pub entry-of : (bytes : List ℕ) (added : List Placed) → Follow 0 added → AllStand bytes added → (named : NamedPlace) → IsIn named (named_of added) → HasEntry bytes (known_of added) named
+pub entry-of : (bytes : List ℕ) (added : List Placed) → FollowInLog 0 added → AllStand bytes added → (named : NamedPlace) → IsIn named (named_of added) → HasEntry bytes (known_of added) named
 entry-of bytes added follow stand = all-entries 0 bytes (known_of added) added follow (λ k i. i) stand
 
 each-stands : (bytes : List ℕ) (named : List NamedPlace) → ((n : NamedPlace) → IsIn n named → StandsAt bytes n) → Stand bytes named
 each-stands bytes [] h = tt
 each-stands bytes (n ∷ named) h = (h n (inl refl), each-stands bytes named (λ m i. h m (inr i)))
 
-pub names-stand : (bytes : List ℕ) (added : List Placed) → Follow 0 added → AllStand bytes added → Stand bytes (named_of added)
+pub names-stand : (bytes : List ℕ) (added : List Placed) → FollowInLog 0 added → AllStand bytes added → Stand bytes (named_of added)
 names-stand bytes added follow stand = each-stands bytes (named_of added) (λ n i. (entry-of bytes added follow stand n i).stands)
 
 -- ---- names and places

@@ -41,9 +41,9 @@ abbrev pub named_of : List Placed → List NamedPlace
 named_of added = flat_map (λ a. named_from (start_of a) a.payload.known) added
 
 -- each is a payload in the grammar, and begins with the master id behind those of the ones before it
-abbrev pub Follow : ℕ → List Placed → Type 0
-Follow count [] = ⊤
-Follow count (a ∷ more) = IsPayload a.payload × (a.payload.before ≡ count) × Follow a.payload.after more
+abbrev pub FollowInLog : ℕ → List Placed → Type 0
+FollowInLog count [] = ⊤
+FollowInLog count (a ∷ more) = IsPayload a.payload × (a.payload.before ≡ count) × FollowInLog a.payload.after more
 
 -- so many numbers from the first on, each so much greater than the one before
 abbrev pub every : ℕ → ℕ → ℕ → List ℕ

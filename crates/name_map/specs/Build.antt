@@ -7,7 +7,7 @@ use Rattle.batch_codec.specs.Payload.{Known, Payload, names_start}
 use Rattle.batch_codec.specs.Grammar.{count_after}
 use Rattle.name_map.specs.declared.build.OtherNames.{OtherNames}
 use Rattle.name_map.specs.Part.{PlainPart}
-use Rattle.name_map.specs.Added.{Placed, payloads_of, known_of, every, Follow}
+use Rattle.name_map.specs.Added.{Placed, payloads_of, known_of, every, FollowInLog}
 use Rattle.name_map.specs.Map.{parts_of, names_with, IsIdOf}
 
 -- where the names of the payload's other ids stand, how many there are, and where its master ids end
@@ -15,7 +15,7 @@ abbrev pub others_of : Placed → OtherNames
 others_of a = record { place = a.at + names_start a.payload; count = length a.payload.other_names; after = a.payload.after }
 
 -- what is kept
-pub record PlainBuild : Type 0 where
+pub record PlainNames : Type 0 where
   -- the payloads' known ids
   pub parts : List PlainPart
   -- the names of their other ids
@@ -26,8 +26,8 @@ pub record PlainBuild : Type 0 where
   pub known : ℕ
 
 -- It is kept of the payloads that were added, in this order. No two other names of one of them are the same.
-pub record IsBuildOf (build : PlainBuild) (added : List Placed) : Type 0 where
-  pub follow : Follow 0 added
+pub record AreNamesOf (build : PlainNames) (added : List Placed) : Type 0 where
+  pub follow : FollowInLog 0 added
   pub parts : build.parts ≡ parts_of 0 added
   pub others : build.others ≡ map others_of added
   pub masters : build.masters ≡ count_after 0 (payloads_of added)

@@ -8,7 +8,7 @@ use Rattle.batch_codec.specs.Grammar.{count_after}
 use Rattle.name_index.specs.declared.entry.Entry.{Entry}
 use Rattle.name_index.specs.Index.{IsIndexOf}
 use Rattle.name_map.specs.Part.{PlainPart}
-use Rattle.name_map.specs.Added.{Placed, payloads_of, known_of, named_of, start_of, Follow}
+use Rattle.name_map.specs.Added.{Placed, payloads_of, known_of, named_of, start_of, FollowInLog}
 
 -- what is kept of one payload, behind so many known ids
 abbrev pub part_of : ℕ → Placed → PlainPart
@@ -36,7 +36,7 @@ names_with before p = flat_map known_names (before ++ p ∷ []) ++ p.other_names
 
 -- the map is that of the payloads that were added, in this order
 pub record IsMapOf (map : PlainMap) (added : List Placed) : Type 0 where
-  pub follow : Follow 0 added
+  pub follow : FollowInLog 0 added
   pub parts : map.parts ≡ parts_of 0 added
   pub index : IsIndexOf map.index (named_of added)
   pub masters : map.masters ≡ count_after 0 (payloads_of added)

@@ -12,7 +12,7 @@ ghost use Rattle.name_map.specs.declared.fault.MapFault.TheVariants.{Double as F
 ghost use Rattle.name_map.specs.Added.{Placed, AllStand, StandsAt, known_of, payloads_of};
 ghost use Rattle.name_map.specs.Map.{IsMapOf, IsIdOf};
 ghost use Rattle.name_map.specs.Adding.{placed};
-ghost use Rattle.name_map.specs.Build.{IsBuildOf, NamesFit, AreUnknown, MeetKnown, others_of, entry_places};
+ghost use Rattle.name_map.specs.Build.{AreNamesOf, NamesFit, AreUnknown, MeetKnown, others_of, entry_places};
 
 use crate::adding::{check_own_names, push_part};
 use crate::fault::MapFault;
@@ -45,9 +45,9 @@ pub struct MapBuild {
 
 impl Model for MapBuild {
     ghost use Rattle.std.specs.Prelude.{◌≤◌};
-    ghost use Rattle.name_map.specs.Build.{PlainBuild};
+    ghost use Rattle.name_map.specs.Build.{PlainNames};
 
-    ghost Value = { PlainBuild };
+    ghost Value = { PlainNames };
 
     ghost view = { λ build. record { parts = build.parts.items; others = build.others.items; masters = build.masters; known = build.known } };
 
@@ -156,7 +156,7 @@ fn has_double(names: &NameMap, bytes: &[u8], others: &[OtherNames]) -> bool
 impl MapBuild {
     /// What is kept of no payloads. It takes no memory yet, and keeps the allocator.
     pub fn empty(alloc: Global) -> MapBuild
-        ensures { IsBuildOf result [] }
+        ensures { AreNamesOf result [] }
     {
         MapBuild {
             alloc,
@@ -176,7 +176,7 @@ impl MapBuild {
 
     /// Whether no payload was added.
     pub fn is_empty(&self) -> bool
-        ensures { (added : List Placed) → IsBuildOf self.now added → IsTrue result ↔ (added ≡ []) }
+        ensures { (added : List Placed) → AreNamesOf self.now added → IsTrue result ↔ (added ≡ []) }
     {
         self.parts.len() == 0
     }
@@ -187,7 +187,7 @@ impl MapBuild {
     pub fn add_batch(&mut self, batch: &BatchRef<'_>, at: u64) -> Result<(), MapFault>
         requires room { at + length (payload_bytes (payload_of batch.now)) < 2 ^ 63 }
         requires follows { (payload_of batch.now).before ≡ self.old.masters }
-        ensures added { (added : List Placed) → IsBuildOf self.old added → OnOk result (IsBuildOf self.new (added ++ placed at batch.now ∷ [])) }
+        ensures added { (added : List Placed) → AreNamesOf self.old added → OnOk result (AreNamesOf self.new (added ++ placed at batch.now ∷ [])) }
         ensures double { result ≡ Err FaultDouble → AreDistinct (known_names (payload_of batch.now) ++ (payload_of batch.now).other_names) → ⊥ }
     {
         batch.is_payload();
@@ -204,8 +204,8 @@ impl MapBuild {
     /// The map of the payloads that were added, which stand in `bytes`. `Double` comes exactly where two of these are the
     /// same for some payload: all known names of those before it, its own, and its other names.
     pub fn finish(self, bytes: &[u8]) -> Result<NameMap, MapFault>
-        ensures map { (added : List Placed) → IsBuildOf self added → AllStand bytes.now added → IfOk result (λ map. IsMapOf map added × NamesFit [] (payloads_of added)) }
-        ensures double { (added : List Placed) → IsBuildOf self added → AllStand bytes.now added → result ≡ Err FaultDouble → NamesFit [] (payloads_of added) → ⊥ }
+        ensures map { (added : List Placed) → AreNamesOf self added → AllStand bytes.now added → IfOk result (λ map. IsMapOf map added × NamesFit [] (payloads_of added)) }
+        ensures double { (added : List Placed) → AreNamesOf self added → AllStand bytes.now added → result ≡ Err FaultDouble → NamesFit [] (payloads_of added) → ⊥ }
     {
         let places = places_of(self.alloc, &self.parts, self.known)?;
         let index = NameIndex::of_places(self.alloc, bytes, &places)?;

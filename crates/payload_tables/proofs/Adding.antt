@@ -10,17 +10,17 @@ use Rattle.segment_codec.proofs.Turns.{none-broken}
 use Rattle.batch_codec.specs.Payload.{Payload, payload_bytes, master_start}
 use Rattle.batch_codec.specs.Grammar.{IsPayload, count_after}
 use Rattle.batch_codec.proofs.Turns.{stand-in-turn}
-use Rattle.flat_segments.specs.Placed.{Placed as PlacedSegment, placed, segments_of, AreRecords, MasterMayStandAt}
-use Rattle.flat_segments.specs.Kept.{Kept, entry_of, kept_of, IsTableOf, MayExtend}
+use Rattle.flat_segments.specs.Placed.{PlacedSegment, placed_segments, segments_of, AreRecords, MasterMayStandAt}
+use Rattle.flat_segments.specs.Kept.{KeptFlats, entry_of, kept_of, IsTableOf, MayExtend}
 use Rattle.flat_segments.proofs.Callers.{follow-few}
 use Rattle.name_map.specs.Added.{Placed, payloads_of}
 use Rattle.payload_tables.specs.Kept.{AreMastersOf, master_records}
 use Rattle.payload_tables.proofs.Lists.{flat-snoc}
 use Rattle.payload_tables.proofs.Joined.{follow-once}
-use Rattle.segment_levels.specs.Kept.{Kept as KeptLevels}
+use Rattle.segment_levels.specs.Kept.{KeptLevels}
 use Rattle.payload_tables.proofs.Standing.{lawful-follow, masters-segments, masters-in}
 
-pub both-end : (table : Kept) (levels : KeptLevels) (map : _) (added : List Placed) → AreMastersOf table levels map added → table.end ≡ count_after 0 (payloads_of added)
+pub both-end : (table : KeptFlats) (levels : KeptLevels) (map : _) (added : List Placed) → AreMastersOf table levels map added → table.end ≡ count_after 0 (payloads_of added)
 both-end table levels map added b =
     follow-once 0 table.end (count_after 0 (payloads_of added)) (segments_of (master_records added)) b.flat.in_turn
     (subst (Follow 0 (count_after 0 (payloads_of added))) (sym (masters-segments added)) (lawful-follow [] (payloads_of added) b.lawful))
@@ -30,13 +30,13 @@ all-first [] h = tt
 all-first (s ∷ more) h = (h.0.0, all-first more h.1)
 
 -- with the payload's records there are few enough
-pub few-masters : (table : Kept) (added : List Placed) (p : Payload) → IsTableOf table (master_records added) → IsPayload p → p.before ≡ table.end → length (master_records added) + length p.master < 2 ^ 32
+pub few-masters : (table : KeptFlats) (added : List Placed) (p : Payload) → IsTableOf table (master_records added) → IsPayload p → p.before ≡ table.end → length (master_records added) + length p.master < 2 ^ 32
 few-masters table added p is h e =
     let x = follow-few 0 table.end (segments_of (master_records added)) is.in_turn in let y = length-map (master_records added) (λ (r : PlacedSegment). r.segment) in
     let z = follow-few p.before p.after p.master h.cover.master in let most = h.counts.master in omega (arith, x, y, z, most, e)
 
 -- the records of the payload may extend the table
-pub may-extend : (table : Kept) (added : List Placed) (p : Payload) (bytes : List ℕ) → IsTableOf table (master_records added) → IsPayload p → p.before ≡ table.end → bytes ≡ flat_map segment_bytes p.master
+pub may-extend : (table : KeptFlats) (added : List Placed) (p : Payload) (bytes : List ℕ) → IsTableOf table (master_records added) → IsPayload p → p.before ≡ table.end → bytes ≡ flat_map segment_bytes p.master
     → MayExtend table bytes
 may-extend table added p bytes is h e b = record {
   before = master_records added;
@@ -72,20 +72,20 @@ pub never-broken : (first k : ℕ) (segments : List Segment) → StandInTurn (Ma
 never-broken first k segments h broken = none-broken (MasterMayStandAt first) first segments k h broken
 
 -- the records with them
-pub records-more : (added : List Placed) (a : Placed) (place : ℕ) → place ≡ a.at + master_start a.payload → master_records added ++ placed place a.payload.master ≡ master_records (added ++ a ∷ [])
+pub records-more : (added : List Placed) (a : Placed) (place : ℕ) → place ≡ a.at + master_start a.payload → master_records added ++ placed_segments place a.payload.master ≡ master_records (added ++ a ∷ [])
 records-more added a place e =
-    ap (λ n. master_records added ++ placed n a.payload.master) e ∙ sym (flat-snoc (λ (b : Placed). placed (b.at + master_start b.payload) b.payload.master) added a)
+    ap (λ n. master_records added ++ placed_segments n a.payload.master) e ∙ sym (flat-snoc (λ (b : Placed). placed_segments (b.at + master_start b.payload) b.payload.master) added a)
 
 kept-append : (xs ys : List PlacedSegment) → kept_of (xs ++ ys) ≡ kept_of xs ++ kept_of ys
 kept-append xs ys = ap (map entry_of) (filter-append (λ (r : PlacedSegment). not (goes_on r.segment)) xs ys)
     ∙ map-append entry_of (filter (λ (r : PlacedSegment). not (goes_on r.segment)) xs) (filter (λ (r : PlacedSegment). not (goes_on r.segment)) ys)
 
 -- what the table had stands in front of what it has
-pub kept-front : (old new : Kept) (before more : List PlacedSegment) → IsTableOf old before → IsTableOf new (before ++ more) → take (length old.entries) new.entries ≡ old.entries
+pub kept-front : (old new : KeptFlats) (before more : List PlacedSegment) → IsTableOf old before → IsTableOf new (before ++ more) → take (length old.entries) new.entries ≡ old.entries
 kept-front old new before more is next =
     ap (take (length old.entries)) (next.kept ∙ kept-append before more ∙ ap (λ l. l ++ kept_of more) (sym is.kept)) ∙ take_at old.entries (kept_of more) (length old.entries) refl
 
 -- what is taken back leaves the table as it was
-pub cut-again : (old new : Kept) (len count : ℕ) → take (length old.entries) new.entries ≡ old.entries → len ≡ length old.entries → count ≡ old.end
-    → ◌≡◌ {A = Kept} (record { entries = take len new.entries; end = count }) old
-cut-again old new len count front e f = ap₂ {C = Kept} (λ l n. record { entries = l; end = n }) (ap (λ n. take n new.entries) e ∙ front) f
+pub cut-again : (old new : KeptFlats) (len count : ℕ) → take (length old.entries) new.entries ≡ old.entries → len ≡ length old.entries → count ≡ old.end
+    → ◌≡◌ {A = KeptFlats} (record { entries = take len new.entries; end = count }) old
+cut-again old new len count front e f = ap₂ {C = KeptFlats} (λ l n. record { entries = l; end = n }) (ap (λ n. take n new.entries) e ∙ front) f

@@ -18,7 +18,7 @@ use Rattle.flat_segments.proofs.Standing.{all-segments}
 use Rattle.batch_codec.specs.Payload.{Payload, names_bytes}
 use Rattle.batch_codec.specs.Grammar.{IsPayload, HasOthersParents, count_after}
 use Rattle.change_rules.specs.Lawful.{AreLawful}
-use Rattle.flat_segments.specs.Placed.{Placed as PlacedSegment, placed, segments_of, Stand}
+use Rattle.flat_segments.specs.Placed.{PlacedSegment, placed_segments, segments_of, Stand}
 use Rattle.flat_segments.specs.Kept.{IsTableOf, IsSectionOf}
 use Rattle.flat_segments.specs.Joined.{MayJoin}
 use Rattle.flat_segments.specs.declared.view.FlatView.{FlatView}
@@ -30,11 +30,11 @@ use Rattle.segment_levels.specs.Flats.{flats_of}
 use Rattle.segment_levels.specs.Endings.{level_ending}
 use Rattle.segment_levels.proofs.ByGraph.{cut-of}
 use Rattle.high_segments.proofs.Batch.{table-whole}
-use Rattle.name_map.specs.Added.{Placed, StandsAt, AllStand, payloads_of, Follow as Following}
+use Rattle.name_map.specs.Added.{Placed, StandsAt, AllStand, payloads_of, FollowInLog as Following}
 use Rattle.change_rules.specs.Tables.{StandFor, newest, others_in, other_names_in}
 use Rattle.payload_tables.specs.Kept.{PlainTables, PlainOthers, AreTablesOf, AreOthersIn, master_records, other_records}
-use Rattle.payload_tables.specs.Pending.{IdRow, PlainPending, HoldsRows, segments_from}
-use Rattle.payload_tables.specs.Bases.{MayBase, id_row, AreSegmentsOf, flat_segments_in}
+use Rattle.payload_tables.specs.Pending.{HeldRow, PlainPending, HoldsRows, segments_from}
+use Rattle.payload_tables.specs.Bases.{MayBase, held_row, AreSegmentsOf, flat_segments_in}
 use Rattle.payload_tables.proofs.Lists.{all-append, names-length, parents-known, get-below}
 use Rattle.payload_tables.proofs.Joined.{follow-join, follow-once, rows-follow, front-parents, row-parents, listed-parents, view-segments}
 use Rattle.payload_tables.proofs.Leveling.{listed, listed-long}
@@ -138,30 +138,30 @@ base-below bytes tables others below added b =
     subst₂ : {m n x y : ℕ} → m ≡ x → n ≡ y → x ≤ y → m ≤ n
     subst₂ e f le = omega (arith, e, f, le)
 
-row-parents-all : (P : ℕ → Type 0) (id : ℕ) (rows : List IdRow) → AllByRecursion (λ (row : IdRow). AllByRecursion P row.parents) rows → AllByRecursion (λ (s : Segment). AllByRecursion P s.parents) (segments_from id rows)
+row-parents-all : (P : ℕ → Type 0) (id : ℕ) (rows : List HeldRow) → AllByRecursion (λ (row : HeldRow). AllByRecursion P row.parents) rows → AllByRecursion (λ (s : Segment). AllByRecursion P s.parents) (segments_from id rows)
 row-parents-all P id [] h = tt
 row-parents-all P id (row ∷ rows) h = (h.0, row-parents-all P (id + 1) rows h.1)
 
-pub may-join : (view : FlatView) (bytes : List ℕ) (others : PlainOthers) (below : ℕ) (last : Option Payload) (facts : OthersFacts bytes others below last) (pending : PlainPending) (rows : List IdRow) (records : List ℕ)
-    → HoldsRows pending rows → pending.first ≡ length (other_names_in last) → AllByRecursion (λ (row : IdRow). AllByRecursion (λ p. (p < below) ⊎ (2 ^ 56 ≤ p)) row.parents) rows
+pub may-join : (view : FlatView) (bytes : List ℕ) (others : PlainOthers) (below : ℕ) (last : Option Payload) (facts : OthersFacts bytes others below last) (pending : PlainPending) (rows : List HeldRow) (records : List ℕ)
+    → HoldsRows pending rows → pending.first ≡ length (other_names_in last) → AllByRecursion (λ (row : HeldRow). AllByRecursion (λ p. (p < below) ⊎ (2 ^ 56 ≤ p)) row.parents) rows
     → master_count view ≡ below → records ≡ pending.records → MayJoin view others.section bytes pending.section records
 may-join view bytes others below last facts pending rows records held first parents count are =
     let segs = segments_from (other_id pending.first) rows in
     let same = placed-segments 0 segs in
     record {
       first = facts.records;
-      second = placed 0 segs;
+      second = placed_segments 0 segs;
       others_stand = record { section_of = facts.section; stand = facts.stand };
       pending_stand = record { section_of = held.section; stand = placed-stand records [] 0 segs (are ∙ held.records ∙ sym (append-nil (flat_map segment_bytes segs))) };
       end = other_id pending.first + length rows;
-      in_turn = follow-join (2 ^ 56) (other_id (length (other_names_in last))) (other_id pending.first + length rows) (segments_of facts.records) (segments_of (placed 0 segs)) facts.ids
-          (subst (λ n. Follow n (other_id pending.first + length rows) (segments_of (placed 0 segs))) (ap other_id first) (subst (Follow (other_id pending.first) (other_id pending.first + length rows)) (sym same) (rows-follow (other_id pending.first) rows)));
-      parents = subst (λ n. AllByRecursion (λ s. AllByRecursion (λ p. (p < n) ⊎ (2 ^ 56 ≤ p)) s.parents) (segments_of facts.records ++ segments_of (placed 0 segs))) (sym count)
-          (all-append _ (segments_of facts.records) (segments_of (placed 0 segs)) facts.parents
+      in_turn = follow-join (2 ^ 56) (other_id (length (other_names_in last))) (other_id pending.first + length rows) (segments_of facts.records) (segments_of (placed_segments 0 segs)) facts.ids
+          (subst (λ n. Follow n (other_id pending.first + length rows) (segments_of (placed_segments 0 segs))) (ap other_id first) (subst (Follow (other_id pending.first) (other_id pending.first + length rows)) (sym same) (rows-follow (other_id pending.first) rows)));
+      parents = subst (λ n. AllByRecursion (λ s. AllByRecursion (λ p. (p < n) ⊎ (2 ^ 56 ≤ p)) s.parents) (segments_of facts.records ++ segments_of (placed_segments 0 segs))) (sym count)
+          (all-append _ (segments_of facts.records) (segments_of (placed_segments 0 segs)) facts.parents
           (subst (AllByRecursion (λ (s : Segment). AllByRecursion (λ p. (p < below) ⊎ (2 ^ 56 ≤ p)) s.parents)) (sym same) (row-parents-all (λ p. (p < below) ⊎ (2 ^ 56 ≤ p)) (other_id pending.first) rows parents)));
       few = (let a = few-flats view in let b = follow-few (2 ^ 56) (other_id (length (other_names_in last))) (segments_of facts.records) facts.ids in let c = length-map facts.records (λ (r : PlacedSegment). r.segment) in
           let d = follow-few (other_id pending.first) (other_id pending.first + length rows) segs (rows-follow (other_id pending.first) rows) in let e = ap (length {A = Segment}) same in
-          let f = length-map (placed 0 segs) (λ (r : PlacedSegment). r.segment) in let g = held.few in let h = facts.few in let i = facts.small in omega (arith, a, b, c, d, e, f, g, h, i, count));
+          let f = length-map (placed_segments 0 segs) (λ (r : PlacedSegment). r.segment) in let g = held.few in let h = facts.few in let i = facts.small in omega (arith, a, b, c, d, e, f, g, h, i, count));
     }
 
 module _ (bytes : List ℕ) (tables : PlainTables) (others : PlainOthers) (below : ℕ) (added : List Placed) (b : MayBase bytes tables others below added)
@@ -237,10 +237,10 @@ module _ (bytes : List ℕ) (tables : PlainTables) (others : PlainOthers) (below
     world : IsWorld w
     world = history-front [] (w.master ++ w.others) rows (subst (IsHistory []) (sym (append_assoc w.master w.others rows)) whole)
 
-    pub base-view : AreSegmentsOf (with_pending w rows) (flat_segments_in w ++ segments_from (other_id (length w.others)) (map (id_row (with_pending w rows)) rows))
+    pub base-view : AreSegmentsOf (with_pending w rows) (flat_segments_in w ++ segments_from (other_id (length w.others)) (map (held_row (with_pending w rows)) rows))
     base-view = subst (AreSegmentsOf (with_pending w rows))
-        (ap₂ (λ x y. x ++ (y ++ segments_from (other_id (length w.others)) (map (id_row (with_pending w rows)) rows))) masters-are others-are
-        ∙ sym (append_assoc (flat_segments_of 0 (parent_ids same_name w w.master)) (flat_segments_of (2 ^ 56) (parent_ids same_name w w.others)) (segments_from (other_id (length w.others)) (map (id_row (with_pending w rows)) rows))))
+        (ap₂ (λ x y. x ++ (y ++ segments_from (other_id (length w.others)) (map (held_row (with_pending w rows)) rows))) masters-are others-are
+        ∙ sym (append_assoc (flat_segments_of 0 (parent_ids same_name w w.master)) (flat_segments_of (2 ^ 56) (parent_ids same_name w w.others)) (segments_from (other_id (length w.others)) (map (held_row (with_pending w rows)) rows))))
         (view-segments w rows whole masters (others_in (newest (payloads_of added)))
         (subst (λ n. Follow 0 n masters) count (cut-ids below 0 tables.flat.end (maximal tables.flat.end (segments_of (master_records (added ++ b.behind)))) maximal-follow (omega arith) end-over))
         master-parents

@@ -10,13 +10,13 @@ use Rattle.batch_codec.specs.Payload.{Payload, known_names}
 use Rattle.batch_codec.specs.Grammar.{IsPayload, count_after}
 use Rattle.change_rules.specs.Lawful.{AreLawful, MayFollow}
 use Rattle.flat_segments.specs.Placed.{segments_of}
-use Rattle.flat_segments.specs.Kept.{Kept}
-use Rattle.segment_levels.specs.Kept.{Kept as KeptLevels}
+use Rattle.flat_segments.specs.Kept.{KeptFlats}
+use Rattle.segment_levels.specs.Kept.{KeptLevels}
 use Rattle.name_map.specs.declared.fault.MapFault.{MapFault}
 use Rattle.name_map.specs.declared.fault.MapFault.TheVariants.{Double, Memory as MapMemory}
-use Rattle.name_map.specs.Added.{Placed, payloads_of, Follow as Following}
+use Rattle.name_map.specs.Added.{Placed, payloads_of, FollowInLog as Following}
 use Rattle.name_map.specs.Map.{PlainMap, IsMapOf}
-use Rattle.name_map.specs.Build.{PlainBuild as PlainNames, NamesFit}
+use Rattle.name_map.specs.Build.{PlainNames, NamesFit}
 use Rattle.name_map.proofs.More.{own-distinct}
 use Rattle.change_rules.specs.Tables.{remote_heads, cloned_count}
 use Rattle.payload_tables.specs.declared.fault.TableFault.{TableFault}
@@ -35,7 +35,7 @@ following-masters count (a ∷ added) f =
     follow-join count a.payload.after (count_after count (payloads_of (a ∷ added))) a.payload.master (flat_map (λ q. q.master) (payloads_of added))
     (subst (λ n. Follow n a.payload.after a.payload.master) f.1 f.0.cover.master) (following-masters a.payload.after added f.2)
 
-pub parts-end : (table : Kept) (levels : KeptLevels) (names : PlainNames) (added : List Placed) → ArePartsOf table levels names added → table.end ≡ count_after 0 (payloads_of added)
+pub parts-end : (table : KeptFlats) (levels : KeptLevels) (names : PlainNames) (added : List Placed) → ArePartsOf table levels names added → table.end ≡ count_after 0 (payloads_of added)
 parts-end table levels names added b =
     follow-once 0 table.end (count_after 0 (payloads_of added)) (segments_of (master_records added)) b.flat.in_turn
     (subst (Follow 0 (count_after 0 (payloads_of added))) (sym (masters-segments added)) (following-masters 0 added b.names_of.follow))

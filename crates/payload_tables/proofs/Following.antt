@@ -4,12 +4,12 @@ use Rattle.std.specs.List.{last_or}
 use Rattle.std.proofs.lemmas.List.{map-append}
 use Rattle.id_groups.specs.Lists.{AreDistinct}
 use Rattle.batch_codec.specs.Payload.{Payload, known_names}
-use Rattle.batch_codec.specs.Grammar.{IsPayload, IsFlush, IsClone, IsWhole, count_after}
+use Rattle.batch_codec.specs.Grammar.{IsPayload, IsFlush, IsClone, IsWholePayload, count_after}
 use Rattle.change_rules.specs.Lawful.{AreLawful, MayFollow}
 use Rattle.flat_segments.specs.Kept.{IsTableOf}
 use Rattle.segment_levels.specs.Kept.{AreLevelsOf}
 use Rattle.segment_levels.specs.Flats.{flats_of}
-use Rattle.name_map.specs.Added.{Placed, payloads_of, Follow as Following}
+use Rattle.name_map.specs.Added.{Placed, payloads_of, FollowInLog as Following}
 use Rattle.name_map.specs.Map.{IsMapOf, names_with}
 use Rattle.change_rules.specs.Tables.{remote_heads, cloned_count}
 use Rattle.payload_tables.specs.Kept.{PlainTables, PlainOthers, AreTablesOf, AreOthersOf, AreOthersIn, master_records, last_added, by_kind, version_of, newest_version}
@@ -96,7 +96,7 @@ has-ids : (others : PlainOthers) (a : Placed) → IsPayload a.payload → AreOth
 has-ids others a h are after none = ⊎_elim
     (λ (f : IsFlush a.payload). ⊎_elim (λ (lt : 0 < a.payload.after). omega (arith, lt, after)) (λ (lt : 0 < length a.payload.other_names). let c = are.count in omega (arith, lt, c, none)) f.something)
     (λ o. ⊎_elim (λ (c : IsClone a.payload). let lt = c.something in omega (arith, lt, after))
-    (λ (w : IsWhole a.payload). ⊎_elim (λ (lt : 0 < a.payload.after). omega (arith, lt, after)) (λ (lt : 0 < length a.payload.other_names). let c = are.count in omega (arith, lt, c, none)) w.something) o) h.by_kind
+    (λ (w : IsWholePayload a.payload). ⊎_elim (λ (lt : 0 < a.payload.after). omega (arith, lt, after)) (λ (lt : 0 < length a.payload.other_names). let c = are.count in omega (arith, lt, c, none)) w.something) o) h.by_kind
 
 nothing-since : (others : PlainOthers) (n : ℕ) (o : Option Placed) (added : List Placed) → Following n added → ends_at n o → AreOthersIn others (last_or o added) → count_after n (payloads_of added) ≡ 0 → others.count ≡ 0 → (added ≡ []) × (o ≡ None)
 nothing-since others n None [] f at are count none = (refl, refl)

@@ -12,7 +12,7 @@ use Rattle.batch_codec.specs.Payload.{Payload, Known, names_bytes}
 use Rattle.batch_codec.specs.Grammar.{IsPayload, cut_below, cloned_head_names}
 use Rattle.std.specs.Prelude.{nat_lt}
 use Rattle.std.proofs.lemmas.Bool.{lt-ltb, le-ltb}
-use Rattle.batch_codec.specs.Reading.{names_in}
+use Rattle.batch_codec.specs.Reading.{names_read}
 use Rattle.batch_codec.proofs.Entries.{names-size, names-again}
 use Rattle.flat_segments.specs.Placed.{AreRecords}
 use Rattle.flat_segments.proofs.Batches.{left-first, none-left}
@@ -224,7 +224,7 @@ pub same-names : (xs ys : List Name) → AllByRecursion IsName xs → AllByRecur
 same-names xs ys hx hy e =
     let a = names-size xs hx in let b = names-size ys hy in let c = ap (length {A = ℕ}) e in
     let n : length xs ≡ length ys = omega (arith, a, b, c) in
-    sym (names-again xs hx) ∙ ap₂ (λ k l. names_in k l) n e ∙ names-again ys hy
+    sym (names-again xs hx) ∙ ap₂ (λ k l. names_read k l) n e ∙ names-again ys hy
 
 pub head-names-whole : (p : Payload) → IsPayload p → AllByRecursion IsName (cloned_head_names p)
 head-names-whole p h = names-chosen _ p.known h.names

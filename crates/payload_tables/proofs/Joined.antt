@@ -16,8 +16,8 @@ use Rattle.segment_codec.specs.Record.{Segment}
 use Rattle.segment_codec.specs.Table.{IsInSegment, Follow, parents_at, parents_in}
 use Rattle.segment_codec.proofs.Tables.{found-head, found-behind, head-or-behind, le_or_lt}
 use Rattle.segment_rules.specs.Flat.{followers, segment_parents, parents_listed as all_parents}
-use Rattle.payload_tables.specs.Pending.{IdRow, segments_from}
-use Rattle.payload_tables.specs.Bases.{id_row, AreSegmentsOf}
+use Rattle.payload_tables.specs.Pending.{HeldRow, segments_from}
+use Rattle.payload_tables.specs.Bases.{held_row, AreSegmentsOf}
 use Rattle.payload_tables.proofs.Lists.{same-self, same-exact, get-front, place-front, get-below}
 
 parents-here : (s : Segment) (rest : List Segment) (x : ℕ) → IsInSegment x s → parents_at (s ∷ rest) x ≡ parents_in (Some s) x
@@ -123,18 +123,18 @@ row-parents w rows first end xs h size e k r at =
     (sym (listed-parents first end xs k h (omega (arith, lt, size))) ∙ ap (λ l. slice_get l k) e ∙ get-map (λ (row : Row Name). map (id_in same_name w) row.parents) rows k r at)
 
 -- rows as segments of their own
-pub rows-follow : (id : ℕ) (rows : List IdRow) → Follow id (id + length rows) (segments_from id rows)
+pub rows-follow : (id : ℕ) (rows : List HeldRow) → Follow id (id + length rows) (segments_from id rows)
 rows-follow id [] = omega arith
 rows-follow id (row ∷ rows) = (refl, le_refl id, subst (λ n. Follow (id + 1) n (segments_from (id + 1) rows)) (let z : id + 1 + length rows ≡ id + length (row ∷ rows) = omega arith in z) (rows-follow (id + 1) rows))
 
-pub rows-parents : (id : ℕ) (rows : List IdRow) (k : ℕ) (row : IdRow) → slice_get rows k ≡ Some row → parents_at (segments_from id rows) (id + k) ≡ row.parents
+pub rows-parents : (id : ℕ) (rows : List HeldRow) (k : ℕ) (row : HeldRow) → slice_get rows k ≡ Some row → parents_at (segments_from id rows) (id + k) ≡ row.parents
 rows-parents id [] k row e = absurd (true≢false (sym (ap is_some e)))
 rows-parents id (q ∷ rows) zero row e =
     parents-here (record { low = id; high = id; level = 0; parents = q.parents }) (segments_from (id + 1) rows) (id + 0) (omega arith, omega arith)
     ∙ ap (λ b. if b then q.parents else (id + 0 - 1) ∷ []) (let z : id + 0 ≡ id = omega arith in ap (λ n. nat_eq n id) z ∙ same-self id)
     ∙ ap (parents_or q) e
   where
-    parents_or : IdRow → Option IdRow → List ℕ
+    parents_or : HeldRow → Option HeldRow → List ℕ
     parents_or d None = d.parents
     parents_or d (Some x) = x.parents
 rows-parents id (q ∷ rows) (suc k) row e =
@@ -163,7 +163,7 @@ module _ (w : World Name) (rows : List (Row Name)) (whole : IsWorld (with_pendin
     (known : (r : Row Name) → IsIn r (rows_of w) → (p : Name) → IsIn p r.parents → IsIn p (names_of (rows_of w)))
     (room : length w.master ≤ 2 ^ 56) where
   abbrev pub pending : List Segment
-  pending = segments_from (other_id (length w.others)) (map (id_row (with_pending w rows)) rows)
+  pending = segments_from (other_id (length w.others)) (map (held_row (with_pending w rows)) rows)
 
   seen-parents : (r : Row Name) → IsIn r (rows_of w) → map (id_in same_name w) r.parents ≡ map (id_in same_name (with_pending w rows)) r.parents
   seen-parents r i = seen-all r.parents (known r i)
@@ -190,7 +190,7 @@ module _ (w : World Name) (rows : List (Row Name)) (whole : IsWorld (with_pendin
       back-parents 0 (length w.master) masters (others ++ pending) (other_id (length w.others + k)) master_ids (let le = room in omega (arith, le))
       ∙ back-parents (2 ^ 56) (other_id (length w.others)) others pending (other_id (length w.others + k)) other_ids (omega arith)
       ∙ ap (parents_at pending) (let z : other_id (length w.others + k) ≡ other_id (length w.others) + k = omega arith in z)
-      ∙ rows-parents (other_id (length w.others)) (map (id_row (with_pending w rows)) rows) k (id_row (with_pending w rows) r) (get-map (id_row (with_pending w rows)) rows k r e)
+      ∙ rows-parents (other_id (length w.others)) (map (held_row (with_pending w rows)) rows) k (held_row (with_pending w rows) r) (get-map (held_row (with_pending w rows)) rows k r e)
 
   split-get : (xs ys : List (Row Name)) (k : ℕ) (r : Row Name) → slice_get (xs ++ ys) k ≡ Some r → (slice_get xs k ≡ Some r) ⊎ ((i : ℕ) × (k ≡ length xs + i) × (slice_get ys i ≡ Some r))
   split-get [] ys k r e = inr (k, omega arith, e)
@@ -221,7 +221,7 @@ module _ (w : World Name) (rows : List (Row Name)) (whole : IsWorld (with_pendin
     master_ids = master_ids;
     other_ids = follow-join (2 ^ 56) (other_id (length w.others)) (other_id (length (w.others ++ rows))) others pending other_ids
         (subst (λ n. Follow (other_id (length w.others)) n pending)
-        (let a = length-map rows (id_row (with_pending w rows)) in let b = length-append w.others rows in let z : other_id (length w.others) + length (map (id_row (with_pending w rows)) rows) ≡ other_id (length (w.others ++ rows)) = omega (arith, a, b) in z)
-        (rows-follow (other_id (length w.others)) (map (id_row (with_pending w rows)) rows)));
+        (let a = length-map rows (held_row (with_pending w rows)) in let b = length-append w.others rows in let z : other_id (length w.others) + length (map (held_row (with_pending w rows)) rows) ≡ other_id (length (w.others ++ rows)) = omega (arith, a, b) in z)
+        (rows-follow (other_id (length w.others)) (map (held_row (with_pending w rows)) rows)));
     parents = each-row;
   }

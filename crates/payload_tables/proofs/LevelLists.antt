@@ -19,10 +19,10 @@ use Rattle.segment_levels.specs.Kept.{PlainGroups}
 use Rattle.batch_codec.proofs.Built.{segment-some}
 use Rattle.flat_segments.specs.Placed.{segments_of}
 use Rattle.flat_segments.specs.Maximal.{maximal}
-use Rattle.flat_segments.specs.Kept.{Kept, IsTableOf}
+use Rattle.flat_segments.specs.Kept.{KeptFlats, IsTableOf}
 use Rattle.flat_segments.proofs.Callers.{follow-few}
 use Rattle.flat_segments.proofs.Standing.{all-segments}
-use Rattle.segment_levels.specs.Kept.{Kept as KeptLevels, AreLevelsOf}
+use Rattle.segment_levels.specs.Kept.{KeptLevels, AreLevelsOf}
 use Rattle.segment_levels.specs.Flats.{flats_of, extended}
 use Rattle.segment_levels.specs.Whole.{Grows}
 use Rattle.segment_levels.proofs.ByGraph.{maximal-of}
@@ -32,7 +32,7 @@ use Rattle.high_segments.specs.Growing.{MayBecome}
 use Rattle.high_segments.specs.Marks.{IsMarkOfAll}
 use Rattle.high_segments.specs.Storing.{CameSince}
 use Rattle.high_segments.proofs.Batch.{table-whole, whole-of}
-use Rattle.high_segments.specs.Extending.{MayFollow, MayExtend}
+use Rattle.high_segments.specs.Extending.{MayGrowBy, MayExtendLevels}
 use Rattle.name_map.specs.Added.{Placed, payloads_of}
 use Rattle.change_rules.specs.Lawful.{master_flats, levels_with}
 use Rattle.payload_tables.specs.Kept.{HaveMasters, master_records}
@@ -54,7 +54,7 @@ graph-flats end segments flat f =
     (λ k lt. listed-parents 0 end segments k f (omega (arith, lt)))))
 
 -- the flat segments of a table are those of its payloads
-pub flats-are : (table : Kept) (added : List Placed) → IsTableOf table (master_records added) → flats_of table (master_records added) ≡ master_flats (payloads_of added)
+pub flats-are : (table : KeptFlats) (added : List Placed) → IsTableOf table (master_records added) → flats_of table (master_records added) ≡ master_flats (payloads_of added)
 flats-are table added is =
     graph-flats table.end (segments_of (master_records added)) (all-segments (master_records added) is.flat) is.in_turn
     ∙ ap (λ l. flat_segments_of 0 (parents_listed l)) (masters-segments added)
@@ -72,7 +72,7 @@ flats-more before p =
     (sym (ap parents_listed (flat-snoc (λ (q : Payload). q.master) before p) ∙ flat_map-append segment_parents (flat_map (λ q. q.master) before) p.master))
     (flats-grow 0 (parents_listed (flat_map (λ q. q.master) before)) (parents_listed p.master))
 
-module _ (old new : Kept) (was now : KeptLevels) (added : List Placed) (a : Placed) (h : HaveMasters old was added) (g : HaveMasters new now (added ++ a ∷ [])) (p : IsPayload a.payload) (e : a.payload.before ≡ old.end) where
+module _ (old new : KeptFlats) (was now : KeptLevels) (added : List Placed) (a : Placed) (h : HaveMasters old was added) (g : HaveMasters new now (added ++ a ∷ [])) (p : IsPayload a.payload) (e : a.payload.before ≡ old.end) where
   pub lists-same : new_levels (flats_of old (master_records added)) (flats_of new (master_records (added ++ a ∷ []))) ≡ levels_with (payloads_of added) a.payload
   lists-same = ap₂ new_levels (flats-are old added h.flat) (flats-are new (added ++ a ∷ []) g.flat ∙ ap master_flats (payloads-more added a))
 
@@ -106,7 +106,7 @@ module _ (old new : Kept) (was now : KeptLevels) (added : List Placed) (a : Plac
 
 -- ---- before the records are added
 
-module _ (table : Kept) (levels : KeptLevels) (bytes records : List ℕ) (added : List Placed) (p : Payload) (h : BringsMasters table levels bytes records added p) where
+module _ (table : KeptFlats) (levels : KeptLevels) (bytes records : List ℕ) (added : List Placed) (p : Payload) (h : BringsMasters table levels bytes records added p) where
   segments : List Segment
   segments = segments_of (master_records added) ++ p.master
 
@@ -146,10 +146,10 @@ module _ (table : Kept) (levels : KeptLevels) (bytes records : List ℕ) (added 
         few = omega (arith, n, end, most, j);
       }
 
-  pub brings-follow : MayFollow table bytes records (master_records added) p.master
+  pub brings-follow : MayGrowBy table bytes records (master_records added) p.master
   brings-follow = records-follow table added p bytes records h.have.flat h.stand h.payload h.begins h.records_are
 
-  pub brings-extend : MayExtend levels table bytes records
+  pub brings-extend : MayExtendLevels levels table bytes records
   brings-extend = record { before = master_records added; segments = p.master; follow = brings-follow; levels_of = h.have.levels_of }
 
   pub will-come : (mark : LevelsMark) (now : KeptLevels) → IsMarkOfAll mark levels → AreLevelsOf now (extended table (master_records added) p.master)

@@ -13,14 +13,14 @@ use Rattle.segment_rules.specs.Flat.{flat_segments_of, segment_parents, parents_
 use Rattle.batch_codec.specs.Payload.{Payload}
 use Rattle.batch_codec.specs.Grammar.{IsPayload, count_after}
 use Rattle.flat_segments.specs.Maximal.{maximal}
-use Rattle.flat_segments.specs.Placed.{Placed as PlacedSegment, placed as placed_segments, segments_of}
-use Rattle.flat_segments.specs.Kept.{Kept, IsTableOf}
+use Rattle.flat_segments.specs.Placed.{PlacedSegment, placed_segments, segments_of}
+use Rattle.flat_segments.specs.Kept.{KeptFlats, IsTableOf}
 use Rattle.flat_segments.proofs.Standing.{all-segments}
 use Rattle.segment_levels.specs.Kept.{AreLevelsOf}
 use Rattle.segment_levels.specs.Flats.{flats_of, extended}
 use Rattle.segment_levels.proofs.ByGraph.{maximal-of}
-use Rattle.high_segments.specs.Extending.{MayFollow}
-use Rattle.name_map.specs.Added.{Placed, AllStand, payloads_of, Follow as Following}
+use Rattle.high_segments.specs.Extending.{MayGrowBy}
+use Rattle.name_map.specs.Added.{Placed, AllStand, payloads_of, FollowInLog as Following}
 use Rattle.change_rules.specs.Tables.{StandFor}
 use Rattle.payload_tables.specs.Kept.{PlainTables, AreTablesOf, master_records}
 use Rattle.payload_tables.proofs.Joined.{listed-parents, followers-long}
@@ -32,8 +32,8 @@ behind-join first [] ys = refl
 behind-join first (s ∷ xs) ys = behind-join (s.high + 1) xs ys
 
 -- the payload's records may follow those of the table
-pub records-follow : (table : Kept) (added : List Placed) (p : Payload) (bytes records : List ℕ) → IsTableOf table (master_records added) → AllStand bytes added
-    → IsPayload p → p.before ≡ table.end → records ≡ flat_map segment_bytes p.master → MayFollow table bytes records (master_records added) p.master
+pub records-follow : (table : KeptFlats) (added : List Placed) (p : Payload) (bytes records : List ℕ) → IsTableOf table (master_records added) → AllStand bytes added
+    → IsPayload p → p.before ≡ table.end → records ≡ flat_map segment_bytes p.master → MayGrowBy table bytes records (master_records added) p.master
 records-follow table added p bytes records is stand h e r =
     record {
       table_of = is;
@@ -45,7 +45,7 @@ records-follow table added p bytes records is stand h e r =
     }
 
 -- the flat segments of the table with more records
-pub extended-are : (old new : Kept) (before : List PlacedSegment) (at : ℕ) (segments : List Segment) → IsTableOf old before → IsTableOf new (before ++ placed_segments at segments)
+pub extended-are : (old new : KeptFlats) (before : List PlacedSegment) (at : ℕ) (segments : List Segment) → IsTableOf old before → IsTableOf new (before ++ placed_segments at segments)
     → extended old before segments ≡ flats_of new (before ++ placed_segments at segments)
 extended-are old new before at segments is next =
     let all : segments_of (before ++ placed_segments at segments) ≡ segments_of before ++ segments =

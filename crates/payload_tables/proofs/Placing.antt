@@ -6,7 +6,7 @@ use Rattle.segment_codec.specs.Record.{Segment}
 use Rattle.segment_codec.specs.Table.{Follow}
 use Rattle.segment_codec.proofs.Tables.{follow-ends}
 use Rattle.batch_codec.specs.Payload.{Payload}
-use Rattle.batch_codec.specs.Grammar.{IsPayload, IsFlush, IsClone, IsWhole, head_names, cloned_head_names, heads_among, cut_below}
+use Rattle.batch_codec.specs.Grammar.{IsPayload, IsFlush, IsClone, IsWholePayload, head_names, cloned_head_names, heads_among, cut_below}
 use Rattle.change_rules.specs.Lawful.{AreLawful, MayFollow}
 use Rattle.payload_tables.specs.Kept.{version_of, newest_version}
 use Rattle.payload_tables.specs.Build.{HasPlace}
@@ -16,7 +16,7 @@ pub other-kind : (p : Payload) → IsPayload p → IsFlush p ⊎ ((p.kind ≢ 1)
 other-kind p h = ⊎_elim (λ f. inl f)
     (λ o. inr (⊎_elim
     (λ (c : IsClone p). ((λ e. eqb-false 2 1 refl (sym c.kind ∙ e)), ap (λ n. n == 1) c.kind))
-    (λ (w : IsWhole p). ((λ e. eqb-false 3 1 refl (sym w.kind ∙ e)), ap (λ n. n == 1) w.kind)) o)) h.by_kind
+    (λ (w : IsWholePayload p). ((λ e. eqb-false 3 1 refl (sym w.kind ∙ e)), ap (λ n. n == 1) w.kind)) o)) h.by_kind
 
 -- segments that end where they are cut stay
 cut-none : (first end : ℕ) (segments : List Segment) → Follow first end segments → cut_below end segments ≡ segments
@@ -32,7 +32,7 @@ pub clone-heads : (p : Payload) → IsPayload p → p.kind ≡ 2 → cloned_head
 clone-heads p h e = ⊎_elim (λ (f : IsFlush p). absurd (eqb-false 2 1 refl (sym e ∙ f.kind)))
     (λ o. ⊎_elim
     (λ (c : IsClone p). ap (λ n. heads_among (cut_below n p.master) p.known) c.cloned ∙ ap (λ l. heads_among l p.known) (cut-none p.before p.after p.master h.cover.master))
-    (λ (w : IsWhole p). absurd (eqb-false 2 3 refl (sym e ∙ w.kind))) o) h.by_kind
+    (λ (w : IsWholePayload p). absurd (eqb-false 2 3 refl (sym e ∙ w.kind))) o) h.by_kind
 
 -- ---- versions
 
@@ -64,9 +64,9 @@ versions-fit payloads p h le = all-wider (newest_version payloads) p.version pay
 
 pub place-of : (before : List Payload) (p : Payload) → MayFollow before p → HasPlace before p
 place-of before p f = record {
-  first = λ never. ⊎_elim (λ (k : IsFlush p). absurd (never k.kind)) (λ o. ⊎_elim (λ (c : IsClone p). f.clone_first c.kind) (λ (w : IsWhole p). f.whole_first w.kind) o) f.whole.by_kind;
+  first = λ never. ⊎_elim (λ (k : IsFlush p). absurd (never k.kind)) (λ o. ⊎_elim (λ (c : IsClone p). f.clone_first c.kind) (λ (w : IsWholePayload p). f.whole_first w.kind) o) f.whole.by_kind;
   heads = λ never. ⊎_elim (λ (k : IsFlush p). absurd (never k.kind))
-      (λ o. ⊎_elim (λ (c : IsClone p). f.clone_heads c.kind ∙ sym (clone-heads p f.whole c.kind)) (λ (w : IsWhole p). f.whole_heads w.kind) o) f.whole.by_kind;
+      (λ o. ⊎_elim (λ (c : IsClone p). f.clone_heads c.kind ∙ sym (clone-heads p f.whole c.kind)) (λ (w : IsWholePayload p). f.whole_heads w.kind) o) f.whole.by_kind;
   version = newest-least before p.version None (omega arith) f.version;
   levels = f.levels;
 }

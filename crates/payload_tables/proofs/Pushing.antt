@@ -9,8 +9,8 @@ use Rattle.commit_graph.proofs.Down.{in-left, in-right}
 use Rattle.commit_graph.proofs.Naming.{each, all-each}
 use Rattle.batch_codec.specs.Payload.{names_bytes}
 use Rattle.name_index.specs.Index.{NamedPlace, Stand, StandsAt, names_in, IsIndexOf}
-use Rattle.flat_segments.specs.Placed.{Placed}
-use Rattle.flat_segments.specs.Kept.{Kept, entry_of, IsSectionOf}
+use Rattle.flat_segments.specs.Placed.{PlacedSegment}
+use Rattle.flat_segments.specs.Kept.{KeptFlats, entry_of, IsSectionOf}
 use Rattle.name_map.specs.Added.{names_from}
 use Rattle.payload_tables.specs.Pending.{FindsNames}
 use Rattle.payload_tables.proofs.Naming.{name-in-bytes, names-from-in, get-in}
@@ -66,9 +66,9 @@ finds-again old new names x f e here = record {
 }
 
 -- what is taken back leaves the section as it was
-pub section-back : (old new : Kept) (before more : List Placed) (len end : ℕ) → IsSectionOf old before → IsSectionOf new (before ++ more) → len ≡ length old.entries → end ≡ old.end
-    → ◌≡◌ {A = Kept} (record { entries = take len new.entries; end = end }) old
+pub section-back : (old new : KeptFlats) (before more : List PlacedSegment) (len end : ℕ) → IsSectionOf old before → IsSectionOf new (before ++ more) → len ≡ length old.entries → end ≡ old.end
+    → ◌≡◌ {A = KeptFlats} (record { entries = take len new.entries; end = end }) old
 section-back old new before more len end is next e f =
-    ap₂ {C = Kept} (λ l n. record { entries = l; end = n })
+    ap₂ {C = KeptFlats} (λ l n. record { entries = l; end = n })
     (ap (take len) (next.kept ∙ map-append entry_of before more ∙ ap (λ l. l ++ map entry_of more) (sym is.kept)) ∙ take_at old.entries (map entry_of more) len (sym e))
     f

@@ -4,8 +4,8 @@ use Rattle.std.specs.List.{AllByRecursion}
 use Rattle.segment_codec.specs.Record.{Segment, IsSegment, segment_bytes}
 use Rattle.segment_codec.specs.Flat.{IsFlat}
 use Rattle.segment_codec.specs.Table.{Follow}
-use Rattle.flat_segments.specs.Placed.{placed}
-use Rattle.flat_segments.specs.Kept.{Kept, IsSectionOf, MayPush}
+use Rattle.flat_segments.specs.Placed.{placed_segments}
+use Rattle.flat_segments.specs.Kept.{KeptFlats, IsSectionOf, MayPush}
 use Rattle.flat_segments.proofs.Batches.{left-first, none-left}
 use Rattle.flat_segments.proofs.Sections.{follow-middle}
 use Rattle.segment_codec.proofs.Tables.{follow-ends}
@@ -18,24 +18,24 @@ use Rattle.batch_codec.specs.Grammar.{IsPayload}
 use Rattle.batch_codec.proofs.Entries.{names-size}
 
 -- so far the section is that of the records before the rest
-pub record SoFar (at : ℕ) (bytes : List ℕ) (section : Kept) (rest : List ℕ) (segments : List Segment) : Type 0 where
+pub record SoFar (at : ℕ) (bytes : List ℕ) (section : KeptFlats) (rest : List ℕ) (segments : List Segment) : Type 0 where
   pub done : List Segment
   pub left : List Segment
   pub parts : segments ≡ done ++ left
   pub rest_is : rest ≡ flat_map segment_bytes left
   pub each : AllByRecursion IsSegment left
-  pub is : IsSectionOf section (placed at done)
+  pub is : IsSectionOf section (placed_segments at done)
   pub size : length bytes ≡ length (flat_map segment_bytes done) + length rest
 
-pub starts : (at : ℕ) (bytes : List ℕ) (section : Kept) (segments : List Segment) → IsSectionOf section [] → AreOthers segments bytes → SoFar at bytes section bytes segments
+pub starts : (at : ℕ) (bytes : List ℕ) (section : KeptFlats) (segments : List Segment) → IsSectionOf section [] → AreOthers segments bytes → SoFar at bytes section bytes segments
 starts at bytes section segments is a = record { done = []; left = segments; parts = refl; rest_is = a.records.bytes_are; each = a.records.each; is = is; size = omega arith }
 
-pub placed-snoc : (at : ℕ) (done : List Segment) (s : Segment) → placed at (done ++ s ∷ []) ≡ placed at done ++ record { place = at + length (flat_map segment_bytes done); segment = s } ∷ []
+pub placed-snoc : (at : ℕ) (done : List Segment) (s : Segment) → placed_segments at (done ++ s ∷ []) ≡ placed_segments at done ++ record { place = at + length (flat_map segment_bytes done); segment = s } ∷ []
 placed-snoc at [] s = ap (λ n. record { place = n; segment = s } ∷ []) (let z : at ≡ at + 0 = omega arith in z)
 placed-snoc at (d ∷ done) s =
     ap (λ l. record { place = at; segment = d } ∷ l)
     (placed-snoc (at + length (segment_bytes d)) done s
-    ∙ ap (λ n. placed (at + length (segment_bytes d)) done ++ record { place = n; segment = s } ∷ [])
+    ∙ ap (λ n. placed_segments (at + length (segment_bytes d)) done ++ record { place = n; segment = s } ∷ [])
     (let l = length-append (segment_bytes d) (flat_map segment_bytes done) in
     let z : at + length (segment_bytes d) + length (flat_map segment_bytes done) ≡ at + length (flat_map segment_bytes (d ∷ done)) = omega (arith, l) in z))
 
@@ -43,7 +43,7 @@ flat-at : (done : List Segment) (s : Segment) (more : List Segment) → AllByRec
 flat-at [] s more h = h.0
 flat-at (d ∷ done) s more h = flat-at done s more h.1
 
-module _ (at : ℕ) (bytes : List ℕ) (section : Kept) (rest : List ℕ) (segments : List Segment) (a : AreOthers segments bytes) (f : SoFar at bytes section rest segments)
+module _ (at : ℕ) (bytes : List ℕ) (section : KeptFlats) (rest : List ℕ) (segments : List Segment) (a : AreOthers segments bytes) (f : SoFar at bytes section rest segments)
     (s : Segment) (after : List ℕ) (whole : IsSegment s) (read : rest ≡ segment_bytes s ++ after) where
   next-is : (more : List Segment) × (f.left ≡ s ∷ more) × AllByRecursion IsSegment more × (after ≡ flat_map segment_bytes more)
   next-is = let l = left-first s rest after f.left whole read f.each f.rest_is in (l.more, l.is, l.each, l.after_is)
@@ -54,7 +54,7 @@ module _ (at : ℕ) (bytes : List ℕ) (section : Kept) (rest : List ℕ) (segme
   turn : (middle : ℕ) × Follow a.first middle f.done × Follow middle a.end (s ∷ next-is.0)
   turn = follow-middle a.first a.end f.done (s ∷ next-is.0) (subst (Follow a.first a.end) parts-are a.follow)
 
-  end-is : (done : List Segment) → Follow a.first turn.0 done → IsSectionOf section (placed at done) → (section.entries ≡ [] → ⊥) → turn.0 ≡ section.end
+  end-is : (done : List Segment) → Follow a.first turn.0 done → IsSectionOf section (placed_segments at done) → (section.entries ≡ [] → ⊥) → turn.0 ≡ section.end
   end-is [] h is some = absurd (some is.kept)
   end-is (d ∷ done) h is some =
       let g : Follow is.first section.end (d ∷ done) = subst (Follow is.first section.end) (placed-segments at (d ∷ done)) is.in_turn in
@@ -67,7 +67,7 @@ module _ (at : ℕ) (bytes : List ℕ) (section : Kept) (rest : List ℕ) (segme
     begins = λ some. turn.2.0 ∙ end-is f.done turn.1 f.is some;
   }
 
-  pub so-far : (new : Kept) (place : ℕ) → place ≡ at + (length bytes - length rest) → IsSectionOf new (placed at f.done ++ record { place = place; segment = s } ∷ []) → SoFar at bytes new after segments
+  pub so-far : (new : KeptFlats) (place : ℕ) → place ≡ at + (length bytes - length rest) → IsSectionOf new (placed_segments at f.done ++ record { place = place; segment = s } ∷ []) → SoFar at bytes new after segments
   so-far new place e is =
       let size = f.size in
       let behind = ap (length {A = ℕ}) read in let l = length-append (segment_bytes s) after in
@@ -80,14 +80,14 @@ module _ (at : ℕ) (bytes : List ℕ) (section : Kept) (rest : List ℕ) (segme
         parts = parts-are ∙ sym (append_assoc f.done (s ∷ []) next-is.0);
         rest_is = next-is.3;
         each = next-is.2;
-        is = subst (IsSectionOf new) (sym (placed-snoc at f.done s ∙ ap (λ n. placed at f.done ++ record { place = n; segment = s } ∷ []) (sym same))) is;
+        is = subst (IsSectionOf new) (sym (placed-snoc at f.done s ∙ ap (λ n. placed_segments at f.done ++ record { place = n; segment = s } ∷ []) (sym same))) is;
         size = omega (arith, size, behind, l, d, m, one);
       }
 
-pub all-done : (at : ℕ) (bytes : List ℕ) (section : Kept) (rest : List ℕ) (segments : List Segment) → SoFar at bytes section rest segments
-    → ((s : Segment) (after : List ℕ) → IsSegment s → rest ≡ segment_bytes s ++ after → ⊥) → IsSectionOf section (placed at segments)
+pub all-done : (at : ℕ) (bytes : List ℕ) (section : KeptFlats) (rest : List ℕ) (segments : List Segment) → SoFar at bytes section rest segments
+    → ((s : Segment) (after : List ℕ) → IsSegment s → rest ≡ segment_bytes s ++ after → ⊥) → IsSectionOf section (placed_segments at segments)
 all-done at bytes section rest segments f none =
-    subst (λ l. IsSectionOf section (placed at l)) (sym (f.parts ∙ ap (λ l. f.done ++ l) (none-left f.left rest f.each f.rest_is none) ∙ append-nil f.done)) f.is
+    subst (λ l. IsSectionOf section (placed_segments at l)) (sym (f.parts ∙ ap (λ l. f.done ++ l) (none-left f.left rest f.each f.rest_is none) ∙ append-nil f.done)) f.is
 
 -- ---- a payload's other ids
 

@@ -7,7 +7,7 @@ use Rattle.batch_codec.specs.Payload.{Payload, payload_bytes, names_bytes, maste
 use Rattle.batch_codec.specs.Grammar.{IsPayload, count_after}
 use Rattle.change_rules.specs.Lawful.{AreLawful}
 use Rattle.batch_codec.proofs.Entries.{names-size}
-use Rattle.flat_segments.specs.Placed.{Placed as PlacedSegment, placed, segments_of, Stand}
+use Rattle.flat_segments.specs.Placed.{PlacedSegment, placed_segments, segments_of, Stand}
 use Rattle.flat_segments.proofs.Callers.{placed-stand}
 use Rattle.name_map.specs.Added.{Placed, AllStand, payloads_of}
 use Rattle.name_map.proofs.Standing.{stand-parts}
@@ -33,19 +33,19 @@ piece-stands bytes a piece n s h =
 pub masters-stand : (bytes : List ℕ) (added : List Placed) → AllStand bytes added → Stand bytes (master_records added)
 masters-stand bytes [] h = tt
 masters-stand bytes (a ∷ added) h =
-    all-append _ (placed (a.at + master_start a.payload) a.payload.master) (master_records added)
+    all-append _ (placed_segments (a.at + master_start a.payload) a.payload.master) (master_records added)
     (placed-stand bytes (drop (length (flat_map segment_bytes a.payload.master)) (drop (a.at + master_start a.payload) bytes)) (a.at + master_start a.payload) a.payload.master
     (piece-stands bytes a (flat_map segment_bytes a.payload.master) (master_start a.payload) (masters-in a.payload) h.0))
     (masters-stand bytes added h.1)
 
-pub placed-segments : (at : ℕ) (segments : List Segment) → segments_of (placed at segments) ≡ segments
+pub placed-segments : (at : ℕ) (segments : List Segment) → segments_of (placed_segments at segments) ≡ segments
 placed-segments at [] = refl
 placed-segments at (s ∷ more) = ap (λ l. s ∷ l) (placed-segments (at + length (segment_bytes s)) more)
 
 pub masters-segments : (added : List Placed) → segments_of (master_records added) ≡ flat_map (λ p. p.master) (payloads_of added)
 masters-segments [] = refl
 masters-segments (a ∷ added) =
-    map-append (λ (r : PlacedSegment). r.segment) (placed (a.at + master_start a.payload) a.payload.master) (master_records added)
+    map-append (λ (r : PlacedSegment). r.segment) (placed_segments (a.at + master_start a.payload) a.payload.master) (master_records added)
     ∙ ap₂ (λ x y. x ++ y) (placed-segments (a.at + master_start a.payload) a.payload.master) (masters-segments added)
 
 -- the master ids of lawful payloads

@@ -3,7 +3,7 @@ use Rattle.std.proofs.Common.{◌≡◌, ◌<◌, ◌≤◌, ◌^◌, ◌⊎◌,
 use Rattle.std.specs.List.{last_or}
 use Rattle.std.proofs.lemmas.List.{drop-take, take-take, drop-drop}
 use Rattle.name_index.specs.Index.{NamedPlace, Stand, StandsAt, IsIndexOf, names_in}
-use Rattle.name_map.specs.Added.{names_from, Placed, payloads_of, known_of, Follow}
+use Rattle.name_map.specs.Added.{names_from, Placed, payloads_of, known_of, FollowInLog}
 use Rattle.name_map.proofs.Places.{names-are}
 use Rattle.commit_graph.proofs.Naming.{each, all-each}
 use Rattle.payload_tables.proofs.Naming.{names-from-in, get-in, name-in-bytes}
@@ -24,23 +24,23 @@ use Rattle.payload_tables.specs.Bases.{MayBase, stored_in}
 use Rattle.payload_tables.proofs.Basing.{OthersFacts, base-others}
 use Rattle.payload_tables.proofs.Rows.{get-below}
 
-after-grows : (n : ℕ) (added behind : List Placed) → Follow n (added ++ behind) → n ≤ count_after n (payloads_of added)
+after-grows : (n : ℕ) (added behind : List Placed) → FollowInLog n (added ++ behind) → n ≤ count_after n (payloads_of added)
 after-grows n [] behind h = omega arith
 after-grows n (a ∷ added) behind h = let r = after-grows a.payload.after added behind h.2 in let g = h.0.counts.grows in let e = h.1 in omega (arith, r, g, e)
 
-front-under : (n : ℕ) (front behind : List Placed) → Follow n (front ++ behind) → (k : Known) → IsIn k (known_of front) → k.id < count_after n (payloads_of front)
+front-under : (n : ℕ) (front behind : List Placed) → FollowInLog n (front ++ behind) → (k : Known) → IsIn k (known_of front) → k.id < count_after n (payloads_of front)
 front-under n [] behind h k i = absurd i
 front-under n (a ∷ front) behind h k i =
     ⊎_elim (λ (j : IsIn k a.payload.known). let small = (known-within a.payload h.0 k j).1 in let up = after-grows a.payload.after front behind h.2 in omega (arith, small, up))
     (λ (j : IsIn k (known_of front)). front-under a.payload.after front behind h.2 k j) (in-append k a.payload.known (known_of front) i)
 
-from : (n : ℕ) (behind : List Placed) → Follow n behind → (k : Known) → IsIn k (known_of behind) → n ≤ k.id
+from : (n : ℕ) (behind : List Placed) → FollowInLog n behind → (k : Known) → IsIn k (known_of behind) → n ≤ k.id
 from n [] h k i = absurd i
 from n (a ∷ behind) h k i =
     ⊎_elim (λ (j : IsIn k a.payload.known). let low = (known-within a.payload h.0 k j).0 in let e = h.1 in omega (arith, low, e))
     (λ (j : IsIn k (known_of behind)). let r = from a.payload.after behind h.2 k j in let g = h.0.counts.grows in let e = h.1 in omega (arith, r, g, e)) (in-append k a.payload.known (known_of behind) i)
 
-behind-from : (n : ℕ) (front behind : List Placed) → Follow n (front ++ behind) → (k : Known) → IsIn k (known_of behind) → count_after n (payloads_of front) ≤ k.id
+behind-from : (n : ℕ) (front behind : List Placed) → FollowInLog n (front ++ behind) → (k : Known) → IsIn k (known_of behind) → count_after n (payloads_of front) ≤ k.id
 behind-from n [] behind h k i = from n behind h k i
 behind-from n (a ∷ front) behind h k i = behind-from a.payload.after front behind h.2 k i
 

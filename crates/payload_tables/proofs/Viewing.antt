@@ -10,7 +10,7 @@ use Rattle.segment_codec.proofs.Tables.{follow-rising, follow-within, rising-at}
 use Rattle.flat_segments.specs.Maximal.{cut}
 use Rattle.segment_rules.specs.Levels.{complete, level_segments}
 use Rattle.segment_levels.specs.Endings.{level_ending}
-use Rattle.segment_levels.specs.Whole.{IsWhole, Grows}
+use Rattle.segment_levels.specs.Whole.{IsWholeTo, Grows}
 use Rattle.segment_levels.proofs.Heading.{in-take}
 use Rattle.segment_levels.proofs.Leveled.{leveled, level-grows}
 use Rattle.segment_levels.proofs.Reading.{levels-nest}
@@ -65,7 +65,7 @@ level-within flats end f (suc level) s i =
     subst (λ n. n < end) t.2 (level-within flats end f level t.0 t.1)
 
 -- what ends in a level of the segments that are cut ends in that level of all
-pub level-ends : (flats : List Segment) (end below : ℕ) → IsWhole flats end → Follow 0 below (cut below flats) → (level : ℕ) (s : Segment) → suc level ≤ 7 → IsIn s (level_segments (cut below flats) (suc level))
+pub level-ends : (flats : List Segment) (end below : ℕ) → IsWholeTo flats end → Follow 0 below (cut below flats) → (level : ℕ) (s : Segment) → suc level ≤ 7 → IsIn s (level_segments (cut below flats) (suc level))
     → level_ending flats below (suc level) s.high ≡ Some s
 level-ends flats end below w f level s known i =
     let grown = level-grows (cut below flats) flats (grows-cut below 0 end flats w.follow) (suc level) in

@@ -15,7 +15,7 @@ use Rattle.payload_tables.specs.declared.base.BaseRef.{BaseRef}
 use Rattle.change_rules.specs.Change.{known_from}
 use Rattle.change_rules.specs.Tables.{newest, other_names_in}
 use Rattle.payload_tables.specs.Kept.{PlainTables, PlainOthers, AreTablesOf, AreOthersIn, last_added}
-use Rattle.payload_tables.specs.Pending.{IdRow, PlainPending, HoldsRows}
+use Rattle.payload_tables.specs.Pending.{HeldRow, PlainPending, HoldsRows}
 
 -- Of the payloads that were added, these are the first ones; the other ids are those of the last of these, and below them
 -- are the master ids of these.
@@ -35,13 +35,13 @@ abbrev pub stored_in : List Placed → List Known
 stored_in added = known_of added ++ known_from (2 ^ 56) (other_names_in (newest (payloads_of added)))
 
 -- a row of a world, its parents by their ids
-abbrev pub id_row : World Name → Row Name → IdRow
-id_row w row = record { name = row.name; parents = map (id_in same_name w) row.parents }
+abbrev pub held_row : World Name → Row Name → HeldRow
+held_row w row = record { name = row.name; parents = map (id_in same_name w) row.parents }
 
 -- the pending rows of a session whose base has this world
 pub record ArePending (w : World Name) (pending : PlainPending) (rows : List (Row Name)) : Type 0 where
   pub first : pending.first ≡ length w.others
-  pub held : HoldsRows pending (map (id_row (with_pending w rows)) rows)
+  pub held : HoldsRows pending (map (held_row (with_pending w rows)) rows)
   pub view : IsWorld (with_pending w rows)
 
 -- the segments are those of the world: they have its ids, each with its row's parents
@@ -59,7 +59,7 @@ flat_segments_in w = flat_segments_of 0 (parent_ids same_name w w.master) ++ fla
 
 -- the pending rows may stand behind the base: they begin where its other ids end, and their master parents are among its own
 pub record MayView (b : BaseRef) (added : List Placed) (pending : PlainPending) : Type 0 where
-  pub rows : List IdRow
+  pub rows : List HeldRow
   pub held : HoldsRows pending rows
   pub first : pending.first ≡ length (other_names_in (newest (payloads_of added)))
   pub parents : AllByRecursion (λ row. AllByRecursion (λ p. (p < b.below) ⊎ (2 ^ 56 ≤ p)) row.parents) rows

@@ -5,16 +5,16 @@ use Rattle.batch_codec.specs.Payload.{Payload}
 use Rattle.batch_codec.specs.Grammar.{cloned_head_names}
 use Rattle.change_rules.specs.Lawful.{levels_with}
 use Rattle.change_rules.specs.Tables.{remote_heads, cloned_count}
-use Rattle.flat_segments.specs.Kept.{Kept, IsTableOf}
-use Rattle.segment_levels.specs.Kept.{Kept as KeptLevels, AreLevelsOf}
+use Rattle.flat_segments.specs.Kept.{KeptFlats, IsTableOf}
+use Rattle.segment_levels.specs.Kept.{KeptLevels, AreLevelsOf}
 use Rattle.segment_levels.specs.Flats.{flats_of}
 use Rattle.name_map.specs.Added.{Placed, payloads_of}
-use Rattle.name_map.specs.Build.{PlainBuild as PlainNames, IsBuildOf as AreNamesOf}
+use Rattle.name_map.specs.Build.{PlainNames, AreNamesOf}
 use Rattle.payload_tables.specs.Kept.{PlainOthers, AreOthersIn, last_added, master_records, newest_version}
 
 -- what is kept
 pub record PlainBuild : Type 0 where
-  pub flat : Kept
+  pub flat : KeptFlats
   pub levels : KeptLevels
   pub names : PlainNames
   -- the other ids of the newest payload
@@ -39,7 +39,7 @@ HavePlaces before [] = ⊤
 HavePlaces before (p ∷ more) = HasPlace before p × HavePlaces (before ++ p ∷ []) more
 
 -- the table, its levels and the names are those of the payloads
-pub record ArePartsOf (table : Kept) (levels : KeptLevels) (names : PlainNames) (added : List Placed) : Type 0 where
+pub record ArePartsOf (table : KeptFlats) (levels : KeptLevels) (names : PlainNames) (added : List Placed) : Type 0 where
   pub flat : IsTableOf table (master_records added)
   pub levels_of : AreLevelsOf levels (flats_of table (master_records added))
   pub names_of : AreNamesOf names added

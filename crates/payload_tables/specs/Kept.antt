@@ -13,14 +13,14 @@ use Rattle.name_map.specs.declared.fault.MapFault.{MapFault}
 use Rattle.name_map.specs.declared.fault.MapFault.TheVariants.{Double, Memory as MapMemory}
 use Rattle.payload_tables.specs.declared.fault.TableFault.{TableFault}
 use Rattle.payload_tables.specs.declared.fault.TableFault.TheVariants.{Unlawful, Memory}
-use Rattle.flat_segments.specs.Placed.{Placed as PlacedSegment, placed}
-use Rattle.flat_segments.specs.Kept.{Kept, IsTableOf, IsSectionOf}
-use Rattle.segment_levels.specs.Kept.{Kept as KeptLevels, AreLevelsOf}
+use Rattle.flat_segments.specs.Placed.{PlacedSegment, placed_segments}
+use Rattle.flat_segments.specs.Kept.{KeptFlats, IsTableOf, IsSectionOf}
+use Rattle.segment_levels.specs.Kept.{KeptLevels, AreLevelsOf}
 use Rattle.segment_levels.specs.Flats.{flats_of}
 
 -- what is kept of the other ids of one payload
 pub record PlainOthers : Type 0 where
-  pub section : Kept
+  pub section : KeptFlats
   -- where the first of their names stands, and how many there are
   pub names : ℕ
   pub count : ℕ
@@ -29,7 +29,7 @@ pub record PlainOthers : Type 0 where
 
 -- what is kept of all payloads
 pub record PlainTables : Type 0 where
-  pub flat : Kept
+  pub flat : KeptFlats
   pub levels : KeptLevels
   pub names : PlainMap
   -- the other ids of the newest one
@@ -42,7 +42,7 @@ pub record PlainTables : Type 0 where
 
 -- the records of a payload's other ids, at their places
 abbrev pub other_records : Placed → List PlacedSegment
-other_records a = placed (a.at + others_start a.payload) a.payload.others
+other_records a = placed_segments (a.at + others_start a.payload) a.payload.others
 
 -- the names of a payload's other ids, at their places
 abbrev pub other_named : Placed → List NamedPlace
@@ -71,7 +71,7 @@ last_added added = last_or None added
 
 -- the records of all master ids, at their places
 abbrev pub master_records : List Placed → List PlacedSegment
-master_records added = flat_map (λ a. placed (a.at + master_start a.payload) a.payload.master) added
+master_records added = flat_map (λ a. placed_segments (a.at + master_start a.payload) a.payload.master) added
 
 -- the version of the last of these, and 0 where there is none; none before it has a later one
 abbrev pub version_of : Option Payload → ℕ
@@ -93,12 +93,12 @@ pub record AreTablesOf (tables : PlainTables) (added : List Placed) : Type 0 whe
   pub version : tables.version ≡ newest_version (payloads_of added)
 
 -- the table has the master records of the payloads, and its levels are theirs
-pub record HaveMasters (table : Kept) (levels : KeptLevels) (added : List Placed) : Type 0 where
+pub record HaveMasters (table : KeptFlats) (levels : KeptLevels) (added : List Placed) : Type 0 where
   pub flat : IsTableOf table (master_records added)
   pub levels_of : AreLevelsOf levels (flats_of table (master_records added))
 
 -- the table, its levels and the map are those of the payloads
-pub record AreMastersOf (table : Kept) (levels : KeptLevels) (map : PlainMap) (added : List Placed) : Type 0 where
+pub record AreMastersOf (table : KeptFlats) (levels : KeptLevels) (map : PlainMap) (added : List Placed) : Type 0 where
   pub lawful : AreLawful [] (payloads_of added)
   pub flat : IsTableOf table (master_records added)
   pub levels_of : AreLevelsOf levels (flats_of table (master_records added))

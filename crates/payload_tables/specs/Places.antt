@@ -3,8 +3,8 @@ use Rattle.std.specs.Prelude.{◌≡◌, ◌≢◌, ◌≤◌, ℕ, List, IsTrue
 use Rattle.segment_codec.specs.Record.{segment_bytes}
 use Rattle.name_map.specs.Added.{Placed, AllStand}
 use Rattle.batch_codec.specs.Grammar.{IsPayload}
-use Rattle.flat_segments.specs.Kept.{Kept}
-use Rattle.segment_levels.specs.Kept.{Kept as KeptLevels}
+use Rattle.flat_segments.specs.Kept.{KeptFlats}
+use Rattle.segment_levels.specs.Kept.{KeptLevels}
 use Rattle.payload_tables.specs.Kept.{HaveMasters}
 use Rattle.batch_codec.specs.Payload.{Payload}
 use Rattle.batch_codec.specs.Grammar.{cloned_head_names}
@@ -19,7 +19,7 @@ pub record IsPlaced (before : Before) (p : Payload) : Type 0 where
   pub heads : p.kind ≢ 1 → p.heads ≡ cloned_head_names p
 
 -- These are the master records of a payload that begins behind those that were added, whose master ids a table and its levels have.
-pub record BringsMasters (table : Kept) (levels : KeptLevels) (bytes records : List ℕ) (added : List Placed) (p : Payload) : Type 0 where
+pub record BringsMasters (table : KeptFlats) (levels : KeptLevels) (bytes records : List ℕ) (added : List Placed) (p : Payload) : Type 0 where
   pub have : HaveMasters table levels added
   pub stand : AllStand bytes added
   pub payload : IsPayload p

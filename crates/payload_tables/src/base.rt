@@ -12,7 +12,7 @@ ghost use Rattle.name_map.specs.Added.{Placed, payloads_of, AllStand};
 ghost use Rattle.change_rules.specs.Tables.{StandFor};
 ghost use Rattle.payload_tables.specs.Kept.{AreTablesOf, master_records};
 ghost use Rattle.payload_tables.specs.Pending.{segments_from};
-ghost use Rattle.payload_tables.specs.Bases.{MayBase, IsBaseOf, MayView, ArePending, AreSegmentsOf, flat_segments_in, id_row, stored_in};
+ghost use Rattle.payload_tables.specs.Bases.{MayBase, IsBaseOf, MayView, ArePending, AreSegmentsOf, flat_segments_in, held_row, stored_in};
 
 use crate::others::OthersTable;
 use crate::pending::PendingRows;
@@ -54,7 +54,7 @@ impl<'a> BaseRef<'a> {
         ensures graph { (added : List Placed) (w : World Name) (rows : List (Row Name)) → IsBaseOf self.now added → StandFor (payloads_of added) w → ArePending w pending.now rows
             → AreSegmentsOf (with_pending w rows) (flats_in result) }
         ensures flats { (added : List Placed) (w : World Name) (rows : List (Row Name)) → IsBaseOf self.now added → StandFor (payloads_of added) w → ArePending w pending.now rows
-            → flats_in result ≡ flat_segments_in w ++ segments_from (other_id (length w.others)) (map (id_row (with_pending w rows)) rows) }
+            → flats_in result ≡ flat_segments_in w ++ segments_from (other_id (length w.others)) (map (held_row (with_pending w rows)) rows) }
         ensures endings { (added all : List Placed) → IsBaseOf self.now added → AreTablesOf self.now.tables.now all → AllStand self.now.bytes.now all → (level id : ℕ)
             → ending_of result (suc level) id ≡ level_ending (flats_of self.now.tables.now.flat (master_records all)) self.now.below (suc level) id }
     {

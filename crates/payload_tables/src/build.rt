@@ -10,7 +10,7 @@ ghost use Rattle.segment_levels.specs.Flats.{flats_of};
 ghost use Rattle.segment_levels.specs.Kept.{AreLevelsOf};
 ghost use Rattle.name_map.specs.Added.{Placed, AllStand, payloads_of};
 ghost use Rattle.name_map.specs.Adding.{placed};
-ghost use Rattle.name_map.specs.Build.{IsBuildOf as AreNamesOf};
+ghost use Rattle.name_map.specs.Build.{AreNamesOf};
 ghost use Rattle.payload_tables.specs.declared.fault.TableFault.TheVariants.{Unlawful};
 ghost use Rattle.payload_tables.specs.Kept.{AreTablesOf, master_records};
 ghost use Rattle.payload_tables.specs.Build.{IsBuildOf, ArePartsOf};

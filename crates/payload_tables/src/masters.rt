@@ -7,11 +7,11 @@ ghost use Rattle.batch_codec.specs.Lent.{payload_of};
 ghost use Rattle.batch_codec.specs.Payload.{Payload, payload_bytes};
 ghost use Rattle.payload_tables.specs.Places.{BringsMasters};
 ghost use Rattle.flat_segments.specs.Kept.{IsTableOf};
-ghost use Rattle.flat_segments.specs.Placed.{Placed as PlacedSegment, placed as placed_segments};
+ghost use Rattle.flat_segments.specs.Placed.{PlacedSegment, placed_segments};
 ghost use Rattle.segment_levels.specs.Flats.{flats_of};
 ghost use Rattle.segment_codec.specs.Record.{segment_bytes};
 ghost use Rattle.segment_levels.specs.Kept.{AreLevelsOf};
-ghost use Rattle.high_segments.specs.Extending.{MayExtend, MayFollow};
+ghost use Rattle.high_segments.specs.Extending.{MayExtendLevels, MayGrowBy};
 ghost use Rattle.high_segments.specs.Growing.{AllFront};
 ghost use Rattle.high_segments.specs.Storing.{CameSince};
 ghost use Rattle.segment_rules.specs.NewLevels.{new_levels};
@@ -20,8 +20,8 @@ ghost use Rattle.name_map.specs.Added.{Placed, AllStand, payloads_of};
 ghost use Rattle.name_map.specs.Adding.{placed};
 ghost use Rattle.name_map.specs.Map.{IsMapOf, names_with};
 ghost use Rattle.payload_tables.specs.declared.fault.TableFault.TheVariants.{Unlawful};
-ghost use Rattle.flat_segments.specs.Kept.{Kept};
-ghost use Rattle.segment_levels.specs.Kept.{Kept as KeptLevels};
+ghost use Rattle.flat_segments.specs.Kept.{KeptFlats};
+ghost use Rattle.segment_levels.specs.Kept.{KeptFlats as KeptLevels};
 ghost use Rattle.payload_tables.specs.Kept.{AreMastersOf, HaveMasters, master_records};
 ghost use Rattle.payload_tables.specs.Extents.{IsExtentOf, IsFront};
 
@@ -42,11 +42,11 @@ fn extend_table(
     records: &[u8],
     at: u64,
 ) -> Result<(), AllocError>
-    requires records { MayExtend levels.old flat.old bytes.now records.now }
+    requires records { MayExtendLevels levels.old flat.old bytes.now records.now }
     requires place { at + length records.now < 2 ^ 63 }
-    ensures table { OnOk result ((before : List PlacedSegment) (segments : List Segment) → MayFollow flat.old bytes.now records.now before segments
+    ensures table { OnOk result ((before : List PlacedSegment) (segments : List Segment) → MayGrowBy flat.old bytes.now records.now before segments
         → IsTableOf flat.new (before ++ placed_segments at segments)) }
-    ensures levels { OnOk result ((before : List PlacedSegment) (segments : List Segment) → MayFollow flat.old bytes.now records.now before segments
+    ensures levels { OnOk result ((before : List PlacedSegment) (segments : List Segment) → MayGrowBy flat.old bytes.now records.now before segments
         → AreLevelsOf levels.old (flats_of flat.old before) → AreLevelsOf levels.new (flats_of flat.new (before ++ placed_segments at segments))) }
     ensures front { OnOk result (AllFront levels.old.levels levels.new.levels) }
     ensures unchanged { OnErr result ((flat.new ≡ flat.old) × (levels.new ≡ levels.old)) }
@@ -177,7 +177,7 @@ fn extent_of(flat: &FlatTable, levels: &Levels) -> Extent
 
 /// Takes back what was added to the table and its levels since they had so much.
 fn cut_back(flat: &mut FlatTable, levels: &mut Levels, extent: &Extent)
-    ensures { (old : Kept) (row : KeptLevels) → IsExtentOf extent.now old row → IsFront old row flat.old levels.old → (flat.new ≡ old) × (levels.new ≡ row) }
+    ensures { (old : KeptFlats) (row : KeptLevels) → IsExtentOf extent.now old row → IsFront old row flat.old levels.old → (flat.new ≡ old) × (levels.new ≡ row) }
 {
     flat.cut_back(extent.len, extent.count);
     levels.cut_back(&extent.levels);

@@ -2,7 +2,7 @@
 
 ghost use Rattle.std.specs.Prelude.{◌≡◌, ◌<◌, ◌≤◌, ◌+◌, ◌*◌, ◌^◌, ℕ, List, [], length, take, drop, IfOk};
 ghost use Rattle.segment_codec.specs.Record.{Segment};
-ghost use Rattle.flat_segments.specs.Placed.{placed as placed_segments};
+ghost use Rattle.flat_segments.specs.Placed.{placed_segments};
 ghost use Rattle.payload_tables.specs.Sections.{AreOthers};
 ghost use Rattle.flat_segments.specs.Kept.{IsSectionOf};
 ghost use Rattle.name_map.specs.Added.{every, names_from};

@@ -3,13 +3,13 @@
 ghost use Rattle.std.specs.Prelude.{◌≡◌, ◌<◌, ◌≤◌, ◌↔◌, ◌++◌, ◌∷◌, [], List, ℕ, length, drop, slice_get, Some, IsTrue, IsSomeAnd, IfOk, OnOk, OnErr};
 ghost use Rattle.segment_codec.specs.Lent.{segment_of, parents_left};
 ghost use Rattle.segment_codec.specs.Record.{Segment, IsSegment, segment_bytes};
-ghost use Rattle.flat_segments.specs.Placed.{Placed};
+ghost use Rattle.flat_segments.specs.Placed.{PlacedSegment};
 ghost use Rattle.flat_segments.specs.Kept.{IsSectionOf, MayPush};
 ghost use Rattle.std.specs.List.{AllByRecursion};
 ghost use Rattle.id_groups.specs.Lists.{IsIn};
 ghost use Rattle.id_groups.specs.Name.{Name as NameBytes, IsName};
 ghost use Rattle.batch_codec.specs.Payload.{names_bytes};
-ghost use Rattle.payload_tables.specs.Pending.{IdRow, HoldsRows, MayPushRow, FindsRow, FindsNames, IsRecordOf, row_names, row_segment};
+ghost use Rattle.payload_tables.specs.Pending.{HeldRow, HoldsRows, MayPushRow, FindsRow, FindsNames, IsRecordOf, row_names, row_segment};
 
 use crate::piece::{copied, piece};
 use flat_segments::Section;
@@ -70,8 +70,8 @@ fn add_found(
     pushed: &Pushed<'_>,
 ) -> Result<(), AllocError>
     requires segment { MayPush section.old (segment_of segment) }
-    requires section { (records : List Placed) × IsSectionOf section.old records }
-    ensures section { OnOk result ((records : List Placed) → IsSectionOf section.old records → IsSectionOf section.new (records ++ record { place = place; segment = segment_of segment.entry } ∷ [])) }
+    requires section { (records : List PlacedSegment) × IsSectionOf section.old records }
+    ensures section { OnOk result ((records : List PlacedSegment) → IsSectionOf section.old records → IsSectionOf section.new (records ++ record { place = place; segment = segment_of segment.entry } ∷ [])) }
     ensures found { (before : List NameBytes) → FindsNames index.old before → names.now ≡ names_bytes before → AllByRecursion IsName before
         → (IsTrue pushed.now.is_held ↔ IsIn pushed.now.name.now before) → OnOk result (FindsNames index.new (before ++ pushed.now.name.now ∷ [])) }
     ensures unchanged { OnErr result ((section.new ≡ section.old) × (index.new ≡ index.old)) }
@@ -96,8 +96,8 @@ fn add_named(
     pushed: &Pushed<'_>,
 ) -> Result<(), AllocError>
     requires segment { MayPush section.old (segment_of segment) }
-    requires section { (records : List Placed) × IsSectionOf section.old records }
-    ensures section { OnOk result ((records : List Placed) → IsSectionOf section.old records → IsSectionOf section.new (records ++ record { place = place; segment = segment_of segment.entry } ∷ [])) }
+    requires section { (records : List PlacedSegment) × IsSectionOf section.old records }
+    ensures section { OnOk result ((records : List PlacedSegment) → IsSectionOf section.old records → IsSectionOf section.new (records ++ record { place = place; segment = segment_of segment.entry } ∷ [])) }
     ensures found { (before : List NameBytes) → FindsNames index.old before → names.old.items ≡ names_bytes before → AllByRecursion IsName before
         → (IsTrue pushed.now.is_held ↔ IsIn pushed.now.name.now before) → OnOk result (FindsNames index.new (before ++ pushed.now.name.now ∷ [])) }
     ensures names { OnOk result (names.new.items ≡ names.old.items ++ pushed.now.name.now) }
@@ -125,8 +125,8 @@ fn add_parts(
     pushed: &Pushed<'_>,
 ) -> Result<(), AllocError>
     requires segment { MayPush section.old (segment_of segment) }
-    requires section { (records : List Placed) × IsSectionOf section.old records }
-    ensures section { OnOk result ((records : List Placed) → IsSectionOf section.old records → IsSectionOf section.new (records ++ record { place = place; segment = segment_of segment.entry } ∷ [])) }
+    requires section { (records : List PlacedSegment) × IsSectionOf section.old records }
+    ensures section { OnOk result ((records : List PlacedSegment) → IsSectionOf section.old records → IsSectionOf section.new (records ++ record { place = place; segment = segment_of segment.entry } ∷ [])) }
     ensures found { (before : List NameBytes) → FindsNames index.old before → names.old.items ≡ names_bytes before → AllByRecursion IsName before
         → (IsTrue pushed.now.is_held ↔ IsIn pushed.now.name.now before) → OnOk result (FindsNames index.new (before ++ pushed.now.name.now ∷ [])) }
     ensures names { OnOk result (names.new.items ≡ names.old.items ++ pushed.now.name.now) }
@@ -186,8 +186,8 @@ impl PendingRows {
     /// Adds a row of which it is known whether one of the rows has its name. Want of memory changes nothing.
     fn push_row(&mut self, pushed: &Pushed<'_>, parents: &[Id]) -> Result<(), AllocError>
         requires row { MayPushRow self.old.first (length self.old.places) parents.now }
-        requires rows { (rows : List IdRow) × HoldsRows self.old rows }
-        ensures pushed { (rows : List IdRow) → HoldsRows self.old rows → (IsTrue pushed.now.is_held ↔ IsIn pushed.now.name.now (row_names rows))
+        requires rows { (rows : List HeldRow) × HoldsRows self.old rows }
+        ensures pushed { (rows : List HeldRow) → HoldsRows self.old rows → (IsTrue pushed.now.is_held ↔ IsIn pushed.now.name.now (row_names rows))
             → OnOk result (HoldsRows self.new (rows ++ record { name = pushed.now.name.now; parents = parents.now } ∷ [])) }
         ensures first { self.new.first ≡ self.old.first }
         ensures unchanged { OnErr result (self.new ≡ self.old) }
@@ -215,8 +215,8 @@ impl PendingRows {
     /// Adds a row. Want of memory changes nothing.
     pub fn push(&mut self, name: &Name, parents: &[Id]) -> Result<(), AllocError>
         requires row { MayPushRow self.old.first (length self.old.places) parents.now }
-        requires rows { (rows : List IdRow) × HoldsRows self.old rows }
-        ensures pushed { (rows : List IdRow) → HoldsRows self.old rows → OnOk result (HoldsRows self.new (rows ++ record { name = name.now; parents = parents.now } ∷ [])) }
+        requires rows { (rows : List HeldRow) × HoldsRows self.old rows }
+        ensures pushed { (rows : List HeldRow) → HoldsRows self.old rows → OnOk result (HoldsRows self.new (rows ++ record { name = name.now; parents = parents.now } ∷ [])) }
         ensures first { self.new.first ≡ self.old.first }
         ensures unchanged { OnErr result (self.new ≡ self.old) }
     {
@@ -227,8 +227,8 @@ impl PendingRows {
     /// Adds a row as `push` does, where it is known that no row has its name: it isn't sought. Want of memory changes nothing.
     pub fn push_new(&mut self, name: &Name, parents: &[Id]) -> Result<(), AllocError>
         requires row { MayPushRow self.old.first (length self.old.places) parents.now }
-        requires rows { (rows : List IdRow) × HoldsRows self.old rows }
-        ensures pushed { (rows : List IdRow) → HoldsRows self.old rows → (IsIn name.now (row_names rows) → ⊥)
+        requires rows { (rows : List HeldRow) × HoldsRows self.old rows }
+        ensures pushed { (rows : List HeldRow) → HoldsRows self.old rows → (IsIn name.now (row_names rows) → ⊥)
             → OnOk result (HoldsRows self.new (rows ++ record { name = name.now; parents = parents.now } ∷ [])) }
         ensures first { self.new.first ≡ self.old.first }
         ensures unchanged { OnErr result (self.new ≡ self.old) }
@@ -283,8 +283,8 @@ impl PendingRows {
 
     /// How many rows there are.
     pub fn len(&self) -> u32
-        requires { (rows : List IdRow) × HoldsRows self.now rows }
-        ensures len { (rows : List IdRow) → HoldsRows self.now rows → result ≡ length rows }
+        requires { (rows : List HeldRow) × HoldsRows self.now rows }
+        ensures len { (rows : List HeldRow) → HoldsRows self.now rows → result ≡ length rows }
         ensures places { result ≡ length self.now.places }
     {
         self.places.len() as u32
@@ -292,16 +292,16 @@ impl PendingRows {
 
     /// The name of row `i`, which is below `len`.
     pub fn name(&self, i: u32) -> NameRef<'_>
-        requires { (rows : List IdRow) × HoldsRows self.now rows × (i < length rows) }
-        ensures { (rows : List IdRow) (row : IdRow) → HoldsRows self.now rows → slice_get rows i ≡ Some row → result.bytes.now ≡ row.name }
+        requires { (rows : List HeldRow) × HoldsRows self.now rows × (i < length rows) }
+        ensures { (rows : List HeldRow) (row : HeldRow) → HoldsRows self.now rows → slice_get rows i ≡ Some row → result.bytes.now ≡ row.name }
     {
         piece(&self.names, 20 * i as usize)
     }
 
     /// The ids of the parents of row `i`, which is below `len`, in order.
     pub fn parents(&self, i: u32) -> Option<Parents<'_>>
-        requires { (rows : List IdRow) × HoldsRows self.now rows × (i < length rows) }
-        ensures { (rows : List IdRow) (row : IdRow) → HoldsRows self.now rows → slice_get rows i ≡ Some row → IsSomeAnd result (λ p. parents_left p ≡ row.parents) }
+        requires { (rows : List HeldRow) × HoldsRows self.now rows × (i < length rows) }
+        ensures { (rows : List HeldRow) (row : HeldRow) → HoldsRows self.now rows → slice_get rows i ≡ Some row → IsSomeAnd result (λ p. parents_left p ≡ row.parents) }
     {
         let place = self.places[i as usize];
         parents_of(&self.records, place)
@@ -309,8 +309,8 @@ impl PendingRows {
 
     /// The row with the name; `None` exactly where none has it. A name that was pushed twice finds one of its rows.
     pub fn find(&self, name: NameRef<'_>) -> Option<u32>
-        requires { (rows : List IdRow) × HoldsRows self.now rows }
-        ensures { (rows : List IdRow) → HoldsRows self.now rows → FindsRow rows name.entry.bytes.now result }
+        requires { (rows : List HeldRow) × HoldsRows self.now rows }
+        ensures { (rows : List HeldRow) → HoldsRows self.now rows → FindsRow rows name.entry.bytes.now result }
     {
         let place = self.index.find(&self.names, name)?;
         Some((place / 20) as u32)

@@ -7,7 +7,7 @@ use Rattle.id_groups.specs.Name.{Name}
 use Rattle.change_rules.proofs.Lawful.{distinct-join}
 use Rattle.payload_tables.specs.declared.base.BaseRef.{BaseRef}
 use Rattle.payload_tables.specs.Kept.{PlainTables, AreTablesOf}
-use Rattle.payload_tables.specs.Pending.{IdRow, PlainPending, HoldsRows, FindsRow, row_names}
+use Rattle.payload_tables.specs.Pending.{HeldRow, PlainPending, HoldsRows, FindsRow, row_names}
 use Rattle.payload_tables.specs.Bases.{IsBaseOf}
 use Rattle.payload_tables.proofs.Lists.{all-append}
 use Rattle.flush_rebuild.specs.Asked.{IsFoundIn, MayStore, HaveParents, MayPlan, MayRebaseOn}
@@ -29,7 +29,7 @@ pub no-rows : (pending : PlainPending) → HoldsRows pending [] → pending.firs
 no-rows pending held first = record { rows = []; held = held; first = first; parents = tt; distinct = tt; fresh = λ x i s. s }
 
 -- a name that no row has
-pub no-row : (rows : List IdRow) (name : Name) (o : Option ℕ) → FindsRow rows name o → is_some o ≡ false → IsIn name (row_names rows) → ⊥
+pub no-row : (rows : List HeldRow) (name : Name) (o : Option ℕ) → FindsRow rows name o → is_some o ≡ false → IsIn name (row_names rows) → ⊥
 no-row rows name None h e = h
 no-row rows name (Some k) h e = absurd (true≢false e)
 
@@ -37,13 +37,13 @@ no-row rows name (Some k) h e = absurd (true≢false e)
 pub one-more : (old new : PlainPending) (name : Name) (ids : List ℕ) (m : MayStore old []) → new.first ≡ old.first → HoldsRows new (m.rows ++ record { name = name; parents = ids } ∷ [])
     → (IsIn name (row_names m.rows) → ⊥) → AllByRecursion (λ p. 2 ^ 56 ≤ p) ids → MayStore new []
 one-more old new name ids m first held out others =
-    let row : IdRow = record { name = name; parents = ids } in
+    let row : HeldRow = record { name = name; parents = ids } in
     record {
       rows = m.rows ++ row ∷ [];
       held = held;
       first = first ∙ m.first;
-      parents = all-append (λ (q : IdRow). AllByRecursion (λ p. (p < 0) ⊎ (2 ^ 56 ≤ p)) q.parents) m.rows (row ∷ []) m.parents (others-only ids others, tt);
-      distinct = subst AreDistinct (sym (map-append (λ (q : IdRow). q.name) m.rows (row ∷ [])))
+      parents = all-append (λ (q : HeldRow). AllByRecursion (λ p. (p < 0) ⊎ (2 ^ 56 ≤ p)) q.parents) m.rows (row ∷ []) m.parents (others-only ids others, tt);
+      distinct = subst AreDistinct (sym (map-append (λ (q : HeldRow). q.name) m.rows (row ∷ [])))
           (distinct-join (row_names m.rows) (name ∷ []) m.distinct ((λ i. i), tt) (λ x i j. ⊎_elim (λ e. out (subst (λ z. IsIn z (row_names m.rows)) e i)) (λ k. k) j));
       fresh = λ x i s. s;
     }
@@ -66,5 +66,5 @@ may-rebase tables bytes base pending found t b m e = record {
   first = m.first;
   parents = subst (λ n. HaveParents n m.rows) (sym b.count) m.parents;
   distinct = m.distinct;
-  found_are = none-found (row_names m.rows) found (e ∙ ap (λ n. replicate n None) (sym (length-map m.rows (λ (q : IdRow). q.name))));
+  found_are = none-found (row_names m.rows) found (e ∙ ap (λ n. replicate n None) (sym (length-map m.rows (λ (q : HeldRow). q.name))));
 }

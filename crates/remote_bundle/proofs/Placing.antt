@@ -8,7 +8,7 @@ use Rattle.id_groups.specs.Name.{Name}
 use Rattle.commit_graph.specs.World.{Row, names_of}
 use Rattle.commit_graph.proofs.Places.{same-row}
 use Rattle.name_index.specs.Index.{Finds}
-use Rattle.name_index.specs.Named.{NamedPlace, Stand}
+use Rattle.name_index.specs.Named.{NamedPlace, NamesStand}
 use Rattle.bundle_codec.specs.Places.{named_from}
 use Rattle.bundle_codec.proofs.Indexed.{names-are}
 use Rattle.remote_trait.specs.Honest.{IsNamed}
@@ -41,7 +41,7 @@ pub number-back : (at place number : ℕ) → place ≡ at + 20 * number → (pl
 number-back at place number e = ap (λ n. n / 20) (let z : place - at ≡ 20 * number = omega (arith, e) in z) ∙ mul-div_cancel_left number (let z : 0 < 20 = omega arith in z)
 
 -- the name with this number stands at its place
-pub name-stands : (bytes : List ℕ) (at : ℕ) (names : List Name) (number : ℕ) (name : Name) → slice_get names number ≡ Some name → Stand bytes (named_from at names) → take 20 (drop (at + 20 * number) bytes) ≡ name
+pub name-stands : (bytes : List ℕ) (at : ℕ) (names : List Name) (number : ℕ) (name : Name) → slice_get names number ≡ Some name → NamesStand bytes (named_from at names) → take 20 (drop (at + 20 * number) bytes) ≡ name
 name-stands bytes at [] number name e h = cc
 name-stands bytes at (x ∷ names) zero name e h =
     ap (λ n. take 20 (drop n bytes)) (let z : at + 20 * 0 ≡ at = omega arith in z) ∙ h.0.stands ∙ (let z : x ≡ name = cc in z)

@@ -6,7 +6,7 @@ use Rattle.hex.specs.Hex.{IsBytes}
 use Rattle.id_groups.specs.Name.{Name}
 use Rattle.commit_graph.specs.World.{Row, World, IsNamedWorld}
 use Rattle.remote_rules.specs.CloneData.{CloneData}
-use Rattle.remote_rules.specs.Honest.{IsHonest, IsSound, clone_data_of}
+use Rattle.remote_rules.specs.Honest.{IsHonest, IsSoundMirror, clone_data_of}
 use Rattle.remote_rules.specs.Known.{master_world}
 use Rattle.bundle_codec.specs.Bundle.{Contents, IsBundle, IsBundled, StandsFor, contents_of, rows_of}
 use Rattle.bundle_codec.specs.Reading.{parts_at, bundle_at, are_apart, rows_within}
@@ -55,7 +55,7 @@ read-bundle bytes c i e = by_parts (parts_at bytes) refl
     by_parts None p = let none = parts-none bytes p in cc
     by_parts (Some d) p = by_test d p (are_apart d.names) refl
 
-pub sound-bundle : (r : PlainRemote) → IfSome r.bytes IsBytes → IsSound (mirror_of r)
+pub sound-bundle : (r : PlainRemote) → IfSome r.bytes IsBytes → IsSoundMirror (mirror_of r)
 sound-bundle r h = by_bytes r.bytes h
   where
     by_contents : (bytes : List ℕ) → IsBytes bytes → (o : Option Contents) → bundle_at bytes ≡ o → MatchOption (option_map rows_of o) (Unit {0}) (IsHonest (clones (option_map rows_of o)))

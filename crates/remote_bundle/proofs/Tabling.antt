@@ -10,8 +10,8 @@ use Rattle.segment_codec.specs.Turns.{goes_on, MayStandAt, StandInTurn, IsFirstB
 use Rattle.segment_codec.proofs.Tables.{follow-ends}
 use Rattle.segment_codec.proofs.Turns.{none-broken}
 use Rattle.flat_segments.specs.Maximal.{maximal, cut, up_to}
-use Rattle.flat_segments.specs.Placed.{placed, segments_of, Stand, AreRecords, MasterMayStandAt}
-use Rattle.flat_segments.specs.Kept.{Kept, IsTableOf, MayExtend}
+use Rattle.flat_segments.specs.Placed.{placed_segments, segments_of, Stand, AreRecords, MasterMayStandAt}
+use Rattle.flat_segments.specs.Kept.{KeptFlats, IsTableOf, MayExtend}
 use Rattle.flat_segments.proofs.Adding.{placed-segments}
 use Rattle.flat_segments.proofs.Callers.{placed-stand, follow-few}
 use Rattle.flat_segments.proofs.Cutting.{first-begins}
@@ -24,7 +24,7 @@ use Rattle.bundle_codec.specs.Bundle.{Contents, IsBundle, bundle_bytes, mark}
 use Rattle.bundle_codec.specs.Places.{records_start, names_start, named_from}
 use Rattle.bundle_codec.proofs.Indexed.{bundle-names}
 use Rattle.name_index.specs.Index.{IsIndexOf}
-use Rattle.name_index.specs.Named.{Stand as StandAt}
+use Rattle.name_index.specs.Named.{NamesStand as StandAt}
 use Rattle.remote_bundle.specs.Names.{ArePlaced}
 use Rattle.remote_bundle.specs.Held.{PlainRead, IsReadOf}
 
@@ -65,7 +65,7 @@ each-segment (s ∷ ss) h = (h.0.0, each-segment ss h.1)
 pub records-are : (c : Contents) → IsBundle c → (records : List ℕ) → records ≡ flat_map segment_bytes c.segments → AreRecords c.segments records
 records-are c h records e = record { each = each-segment c.segments h.flat; bytes_are = e }
 
-pub may-extend : (c : Contents) → IsBundle c → (table : Kept) → IsTableOf table [] → (records : List ℕ) → records ≡ flat_map segment_bytes c.segments → MayExtend table records
+pub may-extend : (c : Contents) → IsBundle c → (table : KeptFlats) → IsTableOf table [] → (records : List ℕ) → records ≡ flat_map segment_bytes c.segments → MayExtend table records
 may-extend c h table t records e = record {
   before = [];
   table_of = t;
@@ -88,15 +88,15 @@ turn-master place end (s ∷ ss) f le h = let e = follow-ends (s.high + 1) end s
 in-turn : (c : Contents) → IsBundle c → StandInTurn (MayStandAt 0) 0 c.segments
 in-turn c h = stand-in-turn 0 (length c.names) c.segments h.cover h.maximal h.flat
 
-pub never-bad : (c : Contents) → IsBundle c → (table : Kept) → IsTableOf table [] → (k : ℕ) → IsFirstBroken (MasterMayStandAt table.end) table.end c.segments k → ⊥
+pub never-bad : (c : Contents) → IsBundle c → (table : KeptFlats) → IsTableOf table [] → (k : ℕ) → IsFirstBroken (MasterMayStandAt table.end) table.end c.segments k → ⊥
 never-bad c h table t k b =
     let few = h.few in
     let e : table.end ≡ 0 = sym t.in_turn in
     none-broken (MasterMayStandAt 0) 0 c.segments k (turn-master 0 (length c.names) c.segments h.cover (omega (arith, few)) (in-turn c h)) (subst (λ n. IsFirstBroken (MasterMayStandAt n) n c.segments k) e b)
 
-pub records-stand : (c : Contents) → Stand (bundle_bytes c) (placed records_start c.segments)
+pub records-stand : (c : Contents) → Stand (bundle_bytes c) (placed_segments records_start c.segments)
 records-stand c =
-    subst (λ (l : List ℕ). Stand l (placed records_start c.segments)) (sym (bytes-are c))
+    subst (λ (l : List ℕ). Stand l (placed_segments records_start c.segments)) (sym (bytes-are c))
     (placed-stand (front-of c ++ behind-of c) (names_bytes c.names) records_start c.segments (drop_at (front-of c) (behind-of c) records_start (front-long c)))
 
 -- ---- the segments
@@ -123,7 +123,7 @@ cut-all first end (s ∷ ss) f =
     ∙ ap₂ (λ (n : ℕ) (l : List Segment). record s { high = n } ∷ l) high (cut-all (s.high + 1) end ss f.2)
 
 -- a table of the records has the segments themselves
-pub flats-are : (c : Contents) → IsBundle c → (table : Kept) → IsTableOf table (placed records_start c.segments) → cut table.end (maximal table.end (segments_of (placed records_start c.segments))) ≡ c.segments
+pub flats-are : (c : Contents) → IsBundle c → (table : KeptFlats) → IsTableOf table (placed_segments records_start c.segments) → cut table.end (maximal table.end (segments_of (placed_segments records_start c.segments))) ≡ c.segments
 flats-are c h table t =
     let same = placed-segments records_start c.segments in
     let follow = subst (Follow 0 table.end) same t.in_turn in

@@ -4,8 +4,8 @@ use Rattle.std.specs.Option.{option_map}
 use Rattle.id_groups.specs.Name.{Name}
 use Rattle.outside.specs.Counts.{Rose}
 use Rattle.commit_graph.specs.World.{Row}
-use Rattle.flat_segments.specs.Kept.{Kept, IsTableOf}
-use Rattle.flat_segments.specs.Placed.{placed}
+use Rattle.flat_segments.specs.Kept.{KeptFlats, IsTableOf}
+use Rattle.flat_segments.specs.Placed.{placed_segments}
 use Rattle.name_index.specs.Index.{IsIndexOf}
 use Rattle.name_index.specs.declared.entry.Entry.{Entry}
 use Rattle.bundle_codec.specs.Bundle.{Contents, IsBundle, bundle_bytes, rows_of}
@@ -20,7 +20,7 @@ pub record PlainRead : Type 0 where
   pub bytes : List ℕ
   -- where the names stand
   pub start : ℕ
-  pub table : Kept
+  pub table : KeptFlats
   pub index : List (List Entry)
 
 -- the bytes are the bundle of these contents, and the table and the index are those of its records and names
@@ -28,7 +28,7 @@ pub record IsReadOf (read : PlainRead) (c : Contents) : Type 0 where
   pub bundle : IsBundle c
   pub spelled : read.bytes ≡ bundle_bytes c
   pub start : read.start ≡ names_start c
-  pub table : IsTableOf read.table (placed records_start c.segments)
+  pub table : IsTableOf read.table (placed_segments records_start c.segments)
   pub index : IsIndexOf read.index (named_from (names_start c) c.names)
 
 -- a bundle was read, and what is reached is so in its rows

@@ -4,7 +4,7 @@ ghost use Rattle.std.specs.Prelude.{◌≡◌, ◌≤◌, ℕ, List, Some, true,
 ghost use Rattle.hex.specs.Hex.{IsBytes};
 ghost use Rattle.id_groups.specs.Name.{Name as NameBytes};
 ghost use Rattle.commit_graph.specs.World.{World};
-ghost use Rattle.remote_rules.specs.Honest.{IsHonest, IsSound};
+ghost use Rattle.remote_rules.specs.Honest.{IsHonest, IsSoundMirror};
 ghost use Rattle.bundle_codec.specs.Bundle.{StandsFor};
 ghost use Rattle.remote_bundle.specs.Remote.{PlainRemote, mirror_of};
 
@@ -15,7 +15,7 @@ use bundle_codec::worlds_have_bundles;
 pub fn mirrors_of_bundles()
     ensures honest { (r : PlainRemote) (bytes : List ℕ) (w : World NameBytes) → r.bytes ≡ Some bytes → StandsFor bytes w → length bytes ≤ r.limit
         → ((mirror_of r).master ≡ Some w.master) × IsHonest (mirror_of r).cloned w.master × ((mirror_of r).settled ≡ true) }
-    ensures sound { (r : PlainRemote) → IfSome r.bytes IsBytes → IsSound (mirror_of r) }
+    ensures sound { (r : PlainRemote) → IfSome r.bytes IsBytes → IsSoundMirror (mirror_of r) }
 {
     worlds_have_bundles();
 }

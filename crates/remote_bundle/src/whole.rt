@@ -3,7 +3,7 @@
 ghost use Rattle.std.specs.Prelude.{◌≡◌, ◌<◌, ◌^◌, Err, IfErr, IfOk, OnOk, None, length};
 ghost use Rattle.commit_graph.specs.World.{names_of};
 ghost use Rattle.flat_segments.specs.Kept.{IsTableOf};
-ghost use Rattle.flat_segments.specs.Placed.{placed};
+ghost use Rattle.flat_segments.specs.Placed.{placed_segments};
 ghost use Rattle.flat_segments.specs.Views.{view_flats};
 ghost use Rattle.bundle_codec.specs.Bundle.{Contents, IsBundle, bundle_bytes, rows_of};
 ghost use Rattle.bundle_codec.specs.Lent.{contents_of_lent};
@@ -46,7 +46,7 @@ fn table_of(alloc: Global, bytes: &[u8], bundle: &Bundle<'_>) -> Result<FlatTabl
     requires bundle { IsBundle (contents_of_lent bundle.now) }
     requires spelled { bytes.now ≡ bundle_bytes (contents_of_lent bundle.now) }
     requires fits { length bytes.now < 2 ^ 63 }
-    ensures table { IfOk result (λ table. IsTableOf table (placed records_start (contents_of_lent bundle.now).segments)) }
+    ensures table { IfOk result (λ table. IsTableOf table (placed_segments records_start (contents_of_lent bundle.now).segments)) }
     ensures memory { IfErr result (λ fault. fault ≡ Fault.Memory) }
 {
     let mut table = FlatTable::empty(alloc);

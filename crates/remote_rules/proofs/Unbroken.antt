@@ -9,7 +9,7 @@ use Rattle.id_groups.proofs.Names.{same_name-exact, same_name-self}
 use Rattle.id_groups.proofs.Listing.{and_true, both_true, not_true, true_not, all-in, in-all-true, found, there, or_true, or_left, or_right}
 use Rattle.segment_codec.specs.Record.{Segment}
 use Rattle.segment_codec.specs.Turns.{StandInTurn, goes_on, place_behind}
-use Rattle.remote_rules.specs.CloneData.{CloneData, KnownName, are_distinct, segment_fits, segments_fit, name_fits, names_fit, head_ids, merge_parents, has_needed_names, names_at, heads_fit, first_false, first_of, first_broken}
+use Rattle.remote_rules.specs.CloneData.{CloneData, KnownName, are_distinct, segment_fits, segments_fit, name_fits, names_fit, head_ids, merge_parents, has_needed_names, names_at, heads_fit, first_false, first_some, first_broken}
 use Rattle.remote_rules.specs.Lawful.{MayStandHere, NamesInTurn, HasName, IsLawfulClone}
 
 abbrev AllTrue : List Bool → Type 0
@@ -31,12 +31,12 @@ none-fails : (n : ℕ) (bs : List Bool) → AllTrue bs → first_false n bs ≡ 
 none-fails n [] h = refl
 none-fails n (b ∷ bs) h = ap (λ c. if c then first_false (n + 1) bs else Some n) h.0 ∙ none-fails (n + 1) bs h.1
 
-neither : (a b : Option ℕ) → first_of a b ≡ None → (a ≡ None) × (b ≡ None)
+neither : (a b : Option ℕ) → first_some a b ≡ None → (a ≡ None) × (b ≡ None)
 neither None b e = (refl, e)
 neither (Some n) b e = absurd (none-some n e)
 
-both-none : (a b : Option ℕ) → a ≡ None → b ≡ None → first_of a b ≡ None
-both-none a b e f = ap (λ o. first_of o b) e ∙ f
+both-none : (a b : Option ℕ) → a ≡ None → b ≡ None → first_some a b ≡ None
+both-none a b e f = ap (λ o. first_some o b) e ∙ f
 
 -- numbers in lists
 in-true : (x : ℕ) (xs : List ℕ) → is_in nat_eq x xs ≡ true → IsIn x xs

@@ -5,7 +5,7 @@ use Rattle.outside.specs.Counts.{Rose, last_count}
 use Rattle.id_groups.specs.Name.{Name}
 use Rattle.commit_graph.specs.World.{Row}
 use Rattle.remote_rules.specs.Mirror.{Mirror}
-use Rattle.remote_rules.specs.Honest.{IsSound}
+use Rattle.remote_rules.specs.Honest.{IsSoundMirror}
 
 -- where both are told, the second number is so to the first
 abbrev pub WhereBoth : (ℕ → ℕ → Type 0) → Option ℕ → Option ℕ → Type 0
@@ -22,7 +22,7 @@ pub record Keeps (old new : Mirror) : Type 0 where
   pub tells_faults : is_some new.to_come ≡ is_some old.to_come
   pub faults : old.faults ≤ new.faults
   pub to_come : WhereBoth (λ before now. now ≤ before) old.to_come new.to_come
-  pub sound : IsSound old → IsSound new
+  pub sound : IsSoundMirror old → IsSoundMirror new
 
 -- its master goes on from the old one: more rows may stand behind those, unless it is settled
 abbrev pub MasterGoesOn : Bool → Option (List (Row Name)) → Option (List (Row Name)) → Type 0
@@ -59,7 +59,7 @@ pub record IsPulled (from : ℕ) (old new : Mirror) : Type 0 where
   pub asked : RowsFrom from new.master old.asked new.asked
 
 -- a call that failed: it did no more than others, the count of faults rose, and fewer are to come
-pub record Fails (Does : Mirror → Mirror → Type 0) (old new : Mirror) : Type 0 where
+pub record Failing (Does : Mirror → Mirror → Type 0) (old new : Mirror) : Type 0 where
   pub does : Does old new
   pub rose : Rose old.faults new.faults
   pub fewer : WhereBoth (λ before now. now < before) old.to_come new.to_come

@@ -43,5 +43,5 @@ pub record IsHonest (cloned : Option CloneData) (rows : List (Row Name)) : Type 
   pub clone : MatchOption cloned ⊤ (λ told. told ≡ clone_data_of (master_world rows))
 
 -- what holds of each remote between two calls: where it tells its master it is honest
-abbrev pub IsSound : Mirror → Type 0
-IsSound m = MatchOption m.master ⊤ (IsHonest m.cloned)
+abbrev pub IsSoundMirror : Mirror → Type 0
+IsSoundMirror m = MatchOption m.master ⊤ (IsHonest m.cloned)

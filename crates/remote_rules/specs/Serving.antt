@@ -8,8 +8,8 @@ use Rattle.remote_rules.specs.Mirror.{Mirror}
 use Rattle.remote_rules.specs.Honest.{IsHonest}
 
 -- it is honest, and each master row of the world below the cloned count is a row of its own master, with the same parents
-abbrev pub Serves : ℕ → World Name → Mirror → Type 0
-Serves cloned w m =
+abbrev pub IsServing : ℕ → World Name → Mirror → Type 0
+IsServing cloned w m =
     (rows : List (Row Name)) × (m.master ≡ Some rows) × IsHonest m.cloned rows × ((row : Row Name) → IsIn row (take cloned w.master) → IsIn row rows)
 
 -- its master begins with the world's rows below the cloned count, in their order
@@ -27,7 +27,7 @@ AreAlike mirrors =
 -- What is asked of the mirrors of a run over a world, of which so many commits were cloned: each serves it, and over an empty
 -- master they are at most one, or alike.
 pub record AllServe (cloned : ℕ) (w : World Name) (mirrors : List Mirror) : Type 0 where
-  pub each : AllByRecursion (Serves cloned w) mirrors
+  pub each : AllByRecursion (IsServing cloned w) mirrors
   pub first_clone : length w.master ≡ 0 → (length mirrors ≤ 1) ⊎ AreAlike mirrors
 
 -- mirrors that tell that they never fail again

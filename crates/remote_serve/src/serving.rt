@@ -8,7 +8,7 @@ ghost use Rattle.remote_rules.specs.Mirror.{Mirror};
 ghost use Rattle.remote_serve.specs.Requests.{most_names};
 ghost use Rattle.remote_serve.specs.Answers.{Answer, IsAnswerTo, frame_of};
 ghost use Rattle.remote_serve.specs.Ends.{EndsAs, ServesOnly};
-ghost use Rattle.remote_serve.specs.Steps.{Ports, ports, streams, IsAnswered, Serving, TurnServes};
+ghost use Rattle.remote_serve.specs.Steps.{Ports, ports, served_streams, IsAnswered, Serving, TurnServes};
 
 use crate::asking::answer;
 use crate::frames::Frames;
@@ -108,7 +108,7 @@ fn serve_all<R: Remote, I: Source, O: Sink>(
     requires { length room.old ≡ most_names }
     ensures means { WhereTold (ports (I.left input.old) (O.taken output.old)) (ports (I.left input.new) (O.taken output.new))
         (λ now after. (limit : ℕ) (before : Ports) (first : Mirror) → Serving limit before first frames.old now (R.shown remote.old)
-        → EndsAs result limit (streams before after) first (R.shown remote.new)) }
+        → EndsAs result limit (served_streams before after) first (R.shown remote.new)) }
     ensures end { result ≢ Served.Memory }
     ensures source { result ≡ Served.SourceFault → Rose (I.faults input.old) (I.faults input.new) }
     ensures sink { result ≡ Served.SinkFault → Rose (O.faults output.old) (O.faults output.new) }
@@ -168,7 +168,7 @@ impl Desk {
         output: &mut O,
     ) -> Served
         ensures serves { (limit : ℕ) → self ≡ new_reading limit → WhereTold (ports (I.left input.old) (O.taken output.old)) (ports (I.left input.new) (O.taken output.new))
-            (λ before after. EndsAs result limit (streams before after) (R.shown remote.old) (R.shown remote.new)) }
+            (λ before after. EndsAs result limit (served_streams before after) (R.shown remote.old) (R.shown remote.new)) }
         ensures end { result ≢ Served.Memory }
         ensures source { result ≡ Served.SourceFault → Rose (I.faults input.old) (I.faults input.new) }
         ensures sink { result ≡ Served.SinkFault → Rose (O.faults output.old) (O.faults output.new) }
@@ -192,7 +192,7 @@ impl Desk {
     ) -> Served
         requires one { length list.old.items ≡ 1 }
         ensures serves { (limit : ℕ) → self ≡ new_reading limit → WhereTold (ports (I.left input.old) (O.taken output.old)) (ports (I.left input.new) (O.taken output.new))
-            (λ before after. ServesOnly result limit (streams before after) (map R.shown list.old.items) (map R.shown list.new.items)) }
+            (λ before after. ServesOnly result limit (served_streams before after) (map R.shown list.old.items) (map R.shown list.new.items)) }
         ensures len { length list.new.items ≡ length list.old.items }
         ensures end { result ≢ Served.Memory }
         ensures source { result ≡ Served.SourceFault → Rose (I.faults input.old) (I.faults input.new) }
@@ -215,7 +215,7 @@ pub fn serve_remote<R: Remote, I: Source, O: Sink>(
     limit: u64,
 ) -> Served
     ensures serves { WhereTold (ports (I.left input.old) (O.taken output.old)) (ports (I.left input.new) (O.taken output.new))
-        (λ before after. EndsAs result limit (streams before after) (R.shown remote.old) (R.shown remote.new)) }
+        (λ before after. EndsAs result limit (served_streams before after) (R.shown remote.old) (R.shown remote.new)) }
     ensures quiet { result ≡ Served.Memory → (input.new ≡ input.old) × (output.new ≡ output.old) × (remote.new ≡ remote.old) }
     ensures source { result ≡ Served.SourceFault → Rose (I.faults input.old) (I.faults input.new) }
     ensures sink { result ≡ Served.SinkFault → Rose (O.faults output.old) (O.faults output.new) }
@@ -237,7 +237,7 @@ pub fn serve<I: Source, O: Sink>(
     limit: u64,
 ) -> Served
     ensures serves { WhereTold (ports (I.left input.old) (O.taken output.old)) (ports (I.left input.new) (O.taken output.new))
-        (λ before after. EndsAs result limit (streams before after) (shown remote.old) (shown remote.new)) }
+        (λ before after. EndsAs result limit (served_streams before after) (shown remote.old) (shown remote.new)) }
     ensures quiet { result ≡ Served.Memory → (input.new ≡ input.old) × (output.new ≡ output.old) × (remote.new ≡ remote.old) }
     ensures source { result ≡ Served.SourceFault → Rose (I.faults input.old) (I.faults input.new) }
     ensures sink { result ≡ Served.SinkFault → Rose (O.faults output.old) (O.faults output.new) }

@@ -26,7 +26,7 @@ use Rattle.change_rules.specs.Lawful.{MayFollow, AreLawful, levels_with}
 use Rattle.change_rules.specs.Tables.{known_in}
 use Rattle.payload_tables.proofs.Lists.{same-exact}
 use Rattle.flush_rebuild.proofs.Invented.{some-world}
-use Rattle.remote_rules.specs.Honest.{IsSound, IsHonest, clone_data_of}
+use Rattle.remote_rules.specs.Honest.{IsSoundMirror, IsHonest, clone_data_of}
 use Rattle.remote_rules.specs.Known.{master_world}
 use Rattle.remote_trait.specs.Calls.{AreMaster}
 use Rattle.remote_store.specs.Told.{text_behind, with_text, texts_from, texts_in, texts_within, payloads_in, are_apart, are_no_later, begins_with, heads_fit, levels_fit, goes_on, may_follow, are_lawful, are_whole, master_rows, told_by, told_in, master_told}
@@ -208,7 +208,7 @@ store-rows : (limit : ℕ) (o : Option (List ℕ)) (rows : List (Row Name)) → 
 store-rows limit None rows h e = cc e
 store-rows limit (Some bytes) rows h e = master-rows limit bytes rows h e
 
-pub sound-log : (r : PlainStore) → IfSome (bytes_in r.told) IsBytes → IsSound (mirror_of r)
+pub sound-log : (r : PlainStore) → IfSome (bytes_in r.told) IsBytes → IsSoundMirror (mirror_of r)
 sound-log r h = by_rows (rows_told r) (store-rows r.limit (bytes_in r.told))
   where
     by_rows : (o : Option (List (Row Name))) → ((rows : List (Row Name)) → IfSome (bytes_in r.told) IsBytes → o ≡ Some rows → AreMaster rows) → MatchOption o (Unit {0}) (IsHonest (option_map (λ (rows : List (Row Name)). clone_data_of (master_world rows)) o))

@@ -7,7 +7,7 @@ ghost use Rattle.commit_graph.specs.World.{World};
 ghost use Rattle.batch_codec.specs.Payload.{Payload};
 ghost use Rattle.change_rules.specs.Holding.{HoldAs};
 ghost use Rattle.change_rules.specs.Lazy.{has_lazy};
-ghost use Rattle.remote_rules.specs.Honest.{IsHonest, IsSound};
+ghost use Rattle.remote_rules.specs.Honest.{IsHonest, IsSoundMirror};
 ghost use Rattle.remote_store.specs.Told.{master_told};
 ghost use Rattle.remote_store.specs.Remote.{PlainStore, bytes_in, mirror_of};
 
@@ -26,5 +26,5 @@ pub fn logs_are_honest()
 
 /// Whatever bytes an honest disk has, where a log on it tells a master as a remote it is honest of that master.
 pub fn logs_are_sound()
-    ensures { (r : PlainStore) → IfSome (bytes_in r.told) IsBytes → IsSound (mirror_of r) }
+    ensures { (r : PlainStore) → IfSome (bytes_in r.told) IsBytes → IsSoundMirror (mirror_of r) }
 {}

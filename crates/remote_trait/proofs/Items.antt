@@ -19,7 +19,7 @@ use Rattle.id_groups.proofs.Listing.{and_true}
 use Rattle.segment_codec.proofs.Tables.{le_or_lt}
 use Rattle.segment_codec.specs.Record.{Segment}
 use Rattle.segment_codec.specs.Turns.{place_behind}
-use Rattle.remote_rules.specs.CloneData.{CloneData, KnownName, first_broken, are_distinct, segment_fits, segments_fit, name_fits, names_fit, merge_parents, names_at, heads_fit, first_false, first_of}
+use Rattle.remote_rules.specs.CloneData.{CloneData, KnownName, first_broken, are_distinct, segment_fits, segments_fit, name_fits, names_fit, merge_parents, names_at, heads_fit, first_false, first_some}
 use Rattle.remote_trait.specs.Broken.{AscendFrom, HasSeen}
 
 -- one more item in front of what is dropped
@@ -234,7 +234,7 @@ ascends n end names (k ∷ ks) from least h = by_test (nat_lt k.id end && name_f
 pub names-ascend : (n end : ℕ) (names : List KnownName) → None ≡ first_false n (names_fit end [] names) → AscendFrom 0 names
 names-ascend n end names h = ascends n end [] names 0 (λ q e. omega arith) (sym h)
 
-first-none : (a b : Option ℕ) → first_of a b ≡ None → (a ≡ None) × (b ≡ None)
+first-none : (a b : Option ℕ) → first_some a b ≡ None → (a ≡ None) × (b ≡ None)
 first-none None b e = (refl, e)
 first-none (Some n) b e = absurd (true≢false (ap is_some e))
 
@@ -476,8 +476,8 @@ heads-end names ids heads first k h le = sym (h ∙ ap (λ l. first_false (first
 
 -- ---- the first of all
 
-pub first-is : (a b : Option ℕ) (k : ℕ) → Some k ≡ a → Some k ≡ first_of a b
-first-is a b k e = ap (λ o. first_of o b) e
+pub first-is : (a b : Option ℕ) (k : ℕ) → Some k ≡ a → Some k ≡ first_some a b
+first-is a b k e = ap (λ o. first_some o b) e
 
-pub then-is : (a b r : Option ℕ) → None ≡ a → r ≡ b → r ≡ first_of a b
-then-is a b r e f = f ∙ ap (λ o. first_of o b) e
+pub then-is : (a b r : Option ℕ) → None ≡ a → r ≡ b → r ≡ first_some a b
+then-is a b r e f = f ∙ ap (λ o. first_some o b) e

@@ -14,11 +14,11 @@ use Rattle.commit_graph.proofs.Leading.{none-after}
 use Rattle.commit_graph.proofs.Histories.{in-append}
 use Rattle.commit_graph.proofs.Down.{in-reverse, in-down}
 use Rattle.remote_rules.specs.Mirror.{Mirror}
-use Rattle.remote_rules.specs.Honest.{IsSound}
+use Rattle.remote_rules.specs.Honest.{IsSoundMirror}
 use Rattle.remote_rules.specs.CloneData.{CloneData}
-use Rattle.remote_rules.specs.Calls.{IsAskedFor, IsCloned, Fails as Failing, WhereBoth, MasterGoesOn}
+use Rattle.remote_rules.specs.Calls.{IsAskedFor, IsCloned, Failing, WhereBoth, MasterGoesOn}
 use Rattle.remote_rules.specs.Known.{master_world, line_from}
-use Rattle.remote_rules.specs.Serving.{Serves as IsServing}
+use Rattle.remote_rules.specs.Serving.{IsServing}
 use Rattle.remote_trait.specs.Calls.{Leaves, Refreshes, Fails, ToldSo, AreGrown, raised}
 use Rattle.remote_trait.specs.Honest.{AreNamesOf, rows_graph}
 use Rattle.remote_trait.specs.Serving.{Serves}
@@ -39,10 +39,10 @@ fewer-both : (a b : Option ℕ) → ToldSo a b (λ m n. n < m) → WhereBoth (λ
 fewer-both a b h = where-both (λ m n. n < m) a b h
 
 -- what is told stays, and so it is sound as before
-pub sound-as : (before now : Mirror) → now.master ≡ before.master → now.cloned ≡ before.cloned → IsSound before → IsSound now
+pub sound-as : (before now : Mirror) → now.master ≡ before.master → now.cloned ≡ before.cloned → IsSoundMirror before → IsSoundMirror now
 sound-as before now e f s =
-    subst (λ (o : Option (List (Row Name))). IsSound (record now { master = o })) (sym e)
-    (subst (λ (o : Option CloneData). IsSound (record before { cloned = o })) (sym f) s)
+    subst (λ (o : Option (List (Row Name))). IsSoundMirror (record now { master = o })) (sym e)
+    (subst (λ (o : Option CloneData). IsSoundMirror (record before { cloned = o })) (sym f) s)
 
 pub asked-for : (count : ℕ) (before now : Mirror) → Leaves (raised count) before now → IsAskedFor count before now
 asked-for count before now l = record {

@@ -2,7 +2,7 @@
 use Rattle.std.proofs.Common.{◌≡◌, ◌≤◌, ◌+◌, ℕ, zero, suc, inl, inr, List, [], ◌∷◌, ◌++◌, length, map, take, refl, sym, ap, subst, subst₂, ◌∙◌, arith, zero-le, ⊎_elim, eq-or-lt_of_le, le_antisymm, length-append}
 use Rattle.std.proofs.lemmas.List.{take-append-le}
 use Rattle.std.specs.List.{AllByRecursion}
-use Rattle.remote_rules.specs.Honest.{IsSound}
+use Rattle.remote_rules.specs.Honest.{IsSoundMirror}
 use Rattle.id_groups.specs.Name.{Name}
 use Rattle.line_io.specs.Lines.{lines_of}
 use Rattle.commit_graph.specs.World.{World}
@@ -88,7 +88,7 @@ start-prefixes w payloads hold = record { front = take-all payloads (length payl
 
 -- beside mirrors of which each that tells its master is honest
 pub prefixes-sound : (limits : Limits) (log : List ℕ) (w : World Name) (payloads : List Payload) (room : ℕ) (mirrors : List Mirror) (lines : List (List ℕ)) (replies : List Reply) (st : State)
-    → AreLimits limits → HoldAs limits.log log payloads w → AllByRecursion IsSound mirrors → Run limits (at_start w payloads room mirrors) lines replies st → ArePrefixes payloads st.store
+    → AreLimits limits → HoldAs limits.log log payloads w → AllByRecursion IsSoundMirror mirrors → Run limits (at_start w payloads room mirrors) lines replies st → ArePrefixes payloads st.store
 prefixes-sound limits log w payloads room mirrors lines replies st fair hold sound run =
     (run-keeps limits (Prefixed limits payloads) (step-prefixed limits fair payloads) (at_start w payloads room mirrors) st lines replies
     (record { state = start-is w payloads room mirrors hold.hold.world sound; held = start-held limits log w payloads fair hold; prefixes = start-prefixes w payloads hold.hold }) run).prefixes

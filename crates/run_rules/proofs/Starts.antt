@@ -17,8 +17,8 @@ use Rattle.change_rules.specs.Tables.{cloned_count}
 use Rattle.change_rules.specs.Holding.{HoldAs}
 use Rattle.change_rules.proofs.Changes.{count-last}
 use Rattle.remote_rules.specs.Mirror.{Mirror}
-use Rattle.remote_rules.specs.Honest.{IsHonest, IsSound}
-use Rattle.remote_rules.specs.Serving.{Serves, AllServe}
+use Rattle.remote_rules.specs.Honest.{IsHonest, IsSoundMirror}
+use Rattle.remote_rules.specs.Serving.{IsServing, AllServe}
 use Rattle.step_rules.specs.State.{State, IsState, IsHeld, at_start, start}
 use Rattle.step_rules.specs.Served.{IsServed}
 use Rattle.step_rules.specs.Reply.{Reply}
@@ -70,8 +70,8 @@ clone-bound (p ∷ payloads) h =
     let most = cloned-most p h.0.whole in let more = count-grows (p ∷ []) payloads p.after h.1 refl in omega (arith, most, more)
 
 -- mirrors that serve a world are honest where they tell their master
-pub served-sound : (cloned : ℕ) (w : World Name) (mirrors : List Mirror) → AllServe cloned w mirrors → AllByRecursion IsSound mirrors
-served-sound cloned w mirrors serve = all-each IsSound mirrors (λ m i. let s = each (Serves cloned w) mirrors serve.each m i in subst (λ o. MatchOption o (Unit {0}) (IsHonest m.cloned)) (sym s.1) s.2)
+pub served-sound : (cloned : ℕ) (w : World Name) (mirrors : List Mirror) → AllServe cloned w mirrors → AllByRecursion IsSoundMirror mirrors
+served-sound cloned w mirrors serve = all-each IsSoundMirror mirrors (λ m i. let s = each (IsServing cloned w) mirrors serve.each m i in subst (λ o. MatchOption o (Unit {0}) (IsHonest m.cloned)) (sym s.1) s.2)
 
 pub start-held : (limits : Limits) (log : List ℕ) (w : World Name) (payloads : List Payload) → AreLimits limits → HoldAs limits.log log payloads w → IsHeld limits (start w payloads)
 start-held limits log w payloads fair hold =

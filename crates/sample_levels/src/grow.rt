@@ -3,7 +3,7 @@
 ghost use Rattle.std.specs.Prelude.{◌≡◌, ◌+◌, ◌≤◌, ◌^◌, true, List, length, OnOk};
 ghost use Rattle.segment_codec.specs.Record.{Segment};
 ghost use Rattle.flat_segments.specs.Placed.{AreRecords};
-ghost use Rattle.high_segments.specs.Extending.{MayExtend};
+ghost use Rattle.high_segments.specs.Extending.{MayExtendLevels};
 ghost use Rattle.sample_levels.specs.Grown.{IsGrown};
 
 use flat_segments::{FlatFault, FlatTable};
@@ -34,7 +34,7 @@ fn rehearse(
     log: &[u8],
     records: &[u8],
 ) -> Result<(), AllocError>
-    requires { MayExtend levels.old table.now log.now records.now }
+    requires { MayExtendLevels levels.old table.now log.now records.now }
     ensures { levels.new ≡ levels.old }
 {
     let mark = levels.mark();
@@ -51,7 +51,7 @@ fn rehearse_if(
     log: &[u8],
     records: &[u8],
 ) -> Result<(), AllocError>
-    requires { MayExtend levels.old table.now log.now records.now }
+    requires { MayExtendLevels levels.old table.now log.now records.now }
     ensures { levels.new ≡ levels.old }
 {
     if is_rehearsed {

@@ -15,7 +15,7 @@ use Rattle.name_map.specs.Added.{Placed, AllStand, StandsAt, payloads_of}
 use Rattle.name_map.specs.Map.{IsIdOf}
 use Rattle.payload_tables.specs.declared.base.BaseRef.{BaseRef}
 use Rattle.payload_tables.specs.Kept.{PlainTables, PlainOthers, AreTablesOf}
-use Rattle.payload_tables.specs.Pending.{IdRow, PlainPending, HoldsRows, FindsRow, row_names}
+use Rattle.payload_tables.specs.Pending.{HeldRow, PlainPending, HoldsRows, FindsRow, row_names}
 use Rattle.payload_tables.specs.Bases.{MayBase, MayView, IsBaseOf, stored_in}
 use Rattle.payload_tables.proofs.Basing.{base-others, base-below, table-end}
 use Rattle.payload_tables.proofs.Lists.{all-append}
@@ -72,13 +72,13 @@ zip-next added names i x ids more id lt e h r m =
 pub zip-all : (added : List Placed) (names : List Name) (i : ℕ) (ids : List (Option ℕ)) → length names ≤ i → AllZip (IsFoundIn added) (take i names) ids → AllZip (IsFoundIn added) names ids
 zip-all added names i ids le h = subst (λ l. AllZip (IsFoundIn added) l ids) (take_all i names le) h
 
-pub row-at : (rows : List IdRow) (i : ℕ) (lent : Name) → i < length rows → ((row : IdRow) → slice_get rows i ≡ Some row → lent ≡ row.name) → (i < length (row_names rows)) × (lent ≡ get_or (row_names rows) i lent)
+pub row-at : (rows : List HeldRow) (i : ℕ) (lent : Name) → i < length rows → ((row : HeldRow) → slice_get rows i ≡ Some row → lent ≡ row.name) → (i < length (row_names rows)) × (lent ≡ get_or (row_names rows) i lent)
 row-at [] i lent lt h = absurd (omega (arith, lt))
-row-at (r ∷ rows) zero lent lt h = ((let l = length-map rows (λ (q : IdRow). q.name) in omega (arith, l)), h r refl)
+row-at (r ∷ rows) zero lent lt h = ((let l = length-map rows (λ (q : HeldRow). q.name) in omega (arith, l)), h r refl)
 row-at (r ∷ rows) (suc i) lent lt h = let q = row-at rows i lent (omega (arith, lt)) h in ((let a = q.0 in omega (arith, a)), q.1)
 
-pub rows-over : (rows : List IdRow) (i n : ℕ) → n ≤ i → n ≡ length rows → length (row_names rows) ≤ i
-rows-over rows i n le e = let a = length-map rows (λ (q : IdRow). q.name) in omega (arith, le, e, a)
+pub rows-over : (rows : List HeldRow) (i n : ℕ) → n ≤ i → n ≡ length rows → length (row_names rows) ≤ i
+rows-over rows i n le e = let a = length-map rows (λ (q : HeldRow). q.name) in omega (arith, le, e, a)
 
 -- ---- bytes that grow
 
@@ -191,7 +191,7 @@ none-viewed base bytes tables b added h = record {
 
 -- ---- rows
 
-pub no-row : (rows : List IdRow) (name : Name) (o : Option ℕ) → FindsRow rows name o → is_some o ≡ false → IsIn name (row_names rows) → ⊥
+pub no-row : (rows : List HeldRow) (name : Name) (o : Option ℕ) → FindsRow rows name o → is_some o ≡ false → IsIn name (row_names rows) → ⊥
 no-row rows name None h e = h
 no-row rows name (Some k) h e = absurd (true≢false e)
 
@@ -218,8 +218,8 @@ pub one-more : (base : BaseRef) (below : ℕ) (old new : PlainPending) (added : 
     → AllByRecursion (λ q. (q < below) ⊎ (2 ^ 56 ≤ q)) ids → ArePendingOn base below new added
 one-more base below old new added p name ids first held out fresh groups =
     let m = p.rows in
-    let row : IdRow = record { name = name; parents = ids } in
-    let named : row_names (m.rows ++ row ∷ []) ≡ row_names m.rows ++ name ∷ [] = map-append (λ (q : IdRow). q.name) m.rows (row ∷ []) in
+    let row : HeldRow = record { name = name; parents = ids } in
+    let named : row_names (m.rows ++ row ∷ []) ≡ row_names m.rows ++ name ∷ [] = map-append (λ (q : HeldRow). q.name) m.rows (row ∷ []) in
     record {
       base_of = p.base_of;
       count = p.count;
@@ -227,7 +227,7 @@ one-more base below old new added p name ids first held out fresh groups =
         rows = m.rows ++ row ∷ [];
         held = held;
         first = first ∙ m.first;
-        parents = all-append (λ (q : IdRow). AllByRecursion (λ n. (n < count_after 0 (payloads_of added)) ⊎ (2 ^ 56 ≤ n)) q.parents) m.rows (row ∷ []) m.parents
+        parents = all-append (λ (q : HeldRow). AllByRecursion (λ n. (n < count_after 0 (payloads_of added)) ⊎ (2 ^ 56 ≤ n)) q.parents) m.rows (row ∷ []) m.parents
             (subst (λ n. AllByRecursion (λ q. (q < n) ⊎ (2 ^ 56 ≤ q)) ids) p.count groups, tt);
         distinct = subst AreDistinct (sym named)
             (distinct-join (row_names m.rows) (name ∷ []) m.distinct ((λ i. i), tt) (λ x i j. ⊎_elim (λ e. out (subst (λ z. IsIn z (row_names m.rows)) e i)) (λ k. k) j));

@@ -4,7 +4,7 @@ ghost use Rattle.std.specs.Prelude.{◌<◌, ◌≤◌, ◌^◌, ◌⊎◌, ◌�
 ghost use Rattle.std.specs.List.{AllByRecursion};
 ghost use Rattle.id_groups.specs.Lists.{IsIn, AreDistinct};
 ghost use Rattle.name_map.specs.Added.{Placed};
-ghost use Rattle.payload_tables.specs.Pending.{IdRow, HoldsRows, MayPushRow, row_names};
+ghost use Rattle.payload_tables.specs.Pending.{HeldRow, HoldsRows, MayPushRow, row_names};
 ghost use Rattle.payload_tables.specs.Bases.{IsBaseOf};
 ghost use Rattle.flush_rebuild.specs.Asked.{IsStored};
 ghost use Rattle.sample_logs.specs.Sample.{ArePendingOn};
@@ -59,7 +59,7 @@ fn are_within(ids: &[Id], below: u64, end: u64) -> bool
 /// The id of a name in the base or among the rows.
 fn find(base: &BaseRef<'_>, pending: &PendingRows, name: &Name) -> Option<Id>
     requires base { (added : List Placed) × IsBaseOf base.now added }
-    requires rows { (rows : List IdRow) × HoldsRows pending.now rows }
+    requires rows { (rows : List HeldRow) × HoldsRows pending.now rows }
 {
     if let Some(k) = pending.find(name.lend()) {
         return Some(Id::other(pending.first() + u64::from(k)));
@@ -75,7 +75,7 @@ fn ids_of(
     names: &[Name],
 ) -> Result<Vec<Id>, AllocError>
     requires base { (added : List Placed) × IsBaseOf base.now added }
-    requires rows { (rows : List IdRow) × HoldsRows pending.now rows }
+    requires rows { (rows : List HeldRow) × HoldsRows pending.now rows }
 {
     let mut ids = Vec::with_capacity(alloc, names.len())?;
     for name in names {
@@ -89,8 +89,8 @@ fn ids_of(
 /// Whether neither the base nor the rows have the name.
 fn is_new(base: &BaseRef<'_>, pending: &PendingRows, name: &Name) -> bool
     requires base { (added : List Placed) × IsBaseOf base.now added }
-    requires rows { (rows : List IdRow) × HoldsRows pending.now rows }
-    ensures rows { IsTrue result → (rows : List IdRow) → HoldsRows pending.now rows → ¬ (IsIn name.now (row_names rows)) }
+    requires rows { (rows : List HeldRow) × HoldsRows pending.now rows }
+    ensures rows { IsTrue result → (rows : List HeldRow) → HoldsRows pending.now rows → ¬ (IsIn name.now (row_names rows)) }
     ensures stored { IsTrue result → (added : List Placed) → IsBaseOf base.now added → ¬ (IsStored added name.now) }
 {
     if pending.find(name.lend()).is_some() {
@@ -104,7 +104,7 @@ fn is_new(base: &BaseRef<'_>, pending: &PendingRows, name: &Name) -> bool
 
 /// Whether a row with these parents may stand behind the rows, on a base of so many master ids.
 fn may_push(pending: &PendingRows, below: u64, parents: &[Id]) -> bool
-    requires { (rows : List IdRow) × HoldsRows pending.now rows }
+    requires { (rows : List HeldRow) × HoldsRows pending.now rows }
     ensures row { IsTrue result → MayPushRow pending.now.first (length pending.now.places) parents.now }
     ensures groups { IsTrue result → AllByRecursion (λ p. (p < below) ⊎ (2 ^ 56 ≤ p)) parents.now }
 {

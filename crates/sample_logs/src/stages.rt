@@ -3,7 +3,7 @@
 ghost use Rattle.std.specs.Prelude.{◌≡◌, ◌≤◌, ◌+◌, ◌^◌, List, ℕ, [], length, IfOk, IfSome, OnOk};
 ghost use Rattle.std.specs.List.{AllByRecursion, AllZip};
 ghost use Rattle.name_map.specs.Added.{Placed};
-ghost use Rattle.payload_tables.specs.Pending.{IdRow, HoldsRows, row_names};
+ghost use Rattle.payload_tables.specs.Pending.{HeldRow, HoldsRows, row_names};
 ghost use Rattle.payload_tables.specs.Bases.{IsBaseOf};
 ghost use Rattle.change_rules.specs.Standard.{AreLimits};
 ghost use Rattle.flush_rebuild.specs.Asked.{IsFoundIn, MayStore};
@@ -41,8 +41,8 @@ fn rows_found(
     pending: &PendingRows,
 ) -> Result<Vec<Option<Id>>, AllocError>
     requires base { (added : List Placed) × IsBaseOf base.now added }
-    requires rows { (rows : List IdRow) × HoldsRows pending.now rows }
-    ensures { (added : List Placed) (rows : List IdRow) → IsBaseOf base.now added → HoldsRows pending.now rows → IfOk result (λ found. AllZip (IsFoundIn added) (row_names rows) found.items) }
+    requires rows { (rows : List HeldRow) × HoldsRows pending.now rows }
+    ensures { (added : List Placed) (rows : List HeldRow) → IsBaseOf base.now added → HoldsRows pending.now rows → IfOk result (λ found. AllZip (IsFoundIn added) (row_names rows) found.items) }
 {
     let mut found = Vec::new(alloc);
     'rows: for i in 0..pending.len() {

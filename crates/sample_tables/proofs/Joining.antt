@@ -7,8 +7,8 @@ use Rattle.segment_codec.specs.Record.{Segment, IsSegment, segment_bytes, HasFro
 use Rattle.segment_codec.specs.Table.{Follow}
 use Rattle.segment_codec.proofs.Flats.{follow-append}
 use Rattle.flat_segments.specs.declared.view.FlatView.{FlatView}
-use Rattle.flat_segments.specs.Placed.{Placed, Stand, segments_of}
-use Rattle.flat_segments.specs.Kept.{Kept, IsSectionOf, MayPush}
+use Rattle.flat_segments.specs.Placed.{PlacedSegment, Stand, segments_of}
+use Rattle.flat_segments.specs.Kept.{KeptFlats, IsSectionOf, MayPush}
 use Rattle.flat_segments.specs.Views.{master_count}
 use Rattle.flat_segments.specs.Joined.{StandAs, MayJoin}
 use Rattle.flat_segments.proofs.Adding.{all-append}
@@ -49,16 +49,16 @@ module _ (part : OthersWritten) (segments : List Segment) (is : IsOthersOf part 
     begins = λ some. sym (is.behind some);
   })
 
-  pub next-others : (s : Segment) → s ≡ next → (longer : List ℕ) (at end : ℕ) (section : Kept) → longer ≡ part.bytes ++ segment_bytes next → at ≡ length part.bytes → end ≡ part.end + count
-      → ((records : List Placed) → IsSectionOf part.section records → IsSectionOf section (records ++ record { place = at; segment = s } ∷ []))
+  pub next-others : (s : Segment) → s ≡ next → (longer : List ℕ) (at end : ℕ) (section : KeptFlats) → longer ≡ part.bytes ++ segment_bytes next → at ≡ length part.bytes → end ≡ part.end + count
+      → ((records : List PlacedSegment) → IsSectionOf part.section records → IsSectionOf section (records ++ record { place = at; segment = s } ∷ []))
       → IsOthersOf (record { bytes = longer; section = section; masters = part.masters; start = part.start; end = end }) (segments ++ next ∷ [])
   next-others s same longer at end section e n ends added =
       let more = segment_bytes next in
       let some = may.some in
-      let r : Placed = record { place = at; segment = next } in
+      let r : PlacedSegment = record { place = at; segment = next } in
       let len = length-append part.bytes more in let long = ap length e in
       let behind : IsSectionOf section (is.records ++ r ∷ []) = subst (λ (t : Segment). IsSectionOf section (is.records ++ record { place = at; segment = t } ∷ [])) same (added is.records is.stand_as.section_of) in
-      let mapped : segments_of (is.records ++ r ∷ []) ≡ segments_of is.records ++ next ∷ [] = map-append (λ (p : Placed). p.segment) is.records (r ∷ []) in
+      let mapped : segments_of (is.records ++ r ∷ []) ≡ segments_of is.records ++ next ∷ [] = map-append (λ (p : PlacedSegment). p.segment) is.records (r ∷ []) in
       let last = follow-last behind.first section.end (segments_of is.records) next (subst (Follow behind.first section.end) mapped behind.in_turn) in
       let low = is.rising in let room = may.room in
       record {
@@ -67,11 +67,11 @@ module _ (part : OthersWritten) (segments : List Segment) (is : IsOthersOf part 
         stand_as = record {
           section_of = behind;
           stand = subst (λ z. Stand z (is.records ++ r ∷ [])) (sym e)
-              (all-append (λ (p : Placed). HasFront (segment_bytes p.segment) (drop p.place (part.bytes ++ more))) is.records (r ∷ [])
+              (all-append (λ (p : PlacedSegment). HasFront (segment_bytes p.segment) (drop p.place (part.bytes ++ more))) is.records (r ∷ [])
               (stand-longer part.bytes more is.records is.within is.stand_as.stand)
               (([], ap (λ k. drop k (part.bytes ++ more)) n ∙ drop_at part.bytes more (length part.bytes) refl ∙ sym (append-nil more)), tt));
         };
-        within = all-append (λ (p : Placed). p.place ≤ length longer) is.records (r ∷ [])
+        within = all-append (λ (p : PlacedSegment). p.place ≤ length longer) is.records (r ∷ [])
             (all-within (length part.bytes) (length longer) is.records (omega (arith, len, long)) is.within) (omega (arith, len, long, n), tt);
         in_turn = follow-append part.start part.end end segments (next ∷ []) is.in_turn (refl, omega (arith, some), omega (arith, some, ends));
         behind = λ _. omega (arith, last, some, ends);
@@ -99,8 +99,8 @@ parts-may v sample below others pending some more first second count may e f one
     follow-append (2 ^ 56) others.end pending.end first second (subst (λ n. Follow n others.end first) may.first one.in_turn) (subst (λ n. Follow n pending.end second) may.next two.in_turn) in
     let few = follow-few (2 ^ 56) pending.end (first ++ second) follow in
     let long = length-append first second in
-    let a = ap length one.segments_are in let a2 = length-map one.records (λ (r : Placed). r.segment) in
-    let b = ap length two.segments_are in let b2 = length-map two.records (λ (r : Placed). r.segment) in
+    let a = ap length one.segments_are in let a2 = length-map one.records (λ (r : PlacedSegment). r.segment) in
+    let b = ap length two.segments_are in let b2 = length-map two.records (λ (r : PlacedSegment). r.segment) in
     let parts : segments_of one.records ++ segments_of two.records ≡ first ++ second = ap (λ z. z ++ segments_of two.records) one.segments_are ∙ ap (λ z. first ++ z) two.segments_are in
     record {
       first = one.records;

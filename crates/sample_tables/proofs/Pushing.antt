@@ -7,17 +7,17 @@ use Rattle.std.proofs.lemmas.List.Concat.{flat_map-cons}
 use Rattle.segment_codec.specs.Record.{Segment, IsSegment, segment_bytes, HasFront}
 use Rattle.segment_codec.specs.Table.{Follow}
 use Rattle.segment_codec.specs.Turns.{IsFirstBroken}
-use Rattle.flat_segments.specs.Placed.{Placed, placed, Stand, AreRecords, MasterMayStandAt}
-use Rattle.flat_segments.specs.Kept.{Kept, IsTableOf, MayExtend}
+use Rattle.flat_segments.specs.Placed.{PlacedSegment, placed_segments, Stand, AreRecords, MasterMayStandAt}
+use Rattle.flat_segments.specs.Kept.{KeptFlats, IsTableOf, MayExtend}
 use Rattle.flat_segments.proofs.Adding.{all-append}
 use Rattle.sample_tables.specs.Samples.{Written, IsSampleOf, next_segment, MayPush}
 
-pub all-within : (n m : ℕ) (records : List Placed) → n ≤ m → AllByRecursion (λ (r : Placed). r.place ≤ n) records → AllByRecursion (λ (r : Placed). r.place ≤ m) records
+pub all-within : (n m : ℕ) (records : List PlacedSegment) → n ≤ m → AllByRecursion (λ (r : PlacedSegment). r.place ≤ n) records → AllByRecursion (λ (r : PlacedSegment). r.place ≤ m) records
 all-within n m [] le h = tt
 all-within n m (r ∷ records) le h = (let first = h.0 in omega arith, all-within n m records le h.1)
 
 -- records stand where they stood when more bytes come
-pub stand-longer : (bytes more : List ℕ) (records : List Placed) → AllByRecursion (λ (r : Placed). r.place ≤ length bytes) records → Stand bytes records → Stand (bytes ++ more) records
+pub stand-longer : (bytes more : List ℕ) (records : List PlacedSegment) → AllByRecursion (λ (r : PlacedSegment). r.place ≤ length bytes) records → Stand bytes records → Stand (bytes ++ more) records
 stand-longer bytes more [] w h = tt
 stand-longer bytes more (r ∷ records) w h =
     let first = h.0 in
@@ -81,25 +81,25 @@ module _ (end : ℕ) (parents : List ℕ) (count : ℕ) (may : MayPush end paren
     table_of = is.table_of;
     segments = next ∷ [];
     records = records;
-    few = let few = few-records sample segments is at in let same = ap length is.segments_are in let mapped = length-map is.records (λ (r : Placed). r.segment) in
+    few = let few = few-records sample segments is at in let same = ap length is.segments_are in let mapped = length-map is.records (λ (r : PlacedSegment). r.segment) in
         let room = may.room in let some = may.some in omega (arith, few, same, mapped);
   }
 
-  pub next-stands : (sample : Written) (segments : List Segment) (longer : List ℕ) (at : ℕ) (table : Kept) → IsSampleOf sample segments → longer ≡ sample.bytes ++ segment_bytes next
-      → at ≡ length sample.bytes → ((before : List Placed) → IsTableOf sample.table before → IsTableOf table (before ++ placed at (next ∷ [])))
+  pub next-stands : (sample : Written) (segments : List Segment) (longer : List ℕ) (at : ℕ) (table : KeptFlats) → IsSampleOf sample segments → longer ≡ sample.bytes ++ segment_bytes next
+      → at ≡ length sample.bytes → ((before : List PlacedSegment) → IsTableOf sample.table before → IsTableOf table (before ++ placed_segments at (next ∷ [])))
       → IsSampleOf (record { bytes = longer; table = table }) (segments ++ next ∷ [])
   next-stands sample segments longer at table is e n extended =
       let more = segment_bytes next in
       let len = length-append sample.bytes more in let same = ap length e in
       record {
-        records = is.records ++ placed at (next ∷ []);
-        segments_are = map-append (λ (r : Placed). r.segment) is.records (placed at (next ∷ [])) ∙ ap (λ z. z ++ next ∷ []) is.segments_are;
+        records = is.records ++ placed_segments at (next ∷ []);
+        segments_are = map-append (λ (r : PlacedSegment). r.segment) is.records (placed_segments at (next ∷ [])) ∙ ap (λ z. z ++ next ∷ []) is.segments_are;
         table_of = extended is.records is.table_of;
-        stand = subst (λ z. Stand z (is.records ++ placed at (next ∷ []))) (sym e)
-            (all-append (λ (r : Placed). HasFront (segment_bytes r.segment) (drop r.place (sample.bytes ++ more))) is.records (placed at (next ∷ []))
+        stand = subst (λ z. Stand z (is.records ++ placed_segments at (next ∷ []))) (sym e)
+            (all-append (λ (r : PlacedSegment). HasFront (segment_bytes r.segment) (drop r.place (sample.bytes ++ more))) is.records (placed_segments at (next ∷ []))
             (stand-longer sample.bytes more is.records is.within is.stand)
             (([], ap (λ k. drop k (sample.bytes ++ more)) n ∙ drop_at sample.bytes more (length sample.bytes) refl ∙ sym (append-nil more)), tt));
-        within = all-append (λ (r : Placed). r.place ≤ length longer) is.records (placed at (next ∷ []))
+        within = all-append (λ (r : PlacedSegment). r.place ≤ length longer) is.records (placed_segments at (next ∷ []))
             (all-within (length sample.bytes) (length longer) is.records (omega (arith, len, same)) is.within) (omega (arith, len, same, n), tt);
       }
 

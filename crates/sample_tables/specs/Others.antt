@@ -4,14 +4,14 @@ use Rattle.std.specs.List.{AllByRecursion}
 use Rattle.id_groups.specs.Lists.{AreDistinct}
 use Rattle.segment_codec.specs.Record.{Segment}
 use Rattle.segment_codec.specs.Table.{Follow}
-use Rattle.flat_segments.specs.Placed.{Placed, segments_of}
-use Rattle.flat_segments.specs.Kept.{Kept}
+use Rattle.flat_segments.specs.Placed.{PlacedSegment, segments_of}
+use Rattle.flat_segments.specs.Kept.{KeptFlats}
 use Rattle.flat_segments.specs.Joined.{StandAs}
 use Rattle.sample_tables.specs.Samples.{Written}
 
 pub record OthersWritten : Type 0 where
   pub bytes : List ℕ
-  pub section : Kept
+  pub section : KeptFlats
   -- so many master ids may be parents
   pub masters : ℕ
   -- the ids are those from the start to the one before the end
@@ -24,7 +24,7 @@ AreNear masters ids = AllByRecursion (λ p. (p < masters) ⊎ (2 ^ 56 ≤ p)) id
 
 -- the section is that of records of these segments, which stand in the bytes and have the part's ids in turn
 pub record IsOthersOf (part : OthersWritten) (segments : List Segment) : Type 0 where
-  pub records : List Placed
+  pub records : List PlacedSegment
   pub segments_are : segments_of records ≡ segments
   pub stand_as : StandAs part.section part.bytes records
   pub within : AllByRecursion (λ r. r.place ≤ length part.bytes) records

@@ -3,17 +3,17 @@ use Rattle.std.specs.Prelude.{◌≡◌, ◌<◌, ◌≤◌, ◌^◌, ◌+◌, �
 use Rattle.std.specs.List.{AllByRecursion}
 use Rattle.id_groups.specs.Lists.{AreDistinct}
 use Rattle.segment_codec.specs.Record.{Segment}
-use Rattle.flat_segments.specs.Placed.{Placed, segments_of, Stand}
-use Rattle.flat_segments.specs.Kept.{Kept, IsTableOf}
+use Rattle.flat_segments.specs.Placed.{PlacedSegment, segments_of, Stand}
+use Rattle.flat_segments.specs.Kept.{KeptFlats, IsTableOf}
 
 -- the bytes of the records, and what the table keeps of them
 pub record Written : Type 0 where
   pub bytes : List ℕ
-  pub table : Kept
+  pub table : KeptFlats
 
 -- the table is that of records of these segments, which stand in the bytes
 pub record IsSampleOf (sample : Written) (segments : List Segment) : Type 0 where
-  pub records : List Placed
+  pub records : List PlacedSegment
   pub segments_are : segments_of records ≡ segments
   pub table_of : IsTableOf sample.table records
   pub stand : Stand sample.bytes records

@@ -19,7 +19,7 @@ ghost use Rattle.dag_run.specs.Demo.{DemoMeans};
 ghost use Rattle.dag_run.specs.Bundling.{BundleMeans};
 ghost use Rattle.dag_run.specs.Compacting.{CompactMeans};
 ghost use Rattle.dag_run.specs.Serving.{IsServeStatus, ServeMeans, WantsOne};
-ghost use Rattle.remote_serve.specs.Steps.{ports, streams as served_streams};
+ghost use Rattle.remote_serve.specs.Steps.{ports, served_streams};
 ghost use Rattle.dag_run.specs.Stops.{IsDemoStatus, IsOneOf, IsOverBy, IsStatus};
 ghost use Rattle.segdag.specs.Usage.{HasStatus, IsDemo, IsRun, IsUsage, Refuses};
 

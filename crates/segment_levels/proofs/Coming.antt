@@ -13,7 +13,7 @@ use Rattle.segment_codec.specs.Table.{Follow}
 use Rattle.segment_codec.proofs.Tables.{AreRising, follow-rising, over-in}
 use Rattle.segment_rules.specs.Levels.{groups, level_segments, top_level}
 use Rattle.segment_rules.specs.NewLevels.{same_segment, new_levels, high_levels}
-use Rattle.segment_levels.specs.Whole.{IsWhole, Grows}
+use Rattle.segment_levels.specs.Whole.{IsWholeTo, Grows}
 use Rattle.segment_levels.proofs.Leveled.{leveled, level-grows}
 
 -- ---- the test of two segments
@@ -88,7 +88,7 @@ drop-front [] (y ∷ ys) = refl
 drop-front (x ∷ xs) ys = drop-front xs ys
 
 -- the new segments of a level
-pub level-behind : (old new : List Segment) (end : ℕ) → IsWhole new end → Grows old new → (level : ℕ)
+pub level-behind : (old new : List Segment) (end : ℕ) → IsWholeTo new end → Grows old new → (level : ℕ)
     → filter (λ s. not (is_in same_segment s (level_segments old level))) (level_segments new level) ≡ drop (length (level_segments old level)) (level_segments new level)
 level-behind old new end w g level =
     let b = level-grows old new g level in
@@ -101,7 +101,7 @@ same-flat : {X Y : Type 0} (f g : X → List Y) → ((x : X) → f x ≡ g x) �
 same-flat f g h [] = refl
 same-flat f g h (x ∷ xs) = ap₂ (λ a b. a ++ b) (h x) (same-flat f g h xs)
 
-pub new-behind : (old new : List Segment) (end : ℕ) → IsWhole new end → Grows old new
+pub new-behind : (old new : List Segment) (end : ℕ) → IsWholeTo new end → Grows old new
     → new_levels old new ≡ flat_map (λ level. drop (length (level_segments old level)) (level_segments new level)) (range_with_len 1 top_level)
 new-behind old new end w g =
     same-flat (λ level. filter (λ s. not (is_in same_segment s (level_segments old level))) (level_segments new level))

@@ -15,7 +15,7 @@ use Rattle.segment_codec.proofs.Orders.{ascending-distinct, ascending-means}
 use Rattle.flat_segments.specs.Maximal.{begin_of}
 use Rattle.flat_segments.proofs.Rising.{follow-begin}
 use Rattle.segment_rules.specs.Levels.{merged, groups, count_grouped, level_segments, parents_below}
-use Rattle.segment_levels.specs.Whole.{IsWhole, Grows}
+use Rattle.segment_levels.specs.Whole.{IsWholeTo, Grows}
 use Rattle.segment_levels.proofs.Ascending.{Ascend, ascend-decided, ascend-few, ascending-ascends, all-from-in}
 use Rattle.segment_levels.proofs.Grouping.{first-group, groups-few, groups-many, count-few, count-many, count-most, few-or-many, left_of, groups-append, count-append}
 use Rattle.segment_levels.proofs.Heading.{IsGood, flat-good, merged-good, follow-take, follow-drop, in-take, follow-last}
@@ -99,7 +99,7 @@ groups-end flats first end level xs h good =
     subst (λ (n : ℕ). AreGroups flats n (begin_of end (drop (count_grouped 0 xs) xs)) level (groups level 0 xs)) (begin-first end first xs h)
     (grouped-facts flats level 0 first end xs h good (omega arith))
 
-pub leveled : (flats : List Segment) (end : ℕ) → IsWhole flats end → (level : ℕ) → IsLeveled flats end level
+pub leveled : (flats : List Segment) (end : ℕ) → IsWholeTo flats end → (level : ℕ) → IsLeveled flats end level
 leveled flats end w zero =
     let le : length flats - 1 ≤ length flats = omega arith in
     record {
@@ -121,7 +121,7 @@ leveled flats end w (suc level) =
     }
 
 -- the segments of a level above 0
-pub level-high : (flats : List Segment) (end : ℕ) → IsWhole flats end → (level : ℕ) (s : Segment) → IsIn s (level_segments flats (suc level)) → IsHigh flats end (suc level) s
+pub level-high : (flats : List Segment) (end : ℕ) → IsWholeTo flats end → (level : ℕ) (s : Segment) → IsIn s (level_segments flats (suc level)) → IsHigh flats end (suc level) s
 level-high flats end w level s i =
     let b = leveled flats end w level in
     let xs = level_segments flats level in
@@ -182,7 +182,7 @@ count-more old new g level =
     ∙ ap (λ z. count_grouped 0 xs + count_grouped 0 z) (sym (ap (drop (count_grouped 0 xs)) b.1 ∙ drop-append-le (count_grouped 0 xs) xs b.0 most.1))
 
 -- where the next group of a level begins doesn't change
-pub next-begin : (old new : List Segment) (end : ℕ) → Grows old new → (oldend : ℕ) → IsWhole old oldend → IsWhole new end → (level last : ℕ) → Follow 0 last (level_segments old (suc level))
+pub next-begin : (old new : List Segment) (end : ℕ) → Grows old new → (oldend : ℕ) → IsWholeTo old oldend → IsWholeTo new end → (level last : ℕ) → Follow 0 last (level_segments old (suc level))
     → (e : ℕ) → Follow 0 e (level_segments new level) → last ≡ begin_of e (drop (count_grouped 0 (level_segments old level)) (level_segments new level))
 next-begin old new end g oldend w v level last h e f =
     let b = leveled old oldend w level in

@@ -3,13 +3,13 @@ use Rattle.std.specs.Prelude.{◌≡◌, ◌≤◌, ℕ, zero, suc, List, [], �
 use Rattle.segment_codec.specs.Record.{Segment}
 use Rattle.segment_codec.specs.Table.{segment_at}
 use Rattle.segment_codec.specs.Flat.{if_ends, flat_ending}
-use Rattle.flat_segments.specs.Kept.{Kept as FlatKept, IsTableOf}
+use Rattle.flat_segments.specs.Kept.{KeptFlats as FlatKept, IsTableOf}
 use Rattle.flat_segments.specs.Maximal.{cut}
-use Rattle.flat_segments.specs.Placed.{Placed}
+use Rattle.flat_segments.specs.Placed.{PlacedSegment}
 use Rattle.flat_segments.specs.Views.{master_flats, master_count}
 use Rattle.flat_segments.specs.declared.view.FlatView.{FlatView}
 use Rattle.segment_rules.specs.Levels.{level_segments, top_level}
-use Rattle.segment_levels.specs.Kept.{Kept, PlainGroups, groups_in, AreLevelsOf}
+use Rattle.segment_levels.specs.Kept.{KeptLevels, PlainGroups, groups_in, AreLevelsOf}
 use Rattle.segment_levels.specs.Flats.{flats_of}
 
 -- the segment that is found first
@@ -48,7 +48,7 @@ level_ending flats count level id =
     if nat_lt id count && nat_le level top_level then if_ends id (segment_at (level_segments flats level) id) else None
 
 -- A view of a table and levels belong together: these are the levels of the whole table.
-pub record BelongTogether (view : FlatView) (levels : Kept) (table : FlatKept) (records : List Placed) : Type 0 where
+pub record BelongTogether (view : FlatView) (levels : KeptLevels) (table : FlatKept) (records : List PlacedSegment) : Type 0 where
   pub table_of : IsTableOf table records
   pub small : table.end ≤ 16777216
   pub levels_of : AreLevelsOf levels (flats_of table records)

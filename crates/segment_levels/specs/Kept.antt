@@ -69,7 +69,7 @@ Rise least end [] = least ≤ end
 Rise least end (s ∷ more) = (least ≤ s.low) × (s.low ≤ s.high) × Rise (s.high + 1) end more
 
 -- what is kept of all levels
-pub record Kept : Type 0 where
+pub record KeptLevels : Type 0 where
   -- how many flat segments there are
   pub flat_count : ℕ
   -- level 1 and those above
@@ -99,6 +99,6 @@ AreLevelsAbove flats level [] = level ≡ top_level
 AreLevelsAbove flats level (l ∷ more) = IsLevelOf flats level l × AreLevelsAbove flats (suc level) more
 
 -- these are the levels of the flat segments
-pub record AreLevelsOf (kept : Kept) (flats : List Segment) : Type 0 where
+pub record AreLevelsOf (kept : KeptLevels) (flats : List Segment) : Type 0 where
   pub count : kept.flat_count ≡ length flats
   pub levels : AreLevelsAbove flats 0 kept.levels

@@ -5,7 +5,7 @@ use Rattle.segment_codec.specs.Table.{Follow, IsLawful}
 use Rattle.segment_rules.specs.Levels.{complete}
 
 -- the flat segments of a whole master group
-pub record IsWhole (flats : List Segment) (end : ℕ) : Type 0 where
+pub record IsWholeTo (flats : List Segment) (end : ℕ) : Type 0 where
   pub lawful : IsLawful flats
   pub follow : Follow 0 end flats
 

@@ -12,7 +12,7 @@ ghost use Rattle.segment_rules.specs.Flat.{flat_segments_of};
 ghost use Rattle.segment_rules.specs.Levels.{level_segments, groups, count_grouped, group_size, have_one_head, top_level};
 ghost use Rattle.segment_rules.specs.NewLevels.{new_levels, high_levels};
 ghost use Rattle.segment_levels.specs.Heads.{HasOneHead, AreHeaded};
-ghost use Rattle.segment_levels.specs.Whole.{IsWhole, Grows};
+ghost use Rattle.segment_levels.specs.Whole.{IsWholeTo, Grows};
 
 /// Where the complete flat segments of one group stay in another, each level stays, and what comes behind it are the
 /// groups of what isn't grouped below it.
@@ -25,9 +25,9 @@ pub fn levels_stay()
 /// The segments of a level follow one another from id 0 on, each has its highest id as its only head and exactly the
 /// parents outside, and above level 0 each has a spelling.
 pub fn levels_are_headed()
-    ensures follow { (flats : List Segment) (end level : ℕ) → IsWhole flats end → (last : ℕ) × (last ≤ end) × Follow 0 last (level_segments flats level) }
-    ensures headed { (flats : List Segment) (end level : ℕ) (s : Segment) → IsWhole flats end → IsIn s (level_segments flats level) → IsHeaded flats s }
-    ensures spelled { (flats : List Segment) (end level : ℕ) (s : Segment) → IsWhole flats end → end ≤ 16777216 → suc level ≤ 7
+    ensures follow { (flats : List Segment) (end level : ℕ) → IsWholeTo flats end → (last : ℕ) × (last ≤ end) × Follow 0 last (level_segments flats level) }
+    ensures headed { (flats : List Segment) (end level : ℕ) (s : Segment) → IsWholeTo flats end → IsIn s (level_segments flats level) → IsHeaded flats s }
+    ensures spelled { (flats : List Segment) (end level : ℕ) (s : Segment) → IsWholeTo flats end → end ≤ 16777216 → suc level ≤ 7
         → IsIn s (level_segments flats (suc level)) → IsSegment s }
 {}
 
@@ -66,7 +66,7 @@ pub fn segments_of_graph()
 /// A segment of a level never changes once it is made. So where the complete flat segments of one group stay in another, what
 /// comes with the other is what stands behind the old segments on each level; where there was nothing it is all.
 pub fn new_levels_are_behind()
-    ensures behind { (old new : List Segment) (end : ℕ) → IsWhole new end → Grows old new
+    ensures behind { (old new : List Segment) (end : ℕ) → IsWholeTo new end → Grows old new
         → new_levels old new ≡ flat_map (λ level. drop (length (level_segments old level)) (level_segments new level)) (range_with_len 1 top_level) }
     ensures all { (new : List Segment) → new_levels [] new ≡ high_levels new }
     ensures batch { (parents more : List (List ℕ)) → Grows (flat_segments_of 0 parents) (flat_segments_of 0 (parents ++ more)) }

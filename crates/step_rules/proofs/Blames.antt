@@ -17,7 +17,7 @@ use Rattle.remote_rules.specs.Mirror.{Mirror}
 use Rattle.remote_rules.specs.Calls.{IsAskedFor, IsCloned, IsPulled}
 use Rattle.remote_rules.specs.declared.MirrorFault.{MirrorFault}
 use Rattle.remote_rules.specs.declared.MirrorFault.TheVariants as fault
-use Rattle.remote_rules.specs.Asking.{Asks, AsksInTurn}
+use Rattle.remote_rules.specs.Asking.{IsOneAsk, AsksInTurn}
 use Rattle.step_rules.specs.declared.Refusal.{Refusal}
 use Rattle.step_rules.specs.declared.Refusal.TheVariants as why
 use Rattle.step_rules.specs.State.{State, Stored, view_of}
@@ -26,12 +26,12 @@ use Rattle.step_rules.specs.Reply.{Reply, Added, Old, Flushed, Pulled, Stripped,
 use Rattle.step_rules.specs.Worlds.{has, after_change, after_flush, with_added}
 use Rattle.step_rules.specs.Tests.{Test, first_some, tests}
 use Rattle.step_rules.specs.Asking.{refusal_for, refused_by, TriesAll}
-use Rattle.step_rules.specs.Step.{Told, TakesFrom, Clones, Pulls, Answered, Answers, CommandStep, GoesOutside, IsRefused, UnlessRefused, MayWantMemory, answer_tests, clone_tests, pull_tests, without}
+use Rattle.step_rules.specs.Step.{IsTold, TakesFrom, Clones, Pulls, AnsweredFirst, Answers, CommandStep, GoesOutside, IsRefused, UnlessRefused, MayWantMemory, answer_tests, clone_tests, pull_tests, without}
 use Rattle.step_rules.proofs.Unblamed.{IsNoFailure, if-no, full-no, conflict-no, list-no, tests-no}
 
 -- what asks keep, and what holds when all mirrors of one failed
 abbrev pub Keeping : (List Mirror → Type 0) → (ℕ → List Mirror → Type 0) → (Mirror → Mirror → Type 0) → Type 0
-Keeping P F Does = (old new : List Mirror) (end : Option MirrorFault) → Asks Does old end new → P old → P new × ((n : ℕ) → end ≡ Some (fault.AllFailed n) → F n new)
+Keeping P F Does = (old new : List Mirror) (end : Option MirrorFault) → IsOneAsk Does old end new → P old → P new × ((n : ℕ) → end ≡ Some (fault.AllFailed n) → F n new)
 
 module _ (P : List Mirror → Type 0) (F : ℕ → List Mirror → Type 0) (when_asked : (count : ℕ) → Keeping P F (IsAskedFor count)) (when_cloned : Keeping P F IsCloned) (when_pulled : (from : ℕ) → Keeping P F (IsPulled from))
     (when_dropped : (k : ℕ) (xs : List Mirror) → P xs → P (without k xs)) where
@@ -132,7 +132,7 @@ module _ (P : List Mirror → Type 0) (F : ℕ → List Mirror → Type 0) (when
   no-mismatch mirrors LongLine h i = i
 
   module _ (limits : Limits) (st : State) (s : ℕ) (steady : P st.outside.mirrors) (reply : Reply) (st' : State) where
-    told-no : (verb : Verb) → Told st.store s verb reply st'.store → BlamesReply st'.outside.mirrors reply
+    told-no : (verb : Verb) → IsTold st.store s verb reply st'.store → BlamesReply st'.outside.mirrors reply
     told-no (Add name parents) t = by_test (has (view_of st.store s) name) t
       where
         by_test : (b : Bool) → MatchBool b ((reply ≡ Old (id_in same_name (view_of st.store s) name)) × (st'.store ≡ st.store))
@@ -167,7 +167,7 @@ module _ (P : List Mirror → Type 0) (F : ℕ → List Mirror → Type 0) (when
         let a = keeps mirrors new end asks k in (subst P (sym out.mirrors_are) a.0, by_end end a.1 ends)
       where
         by_end : (o : Option MirrorFault) → ((n : ℕ) → o ≡ Some (fault.AllFailed n) → F n new)
-            → MatchOption o ((rows : List (Row Name)) × Answered new rows × Makes (master_world rows) reply st'.store) (λ fault. IsRefused st.store (refusal_for fault) reply st'.store) → BlamesReply st'.outside.mirrors reply
+            → MatchOption o ((rows : List (Row Name)) × AnsweredFirst new rows × Makes (master_world rows) reply st'.store) (λ fault. IsRefused st.store (refusal_for fault) reply st'.store) → BlamesReply st'.outside.mirrors reply
         by_end None h g = f (master_world g.0) g.2
         by_end (Some fault.NoRemote) h g = subst (BlamesReply st'.outside.mirrors) (sym g.0) tt
         by_end (Some (fault.AllFailed n)) h g = subst (BlamesReply st'.outside.mirrors) (sym g.0) (subst (F n) (sym out.mirrors_are) (h n refl))

@@ -14,7 +14,7 @@ use Rattle.commit_graph.specs.Ids.{id_in}
 use Rattle.commit_graph.proofs.Histories.{in-append}
 use Rattle.commit_graph.proofs.Down.{in-left, in-right}
 use Rattle.batch_codec.specs.Payload.{Payload}
-use Rattle.batch_codec.specs.Grammar.{IsFlush, IsClone, IsWhole, count_after}
+use Rattle.batch_codec.specs.Grammar.{IsFlush, IsClone, IsWholePayload, count_after}
 use Rattle.change_rules.specs.Lawful.{AreLawful}
 use Rattle.gated_log.specs.Log.{log_length}
 use Rattle.change_rules.specs.declared.Limits.{Limits}
@@ -50,7 +50,7 @@ use Rattle.change_rules.specs.Rebase.{first_lost, first_conflict}
 use Rattle.step_rules.specs.Verb.{Verb, Add, Flush, Reload, Discard, Query, Count, IdOf, Status, Levels, Clone, Pull, Strip, CountMirrors, Drop}
 use Rattle.step_rules.specs.Worlds.{flush_of, has, with_added}
 use Rattle.step_rules.specs.Tests.{unknown, not_strippable, refused_first, tests}
-use Rattle.step_rules.specs.Step.{Told, Clones, Pulls, clone_tests, TakesFrom, Answered, Answers, CommandStep, GoesOutside, IsRefused, MayWantMemory, pull_tests, without}
+use Rattle.step_rules.specs.Step.{IsTold, Clones, Pulls, clone_tests, TakesFrom, AnsweredFirst, Answers, CommandStep, GoesOutside, IsRefused, MayWantMemory, pull_tests, without}
 use Rattle.step_rules.specs.Asking.{refusal_for}
 use Rattle.step_rules.specs.Reply.{Reply, Refused, Added, Old, Listed, Dropped, Cloned, Pulled}
 use Rattle.step_rules.proofs.Trying.{Outer, tried-all}
@@ -85,7 +85,7 @@ held-sizes payloads w h = (
 -- lawful payloads have a row
 all-hold : (before payloads : List Payload) (n : ℕ) (o : Option Payload) → AreLawful before payloads → (payloads ≡ []) ⊎ ((0 < count_after n payloads) ⊎ (0 < length (other_names_in (last_or o payloads))))
 all-hold before [] n o h = inl refl
-all-hold before (p ∷ []) n o h = inr (⊎_elim (λ (f : IsFlush p). f.something) (λ o. ⊎_elim (λ (c : IsClone p). inl c.something) (λ (w : IsWhole p). w.something) o) h.0.whole.by_kind)
+all-hold before (p ∷ []) n o h = inr (⊎_elim (λ (f : IsFlush p). f.something) (λ o. ⊎_elim (λ (c : IsClone p). inl c.something) (λ (w : IsWholePayload p). w.something) o) h.0.whole.by_kind)
 all-hold before (p ∷ q ∷ payloads) n o h = ⊎_elim (λ e. absurd (let l = ap length e in omega (arith, l))) (λ g. inr g) (all-hold (before ++ p ∷ []) (q ∷ payloads) p.after (Some p) h.1)
 
 no-refusal : (b : Bool) (r : Refusal) → refuse_if b r ≡ None → b ≡ false
@@ -227,7 +227,7 @@ module _ (limits : Limits) (fair : AreLimits limits) (st : State) (s : ℕ) (sta
   same-held now e = subst (IsHeld limits) (sym e) h
 
   told-held : (verb : Verb) (reply : Reply) (now : Stored) → first_some (refusals limits (base_of st.store s) (pending_of st.store s) w verb) ≡ None → first_some (log_part limits st.store s verb) ≡ None
-      → Told st.store s verb reply now → IsHeld limits now
+      → IsTold st.store s verb reply now → IsHeld limits now
   told-held (Add name parents) reply now none fits t = by_test (has (view_of st.store s) name) t
     where
       by_test : (b : Bool) → MatchBool b ((reply ≡ Old (id_in same_name (view_of st.store s) name)) × (now ≡ st.store))
@@ -261,7 +261,7 @@ module _ (limits : Limits) (fair : AreLimits limits) (st : State) (s : ℕ) (sta
       makes r named (inl g) = by_tests r named (first_some (pull_tests limits st.store r)) refl g
       makes r named (inr m) = same-held st'.store m.1
 
-      by_end : (o : Option MirrorFault) → MatchOption o ((rows : List (Row Name)) × Answered new rows × Pulls limits st.store s (master_world rows) reply st'.store) (λ fault. IsRefused st.store (refusal_for fault) reply st'.store) → AreSound new → IsHeld limits st'.store
+      by_end : (o : Option MirrorFault) → MatchOption o ((rows : List (Row Name)) × AnsweredFirst new rows × Pulls limits st.store s (master_world rows) reply st'.store) (λ fault. IsRefused st.store (refusal_for fault) reply st'.store) → AreSound new → IsHeld limits st'.store
       by_end None g k = makes (master_world g.0) (front-sound new g.0 k g.1) g.2
       by_end (Some x) g k = same-held st'.store g.1
 
@@ -323,7 +323,7 @@ module _ (limits : Limits) (fair : AreLimits limits) (st : State) (s : ℕ) (sta
       makes r named (inl g) = by_tests r named (first_some (clone_tests limits st.store r)) refl g
       makes r named (inr m) = same-held st'.store m.1
 
-      by_end : (o : Option MirrorFault) → MatchOption o ((rows : List (Row Name)) × Answered new rows × Clones limits st.store s (master_world rows) reply st'.store) (λ fault. IsRefused st.store (refusal_for fault) reply st'.store) → AreSound new → IsHeld limits st'.store
+      by_end : (o : Option MirrorFault) → MatchOption o ((rows : List (Row Name)) × AnsweredFirst new rows × Clones limits st.store s (master_world rows) reply st'.store) (λ fault. IsRefused st.store (refusal_for fault) reply st'.store) → AreSound new → IsHeld limits st'.store
       by_end None g k = makes (master_world g.0) (front-sound new g.0 k g.1) g.2
       by_end (Some x) g k = same-held st'.store g.1
 

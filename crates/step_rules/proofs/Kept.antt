@@ -18,7 +18,7 @@ use Rattle.change_rules.specs.Tables.{cloned_count}
 use Rattle.remote_rules.specs.CloneData.{KnownName}
 use Rattle.remote_rules.specs.Mirror.{Mirror}
 use Rattle.remote_rules.specs.Known.{master_alone, master_world}
-use Rattle.remote_rules.specs.Honest.{IsSound}
+use Rattle.remote_rules.specs.Honest.{IsSoundMirror}
 use Rattle.remote_rules.specs.Calls.{IsCloned, IsPulled}
 use Rattle.remote_rules.specs.declared.MirrorFault.{MirrorFault}
 use Rattle.step_rules.specs.declared.Refusal.{Refusal}
@@ -30,7 +30,7 @@ use Rattle.step_rules.specs.Asked.{found_as, lazy_among}
 use Rattle.step_rules.specs.Worlds.{has, flush_of, after_change, after_flush, with_added}
 use Rattle.step_rules.specs.Tests.{plain, looked_up, unknown, pending_test, rebase_tests, not_strippable, first_some, refused_first, tests}
 use Rattle.step_rules.specs.Asking.{refusal_for}
-use Rattle.step_rules.specs.Step.{Told, TakesFrom, Clones, Pulls, Answered, Answers, CommandStep, GoesOutside, IsRefused, UnlessRefused, MayWantMemory, answer_tests, clone_tests, pull_tests, without}
+use Rattle.step_rules.specs.Step.{IsTold, TakesFrom, Clones, Pulls, AnsweredFirst, Answers, CommandStep, GoesOutside, IsRefused, UnlessRefused, MayWantMemory, answer_tests, clone_tests, pull_tests, without}
 use Rattle.step_rules.proofs.Trying.{Outer, tried-all}
 use Rattle.step_rules.proofs.Own.{refusals}
 use Rattle.step_rules.proofs.Sessions.{newest-now}
@@ -112,7 +112,7 @@ module _ (limits : Limits) (st : State) (s : ℕ) (h : IsState st) where
   same-cached now e k c = subst (λ z. IsLazyName z k) (sym e) c
 
   -- what a command leaves that asks nothing more
-  told-cached : (verb : Verb) (reply : Reply) (now : Stored) → first_some (refusals limits (base_of st.store s) (pending_of st.store s) st.store.stored verb) ≡ None → Told st.store s verb reply now
+  told-cached : (verb : Verb) (reply : Reply) (now : Stored) → first_some (refusals limits (base_of st.store s) (pending_of st.store s) st.store.stored verb) ≡ None → IsTold st.store s verb reply now
       → (k : KnownName) → IsLazyName st.store k → IsLazyName now k
   told-cached (Add name parents) reply now none t k c = by_test (has (view_of st.store s) name) t
     where
@@ -151,11 +151,11 @@ module _ (limits : Limits) (st : State) (s : ℕ) (h : IsState st) where
     goes : (now : State) (new : List Mirror) → AreSound new → ((k : KnownName) → IsLazyName st.store k → IsLazyName now.store k) → GoesOutside st.outside new found now.outside → IsOutside now.store now.outside
     goes now new all on g = outside-kept st.store now.store st.outside now.outside new found h.outside all right on g
 
-    taken-outside : (Does : Mirror → Mirror → Type 0) (keeps : (m asked : Mirror) → Does m asked → IsSound m → IsSound asked) (Makes : World Name → Reply → Stored → Type 0) (reply : Reply) (st' : State)
+    taken-outside : (Does : Mirror → Mirror → Type 0) (keeps : (m asked : Mirror) → Does m asked → IsSoundMirror m → IsSoundMirror asked) (Makes : World Name → Reply → Stored → Type 0) (reply : Reply) (st' : State)
         → ((r : World Name) → Makes r reply st'.store → (k : KnownName) → IsLazyName st.store k → IsLazyName st'.store k) → TakesFrom Does Makes st mirrors found reply st' → IsOutside st'.store st'.outside
     taken-outside Does keeps Makes reply st' f (end, new, asks, out, ends) = goes st' new (asks-sound Does keeps mirrors new end asks sound) (by_end end ends) out
       where
-        by_end : (o : Option MirrorFault) → MatchOption o ((rows : List (Row Name)) × Answered new rows × Makes (master_world rows) reply st'.store) (λ fault. IsRefused st.store (refusal_for fault) reply st'.store)
+        by_end : (o : Option MirrorFault) → MatchOption o ((rows : List (Row Name)) × AnsweredFirst new rows × Makes (master_world rows) reply st'.store) (λ fault. IsRefused st.store (refusal_for fault) reply st'.store)
             → (k : KnownName) → IsLazyName st.store k → IsLazyName st'.store k
         by_end None g = f (master_world g.0) g.2
         by_end (Some x) g = same-cached st'.store g.1

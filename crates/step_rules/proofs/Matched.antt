@@ -7,7 +7,7 @@ use Rattle.remote_rules.specs.Mirror.{Mirror}
 use Rattle.remote_rules.specs.Calls.{Keeps, IsAskedFor, IsCloned, IsPulled}
 use Rattle.remote_rules.specs.declared.MirrorFault.{MirrorFault}
 use Rattle.remote_rules.specs.declared.MirrorFault.TheVariants as fault
-use Rattle.remote_rules.specs.Asking.{Asks, AskedNext}
+use Rattle.remote_rules.specs.Asking.{IsOneAsk, AskedNext}
 use Rattle.step_rules.specs.declared.Refusal.TheVariants as why
 use Rattle.step_rules.specs.State.{State}
 use Rattle.step_rules.specs.Verb.{Verb}
@@ -32,7 +32,7 @@ pub failed-later : (k m x : Mirror) → HasFailed k m → IsLater m x → HasFai
 failed-later k m x r le = omega (arith, r, le)
 
 -- all mirrors of an ask failed
-all-failed : (Does : Mirror → Mirror → Type 0) (old new : List Mirror) (n : ℕ) → Asks Does old (Some (fault.AllFailed n)) new → EachWas HasFailed old new
+all-failed : (Does : Mirror → Mirror → Type 0) (old new : List Mirror) (n : ℕ) → IsOneAsk Does old (Some (fault.AllFailed n)) new → EachWas HasFailed old new
 all-failed Does old new n a = by_others a.2 a.5 a.3
   where
     not-memory : Some (fault.AllFailed n) ≡ Some fault.Memory → ⊥
@@ -50,7 +50,7 @@ module _ (start : List Mirror) where
   kept-later : (Does : Mirror → Mirror → Type 0) → ((m asked : Mirror) → Does m asked → Keeps m asked) → Keeping (EachWas IsLater start) (λ n mirrors. EachWas HasFailed start mirrors) Does
   kept-later Does keeps old new end a h = (
     was-then IsLater IsLater IsLater (λ k m x p q. omega (arith, p, q)) start old new h (asks-was Does IsLater (λ k. le_refl k.faults) (λ k asked d. (keeps k asked d).faults) old new end a),
-    λ n e. was-then IsLater HasFailed HasFailed later-failed start old new h (all-failed Does old new n (subst (λ o. Asks Does old o new) e a)),
+    λ n e. was-then IsLater HasFailed HasFailed later-failed start old new h (all-failed Does old new n (subst (λ o. IsOneAsk Does old o new) e a)),
   )
 
   pub step-matched : (limits : Limits) (st : State) (s : ℕ) → EachWas IsLater start st.outside.mirrors → (reply : Reply) (st' : State) (verb : Verb) → CommandStep limits st s verb reply st'

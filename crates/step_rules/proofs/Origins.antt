@@ -9,11 +9,11 @@ use Rattle.commit_graph.proofs.Down.{in-left, in-right}
 use Rattle.commit_graph.proofs.Naming.{each, all-each}
 use Rattle.remote_rules.specs.CloneData.{KnownName}
 use Rattle.remote_rules.specs.Mirror.{Mirror}
-use Rattle.remote_rules.specs.Honest.{IsHonest, IsSound}
-use Rattle.remote_rules.specs.Calls.{MasterGoesOn, IsAskedFor, Fails}
-use Rattle.remote_rules.specs.Serving.{Serves, AreAlike, AllServe}
+use Rattle.remote_rules.specs.Honest.{IsHonest, IsSoundMirror}
+use Rattle.remote_rules.specs.Calls.{MasterGoesOn, IsAskedFor, Failing}
+use Rattle.remote_rules.specs.Serving.{IsServing, AreAlike, AllServe}
 use Rattle.remote_rules.specs.declared.MirrorFault.{MirrorFault}
-use Rattle.remote_rules.specs.Asking.{Asks, AskedNext, AsksInTurn}
+use Rattle.remote_rules.specs.Asking.{IsOneAsk, AskedNext, AsksInTurn}
 use Rattle.step_rules.specs.declared.Refusal.{Refusal}
 use Rattle.step_rules.specs.Tests.{Test}
 use Rattle.step_rules.specs.Asking.{TriesAll}
@@ -23,7 +23,7 @@ pub record GoesTo (k m : Mirror) : Type 0 where
   pub settled : m.settled ≡ k.settled
   pub master : MasterGoesOn k.settled k.master m.master
   pub tells : is_some m.master ≡ is_some k.master
-  pub sound : IsSound k → IsSound m
+  pub sound : IsSoundMirror k → IsSoundMirror m
 
 -- each of the new mirrors was one of the old ones, and they are as many
 pub record ComeFrom (old new : List Mirror) : Type 0 where
@@ -63,7 +63,7 @@ from-then old mid new a b = record {
 }
 
 module _ (Does : Mirror → Mirror → Type 0) (goes : (m asked : Mirror) → Does m asked → GoesTo m asked) where
-  failed-from : (xs ys : List Mirror) → AllZip (Fails Does) xs ys → ComeFrom xs ys
+  failed-from : (xs ys : List Mirror) → AllZip (Failing Does) xs ys → ComeFrom xs ys
   failed-from [] [] z = from-same [] [] refl
   failed-from [] (y ∷ ys) z = absurd z
   failed-from (x ∷ xs) [] z = absurd z
@@ -74,7 +74,7 @@ module _ (Does : Mirror → Mirror → Type 0) (goes : (m asked : Mirror) → Do
         count = ap suc rest.count;
       }
 
-  pub asks-from : (old new : List Mirror) (end : Option MirrorFault) → Asks Does old end new → ComeFrom old new
+  pub asks-from : (old new : List Mirror) (end : Option MirrorFault) → IsOneAsk Does old end new → ComeFrom old new
   asks-from old new end a = by_others a.2 a.5 (failed-from a.0 a.1 a.4) a.3
     where
       by_others : (others : List Mirror) → AskedNext Does a.1 others end new → ComeFrom a.0 a.1 → old ≡ a.0 ++ others → ComeFrom old new
@@ -119,10 +119,10 @@ told-on b None r h = absurd h
 told-on true (Some q) r h = (q, refl, [], h ∙ sym (append-nil r))
 told-on false (Some q) r h = (q, refl, h.0, h.1)
 
-pub serves-on : (cloned : ℕ) (w : World Name) (k m : Mirror) → GoesTo k m → Serves cloned w k → Serves cloned w m
+pub serves-on : (cloned : ℕ) (w : World Name) (k m : Mirror) → GoesTo k m → IsServing cloned w k → IsServing cloned w m
 serves-on cloned w k m g (r, told, honest, rows) =
     let on = told-on k.settled m.master r (subst (λ o. MasterGoesOn k.settled o m.master) told g.master) in
-    let sound : IsSound m = g.sound (subst (λ o. MatchOption o (Unit {0}) (IsHonest k.cloned)) (sym told) honest) in
+    let sound : IsSoundMirror m = g.sound (subst (λ o. MatchOption o (Unit {0}) (IsHonest k.cloned)) (sym told) honest) in
     (on.0, on.1, subst (λ o. MatchOption o (Unit {0}) (IsHonest m.cloned)) on.1 sound, λ row i. subst (IsIn row) (sym on.3) (in-left row r on.2 (rows row i)))
 
 -- settled mirrors tell the same after calls
@@ -148,6 +148,6 @@ alike-on old new f (settled, rows) = (
 
 pub all-serve-on : (cloned : ℕ) (w : World Name) (old new : List Mirror) → ComeFrom old new → AllServe cloned w old → AllServe cloned w new
 all-serve-on cloned w old new f h = record {
-  each = all-each (Serves cloned w) new (λ m i. let x = f.each_from m i in serves-on cloned w x.0 m x.2 (each (Serves cloned w) old h.each x.0 x.1));
+  each = all-each (IsServing cloned w) new (λ m i. let x = f.each_from m i in serves-on cloned w x.0 m x.2 (each (IsServing cloned w) old h.each x.0 x.1));
   first_clone = λ e. ⊎_elim (λ le. inl (subst (λ n. n ≤ 1) (sym f.count) le)) (λ a. inr (alike-on old new f a)) (h.first_clone e);
 }

@@ -28,7 +28,7 @@ use Rattle.step_rules.specs.Reply.{Reply, Added, Old, Listed, Dropped, Cloned, P
 use Rattle.step_rules.specs.Worlds.{has, flush_of, after_flush, after_change, log_after, with_added}
 use Rattle.step_rules.specs.Tests.{Test, plain, named, looked_up, unknown, full, pending_test, rebase_tests, not_strippable, first_some, refused_first, refuse_if, tests}
 use Rattle.step_rules.specs.Asking.{refusal_for}
-use Rattle.step_rules.specs.Step.{Told, Lists, TakesFrom, Clones, Pulls, Answered, Answers, CommandStep, GoesOutside, IsRefused, UnlessRefused, MayWantMemory, answer_tests, without}
+use Rattle.step_rules.specs.Step.{IsTold, Lists, TakesFrom, Clones, Pulls, AnsweredFirst, Answers, CommandStep, GoesOutside, IsRefused, UnlessRefused, MayWantMemory, answer_tests, without}
 use Rattle.step_rules.specs.Isolation.{IsOwn, first_master, master_in_front, reads_stored, takes_master}
 use Rattle.step_rules.proofs.Trying.{Outer, tried-all}
 use Rattle.step_rules.proofs.Own.{refusals, newest_of, taking, Has, OwnAnswer, OwnStep}
@@ -147,7 +147,7 @@ match-option : {X : Type 0} (o : Option X) (P Q : Type 0) (F G : X → Type 0) �
 match-option None P Q F G f g h = f h
 match-option (Some x) P Q F G f g h = g x h
 
-in-front : (mirrors : List Mirror) (rows : List (Row Name)) → Answered mirrors rows → first_master mirrors ≡ Some rows
+in-front : (mirrors : List Mirror) (rows : List (Row Name)) → AnsweredFirst mirrors rows → first_master mirrors ≡ Some rows
 in-front [] rows a = absurd a
 in-front (m ∷ more) rows a = a
 
@@ -181,7 +181,7 @@ module _ (limits : Limits) (st : State) (s : ℕ) (h : IsPlaced st.store) (lt : 
       let x : Session = record { base = (session st.store s).base; pending = rows } in
       has-of (with_pending_rows st.store s rows) b rows e (base-changed st.store s x h.1 lt) (pending-changed st.store s x h.1 lt)
 
-  told-own : (m : Option (List (Row Name))) (verb : Verb) → Told st.store s verb reply st'.store → OwnAnswer limits b p w m verb reply b' p'
+  told-own : (m : Option (List (Row Name))) (verb : Verb) → IsTold st.store s verb reply st'.store → OwnAnswer limits b p w m verb reply b' p'
   told-own m (Add name parents) t = by_test (has (view_of st.store s) name) t
     where
       rows : List (Row Name)
@@ -236,7 +236,7 @@ module _ (limits : Limits) (st : State) (s : ℕ) (h : IsPlaced st.store) (lt : 
       → ((r : World Name) → Makes r reply st'.store → Gives r.master) → TakesFrom Does Makes st mirrors found reply st' → (rows : List (Row Name)) × (master_in_front st' ≡ Some rows) × Gives rows
   taken-own verb Does Makes Gives mirrors found f (end, new, asks, out, ends) = by_end end ends
     where
-      by_end : (o : Option MirrorFault) → MatchOption o ((rows : List (Row Name)) × Answered new rows × Makes (master_world rows) reply st'.store) (λ fault. IsRefused st.store (refusal_for fault) reply st'.store)
+      by_end : (o : Option MirrorFault) → MatchOption o ((rows : List (Row Name)) × AnsweredFirst new rows × Makes (master_world rows) reply st'.store) (λ fault. IsRefused st.store (refusal_for fault) reply st'.store)
           → (rows : List (Row Name)) × (master_in_front st' ≡ Some rows) × Gives rows
       by_end None g = (g.0, ap first_master out.mirrors_are ∙ in-front new g.0 g.1, f (master_world g.0) g.2)
       by_end (Some fault.NoRemote) g = absurd (not-outer why.NoRemote reply g.0 own tt)

@@ -21,7 +21,7 @@ use Rattle.step_rules.specs.Reply.{Reply, Refused, Added, Old, Listed, Dropped, 
 use Rattle.step_rules.specs.Worlds.{has, after_change, after_flush, with_added}
 use Rattle.step_rules.specs.Tests.{first_some}
 use Rattle.step_rules.specs.Asking.{refusal_for}
-use Rattle.step_rules.specs.Step.{Told, TakesFrom, Clones, Pulls, Answered, Answers, CommandStep, GoesOutside, IsRefused, UnlessRefused, clone_tests, pull_tests, without}
+use Rattle.step_rules.specs.Step.{IsTold, TakesFrom, Clones, Pulls, AnsweredFirst, Answers, CommandStep, GoesOutside, IsRefused, UnlessRefused, clone_tests, pull_tests, without}
 
 -- whether a reply is a refusal
 abbrev is_refusal : Reply → Bool
@@ -32,7 +32,7 @@ not-told : (reply other : Reply) → is_refusal reply ≡ true → is_refusal ot
 not-told reply other e f g = true≢false (sym e ∙ ap is_refusal g ∙ f)
 
 module _ (limits : Limits) (st : State) (s : ℕ) (reply : Reply) (no : is_refusal reply ≡ true) where
-  told-kept : (verb : Verb) (now : Stored) → Told st.store s verb reply now → now ≡ st.store
+  told-kept : (verb : Verb) (now : Stored) → IsTold st.store s verb reply now → now ≡ st.store
   told-kept (Add name parents) now t = by_test (has (view_of st.store s) name) t
     where
       by_test : (b : Bool) → MatchBool b ((reply ≡ Old (id_in same_name (view_of st.store s) name)) × (now ≡ st.store))
@@ -65,7 +65,7 @@ module _ (limits : Limits) (st : State) (s : ℕ) (reply : Reply) (no : is_refus
       → ((r : World Name) → Makes r reply st'.store → st'.store ≡ st.store) → TakesFrom Does Makes st mirrors found reply st' → st'.store ≡ st.store
   taken-kept Does Makes mirrors found st' f (end, new, asks, out, ends) = by_end end ends
     where
-      by_end : (o : Option MirrorFault) → MatchOption o ((rows : List (Row Name)) × Answered new rows × Makes (master_world rows) reply st'.store) (λ fault. IsRefused st.store (refusal_for fault) reply st'.store) → st'.store ≡ st.store
+      by_end : (o : Option MirrorFault) → MatchOption o ((rows : List (Row Name)) × AnsweredFirst new rows × Makes (master_world rows) reply st'.store) (λ fault. IsRefused st.store (refusal_for fault) reply st'.store) → st'.store ≡ st.store
       by_end None g = f (master_world g.0) g.2
       by_end (Some x) g = g.1
 

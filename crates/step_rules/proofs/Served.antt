@@ -16,7 +16,7 @@ use Rattle.remote_rules.specs.CloneData.{KnownName}
 use Rattle.remote_rules.specs.Mirror.{Mirror}
 use Rattle.remote_rules.specs.Known.{master_alone, master_world}
 use Rattle.remote_rules.specs.Calls.{IsCloned, IsPulled}
-use Rattle.remote_rules.specs.Serving.{Serves, AreAlike, AllServe}
+use Rattle.remote_rules.specs.Serving.{IsServing, AreAlike, AllServe}
 use Rattle.remote_rules.specs.declared.MirrorFault.{MirrorFault}
 use Rattle.step_rules.specs.declared.Refusal.{Refusal}
 use Rattle.step_rules.specs.declared.Refusal.TheVariants as why
@@ -27,7 +27,7 @@ use Rattle.step_rules.specs.Reply.{Reply, Refused, Added, Old, Listed, Dropped, 
 use Rattle.step_rules.specs.Worlds.{has, same_world, flush_of, after_change, after_flush, with_added}
 use Rattle.step_rules.specs.Tests.{first_some, refused_first, tests}
 use Rattle.step_rules.specs.Asking.{refusal_for}
-use Rattle.step_rules.specs.Step.{Told, TakesFrom, Clones, Pulls, Answered, Answers, CommandStep, GoesOutside, IsRefused, UnlessRefused, MayWantMemory, answer_tests, clone_tests, pull_tests, without}
+use Rattle.step_rules.specs.Step.{IsTold, TakesFrom, Clones, Pulls, AnsweredFirst, Answers, CommandStep, GoesOutside, IsRefused, UnlessRefused, MayWantMemory, answer_tests, clone_tests, pull_tests, without}
 use Rattle.step_rules.proofs.Trying.{Outer, tried-all}
 use Rattle.step_rules.proofs.Own.{refusals}
 use Rattle.step_rules.proofs.Steps.{not-tested, clone-empty, flushed-world}
@@ -65,7 +65,7 @@ grown-served payloads more w new mirrors h e grown =
     let least = h.0 in (
       subst (λ n. n ≤ length new.master) (sym e) (omega (arith, longer, least)),
       record {
-        each = all-each (Serves (cloned_count more) new) mirrors (λ m i. let s = each (Serves (cloned_count payloads) w) mirrors h.1.each m i in
+        each = all-each (IsServing (cloned_count more) new) mirrors (λ m i. let s = each (IsServing (cloned_count payloads) w) mirrors h.1.each m i in
             (s.0, s.1, s.2, λ row j. s.3 row (subst (IsIn row) (ap (λ n. take n new.master) e ∙ ap (take (cloned_count payloads)) grown.1 ∙ take-front (cloned_count payloads) w.master grown.0 least) j)));
         first_clone = λ z. h.1.first_clone (omega (arith, longer, z));
       },
@@ -95,7 +95,7 @@ some-of : {X : Type 0} (x y : X) → Some x ≡ Some y → x ≡ y
 some-of x y e = ap (or_this x) e
 
 -- all that is cloned is served by who was cloned, and by who is like it
-cloned-serves : (r : List (Row Name)) (mirrors : List Mirror) → Answered mirrors r → ((length mirrors ≤ 1) ⊎ AreAlike mirrors) → (m : Mirror) → IsIn m mirrors → (q : List (Row Name)) → m.master ≡ Some q
+cloned-serves : (r : List (Row Name)) (mirrors : List Mirror) → AnsweredFirst mirrors r → ((length mirrors ≤ 1) ⊎ AreAlike mirrors) → (m : Mirror) → IsIn m mirrors → (q : List (Row Name)) → m.master ≡ Some q
     → (row : Row Name) → IsIn row r → IsIn row q
 cloned-serves r [] a c m i q t row j = absurd i
 cloned-serves r (x ∷ more) a (inl le) m (inl e) q t row j = subst (IsIn row) (some-of r q (sym a ∙ ap (λ (z : Mirror). z.master) (sym e) ∙ t)) j
@@ -103,7 +103,7 @@ cloned-serves r (x ∷ []) a (inl le) m (inr i) q t row j = absurd i
 cloned-serves r (x ∷ y ∷ more) a (inl le) m (inr i) q t row j = absurd (omega (arith, le))
 cloned-serves r (x ∷ more) a (inr alike) m i q t row j = alike.1 x m r q (inl refl) i a t row j
 
-clone-served : (st : Stored) (s : ℕ) (r : World Name) (mirrors : List Mirror) → Served st.payloads st.stored mirrors → st.stored.master ≡ [] → Answered mirrors r.master
+clone-served : (st : Stored) (s : ℕ) (r : World Name) (mirrors : List Mirror) → Served st.payloads st.stored mirrors → st.stored.master ≡ [] → AnsweredFirst mirrors r.master
     → Served (after_change st s (master_alone r) (clone_change r)).payloads (after_change st s (master_alone r) (clone_change r)).stored mirrors
 clone-served st s r mirrors h empty a = changed-served st s (master_alone r) (clone_change r) mirrors h (⊎_elim whole none (count-cloned st.payloads r))
   where
@@ -114,7 +114,7 @@ clone-served st s r mirrors h empty a = changed-served st s (master_alone r) (cl
     whole e = (
       subst (λ n. n ≤ length r.master) (sym e) (le_refl _),
       record {
-        each = all-each (Serves (cloned_count (st.payloads ++ clone_change r ∷ [])) (master_alone r)) mirrors (λ m i. let k = each (Serves (cloned_count st.payloads) st.stored) mirrors h.1.each m i in
+        each = all-each (IsServing (cloned_count (st.payloads ++ clone_change r ∷ [])) (master_alone r)) mirrors (λ m i. let k = each (IsServing (cloned_count st.payloads) st.stored) mirrors h.1.each m i in
             (k.0, k.1, k.2, λ row j. cloned-serves r.master mirrors a (h.1.first_clone (ap length empty)) m i k.0 k.1 row (in-take (cloned_count (st.payloads ++ clone_change r ∷ [])) r.master row j)));
         first_clone = λ z. h.1.first_clone (ap length empty);
       },
@@ -125,7 +125,7 @@ clone-served st s r mirrors h empty a = changed-served st s (master_alone r) (cl
         let zero_count : cloned_count st.payloads ≤ 0 = (let a = h.0 in let b = ap length empty in omega (arith, a, b)) in (
           (let f = e in omega (arith, f, zero_count)),
           record {
-            each = all-each (Serves (cloned_count (st.payloads ++ clone_change r ∷ [])) (master_alone r)) mirrors (λ m i. let k = each (Serves (cloned_count st.payloads) st.stored) mirrors h.1.each m i in
+            each = all-each (IsServing (cloned_count (st.payloads ++ clone_change r ∷ [])) (master_alone r)) mirrors (λ m i. let k = each (IsServing (cloned_count st.payloads) st.stored) mirrors h.1.each m i in
                 (k.0, k.1, k.2, λ row j. absurd (in-none row (cloned_count (st.payloads ++ clone_change r ∷ [])) r.master (let f = e in omega (arith, f, zero_count)) j)));
             first_clone = λ z. h.1.first_clone (ap length empty);
           },
@@ -147,7 +147,7 @@ without-length (suc k) (x ∷ xs) = suc-le-suc (without-length k xs)
 
 dropped-served : (cloned : ℕ) (w : World Name) (k : ℕ) (mirrors : List Mirror) → AllServe cloned w mirrors → AllServe cloned w (without k mirrors)
 dropped-served cloned w k mirrors h = record {
-  each = all-each (Serves cloned w) (without k mirrors) (λ m i. each (Serves cloned w) mirrors h.each m (without-in k mirrors m i));
+  each = all-each (IsServing cloned w) (without k mirrors) (λ m i. each (IsServing cloned w) mirrors h.each m (without-in k mirrors m i));
   first_clone = λ e. ⊎_elim (λ le. inl (le_trans (without-length k mirrors) le))
       (λ a. inr (
         all-each (λ (m : Mirror). m.settled ≡ true) (without k mirrors) (λ m i. each (λ (m : Mirror). m.settled ≡ true) mirrors a.0 m (without-in k mirrors m i)),
@@ -164,7 +164,7 @@ module _ (limits : Limits) (st : State) (s : ℕ) (h : IsState st) (served : IsS
   same-now now mirrors e k = subst (λ z. IsNow z mirrors) (sym e) k
 
   told-now : (verb : Verb) (reply : Reply) (now : Stored) (mirrors : List Mirror) → first_some (refusals limits (base_of st.store s) (pending_of st.store s) st.store.stored verb) ≡ None
-      → Told st.store s verb reply now → IsNow st.store mirrors → IsNow now mirrors
+      → IsTold st.store s verb reply now → IsNow st.store mirrors → IsNow now mirrors
   told-now (Add name parents) reply now mirrors none t k = by_test (has (view_of st.store s) name) t
     where
       by_test : (b : Bool) → MatchBool b ((reply ≡ Old (id_in same_name (view_of st.store s) name)) × (now ≡ st.store))
@@ -203,11 +203,11 @@ module _ (limits : Limits) (st : State) (s : ℕ) (h : IsState st) (served : IsS
   made st' mirrors e k = let n = subst (λ l. IsNow st'.store l) (sym e) k in record { cloned = n.0; mirrors = n.1 }
 
   taken-now : (Does : Mirror → Mirror → Type 0) (goes : (m asked : Mirror) → Does m asked → GoesTo m asked) (Makes : World Name → Reply → Stored → Type 0) (mirrors : List Mirror) (found : List KnownName) (reply : Reply) (st' : State)
-      → IsNow st.store mirrors → ((rows : List (Row Name)) (new : List Mirror) → Answered new rows → IsNow st.store new → Makes (master_world rows) reply st'.store → IsNow st'.store new) → TakesFrom Does Makes st mirrors found reply st' → IsServed st'
+      → IsNow st.store mirrors → ((rows : List (Row Name)) (new : List Mirror) → AnsweredFirst new rows → IsNow st.store new → Makes (master_world rows) reply st'.store → IsNow st'.store new) → TakesFrom Does Makes st mirrors found reply st' → IsServed st'
   taken-now Does goes Makes mirrors found reply st' k f (end, new, asks, out, ends) =
       made st' new out.mirrors_are (by_end end ends (on mirrors new (asks-from Does goes mirrors new end asks) k))
     where
-      by_end : (o : Option MirrorFault) → MatchOption o ((rows : List (Row Name)) × Answered new rows × Makes (master_world rows) reply st'.store) (λ fault. IsRefused st.store (refusal_for fault) reply st'.store) → IsNow st.store new → IsNow st'.store new
+      by_end : (o : Option MirrorFault) → MatchOption o ((rows : List (Row Name)) × AnsweredFirst new rows × Makes (master_world rows) reply st'.store) (λ fault. IsRefused st.store (refusal_for fault) reply st'.store) → IsNow st.store new → IsNow st'.store new
       by_end None g l = f g.0 new g.1 l g.2
       by_end (Some x) g l = same-now st'.store new g.1 l
 

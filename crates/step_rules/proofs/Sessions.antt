@@ -25,7 +25,7 @@ use Rattle.step_rules.specs.Verb.{Verb, Add, Flush, Reload, Discard, Query, Coun
 use Rattle.step_rules.specs.Reply.{Reply, Added, Old, Listed, Dropped, Refused, Cloned, Pulled}
 use Rattle.step_rules.specs.declared.Refusal.TheVariants as why
 use Rattle.step_rules.specs.Worlds.{has, same_world, flush_of, after_flush, after_change, with_added}
-use Rattle.step_rules.specs.Step.{Told, Lists, TakesFrom, Clones, Pulls, Answers, Answered, CommandStep, GoesOutside, IsRefused, UnlessRefused, without, clone_tests, pull_tests}
+use Rattle.step_rules.specs.Step.{IsTold, Lists, TakesFrom, Clones, Pulls, Answers, AnsweredFirst, CommandStep, GoesOutside, IsRefused, UnlessRefused, without, clone_tests, pull_tests}
 use Rattle.step_rules.specs.Asking.{refusal_for}
 use Rattle.commit_graph.specs.Ids.{id_in}
 use Rattle.step_rules.specs.Tests.{first_some}
@@ -139,7 +139,7 @@ to-shape : (st : Stored) (s : ℕ) (now that : Stored) → now ≡ that → Shap
 to-shape st s now that e h = subst (Shape st s) (sym e) h
 
 module _ (st : Stored) (s : ℕ) (h : IsPlaced st) where
-  told-shape : (verb : Verb) (reply : Reply) (now : Stored) → Told st s verb reply now → Shape st s now
+  told-shape : (verb : Verb) (reply : Reply) (now : Stored) → IsTold st s verb reply now → Shape st s now
   told-shape (Add name parents) reply now t = by_test (has (view_of st s) name) t
     where
       by_test : (b : Bool) → MatchBool b ((reply ≡ Old (id_in same_name (view_of st s) name)) × (now ≡ st))
@@ -172,7 +172,7 @@ takes-shape : (Does : Mirror → Mirror → Type 0) (Makes : World Name → Repl
     → ((r : World Name) → Makes r reply st'.store → Shape st.store s st'.store) → TakesFrom Does Makes st mirrors found reply st' → Shape st.store s st'.store
 takes-shape Does Makes st s mirrors found reply st' f t = by_end t.0 t.4
   where
-    by_end : (end : Option MirrorFault) → MatchOption end ((rows : List (Row Name)) × Answered t.1 rows × Makes (master_world rows) reply st'.store) (λ fault. IsRefused st.store (refusal_for fault) reply st'.store) → Shape st.store s st'.store
+    by_end : (end : Option MirrorFault) → MatchOption end ((rows : List (Row Name)) × AnsweredFirst t.1 rows × Makes (master_world rows) reply st'.store) (λ fault. IsRefused st.store (refusal_for fault) reply st'.store) → Shape st.store s st'.store
     by_end None g = f (master_world g.0) g.2
     by_end (Some x) g = inl g.1
 

@@ -3,16 +3,16 @@ use Rattle.std.proofs.Common.{◌≡◌, ℕ, inl, inr, List, [], ◌∷◌, ◌
 use Rattle.std.specs.List.{AllByRecursion, AllZip}
 use Rattle.remote_rules.specs.CloneData.{KnownName}
 use Rattle.remote_rules.specs.Mirror.{Mirror}
-use Rattle.remote_rules.specs.Honest.{IsSound}
-use Rattle.remote_rules.specs.Calls.{IsAskedFor, Fails}
+use Rattle.remote_rules.specs.Honest.{IsSoundMirror}
+use Rattle.remote_rules.specs.Calls.{IsAskedFor, Failing}
 use Rattle.remote_rules.specs.declared.MirrorFault.{MirrorFault}
-use Rattle.remote_rules.specs.Asking.{Asks, AskedNext, AsksInTurn}
+use Rattle.remote_rules.specs.Asking.{IsOneAsk, AskedNext, AsksInTurn}
 use Rattle.step_rules.specs.declared.Refusal.{Refusal}
 use Rattle.step_rules.specs.Tests.{Test}
 use Rattle.step_rules.specs.Asking.{TriesAll}
 
 abbrev pub AreSound : List Mirror → Type 0
-AreSound mirrors = AllByRecursion IsSound mirrors
+AreSound mirrors = AllByRecursion IsSoundMirror mirrors
 
 pub sound-append : (xs ys : List Mirror) → AreSound xs → AreSound ys → AreSound (xs ++ ys)
 sound-append [] ys h k = k
@@ -22,14 +22,14 @@ pub sound-parts : (xs ys : List Mirror) → AreSound (xs ++ ys) → AreSound xs 
 sound-parts [] ys h = (tt, h)
 sound-parts (x ∷ xs) ys h = let r = sound-parts xs ys h.1 in ((h.0, r.0), r.1)
 
-module _ (Does : Mirror → Mirror → Type 0) (keeps : (m asked : Mirror) → Does m asked → IsSound m → IsSound asked) where
-  failed-sound : (xs ys : List Mirror) → AllZip (Fails Does) xs ys → AreSound xs → AreSound ys
+module _ (Does : Mirror → Mirror → Type 0) (keeps : (m asked : Mirror) → Does m asked → IsSoundMirror m → IsSoundMirror asked) where
+  failed-sound : (xs ys : List Mirror) → AllZip (Failing Does) xs ys → AreSound xs → AreSound ys
   failed-sound [] [] z h = tt
   failed-sound [] (y ∷ ys) z h = absurd z
   failed-sound (x ∷ xs) [] z h = absurd z
   failed-sound (x ∷ xs) (y ∷ ys) z h = (keeps x y z.0.does h.0, failed-sound xs ys z.1 h.1)
 
-  pub asks-sound : (old new : List Mirror) (end : Option MirrorFault) → Asks Does old end new → AreSound old → AreSound new
+  pub asks-sound : (old new : List Mirror) (end : Option MirrorFault) → IsOneAsk Does old end new → AreSound old → AreSound new
   asks-sound old new end a h = next a.2 a.5 (sound-parts a.0 a.2 (subst AreSound a.3 h)).1
     where
       failed : AreSound a.1

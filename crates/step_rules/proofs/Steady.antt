@@ -3,11 +3,11 @@ use Rattle.std.proofs.Common.{◌≡◌, ◌≤◌, ◌<◌, ℕ, zero, suc, tru
 use Rattle.std.specs.List.{AllZip}
 use Rattle.change_rules.specs.declared.Limits.{Limits}
 use Rattle.remote_rules.specs.Mirror.{Mirror}
-use Rattle.remote_rules.specs.Calls.{Keeps, WhereBoth, IsAskedFor, IsCloned, IsPulled, Fails}
+use Rattle.remote_rules.specs.Calls.{Keeps, WhereBoth, IsAskedFor, IsCloned, IsPulled, Failing}
 use Rattle.remote_rules.specs.Serving.{NeverFail}
 use Rattle.remote_rules.specs.declared.MirrorFault.{MirrorFault}
 use Rattle.remote_rules.specs.declared.MirrorFault.TheVariants as fault
-use Rattle.remote_rules.specs.Asking.{Asks, AskedNext}
+use Rattle.remote_rules.specs.Asking.{IsOneAsk, AskedNext}
 use Rattle.step_rules.specs.declared.Refusal.TheVariants as why
 use Rattle.step_rules.specs.State.{State}
 use Rattle.step_rules.specs.Verb.{Verb}
@@ -24,7 +24,7 @@ is-memory (Some fault.Memory) = Unit {0}
 is-memory _ = ⊥
 
 -- a mirror that never fails doesn't fail
-never-fails : (Does : Mirror → Mirror → Type 0) (keeps : (m asked : Mirror) → Does m asked → Keeps m asked) (m asked : Mirror) → m.to_come ≡ Some 0 → Fails Does m asked → ⊥
+never-fails : (Does : Mirror → Mirror → Type 0) (keeps : (m asked : Mirror) → Does m asked → Keeps m asked) (m asked : Mirror) → m.to_come ≡ Some 0 → Failing Does m asked → ⊥
 never-fails Does keeps m asked e f = by_now asked.to_come ((keeps m asked f.does).tells_faults ∙ ap is_some e) (subst (λ o. WhereBoth (λ before now. now < before) o asked.to_come) e f.fewer)
   where
     by_now : (o : Option ℕ) → is_some o ≡ true → WhereBoth (λ before now. now < before) (Some 0) o → ⊥
@@ -39,7 +39,7 @@ stays-zero m asked e k = by_now asked.to_come (k.tells_faults ∙ ap is_some e) 
     by_now (Some k) t w = (let le : k ≤ 0 = w in ap Some (omega (arith, le)))
 
 module _ (Does : Mirror → Mirror → Type 0) (keeps : (m asked : Mirror) → Does m asked → Keeps m asked) where
-  asks-steady : (old new : List Mirror) (end : Option MirrorFault) → Asks Does old end new → NeverFail old → NeverFail new × ((n : ℕ) → end ≡ Some (fault.AllFailed n) → ⊥)
+  asks-steady : (old new : List Mirror) (end : Option MirrorFault) → IsOneAsk Does old end new → NeverFail old → NeverFail new × ((n : ℕ) → end ≡ Some (fault.AllFailed n) → ⊥)
   asks-steady old new end a h = split a.0 a.1 a.2 a.3 a.4 a.5 (subst NeverFail a.3 h)
     where
       next : (others : List Mirror) → AskedNext Does [] others end new → NeverFail others → NeverFail new × ((n : ℕ) → end ≡ Some (fault.AllFailed n) → ⊥)
@@ -49,7 +49,7 @@ module _ (Does : Mirror → Mirror → Type 0) (keeps : (m asked : Mirror) → D
           not-all m e = subst is-none e tt
       next (x ∷ more) n k = (subst NeverFail (sym (n.2 ∙ ap (λ l. n.0 ∷ l) (append-nil more))) (stays-zero x n.0 k.0 (keeps x n.0 n.1), k.1), λ m e. ⊎_elim (λ f. true≢false (sym (ap is_some (sym f ∙ e)))) (λ f. subst is-memory (sym f ∙ e) tt) n.3)
 
-      split : (first failed others : List Mirror) → old ≡ first ++ others → AllZip (Fails Does) first failed → AskedNext Does failed others end new → NeverFail (first ++ others) → NeverFail new × ((n : ℕ) → end ≡ Some (fault.AllFailed n) → ⊥)
+      split : (first failed others : List Mirror) → old ≡ first ++ others → AllZip (Failing Does) first failed → AskedNext Does failed others end new → NeverFail (first ++ others) → NeverFail new × ((n : ℕ) → end ≡ Some (fault.AllFailed n) → ⊥)
       split [] [] others e z n k = next others n k
       split [] (f ∷ failed) others e z n k = absurd z
       split (x ∷ first) [] others e z n k = absurd z

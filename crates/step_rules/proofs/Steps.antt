@@ -24,7 +24,7 @@ use Rattle.change_rules.proofs.Flushes.{flush-world, flush-names, flush-grows, f
 use Rattle.change_rules.proofs.Changed.{rebase-lossless, strip-world, strip-names, pull-world, pull-names}
 use Rattle.remote_rules.specs.Mirror.{Mirror}
 use Rattle.remote_rules.specs.Known.{master_alone, master_world}
-use Rattle.remote_rules.specs.Honest.{IsSound, IsHonest}
+use Rattle.remote_rules.specs.Honest.{IsSoundMirror, IsHonest}
 use Rattle.remote_rules.specs.Calls.{IsCloned, IsPulled}
 use Rattle.remote_rules.specs.CloneData.{KnownName}
 use Rattle.remote_rules.specs.declared.MirrorFault.{MirrorFault}
@@ -36,7 +36,7 @@ use Rattle.step_rules.specs.Reply.{Reply, Old, Added, Cloned, Pulled, Listed, Dr
 use Rattle.step_rules.specs.Worlds.{has, same_world, rebased, flush_of, after_flush, after_change, with_added}
 use Rattle.step_rules.specs.Tests.{full, unknown, twice, first_some, refuse_if, refused_first, tests}
 use Rattle.step_rules.specs.Asking.{refusal_for}
-use Rattle.step_rules.specs.Step.{Told, TakesFrom, Clones, Pulls, Answered, Answers, CommandStep, GoesOutside, IsRefused, UnlessRefused, MayWantMemory, clone_tests, pull_tests, without}
+use Rattle.step_rules.specs.Step.{IsTold, TakesFrom, Clones, Pulls, AnsweredFirst, Answers, CommandStep, GoesOutside, IsRefused, UnlessRefused, MayWantMemory, clone_tests, pull_tests, without}
 use Rattle.step_rules.proofs.Trying.{Outer, tried-all}
 use Rattle.step_rules.proofs.Own.{refusals}
 use Rattle.step_rules.proofs.OwnSteps.{log_part, first-tests}
@@ -229,7 +229,7 @@ not-tested limits st s verb (inl e) = (first-none-append (refusals limits (base_
 not-tested limits st s verb (inr o) = absurd o
 
 -- the mirror that answered is sound
-pub front-sound : (mirrors : List Mirror) (rows : List (Row Name)) → AreSound mirrors → Answered mirrors rows → IsNamedWorld (master_world rows)
+pub front-sound : (mirrors : List Mirror) (rows : List (Row Name)) → AreSound mirrors → AnsweredFirst mirrors rows → IsNamedWorld (master_world rows)
 front-sound [] r h a = absurd a
 front-sound (m ∷ more) r h a = (subst (λ o. MatchOption o (Unit {0}) (IsHonest m.cloned)) a h.0).world
 
@@ -243,7 +243,7 @@ not-empty false r e = refl
 
 module _ (limits : Limits) (st : State) (s : ℕ) (h : IsStore st.store) (sound : AreSound st.outside.mirrors) where
   told-store : (verb : Verb) (reply : Reply) (now : Stored) → IsVerb verb → first_some (refusals limits (base_of st.store s) (pending_of st.store s) st.store.stored verb) ≡ None
-      → Told st.store s verb reply now → IsStore now
+      → IsTold st.store s verb reply now → IsStore now
   told-store (Add name parents) reply now v none t = by_test (has (view_of st.store s) name) refl t
     where
       by_test : (b : Bool) → has (view_of st.store s) name ≡ b
@@ -283,11 +283,11 @@ module _ (limits : Limits) (st : State) (s : ℕ) (h : IsStore st.store) (sound 
       by_test (Some r) g = subst IsStore (sym g.1) h
   unless-store rs Goes reply now f (inr m) = subst IsStore (sym m.1) h
 
-  taken-store : (Does : Mirror → Mirror → Type 0) (keeps : (m asked : Mirror) → Does m asked → IsSound m → IsSound asked) (Makes : World Name → Reply → Stored → Type 0) (mirrors : List Mirror) (found : List KnownName)
+  taken-store : (Does : Mirror → Mirror → Type 0) (keeps : (m asked : Mirror) → Does m asked → IsSoundMirror m → IsSoundMirror asked) (Makes : World Name → Reply → Stored → Type 0) (mirrors : List Mirror) (found : List KnownName)
       (reply : Reply) (st' : State) → AreSound mirrors → ((r : World Name) → IsNamedWorld r → Makes r reply st'.store → IsStore st'.store) → TakesFrom Does Makes st mirrors found reply st' → IsStore st'.store
   taken-store Does keeps Makes mirrors found reply st' all f (end, new, asks, out, ends) = by_end end ends (asks-sound Does keeps mirrors new end asks all)
     where
-      by_end : (o : Option MirrorFault) → MatchOption o ((rows : List (Row Name)) × Answered new rows × Makes (master_world rows) reply st'.store) (λ fault. IsRefused st.store (refusal_for fault) reply st'.store) → AreSound new → IsStore st'.store
+      by_end : (o : Option MirrorFault) → MatchOption o ((rows : List (Row Name)) × AnsweredFirst new rows × Makes (master_world rows) reply st'.store) (λ fault. IsRefused st.store (refusal_for fault) reply st'.store) → AreSound new → IsStore st'.store
       by_end None g k = f (master_world g.0) (front-sound new g.0 k g.1) g.2
       by_end (Some x) g k = subst IsStore (sym g.1) h
 

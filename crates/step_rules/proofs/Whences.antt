@@ -4,9 +4,9 @@ use Rattle.std.specs.List.{AllZip, range_with_len}
 use Rattle.id_groups.specs.Lists.{IsIn, AreDistinct}
 use Rattle.change_rules.proofs.Lawful.{distinct-join}
 use Rattle.remote_rules.specs.Mirror.{Mirror}
-use Rattle.remote_rules.specs.Calls.{Fails}
+use Rattle.remote_rules.specs.Calls.{Failing}
 use Rattle.remote_rules.specs.declared.MirrorFault.{MirrorFault}
-use Rattle.remote_rules.specs.Asking.{Asks, AskedNext}
+use Rattle.remote_rules.specs.Asking.{IsOneAsk, AskedNext}
 use Rattle.step_rules.specs.Step.{without}
 use Rattle.step_rules.specs.Rises.{WasAt, EachWas}
 
@@ -167,13 +167,13 @@ was-without Was k old new f = was-then Was Same Was (λ a b c v e. subst (Was a)
 
 -- one ask: those that failed stand at the back then
 module _ (Does : Mirror → Mirror → Type 0) where
-  pub failed-zip : (Was : Mirror → Mirror → Type 0) → ((m asked : Mirror) → Fails Does m asked → Was m asked) → (xs ys : List Mirror) → AllZip (Fails Does) xs ys → AllZip Was xs ys
+  pub failed-zip : (Was : Mirror → Mirror → Type 0) → ((m asked : Mirror) → Failing Does m asked → Was m asked) → (xs ys : List Mirror) → AllZip (Failing Does) xs ys → AllZip Was xs ys
   failed-zip Was f [] [] z = tt
   failed-zip Was f [] (y ∷ ys) z = absurd z
   failed-zip Was f (x ∷ xs) [] z = absurd z
   failed-zip Was f (x ∷ xs) (y ∷ ys) z = (f x y z.0, failed-zip Was f xs ys z.1)
 
-  pub asks-was : (Was : Mirror → Mirror → Type 0) → ((m : Mirror) → Was m m) → ((m asked : Mirror) → Does m asked → Was m asked) → (old new : List Mirror) (end : Option MirrorFault) → Asks Does old end new → EachWas Was old new
+  pub asks-was : (Was : Mirror → Mirror → Type 0) → ((m : Mirror) → Was m m) → ((m asked : Mirror) → Does m asked → Was m asked) → (old new : List Mirror) (end : Option MirrorFault) → IsOneAsk Does old end new → EachWas Was old new
   asks-was Was self does old new end a = by_others a.2 a.5 a.3
     where
       failed : AllZip Was a.0 a.1

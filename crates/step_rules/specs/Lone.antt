@@ -10,7 +10,7 @@ use Rattle.step_rules.specs.Verb.{Verb, Query}
 use Rattle.step_rules.specs.Reply.{Reply, Listed}
 use Rattle.step_rules.specs.Asked.{lazy_among}
 use Rattle.step_rules.specs.Tests.{Test, refuse_if, first_some, tests}
-use Rattle.step_rules.specs.Step.{Told, UnlessRefused, IsRefused, MayWantMemory}
+use Rattle.step_rules.specs.Step.{IsTold, UnlessRefused, IsRefused, MayWantMemory}
 
 -- the refusal of a test where there is no mirror to ask
 abbrev pub lone : Test → Option Refusal
@@ -28,7 +28,7 @@ abbrev pub LoneAnswers : Limits → Stored → ℕ → Verb → Reply → Stored
 LoneAnswers limits st s (Query e) reply st' =
     (names : List Name) × IsAnswer (seen_by st s) e names
     × UnlessRefused (lone_answer_refusals limits st s names) st (λ told now. (told ≡ Listed names) × (now ≡ st)) reply st'
-LoneAnswers limits st s verb reply st' = Told st s verb reply st'
+LoneAnswers limits st s verb reply st' = IsTold st s verb reply st'
 
 -- the first test that refuses decides, or else its answer; or there is no memory
 abbrev pub LoneStep : Limits → Stored → ℕ → Verb → Reply → Stored → Type 0

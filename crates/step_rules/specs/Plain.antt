@@ -9,7 +9,7 @@ use Rattle.step_rules.specs.State.{Stored, base_of, seen_by}
 use Rattle.step_rules.specs.Verb.{Verb, Query, Clone, Pull, CountMirrors, Drop}
 use Rattle.step_rules.specs.Reply.{Reply, Listed}
 use Rattle.step_rules.specs.Tests.{refuse_if, refused_first, tests}
-use Rattle.step_rules.specs.Step.{Told, UnlessRefused, IsRefused, MayWantMemory}
+use Rattle.step_rules.specs.Step.{IsTold, UnlessRefused, IsRefused, MayWantMemory}
 
 -- the log has a name for each commit that the session may look up
 pub record HasAllNames (st : Stored) (s : ℕ) : Type 0 where
@@ -29,7 +29,7 @@ abbrev pub PlainAnswers : Limits → Stored → ℕ → Verb → Reply → Store
 PlainAnswers limits st s (Query e) reply st' =
     (names : List Name) × IsAnswer (seen_by st s) e names
     × UnlessRefused (refuse_if (nat_lt limits.answer (length names)) (why.Answer (length names)) ∷ []) st (λ told now. (told ≡ Listed names) × (now ≡ st)) reply st'
-PlainAnswers limits st s verb reply st' = Told st s verb reply st'
+PlainAnswers limits st s verb reply st' = IsTold st s verb reply st'
 
 -- the first test that refuses decides, or else its answer; or there is no memory
 abbrev pub PlainStep : Limits → Stored → ℕ → Verb → Reply → Stored → Type 0

@@ -13,7 +13,7 @@ use Rattle.change_rules.specs.Lazy.{is_lazy}
 use Rattle.change_rules.specs.Holding.{HoldPayloads}
 use Rattle.remote_rules.specs.CloneData.{KnownName}
 use Rattle.remote_rules.specs.Mirror.{Mirror}
-use Rattle.remote_rules.specs.Honest.{IsSound}
+use Rattle.remote_rules.specs.Honest.{IsSoundMirror}
 
 -- a session
 pub record Session : Type 0 where
@@ -142,7 +142,7 @@ IsLazyName st k = (is_lazy st.payloads st.stored k.id ≡ true) × (slice_get (n
 pub record IsOutside (st : Stored) (out : Outside) : Type 0 where
   pub few : HasAtMost out.room out.cache
   pub names : (id : ℕ) (name : Name) → out.cache id ≡ Some name → IsLazyName st (record { id = id; name = name })
-  pub mirrors : AllByRecursion IsSound out.mirrors
+  pub mirrors : AllByRecursion IsSoundMirror out.mirrors
 
 -- what holds of each state of a run
 pub record IsState (st : State) : Type 0 where

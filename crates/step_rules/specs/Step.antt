@@ -22,7 +22,7 @@ use Rattle.remote_rules.specs.Known.{master_alone, master_world}
 use Rattle.remote_rules.specs.Honest.{heads_of}
 use Rattle.remote_rules.specs.Calls.{IsCloned, IsPulled}
 use Rattle.remote_rules.specs.declared.MirrorFault.{MirrorFault}
-use Rattle.remote_rules.specs.Asking.{Asks}
+use Rattle.remote_rules.specs.Asking.{IsOneAsk}
 use Rattle.step_rules.specs.declared.Refusal.{Refusal}
 use Rattle.step_rules.specs.declared.Refusal.TheVariants as why
 use Rattle.step_rules.specs.State.{State, Stored, Outside, pending_of, base_of, view_of, seen_by, with_pending_rows, on_newest}
@@ -59,29 +59,29 @@ UnlessRefused refusals st Goes reply st' =
     ⊎ IsRefused st why.Memory reply st'
 
 -- What a command is told that asks nothing more, and what it makes of what is stored.
-abbrev pub Told : Stored → ℕ → Verb → Reply → Stored → Type 0
-Told st s (Add name parents) reply st' =
+abbrev pub IsTold : Stored → ℕ → Verb → Reply → Stored → Type 0
+IsTold st s (Add name parents) reply st' =
     MatchBool (has (view_of st s) name)
     ((reply ≡ Old (id_in same_name (view_of st s) name)) × (st' ≡ st))
     ((reply ≡ Added (id_in same_name (view_of (with_added st s name parents) s) name)) × (st' ≡ with_added st s name parents))
-Told st s (Flush heads) reply st' =
+IsTold st s (Flush heads) reply st' =
     let new = flush_of st s heads in
     (reply ≡ Flushed (length new.master) (length new.others)) × (st' ≡ after_flush st s new)
-Told st s (Strip names) reply st' =
+IsTold st s (Strip names) reply st' =
     let new = stripped same_name st.stored names in
     (reply ≡ Stripped (length new.master) (length new.others)) × (st' ≡ after_flush st s new)
-Told st s Reload reply st' =
+IsTold st s Reload reply st' =
     let rows = left_of same_name st.stored (pending_of st s) in
     (reply ≡ Reloaded (length rows)) × (st' ≡ on_newest st s rows)
-Told st s Discard reply st' = (reply ≡ Discarded (length (pending_of st s))) × (st' ≡ with_pending_rows st s [])
-Told st s (Count e) reply st' =
+IsTold st s Discard reply st' = (reply ≡ Discarded (length (pending_of st s))) × (st' ≡ with_pending_rows st s [])
+IsTold st s (Count e) reply st' =
     (names : List Name) × IsAnswer (seen_by st s) e names × (reply ≡ Counted (length names)) × (st' ≡ st)
-Told st s (IdOf name) reply st' = (reply ≡ Identified (id_in same_name (view_of st s) name)) × (st' ≡ st)
-Told st s Status reply st' =
+IsTold st s (IdOf name) reply st' = (reply ≡ Identified (id_in same_name (view_of st s) name)) × (st' ≡ st)
+IsTold st s Status reply st' =
     (reply ≡ Sizes (length (base_of st s).master) (length (base_of st s).others) (length (pending_of st s))) × (st' ≡ st)
-Told st s Levels reply st' =
+IsTold st s Levels reply st' =
     (reply ≡ LevelSizes (level_counts_of (parent_ids same_name st.stored st.stored.master))) × (st' ≡ st)
-Told st s _ reply st' = ⊥
+IsTold st s _ reply st' = ⊥
 
 -- the commits among these that have no stored name, and none in the cache
 abbrev pub uncached : State → ℕ → List Name → List KnownName
@@ -117,9 +117,9 @@ Lists limits st s e mirrors found reply st' =
     × MatchOption verdict ((reply ≡ Listed names) × (st'.store ≡ st.store)) (λ refusal. IsRefused st.store refusal reply st'.store)
 
 -- the master rows that the mirror tells which answered: it stands first
-abbrev pub Answered : List Mirror → List (Row Name) → Type 0
-Answered [] rows = ⊥
-Answered (m ∷ more) rows = m.master ≡ Some rows
+abbrev pub AnsweredFirst : List Mirror → List (Row Name) → Type 0
+AnsweredFirst [] rows = ⊥
+AnsweredFirst (m ∷ more) rows = m.master ≡ Some rows
 
 -- what a clone is refused for, by the remote's world
 abbrev pub clone_tests : Limits → Stored → World Name → List (Option Refusal)
@@ -154,9 +154,9 @@ Pulls limits st s r =
 -- one mirror is asked for its master, and the command does so with what it has; or none answers
 abbrev pub TakesFrom : (Mirror → Mirror → Type 0) → (World Name → Reply → Stored → Type 0) → State → List Mirror → List KnownName → Reply → State → Type 0
 TakesFrom Does Makes st mirrors found reply st' =
-    (end : Option MirrorFault) × (new : List Mirror) × Asks Does mirrors end new × GoesOutside st.outside new found st'.outside
+    (end : Option MirrorFault) × (new : List Mirror) × IsOneAsk Does mirrors end new × GoesOutside st.outside new found st'.outside
     × MatchOption end
-    ((rows : List (Row Name)) × Answered new rows × Makes (master_world rows) reply st'.store)
+    ((rows : List (Row Name)) × AnsweredFirst new rows × Makes (master_world rows) reply st'.store)
     (λ fault. IsRefused st.store (refusal_for fault) reply st'.store)
 
 -- the mirrors without the one at this place
@@ -175,7 +175,7 @@ Answers limits st s (Drop k) mirrors found reply st' =
     ((reply ≡ Dropped (length (without k mirrors))) × (st' ≡ record st { outside = record st.outside { mirrors = without k mirrors } }))
     ((reply ≡ Refused why.NoRemote) × (st' ≡ st))
 Answers limits st s verb mirrors found reply st' =
-    Told st.store s verb reply st'.store × GoesOutside st.outside mirrors found st'.outside
+    IsTold st.store s verb reply st'.store × GoesOutside st.outside mirrors found st'.outside
 
 -- The session's command may get this reply and lead to this state: its tests are tried with their asks, and the first that
 -- refuses decides, or else its answer.

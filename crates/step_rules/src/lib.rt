@@ -8,7 +8,7 @@ ghost use Rattle.std.specs.List.{AllByRecursion};
 ghost use Rattle.commit_graph.specs.World.{World, IsNamedWorld};
 ghost use Rattle.batch_codec.specs.Payload.{Payload};
 ghost use Rattle.remote_rules.specs.Mirror.{Mirror};
-ghost use Rattle.remote_rules.specs.Honest.{IsSound};
+ghost use Rattle.remote_rules.specs.Honest.{IsSoundMirror};
 ghost use Rattle.step_rules.specs.State.{State, Stored, IsState, IsHeld, at_start};
 ghost use Rattle.step_rules.specs.Verb.{Verb, IsVerb, Status};
 ghost use Rattle.step_rules.specs.Reply.{Reply, Refused, IsMismatch};
@@ -97,7 +97,7 @@ pub fn isolation_law()
 /// What holds of each state of a run holds at its start, and after each command: worlds are stored, of which each goes on from
 /// the master of the one before, each session sees a world, the cache has the names of rows, and the mirrors are sound.
 pub fn states_kept()
-    ensures start { (w : World NameBytes) (payloads : List Payload) (room : ℕ) (mirrors : List Mirror) → IsNamedWorld w → AllByRecursion IsSound mirrors → IsState (at_start w payloads room mirrors) }
+    ensures start { (w : World NameBytes) (payloads : List Payload) (room : ℕ) (mirrors : List Mirror) → IsNamedWorld w → AllByRecursion IsSoundMirror mirrors → IsState (at_start w payloads room mirrors) }
     ensures step { (limits : Limits) (st st' : State) (s : ℕ) (verb : Verb) (reply : Reply) → IsState st → IsVerb verb → CommandStep limits st s verb reply st' → IsState st' }
 {}
 

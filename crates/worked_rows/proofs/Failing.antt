@@ -3,7 +3,7 @@ use Rattle.std.proofs.Common.{inl, inr, List, [], ◌∷◌, Some, None, length,
 use Rattle.change_rules.specs.Standard.{standard}
 use Rattle.remote_rules.specs.CloneData.{KnownName}
 use Rattle.remote_rules.specs.Mirror.{Mirror}
-use Rattle.remote_rules.specs.Calls.{IsAskedFor, Fails}
+use Rattle.remote_rules.specs.Calls.{IsAskedFor, Failing}
 use Rattle.remote_rules.specs.declared.MirrorFault.TheVariants as fault
 use Rattle.step_rules.specs.declared.Refusal.TheVariants as why
 use Rattle.set_expr.specs.Expr.{Up}
@@ -21,7 +21,7 @@ use Rattle.worked_rows.proofs.Mirrored.{ask_of, name-tried, takes-one, names_in,
 abbrev pub stumbled : Mirror
 stumbled = record stumbling { to_come = Some 0; faults = 1; asked = 1 }
 
-stumbles : Fails (IsAskedFor 1) stumbling stumbled
+stumbles : Failing (IsAskedFor 1) stumbling stumbled
 stumbles = record {
   does = record {
     keeps = record { settled = refl; tells_master = refl; tells_clone = refl; tells_faults = refl; faults = lit≤ tt; to_come = lit≤ tt; sound = λ s. s };

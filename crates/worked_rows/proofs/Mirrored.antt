@@ -17,7 +17,7 @@ use Rattle.change_rules.specs.declared.Limits.{Limits}
 use Rattle.remote_rules.specs.CloneData.{KnownName}
 use Rattle.remote_rules.specs.Mirror.{Mirror}
 use Rattle.remote_rules.specs.Calls.{Keeps, WhereBoth, MasterGoesOn, IsAskedFor, IsCloned}
-use Rattle.remote_rules.specs.Asking.{Asks}
+use Rattle.remote_rules.specs.Asking.{IsOneAsk}
 use Rattle.step_rules.specs.declared.Refusal.{Refusal}
 use Rattle.step_rules.specs.Tests.{refused_first, tests}
 use Rattle.step_rules.specs.Asking.{Tries, TriesAll, TakesIn}
@@ -55,7 +55,7 @@ pub is-cloned : (m : Mirror) → m.settled ≡ true → IsCloned m m
 is-cloned m e = record { keeps = same-keeps m; master = subst (λ b. MasterGoesOn b m.master m.master) (sym e) (still m.master); asked = refl }
 
 -- the first mirror answers
-pub first-answers : (Does : Mirror → Mirror → Type 0) (m asked : Mirror) (more : List Mirror) → Does m asked → Asks Does (m ∷ more) None (asked ∷ more)
+pub first-answers : (Does : Mirror → Mirror → Type 0) (m asked : Mirror) (more : List Mirror) → Does m asked → IsOneAsk Does (m ∷ more) None (asked ∷ more)
 first-answers Does m asked more d = ([], [], m ∷ more, refl, tt, (asked, d, ap (λ l. asked ∷ l) (sym (append-nil more)), inl refl))
 
 -- a name is asked and found

@@ -2,7 +2,7 @@
 
 ghost use Rattle.std.specs.Prelude.{◌≡◌, ◌<◌, ◌≤◌, ◌^◌, ◌++◌, List, length, OnOk, IfOk};
 ghost use Rattle.segment_codec.specs.Record.{Segment, IsSegment, segment_bytes};
-ghost use Rattle.flat_segments.specs.Placed.{Placed, AreRecords, Stand};
+ghost use Rattle.flat_segments.specs.Placed.{PlacedSegment, AreRecords, Stand};
 ghost use Rattle.flat_segments.specs.Kept.{IsTableOf};
 
 use crate::random::next_random;
@@ -47,7 +47,7 @@ pub fn written(alloc: Global, count: u64) -> Result<Vec<u8>, AllocError>
 /// The table of records, which stand at 0.
 pub fn filled(alloc: Global, records: &[u8]) -> Result<FlatTable, FlatFault>
     requires { (segments : List Segment) × AreRecords segments records.now × (length segments ≤ 2 ^ 30) }
-    ensures { IfOk result (λ table. (placed : List Placed) × IsTableOf table placed × Stand records.now placed) }
+    ensures { IfOk result (λ table. (placed : List PlacedSegment) × IsTableOf table placed × Stand records.now placed) }
 {
     let mut table = FlatTable::empty(alloc);
     table.extend(&[], records, 0)?;

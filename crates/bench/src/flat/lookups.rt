@@ -1,7 +1,7 @@
 //! What is timed.
 
 ghost use Rattle.std.specs.Prelude.{List};
-ghost use Rattle.flat_segments.specs.Placed.{Placed, Stand};
+ghost use Rattle.flat_segments.specs.Placed.{PlacedSegment, Stand};
 ghost use Rattle.flat_segments.specs.Kept.{IsTableOf};
 
 use crate::random::next_random;
@@ -11,7 +11,7 @@ use segment_codec::{SegmentTable, Steps};
 
 /// Finds so many random ids, and sums the lowest ids of their segments.
 pub fn sum_of_lows(table: &FlatTable, records: &[u8], count: u64) -> u64
-    requires { (placed : List Placed) × IsTableOf table.now placed × Stand records.now placed }
+    requires { (placed : List PlacedSegment) × IsTableOf table.now placed × Stand records.now placed }
 {
     let view = table.view(records, table.count());
     let mut steps = Steps::new();
@@ -28,7 +28,7 @@ pub fn sum_of_lows(table: &FlatTable, records: &[u8], count: u64) -> u64
 
 /// How many of so many random ids end a segment.
 pub fn count_ends(table: &FlatTable, records: &[u8], count: u64) -> u64
-    requires { (placed : List Placed) × IsTableOf table.now placed × Stand records.now placed }
+    requires { (placed : List PlacedSegment) × IsTableOf table.now placed × Stand records.now placed }
 {
     let view = table.view(records, table.count());
     let mut steps = Steps::new();

@@ -1,7 +1,7 @@
 use Rattle.std.proofs.Common.{◌≡◌, Ok, Err, length, map, refl, sym, subst, arith}
 use Rattle.name_map.specs.Added.{payloads_of}
 use Rattle.commit_graph.specs.World.{with_pending}
-use Rattle.payload_tables.specs.Bases.{IsBaseOf, id_row}
+use Rattle.payload_tables.specs.Bases.{IsBaseOf, held_row}
 use Rattle.dag_store.specs.Kept.{PlainSession, IsSessionOf, base_added}
 use Rattle.dag_store.specs.Looking.{IsViewId}
 use Rattle.std.specs.List.{AllByRecursion}
@@ -57,7 +57,7 @@ returns-in-New-clause-kept g c = λ added t stand kept.
     (c.in_ok-id.ensures.seeks (base_added added x) w rows (sees-of c.base-base.result added x w rows b s) (tables-behind c.args.tables.now c.args.bytes.now added x t stand) (c.has_unnamed-unnamed.ensures added x w t of refl s.stand)) in
     let view = subst (λ l. AllByRecursion (IsViewId w rows) l) (sym c.deref.ensures.value) got.parents_are.0 in
     kept-more added x t.lawful of w rows s c.args.name.now c.deref.result.now view got.fresh.0 got.fresh.1 c.args.most c.append.result c.append.new.pending
-    (c.append.ensures.appends (map (id_row (with_pending w rows)) rows) s.pending_rows.held (not-own added x t.lawful of w rows s c.args.name.now c.deref.result.now view got.fresh.0 got.fresh.1)) c.append.ensures.unchanged
+    (c.append.ensures.appends (map (held_row (with_pending w rows)) rows) s.pending_rows.held (not-own added x t.lawful of w rows s c.args.name.now c.deref.result.now view got.fresh.0 got.fresh.1)) c.append.ensures.unchanged
 
 pub returns-in-Old-clause-adds : goal.returns-in-Old-clause-adds
 returns-in-Old-clause-adds g c = λ added w rows t stand kept sees.
@@ -96,7 +96,7 @@ returns-in-New-clause-adds g c = λ added w rows t stand kept sees.
     let got = c.in_ok-id.ensures.seeks (base_added added x) w rows (sees-of c.base-base.result added x w rows b s) (tables-behind c.args.tables.now c.args.bytes.now added x t stand) (c.has_unnamed-unnamed.ensures added x w t of refl s.stand) in
     let is = subst (λ o. Seeks (payloads_of (base_added added x)) w rows c.args.name.now c.args.parents.now old new c.args.cache.now c.seek.new.cache (Ok o)) c.in-New.is got in
     let view = subst (λ l. AllByRecursion (IsViewId w rows) l) (sym c.deref.ensures.value) is.parents_are.0 in
-    let appends = c.append.ensures.appends (map (id_row (with_pending w rows)) rows) s.pending_rows.held (not-own added x t.lawful of w rows s c.args.name.now c.deref.result.now view is.fresh.0 is.fresh.1) in
+    let appends = c.append.ensures.appends (map (held_row (with_pending w rows)) rows) s.pending_rows.held (not-own added x t.lawful of w rows s c.args.name.now c.deref.result.now view is.fresh.0 is.fresh.1) in
     subst (λ (q : PlainSession). AddsRow c.args.most q (payloads_of (base_added added q)) w rows c.args.name.now c.args.parents.now old new c.args.cache.now c.seek.new.cache c.append.result (record x { pending = c.append.new.pending })) c.session.view_is
     (row-adds added x w rows s c.args.name.now c.args.parents.now c.requires.few c.args.most old new c.args.cache.now c.seek.new.cache c.in-New.ids is c.append.result c.append.new.pending
-    (subst (λ l. Appends c.args.most x.pending (map (id_row (with_pending w rows)) rows) c.args.name.now l c.append.result c.append.new.pending) c.deref.ensures.value appends) c.append.ensures.unchanged)
+    (subst (λ l. Appends c.args.most x.pending (map (held_row (with_pending w rows)) rows) c.args.name.now l c.append.result c.append.new.pending) c.deref.ensures.value appends) c.append.ensures.unchanged)

@@ -9,7 +9,7 @@ use Rattle.high_segments.specs.Views.{flats_in}
 use Rattle.name_map.specs.Added.{payloads_of}
 use Rattle.name_map.specs.Map.{IsMapOf}
 use Rattle.change_rules.specs.Tables.{cloned_count}
-use Rattle.payload_tables.specs.Bases.{ArePending, MayView, id_row}
+use Rattle.payload_tables.specs.Bases.{ArePending, MayView, held_row}
 use Rattle.payload_tables.specs.Pending.{segments_from}
 use Rattle.payload_tables.proofs.Rows.{count-rows}
 use Rattle.std.proofs.lemmas.List.{length-map}
@@ -51,8 +51,8 @@ fetch_among-fetched-requires-clause-held g c =
     let below = of.below in
     let count = h.stand.count in
     let first = h.pending_rows.first in
-    let many = count-rows x.pending (map (id_row (with_pending w rows)) rows) h.pending_rows.held in
-    let long = length-map rows (id_row (with_pending w rows)) in
+    let many = count-rows x.pending (map (held_row (with_pending w rows)) rows) h.pending_rows.held in
+    let long = length-map rows (held_row (with_pending w rows)) in
     let masters = view.2 in
     let others = view.3 in
     let news = view.4 in
@@ -78,7 +78,7 @@ returns-in-Ok-clause-fetches g c = λ added w rows t stand of h.
     let parts = c.view-view.ensures.flats front w rows b h.stand (subst (λ p. ArePending w p rows) (sym pending) h.pending_rows) in
     let first = flat_segments_of 0 (parent_ids same_name w w.master) in
     let second = flat_segments_of (other_id 0) (parent_ids same_name w w.others) in
-    let third = segments_from (other_id (length w.others)) (map (id_row (with_pending w rows)) rows) in
+    let third = segments_from (other_id (length w.others)) (map (held_row (with_pending w rows)) rows) in
     let begins = parts ∙ append_assoc first second third in
     let all = front ++ behind.behind in
     let is_map = subst (λ m. IsMapOf m all) (sym c.names.ensures) behind.tables_of.names in
@@ -110,7 +110,7 @@ returns-in-Err-clause-fetches g c = λ added w rows t stand of h.
     let parts = c.view-view.ensures.flats front w rows b h.stand (subst (λ p. ArePending w p rows) (sym pending) h.pending_rows) in
     let first = flat_segments_of 0 (parent_ids same_name w w.master) in
     let second = flat_segments_of (other_id 0) (parent_ids same_name w w.others) in
-    let third = segments_from (other_id (length w.others)) (map (id_row (with_pending w rows)) rows) in
+    let third = segments_from (other_id (length w.others)) (map (held_row (with_pending w rows)) rows) in
     let begins = parts ∙ append_assoc first second third in
     let all = front ++ behind.behind in
     let is_map = subst (λ m. IsMapOf m all) (sym c.names.ensures) behind.tables_of.names in

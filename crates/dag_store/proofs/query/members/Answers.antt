@@ -12,7 +12,7 @@ use Rattle.span_set.proofs.Counts.{ids-descending}
 use Rattle.high_segments.specs.Views.{flats_in}
 use Rattle.high_segments.proofs.Viewing.{lawful_flats}
 use Rattle.name_map.specs.Added.{payloads_of}
-use Rattle.payload_tables.specs.Bases.{ArePending, MayView, id_row}
+use Rattle.payload_tables.specs.Bases.{ArePending, MayView, held_row}
 use Rattle.payload_tables.specs.Pending.{segments_from}
 use Rattle.dag_store.specs.Kept.{PlainSession, base_added}
 use Rattle.dag_store.specs.Looking.{Sees}
@@ -135,6 +135,6 @@ returns-clause-one g c = λ added w rows name t stand of h tree ends serving.
     let ids = c.in_ok-ids.ensures.finds (base_added added x) w rows sees (tables-behind c.args.tables.now c.args.bytes.now added x t stand) unnamed in
     let flats = c.view.ensures.flats (base_added added x) w rows b h.stand (subst (λ p. ArePending w p rows) (sym pending) h.pending_rows) in
     c.in-Ok.ensures.one name (id_in same_name v name) tree (c.deref.ensures.value ∙ ids.right serving ∙ ap (λ e. map (id_in same_name v) (commits_in e)) tree)
-    (ends-whole base (base_added added x) b w h.stand c.view.result (segments_from (other_id (length w.others)) (map (id_row v) rows)) flats
+    (ends-whole base (base_added added x) b w h.stand c.view.result (segments_from (other_id (length w.others)) (map (held_row v) rows)) flats
     (λ level id. c.view.ensures.endings (base_added added x) (base_added added x ++ b.behind) b b.tables_of b.stand level id)
     (id_in same_name v name) ends)

@@ -1,4 +1,4 @@
-use Rattle.payload_tables.specs.Bases.{id_row}
+use Rattle.payload_tables.specs.Bases.{held_row}
 use Rattle.std.proofs.Common.{map, ◌≡◌, ◌∙◌, ◌+◌, ap, ap₂, sym, subst}
 use Rattle.std.specs.Prelude.{MatchOption}
 use Rattle.id_groups.specs.Lists.{IsIn}
@@ -18,7 +18,7 @@ returns-in_err-k-clause-worlds c = λ w rows p e.
     let none = c.in_err-k.ensures _ p.held in
     subst (λ o. MatchOption o (IsIn c.args.head.now (names_of (rows_of (with_pending w rows))) → ⊥) (λ id. IsIn c.args.head.now (names_of (rows_of (with_pending w rows))) × (id ≡ id_in same_name (with_pending w rows) c.args.head.now)))
     (sym c.from_residual.ensures)
-    (head-nowhere w rows p.view c.args.head.now c.args.found e (sym c.is_some.ensures ∙ c.if-is_some.false) (λ i. none (subst (λ z. IsIn z (row_names (map (id_row (with_pending w rows)) rows))) (sym c.lend.ensures) i)))
+    (head-nowhere w rows p.view c.args.head.now c.args.found e (sym c.is_some.ensures ∙ c.if-is_some.false) (λ i. none (subst (λ z. IsIn z (row_names (map (held_row (with_pending w rows)) rows))) (sym c.lend.ensures) i)))
 
 pub returns-clause-worlds : goal.returns-clause-worlds
 returns-clause-worlds c = λ w rows p e.

@@ -4,7 +4,7 @@ use Rattle.id_groups.specs.Name.{same_name}
 use Rattle.commit_graph.specs.World.{with_pending}
 use Rattle.flush_rebuild.specs.declared.fault.PlanFault.TheVariants.{Memory}
 use Rattle.change_rules.specs.Flush.{flushed}
-use Rattle.flush_rebuild.specs.Plans.{MayFind, MayMove, first_of, unknown_fault, size_refusal, IsPlanOf}
+use Rattle.flush_rebuild.specs.Plans.{MayFind, MayMove, first_fault, unknown_fault, size_refusal, IsPlanOf}
 use Rattle.flush_rebuild.proofs.Finding.{known-at}
 use Rattle.flush_rebuild.proofs.Planning.{flush-small}
 use Rattle.flush_rebuild.proofs.Sizing.{err-match}
@@ -23,7 +23,7 @@ returns-in_err-numbers-clause-worlds c = λ w rows payload f change.
     record { small = flush-small c.args.tables.now c.args.bytes.now f.added w f.tables_of f.stand f.stand_for; pending_rows = f.pending_rows; found_are = f.found_are } in
     err-match c.from_residual.result c.in_err-numbers.field-0.0 _ _ c.from_residual.ensures.1
     (⊎_elim (λ e. inl e)
-    (λ e. inr (ap (λ x. first_of x (size_refusal c.args.limits (length c.args.bytes.now) (flushed same_name (with_pending w rows) c.args.heads.now) payload)) e))
+    (λ e. inr (ap (λ x. first_fault x (size_refusal c.args.limits (length c.args.bytes.now) (flushed same_name (with_pending w rows) c.args.heads.now) payload)) e))
     (c.in_err-numbers.ensures.worlds w rows find))
 
 pub plan_moves-requires-clause-world : goal.plan_moves-requires-clause-world
@@ -57,5 +57,5 @@ returns-clause-worlds c = λ w rows payload f change.
       numbers_are = c.deref.ensures.value ∙ got.1;
     } in
     subst (λ z. MatchResult c.plan_moves.result (λ plan. (z ≡ None) × IsPlanOf plan w new payload) (λ fault. (fault ≡ Memory) ⊎ (z ≡ Some fault)))
-    (sym (ap (λ x. first_of (unknown_fault x) (size_refusal c.args.limits (length c.args.bytes.now) new payload)) (known-at v c.args.heads.now got.0)))
+    (sym (ap (λ x. first_fault (unknown_fault x) (size_refusal c.args.limits (length c.args.bytes.now) new payload)) (known-at v c.args.heads.now got.0)))
     (c.plan_moves.ensures.worlds w rows c.args.heads.now payload move change)

@@ -4,7 +4,7 @@ use Rattle.high_segments.proofs.Viewing.{lawful_flats}
 use Rattle.assign_ids.specs.Numbers.{AreBelow, HaveOlderParents, order_of}
 use Rattle.assign_ids.specs.declared.graph.Node.{Node}
 use Rattle.commit_graph.specs.World.{with_pending}
-use Rattle.payload_tables.specs.Bases.{id_row}
+use Rattle.payload_tables.specs.Bases.{held_row}
 use Rattle.payload_tables.specs.Kept.{PlainOthers}
 use Rattle.flush_rebuild.specs.Moves.{node_of}
 use Rattle.flush_rebuild.proofs.Planning.{names-room}
@@ -28,7 +28,7 @@ pub names_of-names-requires-clause-pending : goal.names_of-names-requires-clause
 names_of-names-requires-clause-pending c = let r = c.requires.world in pending-size r.0 c.args.pending.now r.1 r.3.pending_rows
 
 pub names_of-names-requires-clause-rows : goal.names_of-names-requires-clause-rows
-names_of-names-requires-clause-rows c = let r = c.requires.world in (map (id_row (with_pending r.0 r.1)) r.1, r.3.pending_rows.held)
+names_of-names-requires-clause-rows c = let r = c.requires.world in (map (held_row (with_pending r.0 r.1)) r.1, r.3.pending_rows.held)
 
 pub overflow_add-n : goal.overflow_add-n
 overflow_add-n c = let r = c.requires.world in let f = (code-facts c.args.bytes.now c.args.pending.now c.args.numbers.now (flats_in c.view-view.result) c.names_of-names.result.stored.now c.names_of-names.result.pending.now c.names_of-names.result.count c.names_of-names.result.more c.args.tables.now.flat.end r.0 r.1 r.2 c.args.tables.now c.args.tables.now refl r.3 (λ added t s sf p. c.view-view.ensures.graph added r.0 r.1 (c.newest-base.ensures added t s) sf p) (c.names_of-names.ensures.stored ∙ ap (λ (o : PlainOthers). take (20 * o.count) (drop o.names c.args.bytes.now)) c.others.ensures) c.names_of-names.ensures.pending (c.names_of-names.ensures.count ∙ ap (λ (o : PlainOthers). o.count) c.others.ensures) c.names_of-names.ensures.more refl) in let i = f.n_is in let few = f.few in omega (arith, i, few)

@@ -1,21 +1,21 @@
 use Rattle.std.proofs.Common.{◌∙◌, inl, inr, ⊎_elim, ap}
 use Rattle.id_groups.specs.Name.{same_name}
 use Rattle.change_rules.specs.Rebase.{first_lost}
-use Rattle.flush_rebuild.specs.Plans.{first_of, conflict_fault, lost_fault}
+use Rattle.flush_rebuild.specs.Plans.{first_fault, conflict_fault, lost_fault}
 use Rattle.flush_rebuild.proofs.Sizing.{err-match}
 use Rattle.flush_rebuild.proofs.rebasing.add_left.Goals as goal
 
 pub returns-in_err-check_rows-clause-worlds : goal.returns-in_err-check_rows-clause-worlds
 returns-in_err-check_rows-clause-worlds c = λ w old rows f.
     err-match c.from_residual.result c.in_err-check_rows.field-0.0 _ _ c.from_residual.ensures.1
-    (⊎_elim (λ e. inl e) (λ e. inr (ap (λ o. first_of o (lost_fault (first_lost same_name w rows))) e)) (c.in_err-check_rows.ensures w old rows f))
+    (⊎_elim (λ e. inl e) (λ e. inr (ap (λ o. first_fault o (lost_fault (first_lost same_name w rows))) e)) (c.in_err-check_rows.ensures w old rows f))
 
 pub returns-in_err-keep_rows-clause-worlds : goal.returns-in_err-keep_rows-clause-worlds
 returns-in_err-keep_rows-clause-worlds c = λ w old rows f.
     err-match c.from_residual-in_err-keep_rows.result c.in_err-keep_rows.field-0.0 _ _ c.from_residual-in_err-keep_rows.ensures.1
-    (⊎_elim (λ e. inl e) (λ e. inr (ap (λ o. first_of (conflict_fault o) (lost_fault (first_lost same_name w rows))) (c.in_ok-check_rows.ensures w old rows f) ∙ e)) (c.in_err-keep_rows.ensures.worlds w old rows f))
+    (⊎_elim (λ e. inl e) (λ e. inr (ap (λ o. first_fault (conflict_fault o) (lost_fault (first_lost same_name w rows))) (c.in_ok-check_rows.ensures w old rows f) ∙ e)) (c.in_err-keep_rows.ensures.worlds w old rows f))
 
 pub returns-clause-worlds : goal.returns-clause-worlds
 returns-clause-worlds c = λ w old rows f.
     let kept = c.in_ok-keep_rows.ensures.worlds w old rows f in
-    (ap (λ o. first_of (conflict_fault o) (lost_fault (first_lost same_name w rows))) (c.in_ok-check_rows.ensures w old rows f) ∙ ap lost_fault kept.0, kept.1)
+    (ap (λ o. first_fault (conflict_fault o) (lost_fault (first_lost same_name w rows))) (c.in_ok-check_rows.ensures w old rows f) ∙ ap lost_fault kept.0, kept.1)

@@ -1,6 +1,6 @@
 use Rattle.std.proofs.Common.{◌≡◌, ◌+◌, ◌∙◌, ◌⊎◌, [], map, take, sym, subst, arith}
 use Rattle.commit_graph.specs.World.{with_pending}
-use Rattle.payload_tables.specs.Bases.{id_row}
+use Rattle.payload_tables.specs.Bases.{held_row}
 use Rattle.payload_tables.proofs.Rows.{get-below}
 use Rattle.flush_rebuild.specs.declared.fault.PlanFault.TheVariants.{Memory}
 use Rattle.flush_rebuild.specs.Rebasing.{IsRebased, IsNotLeft, LeftSoFar}
@@ -47,11 +47,11 @@ pub returns-in_err-id-clause-worlds : goal.returns-in_err-id-clause-worlds
 returns-in_err-id-clause-worlds c = λ w old rows f.
     let n = c.newest-newest.ensures f.added f.tables_of f.stand in
     let lt = c.rows-test.true in
-    let long = c.len-i-end.ensures.len (map (id_row (with_pending old rows)) rows) f.pending_rows.held in
+    let long = c.len-i-end.ensures.len (map (held_row (with_pending old rows)) rows) f.pending_rows.held in
     let r = row-of c.args.tables.now c.args.bytes.now c.args.base.now c.args.pending.now c.args.found.now w old rows f c.rows.i (omega (arith, lt, long)) in
     let some = get-is c.args.found.now c.rows.i c.index-found-i.result (found-in c.args.tables.now c.args.bytes.now c.args.base.now c.args.pending.now c.args.found.now w old rows f c.rows.i (omega (arith, lt, long))) c.index-found-i.is in
-    let why = subst (λ q. (c.in_err-id.field-0.0 ≡ Memory) ⊎ IsNotLeft f.before f.added c.args.pending.now.first q c.index-found-i.result (id_row (with_pending old rows) r.0) c.in_err-id.field-0.0) c.deref.ensures.value
-    (c.in_err-id.ensures f.added f.before (map (id_row (with_pending old rows)) rows) (id_row (with_pending old rows) r.0) n f.base_of (first-before c.args.tables.now c.args.bytes.now c.args.base.now c.args.pending.now c.args.found.now w old rows f) f.pending_rows.held r.2) in
+    let why = subst (λ q. (c.in_err-id.field-0.0 ≡ Memory) ⊎ IsNotLeft f.before f.added c.args.pending.now.first q c.index-found-i.result (held_row (with_pending old rows) r.0) c.in_err-id.field-0.0) c.deref.ensures.value
+    (c.in_err-id.ensures f.added f.before (map (held_row (with_pending old rows)) rows) (held_row (with_pending old rows) r.0) n f.base_of (first-before c.args.tables.now c.args.bytes.now c.args.base.now c.args.pending.now c.args.found.now w old rows f) f.pending_rows.held r.2) in
     err-match c.from_residual.result c.in_err-id.field-0.0 _ _ c.from_residual.ensures.1
     (world-fault c.args.tables.now c.args.bytes.now c.args.base.now c.args.pending.now c.args.found.now w old rows f c.rows.i r.0 r.1 c.index-found-i.result some c.rows.ids.items c.rows.left (c.rows.invariant.1 w old rows f) c.in_err-id.field-0.0 why)
 
@@ -70,11 +70,11 @@ rows-preserved c = (
   λ w old rows f.
       let n = c.newest-newest.ensures f.added f.tables_of f.stand in
       let lt = c.rows-test.true in
-      let long = c.len-i-end.ensures.len (map (id_row (with_pending old rows)) rows) f.pending_rows.held in
+      let long = c.len-i-end.ensures.len (map (held_row (with_pending old rows)) rows) f.pending_rows.held in
       let r = row-of c.args.tables.now c.args.bytes.now c.args.base.now c.args.pending.now c.args.found.now w old rows f c.rows.i (omega (arith, lt, long)) in
       let some = get-is c.args.found.now c.rows.i c.index-found-i.result (found-in c.args.tables.now c.args.bytes.now c.args.base.now c.args.pending.now c.args.found.now w old rows f c.rows.i (omega (arith, lt, long))) c.index-found-i.is in
-      let h = subst (λ q. IsRebased f.before f.added c.args.pending.now.first q c.index-found-i.result c.rows.left c.left_row.new.left (id_row (with_pending old rows) r.0) c.in_ok-id.id) c.deref.ensures.value
-      (c.in_ok-id.ensures f.added f.before (map (id_row (with_pending old rows)) rows) (id_row (with_pending old rows) r.0) n f.base_of (first-before c.args.tables.now c.args.bytes.now c.args.base.now c.args.pending.now c.args.found.now w old rows f) f.pending_rows.held r.2) in
+      let h = subst (λ q. IsRebased f.before f.added c.args.pending.now.first q c.index-found-i.result c.rows.left c.left_row.new.left (held_row (with_pending old rows) r.0) c.in_ok-id.id) c.deref.ensures.value
+      (c.in_ok-id.ensures f.added f.before (map (held_row (with_pending old rows)) rows) (held_row (with_pending old rows) r.0) n f.base_of (first-before c.args.tables.now c.args.bytes.now c.args.base.now c.args.pending.now c.args.found.now w old rows f) f.pending_rows.held r.2) in
       subst (λ q. LeftIn w (take (c.rows.i + 1) rows) q c.left_row.new.left) (sym c.in_ok-add_id.ensures)
       (world-more c.args.tables.now c.args.bytes.now c.args.base.now c.args.pending.now c.args.found.now w old rows f c.rows.i r.0 r.1 c.index-found-i.result some c.rows.ids.items c.rows.left (c.rows.invariant.1 w old rows f) c.left_row.new.left c.in_ok-id.id h),
 )
@@ -82,7 +82,7 @@ rows-preserved c = (
 pub returns-clause-worlds : goal.returns-clause-worlds
 returns-clause-worlds c = λ w old rows f.
     let ge = c.rows-test.false in
-    let long = c.len-i-end.ensures.len (map (id_row (with_pending old rows)) rows) f.pending_rows.held in
+    let long = c.len-i-end.ensures.len (map (held_row (with_pending old rows)) rows) f.pending_rows.held in
     let e = rows-long c.args.tables.now c.args.bytes.now c.args.base.now c.args.pending.now c.args.found.now w old rows f in
     world-end c.args.tables.now c.args.bytes.now c.args.base.now c.args.pending.now c.args.found.now w old rows f c.rows.i c.rows.ids.items c.rows.left (omega (arith, ge, long, e)) (c.rows.invariant.1 w old rows f)
 

@@ -2,7 +2,7 @@ use Rattle.std.proofs.Common.{◌∙◌, ◌<◌, ◌+◌, ◌^◌, ◌++◌, �
 use Rattle.std.specs.Cmp.Lexicographic.{pointwise}
 use Rattle.std.specs.List.{AllByRecursion}
 use Rattle.segment_codec.specs.Record.{IsSegment}
-use Rattle.flush_rebuild.specs.Flat.{Span, single, flat_segments}
+use Rattle.flush_rebuild.specs.Flat.{Span, single_span, flat_segments}
 use Rattle.flush_rebuild.specs.Moves.{flat_record, new_id, grown}
 use Rattle.flush_rebuild.proofs.Sizing.{not-zero}
 use Rattle.flush_rebuild.proofs.Marking.{all-taken}
@@ -20,7 +20,7 @@ numbers-init c =
       grows = (
         [],
         first-run c.args.first f c.args.numbers.now (not-zero _ c.if-is_empty.ensures)
-            ∙ ap (λ (s : Span). s ∷ []) (sym (c.in_ok-begin.ensures ∙ ap₂ single c.from_number.ensures (ap (map (new_id c.args.ids.now)) c.parents.ensures))),
+            ∙ ap (λ (s : Span). s ∷ []) (sym (c.in_ok-begin.ensures ∙ ap₂ single_span c.from_number.ensures (ap (map (new_id c.args.ids.now)) c.parents.ensures))),
         λ p is. is,
       );
       count = refl;

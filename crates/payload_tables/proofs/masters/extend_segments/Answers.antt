@@ -1,7 +1,7 @@
 use Rattle.std.proofs.Common.{◌∙◌, ◌+◌, ℕ, length, flat_map, ap, subst, arith}
 use Rattle.segment_codec.specs.Record.{segment_bytes}
 use Rattle.flat_segments.specs.Kept.{IsTableOf}
-use Rattle.flat_segments.specs.Placed.{placed as placed_segments}
+use Rattle.flat_segments.specs.Placed.{placed_segments}
 use Rattle.segment_levels.specs.Kept.{AreLevelsOf}
 use Rattle.segment_levels.specs.Flats.{flats_of}
 use Rattle.batch_codec.specs.Lent.{payload_of}

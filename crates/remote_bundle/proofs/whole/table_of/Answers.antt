@@ -1,6 +1,6 @@
 use Rattle.std.proofs.Common.{Err, ap, subst, ◌∙◌, arith, []}
 use Rattle.flat_segments.specs.Kept.{IsTableOf}
-use Rattle.flat_segments.specs.Placed.{placed}
+use Rattle.flat_segments.specs.Placed.{placed_segments}
 use Rattle.bundle_codec.specs.Bundle.{Contents}
 use Rattle.bundle_codec.specs.Lent.{contents_of_lent}
 use Rattle.remote_bundle.proofs.Tabling.{records-are, may-extend, records-fit, never-bad}
@@ -24,5 +24,5 @@ unreachable-requires c =
 pub returns-in-Ok-clause-table : goal.returns-in-Ok-clause-table
 returns-in-Ok-clause-table c =
     let d : Contents = contents_of_lent c.args.bundle.now in
-    subst (λ at. IsTableOf c.extend.new.self (placed at d.segments)) c.records_start.ensures
+    subst (λ at. IsTableOf c.extend.new.self (placed_segments at d.segments)) c.records_start.ensures
     (c.in-Ok.ensures.table [] d.segments c.empty-table.ensures (records-are d c.requires.bundle c.records.result.now c.records.ensures))

@@ -5,15 +5,15 @@ use Rattle.commit_graph.specs.World.{with_pending}
 use Rattle.commit_graph.specs.Ids.{parent_ids}
 use Rattle.segment_codec.specs.Record.{segment_bytes}
 use Rattle.flat_segments.specs.Maximal.{maximal, cut}
-use Rattle.flat_segments.specs.Placed.{placed, segments_of}
+use Rattle.flat_segments.specs.Placed.{placed_segments, segments_of}
 use Rattle.flat_segments.proofs.Callers.{placed-stand}
-use Rattle.flat_segments.specs.Kept.{Kept, IsTableOf}
+use Rattle.flat_segments.specs.Kept.{KeptFlats, IsTableOf}
 use Rattle.flat_segments.specs.Joined.{MayJoin, StandAs}
 use Rattle.name_map.specs.Added.{payloads_of}
 use Rattle.change_rules.specs.Tables.{newest}
 use Rattle.payload_tables.specs.Kept.{PlainTables, master_records}
 use Rattle.payload_tables.specs.Pending.{PlainPending, segments_from}
-use Rattle.payload_tables.specs.Bases.{id_row, AreSegmentsOf}
+use Rattle.payload_tables.specs.Bases.{held_row, AreSegmentsOf}
 use Rattle.payload_tables.proofs.Standing.{masters-stand, placed-segments}
 use Rattle.flat_segments.specs.Views.{master_count}
 use Rattle.segment_levels.specs.Kept.{AreLevelsOf}
@@ -37,7 +37,7 @@ view-masters-requires-clause-below c =
 pub join-flat-requires : goal.join-flat-requires
 join-flat-requires c =
     let r = c.requires in let s = c.args.self.now in let p = c.args.pending.now in
-    subst (λ (t : Kept). MayJoin c.view-masters.result t s.bytes.now c.pending.inside.section c.deref.result.now) (sym c.section.ensures)
+    subst (λ (t : KeptFlats). MayJoin c.view-masters.result t s.bytes.now c.pending.inside.section c.deref.result.now) (sym c.section.ensures)
     (subst (λ (q : PlainPending). MayJoin c.view-masters.result s.others.now.section s.bytes.now q.section c.deref.result.now) (sym c.pending.view_is)
     (may-join c.view-masters.result s.bytes.now s.others.now s.below (newest (payloads_of r.0)) (base-others s.bytes.now s.tables.now s.others.now s.below r.0 r.1) p r.2.rows c.deref.result.now r.2.held r.2.first r.2.parents
     c.view-masters.ensures.count (c.deref.ensures.value ∙ ap (λ (q : PlainPending). q.records) c.pending.view_is)))
@@ -48,21 +48,21 @@ returns-clause-flats c = λ added w rows b stand pend.
     let p = c.args.pending.now in
     let v = with_pending w rows in
     let all = master_records (added ++ b.behind) in
-    let segs = segments_from (other_id p.first) (map (id_row v) rows) in
+    let segs = segments_from (other_id p.first) (map (held_row v) rows) in
     let facts = base-others s.bytes.now s.tables.now s.others.now s.below added b in
     let bytes = c.deref.ensures.value ∙ ap (λ (q : PlainPending). q.records) c.pending.view_is in
     let table = subst (λ (t : PlainTables). IsTableOf t.flat all) (sym c.tables.view_is) b.tables_of.flat in
     let master = c.join-flat.ensures.master ∙ c.view-masters.ensures.master ∙ c.view-masters.ensures.flats all table (masters-stand s.bytes.now (added ++ b.behind) b.stand)
     ∙ ap (λ (t : PlainTables). cut s.below (maximal t.flat.end (segments_of all))) c.tables.view_is
     ∙ masters-are s.bytes.now s.tables.now s.others.now s.below added b w stand in
-    let first = subst (λ (t : Kept). StandAs t s.bytes.now facts.records) (sym c.section.ensures) (record { section_of = facts.section; stand = facts.stand }) in
-    let second = subst (λ (q : PlainPending). StandAs q.section c.deref.result.now (placed 0 segs)) (sym c.pending.view_is)
+    let first = subst (λ (t : KeptFlats). StandAs t s.bytes.now facts.records) (sym c.section.ensures) (record { section_of = facts.section; stand = facts.stand }) in
+    let second = subst (λ (q : PlainPending). StandAs q.section c.deref.result.now (placed_segments 0 segs)) (sym c.pending.view_is)
     (record { section_of = pend.held.section; stand = placed-stand c.deref.result.now [] 0 segs (bytes ∙ pend.held.records ∙ sym (append-nil (flat_map segment_bytes segs))) }) in
-    let others = c.join-flat.ensures.others facts.records (placed 0 segs) first second
+    let others = c.join-flat.ensures.others facts.records (placed_segments 0 segs) first second
     ∙ ap₂ (λ x y. x ++ y) (facts.segments ∙ others-are s.bytes.now s.tables.now s.others.now s.below added b w stand)
-    (placed-segments 0 segs ∙ ap (λ n. segments_from (other_id n) (map (id_row v) rows)) pend.first) in
+    (placed-segments 0 segs ∙ ap (λ n. segments_from (other_id n) (map (held_row v) rows)) pend.first) in
     c.new.ensures.flats ∙ ap₂ (λ x y. x ++ y) master others
-    ∙ sym (append_assoc (flat_segments_of 0 (parent_ids same_name w w.master)) (flat_segments_of (2 ^ 56) (parent_ids same_name w w.others)) (segments_from (other_id (length w.others)) (map (id_row v) rows)))
+    ∙ sym (append_assoc (flat_segments_of 0 (parent_ids same_name w w.master)) (flat_segments_of (2 ^ 56) (parent_ids same_name w w.others)) (segments_from (other_id (length w.others)) (map (held_row v) rows)))
 
 pub returns-clause-graph : goal.returns-clause-graph
 returns-clause-graph c = λ added w rows b stand pend.

@@ -7,7 +7,7 @@ use Rattle.payload_tables.specs.Build.{PlainBuild, ArePartsOf}
 use Rattle.payload_tables.proofs.Building.{build-more, fault-same, own-names}
 use Rattle.payload_tables.proofs.Following.{none-placed}
 use Rattle.payload_tables.proofs.Placing.{place-of}
-use Rattle.name_map.specs.Build.{IsBuildOf as AreNamesOf}
+use Rattle.name_map.specs.Build.{AreNamesOf}
 use Rattle.payload_tables.proofs.build.TablesBuild.add_batch.Goals as goal
 
 pub returns-in_err-add_masters-clause-unlawful : goal.returns-in_err-add_masters-clause-unlawful

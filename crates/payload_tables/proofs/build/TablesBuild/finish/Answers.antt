@@ -1,6 +1,6 @@
 use Rattle.std.proofs.Common.{Err, [], ap, sym, subst}
 use Rattle.name_map.specs.Added.{payloads_of}
-use Rattle.name_map.specs.Build.{IsBuildOf as AreNamesOf}
+use Rattle.name_map.specs.Build.{AreNamesOf}
 use Rattle.payload_tables.specs.Kept.{AreTablesOf}
 use Rattle.payload_tables.specs.Build.{PlainBuild}
 use Rattle.payload_tables.proofs.Building.{names-fit, tables-of, map-double}

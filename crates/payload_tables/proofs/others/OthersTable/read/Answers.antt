@@ -5,7 +5,7 @@ use Rattle.batch_codec.specs.Lent.{payload_of}
 use Rattle.batch_codec.specs.Payload.{others_start, names_start}
 use Rattle.payload_tables.specs.declared.others.Parts.{Parts}
 use Rattle.id_groups.specs.Lists.{AreDistinct}
-use Rattle.flat_segments.specs.Placed.{placed as placed_segments}
+use Rattle.flat_segments.specs.Placed.{placed_segments}
 use Rattle.flat_segments.specs.Kept.{IsSectionOf}
 use Rattle.name_index.specs.Index.{IsIndexOf}
 use Rattle.name_map.specs.Added.{names_from}

@@ -1,5 +1,5 @@
 use Rattle.std.proofs.Common.{◌≡◌, ◌∙◌, ◌+◌, ◌++◌, ◌∷◌, [], length, refl, ap, sym, subst, arith}
-use Rattle.flat_segments.specs.Placed.{placed}
+use Rattle.flat_segments.specs.Placed.{placed_segments}
 use Rattle.flat_segments.specs.Kept.{IsSectionOf, MayPush}
 use Rattle.id_groups.specs.Id.{other_id}
 use Rattle.payload_tables.specs.Pending.{segments_from, row_names, HoldsRows, MayPushRow}
@@ -48,7 +48,7 @@ returns-else-is_err-clause-pushed c = λ rows g told.
       whole = whole;
       spelled = c.split_at.ensures.back ∙ record-behind old.records _ c.deref.result.now c.len-place.result at (c.deref.ensures.value ∙ c.in_ok-write_segment.ensures.ok);
     }) in
-    let done = placed 0 (segments_from (other_id old.first) rows) in
+    let done = placed_segments 0 (segments_from (other_id old.first) rows) in
     let count = count-rows old rows h in
     on-ok-five c.add_parts-added.result c.add_parts-added.ensures.section (c.add_parts-added.ensures.found (row_names rows) h.index h.names (names-whole rows h.whole) told) c.add_parts-added.ensures.names c.add_parts-added.ensures.whole c.add_parts-added.ensures.places
     (λ section found names name places. holds-more old _ rows c.args.pushed.now.name.now c.args.parents.now c.other-id.result c.len-place.result h (record {
