@@ -1,6 +1,7 @@
 -- From the end of a run to its status, and which logs are refused.
 use Rattle.std.proofs.Common.{ℕ, ◌≡◌, ◌≤◌, ◌⊎◌, inl, inr, ⊎_elim, List, [], ◌∷◌, length, Option, Some, None, Ok, Err, IfSome, IfErr, refl, sym, subst, ◌∙◌, arith}
 use Rattle.std.specs.declared.result.Result.{Result}
+use Rattle.disk_trait.specs.Since.{IsUntouched}
 use Rattle.id_groups.specs.Name.{Name}
 use Rattle.commit_graph.specs.World.{World}
 use Rattle.disk_trait.specs.Images.{Told}
@@ -24,7 +25,6 @@ use Rattle.outside.specs.Told.{WhereTold}
 use Rattle.outside.proofs.ToldLemmas.{WhereTold-map, WhereTold-both}
 use Rattle.disk_trait.specs.Calls.{Goes}
 use Rattle.disk_trait.proofs.Telling.{goes-told}
-use Rattle.dag_store.specs.Loading.{IsUntouched}
 use Rattle.dag_run.specs.Seen.{Seen, seen, streams}
 use Rattle.dag_run.specs.Ends.{Begins, RunRefuses, StatusMeans, StatusRefuses, EndRefuses, LoadRefuses}
 use Rattle.dag_run.proofs.Seeing.{seen-disk, seen-taken, seen-before}

@@ -1,6 +1,7 @@
 -- What writing a log anew means, by its status.
 use Rattle.std.specs.Prelude.{ℕ, ◌≡◌, ◌⊎◌, ◌==◌, IsTrue, List, [], ◌∷◌, ◌++◌, Option, IfSome}
 use Rattle.std.specs.List.{list_any}
+use Rattle.disk_trait.specs.Since.{IsUntouched}
 use Rattle.outside.specs.Told.{WhereTold, TookFront}
 use Rattle.id_groups.specs.Name.{Name}
 use Rattle.commit_graph.specs.World.{World}
@@ -10,7 +11,7 @@ use Rattle.gated_log.specs.Load.{LeavesOldOrFresh}
 use Rattle.batch_codec.specs.Payload.{Payload}
 use Rattle.change_rules.specs.Holding.{HoldAs}
 use Rattle.command_lines.specs.Sending.{shrunk_text}
-use Rattle.log_compact.specs.Compacts.{IsReadAs, IsWrittenAs, Shrinks, KeepsNoneOrWhole, HasWhole, IsUntouched, IsUnstored}
+use Rattle.log_compact.specs.Compacts.{IsReadAs, IsWrittenAs, Shrinks, KeepsNoneOrWhole, HasWhole, IsUnstored}
 use Rattle.log_compact.specs.declared.answer.Shrunk.{Shrunk}
 use Rattle.log_compact.specs.declared.answer.Compacted.{Compacted}
 use Rattle.log_compact.specs.declared.answer.Compacted.TheVariants.{Done, FromDisk, FromBad, ToDisk, NotFresh, Full, Memory}

@@ -1,6 +1,7 @@
 //! Putting the bundle of the stored master.
 
 ghost use Rattle.std.specs.Prelude.{◌≡◌, ◌⊎◌, List, Err, IfErr, IfSome, length};
+ghost use Rattle.disk_trait.specs.Since.{IsUntouched};
 ghost use Rattle.outside.specs.Counts.{Rose};
 ghost use Rattle.outside.specs.Told.{WhereTold};
 ghost use Rattle.id_groups.specs.Name.{Name};
@@ -10,7 +11,7 @@ ghost use Rattle.batch_codec.specs.Payload.{Payload};
 ghost use Rattle.change_rules.specs.Holding.{HoldAs};
 ghost use Rattle.change_rules.specs.Standard.{AreLimits};
 ghost use Rattle.step_rules.specs.State.{start};
-ghost use Rattle.dag_store.specs.Loading.{KeepsHolding, IsUntouched};
+ghost use Rattle.dag_store.specs.Loading.{KeepsHolding};
 ghost use Rattle.dag_store.specs.Stands.{Stands};
 ghost use Rattle.dag_run.specs.Bundling.{Bundles, BundleMeans, BundleRefuses, IsBundleStatus, IsOfStore, PutsWhole, unbundled_of, unbundled_status};
 ghost use Rattle.dag_run.specs.Ends.{StatusRefuses};

@@ -1,6 +1,7 @@
 //! The run: from the log, the source and the sink to the status.
 
 ghost use Rattle.std.specs.Prelude.{◌≡◌, ◌⊎◌, ◌<◌, ◌≤◌, ℕ, List, [], ◌∷◌, None, Ok, Err, IfErr, IfOk, IfSome, MatchResult, OnOk, length, map, string_bytes};
+ghost use Rattle.disk_trait.specs.Since.{IsUntouched};
 ghost use Rattle.outside.specs.Counts.{Rose};
 ghost use Rattle.outside.specs.Told.{WhereTold};
 ghost use Rattle.line_io.specs.Reading.{budget, is_over, new_reading};
@@ -16,7 +17,7 @@ ghost use Rattle.change_rules.specs.declared.Limits.{Limits as OfRun};
 ghost use Rattle.remote_rules.specs.Mirror.{Mirror};
 ghost use Rattle.run_rules.specs.Ends.{status_of as end_status};
 ghost use Rattle.run_rules.specs.Means.{Means};
-ghost use Rattle.dag_store.specs.Loading.{KeepsHolding, IsLoadedStore, IsUntouched};
+ghost use Rattle.dag_store.specs.Loading.{KeepsHolding, IsLoadedStore};
 ghost use Rattle.program_words.specs.Usage.{IsUsage};
 ghost use Rattle.dag_run.specs.Modes.{EndsAtOnce, HasModeStatus, IsDemoOf, IsModeStatus, IsRunOf, IsUsageOf, RefusesWords};
 ghost use Rattle.dag_run.specs.Seen.{Seen, seen, streams};

@@ -1,5 +1,6 @@
 -- Which files are refused, and that these are left as they are.
 use Rattle.std.proofs.Common.{◌≡◌, ◌≤◌, ◌⊎◌, inl, inr, ⊎_elim, ℕ, List, [], ◌∷◌, length, map, Option, Err, refl, subst, ◌∙◌, arith, IfSome}
+use Rattle.disk_trait.specs.Since.{IsUntouched}
 use Rattle.disk_trait.specs.Images.{Told}
 use Rattle.disk_trait.specs.Calls.{Goes}
 use Rattle.disk_trait.proofs.Telling.{goes-both, goes-from}
@@ -18,7 +19,7 @@ use Rattle.change_rules.specs.Unlawful.{IsFirstUnlawful, IsNoLog}
 use Rattle.change_rules.proofs.Refusals.{all-stand}
 use Rattle.dag_store.specs.declared.replies.LoadFault.{LoadFault}
 use Rattle.dag_store.specs.declared.replies.LoadFault.TheVariants.{Batch, Memory}
-use Rattle.dag_store.specs.Loading.{fault_of, IsNoLogFault, IsUntouched}
+use Rattle.dag_store.specs.Loading.{fault_of, IsNoLogFault}
 
 spelled-so : (payloads : List Payload) → AreSpelled (map text_of payloads) payloads
 spelled-so [] = tt

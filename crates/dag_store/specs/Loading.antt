@@ -66,7 +66,3 @@ IsNoLogFault (Frame at) = ⊤
 IsNoLogFault (TooLarge size) = ⊤
 IsNoLogFault (Batch k) = ⊤
 IsNoLogFault _ = ⊥
-
--- Nothing was written: a read gives what it gave before, and a crash at each moment since leaves what it might have left before.
-abbrev pub IsUntouched : Told → Told → Type 0
-IsUntouched old new = (new.bytes ≡ old.bytes) × SureSince (λ moment. IsImage old.now) old new

@@ -1,6 +1,7 @@
 //! A store, and what it tells without memory.
 
 ghost use Rattle.std.specs.Prelude.{◌≡◌, ◌<◌, ◌≤◌, ℕ, List, [], Err, length, map, IfErr, IfOk, IfSome};
+ghost use Rattle.disk_trait.specs.Since.{IsUntouched};
 ghost use Rattle.id_groups.specs.Name.{Name as NameBytes};
 ghost use Rattle.outside.specs.Counts.{Rose};
 ghost use Rattle.commit_graph.specs.World.{World};
@@ -18,7 +19,7 @@ ghost use Rattle.step_rules.specs.Reply.{Discarded, LevelSizes, Sizes};
 ghost use Rattle.step_rules.specs.Step.{CommandStep};
 ghost use Rattle.dag_store.specs.Stands.{Stands};
 ghost use Rattle.dag_store.specs.Steps.{ChangesOnly};
-ghost use Rattle.dag_store.specs.Loading.{LoadAnswers, Opens, KeepsHolding, IsLoadedStore, IsNoLogFault, IsUntouched};
+ghost use Rattle.dag_store.specs.Loading.{LoadAnswers, Opens, KeepsHolding, IsLoadedStore, IsNoLogFault};
 
 use crate::loading::{boxed_tables, new_sessions};
 use crate::replies::{Counts, LoadFault};

@@ -8,14 +8,13 @@ use Rattle.batch_codec.specs.Payload.{Known}
 use Rattle.segment_codec.specs.Record.{Segment}
 use Rattle.remote_rules.specs.Mirror.{Mirror}
 use Rattle.remote_rules.specs.Calls.{IsAskedFor}
-use Rattle.remote_rules.specs.Asking.{IsOneAsk, AsksInTurn, AsksForNames, total as sum-of}
+use Rattle.remote_rules.specs.Asking.{IsOneAsk, AsksInTurn, AsksForNames, total}
 use Rattle.remote_rules.specs.declared.MirrorFault.{MirrorFault}
 use Rattle.remote_rules.specs.declared.MirrorFault.TheVariants as mirror
 use Rattle.remote_trait.specs.Calls.{Leaves, raised}
 use Rattle.remote_trait.specs.Honest.{IsPathOf}
 use Rattle.remote_trait.proofs.Ruled.{asked-for}
 use Rattle.mirror_set.specs.Asking.{AskInTurn, end_of}
-use Rattle.mirror_set.specs.Round.{total}
 use Rattle.mirror_set.proofs.Ruled.{asks-ruled, turns-ruled}
 use Rattle.lazy_names.specs.declared.fault.LazyFault.{LazyFault}
 use Rattle.lazy_names.specs.declared.fault.LazyFault.TheVariants as lazy
@@ -32,11 +31,7 @@ pub find-ruled : (flats : List Segment) (known : List Known) (bound : ℕ) (head
 find-ruled flats known bound heads name before now result a =
     let answer = a.answered.answer in
     let one = one-name (end_of answer) before now (asks-ruled (Leaves (raised 1)) (IsAskedFor 1) (asked-for 1) (λ found m. IfSome m.master (λ rows. IsPathOf rows heads name found)) before now answer a.answered.asks) in
-    (one.0, end_of answer, (1 ∷ [], (omega arith, tt), omega arith, λ le e. (let bad = ap sum-of e in omega (arith, bad)), one.1))
-
-same-sum : (counts : List ℕ) → sum-of counts ≡ total counts
-same-sum [] = refl
-same-sum (n ∷ counts) = ap (λ k. n + k) (same-sum counts)
+    (one.0, end_of answer, (1 ∷ [], (omega arith, tt), omega arith, λ le e. (let bad = ap total e in omega (arith, bad)), one.1))
 
 each-one : (counts : List ℕ) → AllByRecursion (λ n. 0 < n) counts → AllByRecursion (λ n. 1 ≤ n) counts
 each-one [] h = tt
@@ -54,13 +49,13 @@ ended-some answered [] fault before now h e = let bad = h.1 in cc
 ended-some answered (n ∷ counts) fault before now h e = cc
 
 module _ (all gained : ℕ) (before now : List Mirror) where
-  few : (counts : List ℕ) → total counts ≤ all → sum-of counts ≤ all + 0
-  few counts le = let same = same-sum counts in omega (arith, same, le)
+  few : (counts : List ℕ) → total counts ≤ all → total counts ≤ all + 0
+  few counts le = omega (arith, le)
 
   pub fetch-asks : (fault : Option LazyFault) (h : AsksFor all gained before now fault) → AsksForNames 0 all h.answered before h.end now
   fetch-asks fault h =
-      let same = same-sum h.counts in let le = h.few in
-      (h.counts, each-one h.counts h.some, omega (arith, same, le), λ bad. absurd (omega (arith, bad)), turns-ruled h.answered h.counts h.end before now h.asked)
+      let le = h.few in
+      (h.counts, each-one h.counts h.some, omega (arith, le), λ bad. absurd (omega (arith, bad)), turns-ruled h.answered h.counts h.end before now h.asked)
 
   pub fetch-ruled : (fault : Option LazyFault) → AsksFor all gained before now fault
       → (answered : ℕ) × (end : Option MirrorFault) × (gained ≤ answered) × AsksForNames 0 all answered before end now

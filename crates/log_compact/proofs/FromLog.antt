@@ -1,6 +1,7 @@
 -- The log that is read: what is made of it, and what its disk holds.
 use Rattle.std.proofs.Common.{◌≡◌, ◌≢◌, ◌≤◌, ◌<◌, inl, inr, ⊎_elim, ℕ, List, [], ◌∷◌, length, map, Option, Some, None, Result, Ok, Err, IfSome, refl, sym, ap, ap₂, subst, ◌∙◌, arith, zero-le, append-nil}
 use Rattle.std.specs.Prelude.{IfOk}
+use Rattle.disk_trait.specs.Since.{IsUntouched}
 use Rattle.id_groups.specs.Name.{Name}
 use Rattle.commit_graph.specs.World.{World}
 use Rattle.disk_trait.specs.Images.{Told, IsImage, IsSound}
@@ -35,7 +36,7 @@ use Rattle.flush_rebuild.proofs.Invented.{some-world}
 use Rattle.compact_rules.specs.Whole.{whole_change}
 use Rattle.log_compact.specs.declared.answer.Compacted.{Compacted}
 use Rattle.log_compact.specs.declared.answer.Compacted.TheVariants.{Done, FromDisk, FromBad, ToDisk, NotFresh, Full, Memory}
-use Rattle.log_compact.specs.Compacts.{PlainWhole, whole_list, batch_of, MakesWhole, ReadsWhole, IsOfReading, KeepsHolding, IsUntouched, from_answer}
+use Rattle.log_compact.specs.Compacts.{PlainWhole, whole_list, batch_of, MakesWhole, ReadsWhole, IsOfReading, KeepsHolding, from_answer}
 use Rattle.log_compact.proofs.ToDisk.{fault-untouched}
 use Rattle.log_compact.specs.Sections.{StandsWhole}
 

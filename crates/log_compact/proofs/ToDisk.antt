@@ -1,5 +1,6 @@
 -- The log that is written: what is answered, and what its disk has.
 use Rattle.std.proofs.Common.{◌≡◌, ◌≢◌, ◌≤◌, ◌⊎◌, inl, inr, ⊎_elim, ℕ, List, [], ◌∷◌, ◌++◌, length, Option, Err, IfSome, refl, sym, ap, subst, subst₂, ◌∙◌, arith}
+use Rattle.disk_trait.specs.Since.{IsUntouched}
 use Rattle.disk_trait.specs.Images.{Told, moment_of}
 use Rattle.disk_trait.specs.Calls.{Goes}
 use Rattle.disk_trait.proofs.Moments.{weakened, joined, started}
@@ -15,7 +16,7 @@ use Rattle.gated_log.specs.declared.LoadLog.TheVariants as logs
 use Rattle.gated_log.specs.declared.Committed.TheVariants as ends
 use Rattle.log_compact.specs.declared.answer.Compacted.{Compacted}
 use Rattle.log_compact.specs.declared.answer.Compacted.TheVariants.{Done, FromDisk, FromBad, ToDisk, NotFresh, Full, Memory}
-use Rattle.log_compact.specs.Compacts.{PlainWhole, batch_of, IsUntouched, IsUnstored, StoresWhole, AnswersWhole, WritesWhole, IsNoneOrNew, KeepsNoneOrNew, HasText, to_answer, written_to}
+use Rattle.log_compact.specs.Compacts.{PlainWhole, batch_of, IsUnstored, StoresWhole, AnswersWhole, WritesWhole, IsNoneOrNew, KeepsNoneOrNew, HasText, to_answer, written_to}
 
 -- ---- what a commit does
 

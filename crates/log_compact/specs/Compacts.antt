@@ -119,10 +119,6 @@ IsUnstored Memory = ⊤
 abbrev pub KeepsHolding : ℕ → World Name → Told → Told → Type 0
 KeepsHolding limit w old new = HoldsNow limit old w → SureSince (λ moment image. HoldBytes limit image w) old new
 
--- Nothing was written: a read gives what it gave before, and a crash at each moment since leaves what it might have left before.
-abbrev pub IsUntouched : Told → Told → Type 0
-IsUntouched old new = (new.bytes ≡ old.bytes) × SureSince (λ moment. IsImage old.now) old new
-
 -- ---- the parts
 
 -- what is made of a log: the text of the payload, empty where there is none, the sizes of its world, and how long it is

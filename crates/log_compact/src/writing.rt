@@ -1,6 +1,7 @@
 //! A log written anew in another one.
 
 ghost use Rattle.std.specs.Prelude.{◌≡◌, ◌≢◌, ◌≤◌, ◌⊎◌, ◌^◌, ℕ, List, [], map, IfOk, IfErr, IfSome, Err};
+ghost use Rattle.disk_trait.specs.Since.{IsUntouched};
 ghost use Rattle.id_groups.specs.Name.{Name as NameBytes};
 ghost use Rattle.commit_graph.specs.World.{World};
 ghost use Rattle.outside.specs.Counts.{Rose};
@@ -14,7 +15,7 @@ ghost use Rattle.name_map.specs.Added.{Placed, payloads_of, AllStand};
 ghost use Rattle.change_rules.specs.Change.{text_of as payload_text};
 ghost use Rattle.change_rules.specs.Holding.{HoldPayloads, HoldAs};
 ghost use Rattle.payload_tables.specs.Kept.{AreTablesOf};
-ghost use Rattle.log_compact.specs.Compacts.{PlainWhole, whole_list, batch_of, IsMadeOf, MakesWhole, ReadsWhole, StoresWhole, AnswersWhole, WritesWhole, KeepsNoneOrNew, HasText, KeepsNoneOrWhole, HasWhole, KeepsHolding, IsUntouched, Shrinks, IsReadAs, IsWrittenAs, IsOfFrom, IsUnstored, IsOfReading, from_answer, to_answer, written_to};
+ghost use Rattle.log_compact.specs.Compacts.{PlainWhole, whole_list, batch_of, IsMadeOf, MakesWhole, ReadsWhole, StoresWhole, AnswersWhole, WritesWhole, KeepsNoneOrNew, HasText, KeepsNoneOrWhole, HasWhole, KeepsHolding, Shrinks, IsReadAs, IsWrittenAs, IsOfFrom, IsUnstored, IsOfReading, from_answer, to_answer, written_to};
 
 use crate::answer::{Compacted, Shrunk};
 use crate::reading::tables_of;

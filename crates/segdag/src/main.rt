@@ -4,6 +4,7 @@
 
 ghost use Rattle.std.specs.Prelude.{◌≡◌, ◌⊎◌, ◌<◌, ◌^◌, ◌==◌, ◌&&◌, ◌∷◌, [], not, length, map, string_bytes, if◌then◌else◌, ℕ, List, IfSome, MatchResult};
 ghost use Rattle.std.specs.Process.{exit_status};
+ghost use Rattle.disk_trait.specs.Since.{IsUntouched};
 ghost use Rattle.outside.specs.Counts.{Rose};
 ghost use Rattle.outside.specs.Told.{WhereTold};
 ghost use Rattle.id_groups.specs.Name.{Name};
@@ -12,7 +13,7 @@ ghost use Rattle.batch_codec.specs.Payload.{Payload};
 ghost use Rattle.change_rules.specs.Standard.{standard};
 ghost use Rattle.disk_trait.specs.Calls.{Goes};
 ghost use Rattle.change_rules.specs.Holding.{HoldAs};
-ghost use Rattle.dag_store.specs.Loading.{IsUntouched, KeepsHolding};
+ghost use Rattle.dag_store.specs.Loading.{KeepsHolding};
 ghost use Rattle.dag_run.specs.Seen.{seen};
 ghost use Rattle.dag_run.specs.Ends.{Begins, StatusMeans, StatusRefuses};
 ghost use Rattle.dag_run.specs.Demo.{DemoMeans};
