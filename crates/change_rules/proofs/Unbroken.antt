@@ -7,6 +7,7 @@ use Rattle.id_groups.specs.Name.{Name, same_name}
 use Rattle.id_groups.proofs.Names.{same_name-exact, same_name-self}
 use Rattle.id_groups.proofs.Listing.{both_true, or_left, true_not, in-all-true, found}
 use Rattle.std.proofs.lemmas.Map.Views.{exact_unsigned_eq}
+use Rattle.segment_codec.specs.Reading.{are_distinct}
 use Rattle.commit_graph.specs.World.{Row, World, names_of}
 use Rattle.commit_graph.proofs.Naming.{each}
 use Rattle.commit_graph.proofs.Histories.{in-append}
@@ -14,7 +15,7 @@ use Rattle.segment_codec.specs.Record.{Segment}
 use Rattle.segment_codec.specs.Table.{Follow}
 use Rattle.segment_codec.specs.Turns.{goes_on, is_only}
 use Rattle.batch_codec.specs.Grammar.{AreMaximal}
-use Rattle.remote_rules.specs.CloneData.{KnownName, are_distinct, segment_fits, segments_fit, name_fits, names_fit, names_at, heads_fit, first_false}
+use Rattle.remote_rules.specs.CloneData.{KnownName, segment_fits, segments_fit, name_fits, names_fit, names_at, heads_fit, first_false}
 use Rattle.remote_rules.specs.Honest.{named_ids}
 use Rattle.change_rules.proofs.Alone.{IsPlain}
 use Rattle.change_rules.proofs.Cloned.{Rises, get-some, get-name, one-place, pick-next}

@@ -4,7 +4,7 @@ use Rattle.std.specs.List.{AllZip}
 use Rattle.id_groups.specs.Name.{Name}
 use Rattle.commit_graph.specs.World.{World, IsNamedWorld}
 use Rattle.disk_trait.specs.Images.{Told}
-use Rattle.disk_trait.specs.Since.{SureNow}
+use Rattle.disk_trait.specs.Since.{SureNow, SureSince}
 use Rattle.gated_log.specs.Log.{IsLog}
 use Rattle.batch_codec.specs.Payload.{Payload}
 use Rattle.change_rules.specs.Lawful.{AreLawful}
@@ -40,3 +40,7 @@ HoldBytes limit bytes w = (payloads : List Payload) × HoldAs limit bytes payloa
 -- whatever a crash leaves now holds the world
 abbrev pub HoldsNow : ℕ → Told → World Name → Type 0
 HoldsNow limit t w = SureNow t (λ bytes. HoldBytes limit bytes w)
+
+-- whatever world the disk holds, it does so at each moment since
+abbrev pub KeepsHolding : ℕ → World Name → Told → Told → Type 0
+KeepsHolding limit w old new = HoldsNow limit old w → SureSince (λ moment image. HoldBytes limit image w) old new

@@ -12,9 +12,9 @@ use Rattle.id_groups.specs.Name.{Name}
 use Rattle.commit_graph.specs.World.{World}
 use Rattle.batch_codec.specs.Payload.{Payload}
 use Rattle.change_rules.specs.declared.Limits.{Limits}
-use Rattle.change_rules.specs.Holding.{HoldAs, HoldBytes}
+use Rattle.change_rules.specs.Holding.{HoldAs, HoldBytes, KeepsHolding}
 use Rattle.change_rules.specs.Unlawful.{IsNoLog}
-use Rattle.dag_store.specs.Loading.{KeepsHolding, LoadAnswers, Opens, IsNoLogFault}
+use Rattle.dag_store.specs.Loading.{LoadAnswers, Opens, IsNoLogFault}
 use Rattle.dag_store.specs.declared.replies.LoadFault.{LoadFault}
 use Rattle.dag_store.specs.declared.replies.LoadFault.TheVariants as loads
 use Rattle.dag_run.specs.declared.bundling.Unbundled.{Unbundled}

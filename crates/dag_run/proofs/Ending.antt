@@ -17,7 +17,7 @@ use Rattle.batch_codec.specs.Payload.{Payload}
 use Rattle.change_rules.specs.declared.Limits.{Limits}
 use Rattle.change_rules.specs.Standard.{AreLimits}
 use Rattle.change_rules.specs.Change.{text_of}
-use Rattle.change_rules.specs.Holding.{HoldBytes}
+use Rattle.change_rules.specs.Holding.{HoldBytes, KeepsHolding}
 use Rattle.step_rules.specs.State.{State, at_start, start}
 use Rattle.step_rules.specs.Reply.{Reply, reply_text}
 use Rattle.remote_rules.specs.Mirror.{Mirror}
@@ -44,7 +44,6 @@ use Rattle.disk_trait.specs.Calls.{Goes}
 use Rattle.disk_trait.proofs.Telling.{goes-both, goes-from, goes-told}
 use Rattle.gated_log.specs.Load.{LoadCalls}
 use Rattle.change_rules.specs.Holding.{HoldAs}
-use Rattle.dag_store.specs.Loading.{KeepsHolding}
 use Rattle.dag_run.specs.Seen.{seen}
 use Rattle.dag_run.specs.Ends.{OpensRun, LoadPuts}
 use Rattle.dag_run.specs.Stops.{IsLoadStop}

@@ -1,6 +1,7 @@
 -- From the end of a run to its status, and which logs are refused.
 use Rattle.std.proofs.Common.{ℕ, ◌≡◌, ◌≤◌, ◌⊎◌, inl, inr, ⊎_elim, List, [], ◌∷◌, length, Option, Some, None, Ok, Err, IfSome, IfErr, refl, sym, subst, ◌∙◌, arith}
 use Rattle.std.specs.declared.result.Result.{Result}
+use Rattle.line_io.specs.Streams.{Streams}
 use Rattle.disk_trait.specs.Since.{IsUntouched}
 use Rattle.id_groups.specs.Name.{Name}
 use Rattle.commit_graph.specs.World.{World}
@@ -17,7 +18,7 @@ use Rattle.step_rules.specs.declared.Refusal.TheVariants as why
 use Rattle.step_rules.specs.State.{State, Stored, at_start}
 use Rattle.step_rules.specs.Reply.{Reply, Refused}
 use Rattle.step_rules.specs.Rises.{EachWas, HasFailed}
-use Rattle.run_rules.specs.Ends.{End, Streams, Done, OverLimit, NoSource, NoSink, NotLoaded, NotStored, NoLog, NoMemory, EndsAs, status_of as end_status}
+use Rattle.run_rules.specs.Ends.{End, Done, OverLimit, NoSource, NoSink, NotLoaded, NotStored, NoLog, NoMemory, EndsAs, status_of as end_status}
 use Rattle.run_rules.specs.Run.{Run}
 use Rattle.run_rules.specs.Means.{IsComplete, Leaves, Means, RefusesLog, WouldStore}
 use Rattle.run_rules.proofs.Matched.{run-answered, run-answered-more}

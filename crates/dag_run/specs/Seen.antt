@@ -1,7 +1,7 @@
 -- A disk, a source and a sink, where all three tell.
 use Rattle.std.specs.Prelude.{ℕ, List, Option, Some, None}
+use Rattle.line_io.specs.Streams.{Streams}
 use Rattle.disk_trait.specs.Images.{Told}
-use Rattle.run_rules.specs.Ends.{Streams}
 
 pub record Seen : Type 0 where
   pub disk : Told

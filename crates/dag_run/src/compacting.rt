@@ -1,13 +1,13 @@
 //! Writing a log anew.
 
 ghost use Rattle.std.specs.Prelude.{◌≡◌, ◌⊎◌, ◌≤◌, ◌^◌};
+ghost use Rattle.change_rules.specs.Holding.{KeepsHolding};
 ghost use Rattle.disk_trait.specs.Since.{IsUntouched};
 ghost use Rattle.outside.specs.Counts.{Rose};
 ghost use Rattle.outside.specs.Told.{WhereTold};
 ghost use Rattle.id_groups.specs.Name.{Name};
 ghost use Rattle.commit_graph.specs.World.{World};
 ghost use Rattle.disk_trait.specs.Calls.{Goes};
-ghost use Rattle.dag_store.specs.Loading.{KeepsHolding};
 ghost use Rattle.dag_run.specs.Compacting.{CompactMeans, HasStatus, IsCompactStatus, PutsAnswer};
 
 use command_lines::put_shrunk;

@@ -22,7 +22,7 @@ use Rattle.change_rules.specs.declared.Limits.{Limits}
 use Rattle.change_rules.specs.Standard.{AreLimits}
 use Rattle.change_rules.specs.Change.{text_of}
 use Rattle.change_rules.specs.Tables.{newest, other_names_in}
-use Rattle.change_rules.specs.Holding.{AreSpelled, HoldPayloads, HoldAs, HoldBytes, HoldsNow}
+use Rattle.change_rules.specs.Holding.{AreSpelled, HoldPayloads, HoldAs, HoldBytes, HoldsNow, KeepsHolding}
 use Rattle.change_rules.specs.Unlawful.{IsFirstUnlawful}
 use Rattle.change_rules.proofs.Refusals.{held-is-log}
 use Rattle.payload_tables.specs.Kept.{PlainTables, AreTablesOf}
@@ -33,7 +33,7 @@ use Rattle.dag_store.specs.declared.replies.LoadFault.{LoadFault}
 use Rattle.dag_store.specs.declared.replies.LoadFault.TheVariants.{Frame, TooLarge, Batch, Disk, Memory}
 use Rattle.dag_store.specs.Kept.{PlainSession, PlainStore, IsKept, EndsWithin, session_at, base_added, sixteen}
 use Rattle.dag_store.specs.Stands.{Stands, IsSessionFor}
-use Rattle.dag_store.specs.Loading.{IsOnNewest, fault_of, LoadAnswers, Opens, KeepsHolding, IsLoadedStore}
+use Rattle.dag_store.specs.Loading.{IsOnNewest, fault_of, LoadAnswers, Opens, IsLoadedStore}
 use Rattle.dag_store.proofs.Sees.{once}
 
 -- each of the sixteen sessions is on all payloads that were added

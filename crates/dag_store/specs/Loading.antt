@@ -48,10 +48,6 @@ Opens limits payloads w (Err (Disk fault)) = ⊤
 Opens limits payloads w (Err Memory) = ⊤
 Opens limits payloads w (Err _) = ⊥
 
--- whatever world the disk holds, it does so at each moment since
-abbrev pub KeepsHolding : ℕ → World Name → Told → Told → Type 0
-KeepsHolding limit w old new = HoldsNow limit old w → SureSince (λ moment image. HoldBytes limit image w) old new
-
 -- whatever a crash leaves after loading has the log's payloads, and the log may be written to; a fresh file took four calls, any
 -- other three
 pub record IsLoadedStore (store : PlainStore) (old new : Told) : Type 0 where

@@ -2,6 +2,7 @@
 use Rattle.std.specs.Prelude.{◌≡◌, ◌⊎◌, ℕ, List, Option, Some, None, length, MatchOption, Result, Ok, Err}
 use Rattle.std.specs.Option.{option_map}
 use Rattle.std.specs.List.{AllByRecursion}
+use Rattle.flush_rebuild.specs.Cloning.{clone_fault}
 use Rattle.id_groups.specs.Name.{Name, same_name}
 use Rattle.commit_graph.specs.World.{Row, World}
 use Rattle.batch_codec.specs.Payload.{Payload}
@@ -19,7 +20,7 @@ use Rattle.change_rules.specs.Tables.{cloned_count}
 use Rattle.flush_rebuild.specs.declared.plan.Change.{Change}
 use Rattle.flush_rebuild.specs.declared.fault.PlanFault.{PlanFault}
 use Rattle.flush_rebuild.specs.Plans.{IsChangeOf, first_fault}
-use Rattle.flush_rebuild.specs.Pulling.{told_rows, clone_fault, row_fault}
+use Rattle.flush_rebuild.specs.Pulling.{told_rows, row_fault}
 use Rattle.step_rules.specs.declared.Refusal.{Refusal}
 use Rattle.step_rules.specs.declared.Refusal.TheVariants as why
 use Rattle.step_rules.specs.State.{State, Stored}

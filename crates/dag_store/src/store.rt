@@ -10,7 +10,7 @@ ghost use Rattle.gated_log.specs.Load.{IsSureOf, IsSureBehind};
 ghost use Rattle.batch_codec.specs.Payload.{Payload};
 ghost use Rattle.change_rules.specs.Standard.{AreLimits};
 ghost use Rattle.change_rules.specs.Change.{text_of};
-ghost use Rattle.change_rules.specs.Holding.{HoldAs};
+ghost use Rattle.change_rules.specs.Holding.{HoldAs, KeepsHolding};
 ghost use Rattle.change_rules.specs.Unlawful.{IsNoLog};
 ghost use Rattle.gated_log.specs.Load.{LoadCalls, WithinCalls};
 ghost use Rattle.step_rules.specs.State.{State, with_pending_rows};
@@ -19,7 +19,7 @@ ghost use Rattle.step_rules.specs.Reply.{Discarded, LevelSizes, Sizes};
 ghost use Rattle.step_rules.specs.Step.{CommandStep};
 ghost use Rattle.dag_store.specs.Stands.{Stands};
 ghost use Rattle.dag_store.specs.Steps.{ChangesOnly};
-ghost use Rattle.dag_store.specs.Loading.{LoadAnswers, Opens, KeepsHolding, IsLoadedStore, IsNoLogFault};
+ghost use Rattle.dag_store.specs.Loading.{LoadAnswers, Opens, IsLoadedStore, IsNoLogFault};
 
 use crate::loading::{boxed_tables, new_sessions};
 use crate::replies::{Counts, LoadFault};

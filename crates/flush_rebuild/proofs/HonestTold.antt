@@ -4,6 +4,7 @@ use Rattle.std.specs.Prelude.{slice_get}
 use Rattle.std.specs.List.{cons_option}
 use Rattle.std.proofs.lemmas.List.{take-append-drop, take-map}
 use Rattle.std.proofs.lemmas.List.{map-append}
+use Rattle.flush_rebuild.specs.Cloning.{clone_fault}
 use Rattle.id_groups.specs.Lists.{IsIn}
 use Rattle.id_groups.specs.Name.{Name, same_name}
 use Rattle.id_groups.specs.Id.{other_id}
@@ -32,7 +33,7 @@ use Rattle.change_rules.proofs.Relation.{clones-are}
 use Rattle.payload_tables.proofs.Lists.{count-last}
 use Rattle.mirror_set.specs.Fresh.{PlainFresh}
 use Rattle.flush_rebuild.specs.Plans.{first_fault}
-use Rattle.flush_rebuild.specs.Pulling.{names_at_all, rows_with, told_names, told_rows, clone_fault, row_fault, mismatch}
+use Rattle.flush_rebuild.specs.Pulling.{names_at_all, rows_with, told_names, told_rows, row_fault, mismatch}
 
 -- ---- names by their places
 

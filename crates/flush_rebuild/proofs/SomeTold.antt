@@ -3,6 +3,7 @@ use Rattle.std.proofs.Common.{◌≡◌, ◌<◌, ◌≤◌, ◌+◌, ◌-◌, �
 use Rattle.std.specs.List.{AllByRecursion, cons_option, list_all}
 use Rattle.std.proofs.lemmas.List.{map-append, length-map, take-append-drop}
 use Rattle.std.proofs.lemmas.Bool.{lt-ltb, false_from_ne_true}
+use Rattle.flush_rebuild.specs.Cloning.{clone_fault}
 use Rattle.id_groups.specs.Lists.{IsIn, is_in, AreAllIn, AreDistinct}
 use Rattle.id_groups.specs.Name.{Name, same_name}
 use Rattle.id_groups.proofs.Names.{same_name-exact, same_name-self}
@@ -39,7 +40,7 @@ use Rattle.flush_rebuild.specs.declared.fault.PlanFault.{PlanFault}
 use Rattle.flush_rebuild.specs.declared.fault.PlanFault.TheVariants.{Memory}
 use Rattle.flush_rebuild.specs.Asked.{IsStored}
 use Rattle.flush_rebuild.specs.Plans.{first_fault}
-use Rattle.flush_rebuild.specs.Pulling.{MayPullOn, told_names, names_at_all, rows_with, told_rows, clone_fault, row_fault, mismatch}
+use Rattle.flush_rebuild.specs.Pulling.{MayPullOn, told_names, names_at_all, rows_with, told_rows, row_fault, mismatch}
 use Rattle.flush_rebuild.specs.Taken.{Beside, MayTake, MayWalk}
 use Rattle.flush_rebuild.proofs.Asking.{stored-names}
 use Rattle.flush_rebuild.proofs.Renumber.{in-map, map-in-back}

@@ -21,7 +21,7 @@ use Rattle.flush_rebuild.specs.declared.fault.PlanFault.{PlanFault}
 use Rattle.flush_rebuild.specs.declared.fault.PlanFault.TheVariants.{Memory}
 use Rattle.flush_rebuild.specs.Plans.{over, first_fault, length_with, IsPlanOf}
 use Rattle.flush_rebuild.specs.Following.{with_payload, FollowChange}
-use Rattle.flush_rebuild.specs.Cloning.{told_count, told_payload, broken_fault, counts_refusal, log_refusal, told_refusal, IsToldPlan, clone_payload, clone_refusal, IsToldBy, StandForClone}
+use Rattle.flush_rebuild.specs.Cloning.{told_count, told_payload, clone_fault, counts_refusal, log_refusal, told_refusal, IsToldPlan, clone_payload, clone_refusal, IsToldBy, StandForClone}
 use Rattle.flush_rebuild.proofs.Refusing.{over-none, written, has-bytes}
 
 pub first-here : (a b : Option PlanFault) (fault : PlanFault) → a ≡ Some fault → first_fault a b ≡ Some fault
@@ -63,7 +63,7 @@ module _ (rows : List (Row Name)) (named : IsNamedWorld (master_world rows)) whe
 
   pub refusal-is : (limits : Limits) (log : ℕ) → told_refusal limits log (clone_data_of r) ≡ clone_refusal limits log r
   refusal-is limits log =
-      first-later (broken_fault (first_broken (clone_data_of r))) _ (ap broken_fault (never-broken r named))
+      first-later (clone_fault (first_broken (clone_data_of r))) _ (ap clone_fault (never-broken r named))
       ∙ first-first (over most_heads (length (heads_of r)) Heads) _ _
       ∙ ap₂ (λ n p. first_fault (over most_heads (length (heads_of r)) Heads) (first_fault (over limits.master n Master) (over limits.log (length_with log p) Log))) count-is payload-is
 
@@ -133,4 +133,4 @@ pub log-decides : (limits : Limits) (log : ℕ) (told : CloneData) → first_bro
     → MatchResult result (λ change. (told_refusal limits log told ≡ None) × IsToldPlan change told) (λ fault. (fault ≡ Memory) ⊎ (told_refusal limits log told ≡ Some fault))
 log-decides limits log told whole counts result m =
     subst (λ z. MatchResult result (λ change. (z ≡ None) × IsToldPlan change told) (λ fault. (fault ≡ Memory) ⊎ (z ≡ Some fault)))
-    (sym (first-later (broken_fault (first_broken told)) _ (ap broken_fault whole) ∙ first-later (counts_refusal limits told) _ counts)) m
+    (sym (first-later (clone_fault (first_broken told)) _ (ap clone_fault whole) ∙ first-later (counts_refusal limits told) _ counts)) m

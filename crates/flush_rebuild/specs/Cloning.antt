@@ -27,9 +27,9 @@ told_count told = place_behind 0 told.segments
 abbrev pub told_payload : CloneData → List ℕ
 told_payload told = if nat_lt 0 (told_count told) then text_of (told_change told) else []
 
-abbrev pub broken_fault : Option ℕ → Option PlanFault
-broken_fault None = None
-broken_fault (Some at) = Some (BadClone at)
+abbrev pub clone_fault : Option ℕ → Option PlanFault
+clone_fault None = None
+clone_fault (Some at) = Some (BadClone at)
 
 -- why a clone is refused for its heads and commits, and for the log of so many bytes that it would be put behind
 abbrev pub counts_refusal : Limits → CloneData → Option PlanFault
@@ -41,7 +41,7 @@ log_refusal limits log told = over limits.log (length_with log (told_payload tol
 -- Why a clone is refused: for the first item that breaks its rule, or for the first of the heads, the commits and the log's bytes
 -- that are above their limit.
 abbrev pub told_refusal : Limits → ℕ → CloneData → Option PlanFault
-told_refusal limits log told = first_fault (broken_fault (first_broken told)) (first_fault (counts_refusal limits told) (log_refusal limits log told))
+told_refusal limits log told = first_fault (clone_fault (first_broken told)) (first_fault (counts_refusal limits told) (log_refusal limits log told))
 
 -- The change is that of what a remote told; where it has no commits, there is nothing to write.
 pub record IsToldPlan (plan : Change) (told : CloneData) : Type 0 where

@@ -4,6 +4,7 @@ use Rattle.std.specs.List.{list_all}
 use Rattle.std.specs.Ordering.{nat_cmp}
 use Rattle.std.specs.Cmp.Lexicographic.{slice_cmp}
 use Rattle.std.specs.BTreeSet.{BTreeSet, contains}
+use Rattle.flush_rebuild.specs.Cloning.{clone_fault}
 use Rattle.id_groups.specs.Lists.{is_in}
 use Rattle.id_groups.specs.Name.{Name, same_name}
 use Rattle.commit_graph.specs.World.{Row, World, IsNamedWorld, names_of}
@@ -61,10 +62,6 @@ pub record MayPull (tables : PlainTables) (bytes : List ℕ) (fresh : PlainFresh
   pub world : IsNamedWorld w
   pub rows_are : rows ≡ told_rows w (cloned_count (payloads_of added)) fresh
   pub theirs : IsNamedWorld (master_world rows)
-
-abbrev pub clone_fault : Option ℕ → Option PlanFault
-clone_fault None = None
-clone_fault (Some at) = Some (BadClone at)
 
 abbrev pub row_fault : Option ℕ → Option PlanFault
 row_fault None = None

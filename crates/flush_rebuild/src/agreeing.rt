@@ -2,6 +2,7 @@
 
 ghost use Rattle.std.specs.Prelude.{◌≡◌, ◌<◌, ◌≤◌, ◌+◌, ◌^◌, ◌∷◌, ◌++◌, ◌&&◌, ◌⊎◌, ◌↔◌, not, true, List, [], None, Some, ℕ, length, nat_eq, slice_get, IsTrue, IfOk, MatchOption, MatchResult};
 ghost use Rattle.std.specs.Cmp.Lexicographic.{pointwise};
+ghost use Rattle.flush_rebuild.specs.Cloning.{clone_fault};
 ghost use Rattle.id_groups.specs.Lists.{is_in};
 ghost use Rattle.id_groups.specs.Name.{Name as NameBytes, same_name};
 ghost use Rattle.segment_codec.specs.Record.{Segment};
@@ -14,7 +15,7 @@ ghost use Rattle.change_rules.specs.Disagree.{first_unlike, first_bad_row, same_
 ghost use Rattle.payload_tables.specs.Kept.{AreTablesOf};
 ghost use Rattle.payload_tables.specs.Pending.{HoldsRows};
 ghost use Rattle.flush_rebuild.specs.declared.fault.PlanFault.TheVariants.{Memory};
-ghost use Rattle.flush_rebuild.specs.Pulling.{MayPullOn, HasSeen, clone_fault, row_fault, mismatch, unlike_segment, unlike_name, cut_at, cloned_names, is_told};
+ghost use Rattle.flush_rebuild.specs.Pulling.{MayPullOn, HasSeen, row_fault, mismatch, unlike_segment, unlike_name, cut_at, cloned_names, is_told};
 
 use crate::fault::PlanFault;
 use high_segments::View;

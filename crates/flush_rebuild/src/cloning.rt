@@ -10,7 +10,7 @@ ghost use Rattle.payload_tables.specs.Kept.{AreTablesOf};
 ghost use Rattle.flush_rebuild.specs.declared.fault.PlanFault.TheVariants.{Memory};
 ghost use Rattle.flush_rebuild.specs.Plans.{IsPlanOf, MayBeStored};
 ghost use Rattle.flush_rebuild.specs.Following.{change_of, FollowChange};
-ghost use Rattle.flush_rebuild.specs.Cloning.{told_count, broken_fault, counts_refusal, log_refusal, told_refusal, IsToldPlan, clone_payload, clone_refusal, IsToldBy, StandForClone};
+ghost use Rattle.flush_rebuild.specs.Cloning.{told_count, clone_fault, counts_refusal, log_refusal, told_refusal, IsToldPlan, clone_payload, clone_refusal, IsToldBy, StandForClone};
 
 use crate::fault::PlanFault;
 use crate::flush::{Plan, plan_of, tables_after};
@@ -27,7 +27,7 @@ const MOST_HEADS: u64 = 65_535;
 /// Refuses data of which an item breaks its rule.
 fn check_items(alloc: Global, cloned: &CloneData) -> Result<(), PlanFault>
     ensures ok { IfOk result (λ done. first_broken cloned.now ≡ None) }
-    ensures err { IfErr result (λ fault. (fault ≡ Memory) ⊎ (broken_fault (first_broken cloned.now) ≡ Some fault)) }
+    ensures err { IfErr result (λ fault. (fault ≡ Memory) ⊎ (clone_fault (first_broken cloned.now) ≡ Some fault)) }
 {
     let broken = cloned.first_broken(alloc)?;
     match broken {

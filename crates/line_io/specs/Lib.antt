@@ -3,3 +3,4 @@ pub mod Reading
 pub mod Next
 pub mod Steps
 pub mod Memory
+pub mod Streams

@@ -24,7 +24,7 @@ use Rattle.name_map.specs.Added.{Placed, payloads_of, AllStand}
 use Rattle.change_rules.specs.Change.{text_of}
 use Rattle.change_rules.specs.Lawful.{AreLawful}
 use Rattle.change_rules.specs.Tables.{newest}
-use Rattle.change_rules.specs.Holding.{AreSpelled, HoldPayloads, HoldAs, HoldBytes, HoldsNow}
+use Rattle.change_rules.specs.Holding.{AreSpelled, HoldPayloads, HoldAs, HoldBytes, HoldsNow, KeepsHolding}
 use Rattle.change_rules.specs.Unlawful.{IsFirstUnlawful, IsNoLog}
 use Rattle.change_rules.proofs.Refusals.{all-stand}
 use Rattle.gated_log.proofs.Damage.{log-or-damaged}
@@ -36,7 +36,7 @@ use Rattle.flush_rebuild.proofs.Invented.{some-world}
 use Rattle.compact_rules.specs.Whole.{whole_change}
 use Rattle.log_compact.specs.declared.answer.Compacted.{Compacted}
 use Rattle.log_compact.specs.declared.answer.Compacted.TheVariants.{Done, FromDisk, FromBad, ToDisk, NotFresh, Full, Memory}
-use Rattle.log_compact.specs.Compacts.{PlainWhole, whole_list, batch_of, MakesWhole, ReadsWhole, IsOfReading, KeepsHolding, from_answer}
+use Rattle.log_compact.specs.Compacts.{PlainWhole, whole_list, batch_of, MakesWhole, ReadsWhole, IsOfReading, from_answer}
 use Rattle.log_compact.proofs.ToDisk.{fault-untouched}
 use Rattle.log_compact.specs.Sections.{StandsWhole}
 

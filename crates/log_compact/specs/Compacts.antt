@@ -115,10 +115,6 @@ IsUnstored Memory = ⊤
 
 -- ---- the disks
 
--- whatever world the disk holds, it does so at each moment since
-abbrev pub KeepsHolding : ℕ → World Name → Told → Told → Type 0
-KeepsHolding limit w old new = HoldsNow limit old w → SureSince (λ moment image. HoldBytes limit image w) old new
-
 -- ---- the parts
 
 -- what is made of a log: the text of the payload, empty where there is none, the sizes of its world, and how long it is

@@ -13,9 +13,9 @@ ghost use Rattle.gated_log.specs.Load.{LeavesOldOrFresh};
 ghost use Rattle.batch_codec.specs.Payload.{Payload};
 ghost use Rattle.name_map.specs.Added.{Placed, payloads_of, AllStand};
 ghost use Rattle.change_rules.specs.Change.{text_of as payload_text};
-ghost use Rattle.change_rules.specs.Holding.{HoldPayloads, HoldAs};
+ghost use Rattle.change_rules.specs.Holding.{HoldPayloads, HoldAs, KeepsHolding};
 ghost use Rattle.payload_tables.specs.Kept.{AreTablesOf};
-ghost use Rattle.log_compact.specs.Compacts.{PlainWhole, whole_list, batch_of, IsMadeOf, MakesWhole, ReadsWhole, StoresWhole, AnswersWhole, WritesWhole, KeepsNoneOrNew, HasText, KeepsNoneOrWhole, HasWhole, KeepsHolding, Shrinks, IsReadAs, IsWrittenAs, IsOfFrom, IsUnstored, IsOfReading, from_answer, to_answer, written_to};
+ghost use Rattle.log_compact.specs.Compacts.{PlainWhole, whole_list, batch_of, IsMadeOf, MakesWhole, ReadsWhole, StoresWhole, AnswersWhole, WritesWhole, KeepsNoneOrNew, HasText, KeepsNoneOrWhole, HasWhole, Shrinks, IsReadAs, IsWrittenAs, IsOfFrom, IsUnstored, IsOfReading, from_answer, to_answer, written_to};
 
 use crate::answer::{Compacted, Shrunk};
 use crate::reading::tables_of;

@@ -4,6 +4,7 @@ use Rattle.std.specs.List.{AllByRecursion}
 use Rattle.std.specs.Result.{OnOk}
 use Rattle.std.proofs.lemmas.List.{map-append, length-map}
 use Rattle.std.proofs.Math.Seq.{drop-append_seam}
+use Rattle.segment_rules.specs.Flat.{single}
 use Rattle.id_groups.specs.Name.{Name, IsName}
 use Rattle.id_groups.specs.Id.{other_id, id_end}
 use Rattle.segment_codec.specs.Number.{number_bytes}
@@ -15,14 +16,14 @@ use Rattle.segment_codec.proofs.Lengths.{flat-head, head-fits, behind-head}
 use Rattle.batch_codec.specs.Payload.{names_bytes}
 use Rattle.flat_segments.specs.Placed.{PlacedSegment, placed_segments}
 use Rattle.flat_segments.specs.Kept.{KeptFlats, IsSectionOf, MayPush}
-use Rattle.payload_tables.specs.Pending.{HeldRow, PlainPending, HoldsRows, MayPushRow, FindsNames, IsRecordOf, row_segment, segments_from, row_names, places_of}
+use Rattle.payload_tables.specs.Pending.{HeldRow, PlainPending, HoldsRows, MayPushRow, FindsNames, IsRecordOf, segments_from, row_names, places_of}
 use Rattle.flat_segments.proofs.Callers.{placed-stand}
 use Rattle.payload_tables.proofs.Joined.{get-map}
 use Rattle.payload_tables.proofs.Lists.{flat-snoc, all-append}
 use Rattle.payload_tables.proofs.Sectioning.{placed-snoc}
 use Rattle.payload_tables.proofs.Standing.{placed-segments}
 
-pub row-is-segment : (id first count : ℕ) (parents : List ℕ) → id ≡ other_id (first + count) → first ≤ 65536 → MayPushRow first count parents → IsSegment (row_segment id parents)
+pub row-is-segment : (id first count : ℕ) (parents : List ℕ) → id ≡ other_id (first + count) → first ≤ 65536 → MayPushRow first count parents → IsSegment (single id parents)
 row-is-segment id first count parents e room m = record {
   ascending = omega arith;
   one_group = refl;
@@ -46,11 +47,11 @@ count-rows p rows h =
     let segs = segments_from (other_id p.first) rows in
     ap (length {A = ℕ}) h.places ∙ length-map (placed_segments 0 segs) (λ (r : PlacedSegment). r.place) ∙ placed-length 0 segs ∙ segments-long (other_id p.first) rows
 
-pub segments-snoc : (id : ℕ) (rows : List HeldRow) (row : HeldRow) → segments_from id (rows ++ row ∷ []) ≡ segments_from id rows ++ row_segment (id + length rows) row.parents ∷ []
-segments-snoc id [] row = ap (λ n. row_segment n row.parents ∷ []) (let z : id ≡ id + 0 = omega arith in z)
+pub segments-snoc : (id : ℕ) (rows : List HeldRow) (row : HeldRow) → segments_from id (rows ++ row ∷ []) ≡ segments_from id rows ++ single (id + length rows) row.parents ∷ []
+segments-snoc id [] row = ap (λ n. single n row.parents ∷ []) (let z : id ≡ id + 0 = omega arith in z)
 segments-snoc id (r ∷ rows) row =
-    ap (λ l. row_segment id r.parents ∷ l)
-    (segments-snoc (id + 1) rows row ∙ ap (λ n. segments_from (id + 1) rows ++ row_segment n row.parents ∷ []) (let z : id + 1 + length rows ≡ id + suc (length rows) = omega arith in z))
+    ap (λ l. single id r.parents ∷ l)
+    (segments-snoc (id + 1) rows row ∙ ap (λ n. segments_from (id + 1) rows ++ single n row.parents ∷ []) (let z : id + 1 + length rows ≡ id + suc (length rows) = omega arith in z))
 
 segments-end : (id first end : ℕ) (rows : List HeldRow) → first ≡ id → Follow first end (segments_from id rows) → end ≡ id + length rows
 segments-end id first end [] e f = (let z : first ≡ end = f in omega (arith, e, z))
@@ -64,7 +65,7 @@ section-end section id (row ∷ rows) is some =
     sym (segments-end id is.first section.end (row ∷ rows) (sym f.0) f)
 
 pub may-push : (section : KeptFlats) (id first : ℕ) (rows : List HeldRow) (parents : List ℕ) → IsSectionOf section (placed_segments 0 (segments_from (other_id first) rows)) → id ≡ other_id (first + length rows)
-    → IsSegment (row_segment id parents) → MayPush section (row_segment id parents)
+    → IsSegment (single id parents) → MayPush section (single id parents)
 may-push section id first rows parents is e whole = record {
   flat = record { segment = whole; flat = refl };
   other = omega (arith, e);
@@ -75,9 +76,9 @@ may-push section id first rows parents is e whole = record {
 pub record-behind : (old bytes all : List ℕ) (place : ℕ) → place ≡ length old → all ≡ old ++ bytes → drop place all ≡ bytes
 record-behind old bytes all place e is = ap₂ (λ m l. drop m l) e is ∙ drop-append_seam old bytes
 
-row-head : (id : ℕ) (parents : List ℕ) → IsSegment (row_segment id parents) → length (head_bytes (row_segment id parents)) ≡ 12
+row-head : (id : ℕ) (parents : List ℕ) → IsSegment (single id parents) → length (head_bytes (single id parents)) ≡ 12
 row-head id parents whole =
-    let head = flat-head (row_segment id parents) (record { segment = whole; flat = refl }) in
+    let head = flat-head (single id parents) (record { segment = whole; flat = refl }) in
     let none : id - id ≡ 0 = omega arith in
     let one = ap (λ n. length (number_bytes n)) none ∙ ap (length {A = ℕ}) (number_last 0 (let l : 0 < 128 = lit≤ tt in l)) in
     omega (arith, head, one)
@@ -85,12 +86,12 @@ row-head id parents whole =
 -- the numbers of the parents stand behind the first twelve bytes of the record
 pub row-long : (id : ℕ) (parents bytes : List ℕ) → IsRecordOf id parents bytes → 12 ≤ length bytes
 row-long id parents bytes r =
-    let fits = head-fits (row_segment id parents) bytes [] (r.spelled ∙ sym (append-nil (segment_bytes (row_segment id parents)))) in
+    let fits = head-fits (single id parents) bytes [] (r.spelled ∙ sym (append-nil (segment_bytes (single id parents)))) in
     let head = row-head id parents r.whole in omega (arith, fits, head)
 
 pub row-numbers : (id : ℕ) (parents bytes : List ℕ) → IsRecordOf id parents bytes → drop 12 bytes ≡ flat_map number_bytes parents
 row-numbers id parents bytes r =
-    behind-head (row_segment id parents) bytes [] 12 (r.spelled ∙ sym (append-nil (segment_bytes (row_segment id parents)))) (sym (row-head id parents r.whole))
+    behind-head (single id parents) bytes [] 12 (r.spelled ∙ sym (append-nil (segment_bytes (single id parents)))) (sym (row-head id parents r.whole))
     ∙ append-nil (flat_map number_bytes parents)
 
 pub on-ok-five : {X F : Type 0} {A B C D E P : Type 0} (r : Result X F) → OnOk r A → OnOk r B → OnOk r C → OnOk r D → OnOk r E → (A → B → C → D → E → P) → OnOk r P
@@ -106,8 +107,8 @@ pub record RowAdded (old new : PlainPending) (rows : List HeldRow) (name : Name)
   pub first : new.first ≡ old.first
   pub id_is : id ≡ other_id (old.first + length rows)
   pub place_is : place ≡ length old.records
-  pub records : new.records ≡ old.records ++ segment_bytes (row_segment id parents)
-  pub section : IsSectionOf new.section (placed_segments 0 (segments_from (other_id old.first) rows) ++ record { place = place; segment = row_segment id parents } ∷ [])
+  pub records : new.records ≡ old.records ++ segment_bytes (single id parents)
+  pub section : IsSectionOf new.section (placed_segments 0 (segments_from (other_id old.first) rows) ++ record { place = place; segment = single id parents } ∷ [])
   pub places : new.places ≡ old.places ++ place ∷ []
   pub names : new.names ≡ old.names ++ name
   pub index : FindsNames new.index (row_names rows ++ name ∷ [])
@@ -120,11 +121,11 @@ holds-more old new rows name parents id place h a =
     let row : HeldRow = record { name = name; parents = parents } in
     let base = other_id old.first in
     let segs = segments_from base rows in
-    let s = row_segment id parents in
+    let s = single id parents in
     let start : other_id new.first ≡ base = ap other_id a.first in
     let number : id ≡ base + length rows = (let e = a.id_is in omega (arith, e)) in
     let all : segments_from (other_id new.first) (rows ++ row ∷ []) ≡ segs ++ s ∷ [] =
-    ap (λ n. segments_from n (rows ++ row ∷ [])) start ∙ segments-snoc base rows row ∙ ap (λ n. segs ++ row_segment n parents ∷ []) (sym number) in
+    ap (λ n. segments_from n (rows ++ row ∷ [])) start ∙ segments-snoc base rows row ∙ ap (λ n. segs ++ single n parents ∷ []) (sym number) in
     let at : 0 + length (flat_map segment_bytes segs) ≡ place = (let e = a.place_is in let l = ap (length {A = ℕ}) h.records in omega (arith, e, l)) in
     let stand : placed_segments 0 (segments_from (other_id new.first) (rows ++ row ∷ [])) ≡ placed_segments 0 segs ++ record { place = place; segment = s } ∷ [] =
     ap (placed_segments 0) all ∙ placed-snoc 0 segs s ∙ ap (λ n. placed_segments 0 segs ++ record { place = n; segment = s } ∷ []) at in
@@ -151,8 +152,8 @@ some-is x y e = cc e
 row-at : (at id : ℕ) (rows : List HeldRow) (i : ℕ) (row : HeldRow) → slice_get rows i ≡ Some row
     → (r : PlacedSegment) × (slice_get (placed_segments at (segments_from id rows)) i ≡ Some r) × (r.segment.parents ≡ row.parents)
 row-at at id [] i row e = absurd (true≢false (sym (ap is_some e)))
-row-at at id (r ∷ rows) zero row e = (record { place = at; segment = row_segment id r.parents }, refl, (let same : r ≡ row = cc e in ap (λ (q : HeldRow). q.parents) same))
-row-at at id (r ∷ rows) (suc i) row e = row-at (at + length (segment_bytes (row_segment id r.parents))) (id + 1) rows i row e
+row-at at id (r ∷ rows) zero row e = (record { place = at; segment = single id r.parents }, refl, (let same : r ≡ row = cc e in ap (λ (q : HeldRow). q.parents) same))
+row-at at id (r ∷ rows) (suc i) row e = row-at (at + length (segment_bytes (single id r.parents))) (id + 1) rows i row e
 
 placed-below : (at : ℕ) (segments : List Segment) (i : ℕ) (r : PlacedSegment) → slice_get (placed_segments at segments) i ≡ Some r → r.place ≤ at + length (flat_map segment_bytes segments)
 placed-below at [] i r e = absurd (true≢false (sym (ap is_some e)))

@@ -6,10 +6,11 @@ ghost use Rattle.segment_codec.specs.Record.{Segment, IsSegment, segment_bytes};
 ghost use Rattle.flat_segments.specs.Placed.{PlacedSegment};
 ghost use Rattle.flat_segments.specs.Kept.{IsSectionOf, MayPush};
 ghost use Rattle.std.specs.List.{AllByRecursion};
+ghost use Rattle.segment_rules.specs.Flat.{single};
 ghost use Rattle.id_groups.specs.Lists.{IsIn};
 ghost use Rattle.id_groups.specs.Name.{Name as NameBytes, IsName};
 ghost use Rattle.batch_codec.specs.Payload.{names_bytes};
-ghost use Rattle.payload_tables.specs.Pending.{HeldRow, HoldsRows, MayPushRow, FindsRow, FindsNames, IsRecordOf, row_names, row_segment};
+ghost use Rattle.payload_tables.specs.Pending.{HeldRow, HoldsRows, MayPushRow, FindsRow, FindsNames, IsRecordOf, row_names};
 
 use crate::piece::{copied, piece};
 use flat_segments::Section;
@@ -150,7 +151,7 @@ const BEFORE_PARENTS: usize = 12;
 /// The segment of a row's record. What is known of it isn't read.
 fn segment_of_row<'a>(written: &'a [u8], id: Id) -> SegmentRef<'a>
     requires { (parents : List ℕ) × IsRecordOf id parents written.now }
-    ensures { (parents : List ℕ) → IsRecordOf id parents written.now → segment_of result ≡ row_segment id parents }
+    ensures { (parents : List ℕ) → IsRecordOf id parents written.now → segment_of result ≡ single id parents }
 {
     let (_, numbers) = written.split_at(BEFORE_PARENTS);
     SegmentRef::flat(id, id, numbers)

@@ -3,13 +3,14 @@ use Rattle.std.proofs.Common.{◌≡◌, ◌≤◌, ◌+◌, ◌&&◌, ◌↔◌
 use Rattle.std.specs.List.{AllByRecursion, AllZip, list_all}
 use Rattle.std.proofs.lemmas.Bool.{ltb-true, lt-ltb, leb-true, le-leb, eq-eqb}
 use Rattle.std.proofs.lemmas.Map.Views.{exact_unsigned_eq}
+use Rattle.segment_codec.specs.Reading.{are_distinct}
 use Rattle.id_groups.specs.Lists.{IsIn, is_in, AreDistinct}
 use Rattle.id_groups.specs.Name.{Name, same_name}
 use Rattle.id_groups.proofs.Names.{same_name-exact, same_name-self}
 use Rattle.id_groups.proofs.Listing.{and_true, both_true, not_true, true_not, all-in, in-all-true, found, there, or_true, or_left, or_right}
 use Rattle.segment_codec.specs.Record.{Segment}
 use Rattle.segment_codec.specs.Turns.{StandInTurn, goes_on, place_behind}
-use Rattle.remote_rules.specs.CloneData.{CloneData, KnownName, are_distinct, segment_fits, segments_fit, name_fits, names_fit, head_ids, merge_parents, has_needed_names, names_at, heads_fit, first_false, first_some, first_broken}
+use Rattle.remote_rules.specs.CloneData.{CloneData, KnownName, segment_fits, segments_fit, name_fits, names_fit, head_ids, merge_parents, has_needed_names, names_at, heads_fit, first_false, first_some, first_broken}
 use Rattle.remote_rules.specs.Lawful.{MayStandHere, NamesInTurn, HasName, IsLawfulClone}
 
 abbrev AllTrue : List Bool → Type 0

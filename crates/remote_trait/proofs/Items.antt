@@ -12,6 +12,7 @@ use Rattle.std.proofs.lemmas.Map.Views.{exact_unsigned_eq}
 use Rattle.std.specs.List.Sorted.{IsPartitionedBy, IsPartitionPoint}
 use Rattle.std.proofs.lemmas.Option.{slice_get_within, slice_get_read}
 use Rattle.std.proofs.lemmas.List.{map-append}
+use Rattle.segment_codec.specs.Reading.{are_distinct}
 use Rattle.id_groups.specs.Lists.{is_in}
 use Rattle.id_groups.specs.Name.{Name, same_name}
 use Rattle.id_groups.proofs.Names.{same_name-exact, same_name-self}
@@ -19,7 +20,7 @@ use Rattle.id_groups.proofs.Listing.{and_true}
 use Rattle.segment_codec.proofs.Tables.{le_or_lt}
 use Rattle.segment_codec.specs.Record.{Segment}
 use Rattle.segment_codec.specs.Turns.{place_behind}
-use Rattle.remote_rules.specs.CloneData.{CloneData, KnownName, first_broken, are_distinct, segment_fits, segments_fit, name_fits, names_fit, merge_parents, names_at, heads_fit, first_false, first_some}
+use Rattle.remote_rules.specs.CloneData.{CloneData, KnownName, first_broken, segment_fits, segments_fit, name_fits, names_fit, merge_parents, names_at, heads_fit, first_false, first_some}
 use Rattle.remote_trait.specs.Broken.{AscendFrom, HasSeen}
 
 -- one more item in front of what is dropped

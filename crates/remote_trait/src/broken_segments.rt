@@ -2,8 +2,9 @@
 
 ghost use Rattle.std.specs.Prelude.{◌≡◌, ◌+◌, nat_lt};
 ghost use Rattle.std.specs.List.{list_all};
+ghost use Rattle.segment_codec.specs.Reading.{are_distinct as are_distinct_numbers};
 ghost use Rattle.segment_codec.specs.Turns.{is_only, place_behind};
-ghost use Rattle.remote_rules.specs.CloneData.{first_false, segment_fits, segments_fit, are_distinct as are_distinct_numbers};
+ghost use Rattle.remote_rules.specs.CloneData.{first_false, segment_fits, segments_fit};
 
 use crate::clone::CloneSegment;
 

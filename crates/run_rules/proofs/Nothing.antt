@@ -1,5 +1,6 @@
 -- A run that did nothing.
 use Rattle.std.proofs.Common.{inl, Bool, true, false, nat_le, if◌then◌else◌, ◌≡◌, ◌≤◌, ◌+◌, ℕ, zero, suc, List, [], ◌∷◌, length, take, refl, sym, ap, subst, arith, le_antisymm}
+use Rattle.line_io.specs.Streams.{Streams}
 use Rattle.id_groups.specs.Name.{Name}
 use Rattle.commit_graph.specs.World.{World}
 use Rattle.disk_trait.specs.Images.{Told, LeftAt, moment_of}
@@ -8,7 +9,7 @@ use Rattle.change_rules.specs.declared.Limits.{Limits}
 use Rattle.change_rules.specs.Holding.{HoldAs, HoldsNow, HoldPayloads}
 use Rattle.remote_rules.specs.Mirror.{Mirror}
 use Rattle.step_rules.specs.State.{start, at_start, world_at}
-use Rattle.run_rules.specs.Ends.{Streams, NoMemory}
+use Rattle.run_rules.specs.Ends.{NoMemory}
 use Rattle.run_rules.specs.Stopped.{Stopped}
 use Rattle.run_rules.specs.Means.{Means, loaded_at}
 

@@ -2,6 +2,7 @@
 use Rattle.std.proofs.Common.{◌≡◌, ◌≤◌, ◌+◌, ℕ, zero, suc, inl, inr, List, [], ◌∷◌, ◌++◌, length, map, take, refl, sym, ap, subst, subst₂, ◌∙◌, arith, zero-le, ⊎_elim, eq-or-lt_of_le, le_antisymm, length-append}
 use Rattle.std.proofs.lemmas.List.{take-append-le}
 use Rattle.std.specs.List.{AllByRecursion}
+use Rattle.line_io.specs.Streams.{Streams}
 use Rattle.remote_rules.specs.Honest.{IsSoundMirror}
 use Rattle.id_groups.specs.Name.{Name}
 use Rattle.line_io.specs.Lines.{lines_of}
@@ -26,7 +27,7 @@ use Rattle.step_rules.proofs.States.{at-newest}
 use Rattle.step_rules.proofs.Kept.{start-is, step-state}
 use Rattle.step_rules.proofs.Held.{step-held}
 use Rattle.run_rules.specs.Run.{Run, output_of}
-use Rattle.run_rules.specs.Ends.{Streams, Done}
+use Rattle.run_rules.specs.Ends.{Done}
 use Rattle.run_rules.specs.Stopped.{Stopped, ArePrefixes}
 use Rattle.run_rules.specs.Means.{Means}
 use Rattle.run_rules.proofs.Runs.{run-keeps}

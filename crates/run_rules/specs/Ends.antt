@@ -1,15 +1,9 @@
 -- What was read and written when a run ended, and with which status.
 use Rattle.std.specs.Prelude.{ℕ, ◌<◌, ◌≤◌, ◌≡◌, ◌⊎◌, false, List, [], ◌∷◌, ◌++◌, length, take, codes}
+use Rattle.line_io.specs.Streams.{Streams}
 use Rattle.line_io.specs.Lines.{lines_of, whole_lines, is_silent}
 use Rattle.step_rules.specs.Reply.{Reply, reply_text}
 use Rattle.run_rules.specs.Run.{output_of}
-
--- An input of these bytes, of which some are left, and an output that had taken some bytes and has taken others now.
-pub record Streams : Type 0 where
-  pub input : List ℕ
-  pub left : List ℕ
-  pub taken : List ℕ
-  pub now : List ℕ
 
 -- these replies were written whole
 abbrev pub Wrote : Streams → List Reply → Type 0

@@ -1,5 +1,6 @@
 -- What a run of the program means: its answers, its mirrors, and what its disk has at each moment.
 use Rattle.std.specs.Prelude.{ℕ, ◌≡◌, ◌≤◌, ◌+◌, ◌⊎◌, List, [], ◌∷◌, length, map, nat_le, if◌then◌else◌, ⊤}
+use Rattle.line_io.specs.Streams.{Streams}
 use Rattle.id_groups.specs.Lists.{IsIn}
 use Rattle.id_groups.specs.Name.{Name}
 use Rattle.commit_graph.specs.World.{World}
@@ -16,7 +17,7 @@ use Rattle.step_rules.specs.declared.Refusal.TheVariants.{Remote}
 use Rattle.step_rules.specs.Rises.{EachWas, HasFailed}
 use Rattle.remote_rules.specs.Serving.{NeverFail}
 use Rattle.run_rules.specs.Run.{Run, Step}
-use Rattle.run_rules.specs.Ends.{Streams, End, Done, OverLimit, NoMemory, NotLoaded, NotStored, NoLog, EndsAs}
+use Rattle.run_rules.specs.Ends.{End, Done, OverLimit, NoMemory, NotLoaded, NotStored, NoLog, EndsAs}
 use Rattle.run_rules.specs.Stopped.{Stopped}
 
 -- The next line would have stored a world, after asking the mirrors so.

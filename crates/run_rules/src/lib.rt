@@ -2,6 +2,7 @@
 #![tactic(auto)]
 
 ghost use Rattle.std.specs.Prelude.{◌≡◌, ◌<◌, ◌≤◌, ◌⊎◌, ◌++◌, ◌+◌, ℕ, List, [], ◌∷◌, length, map, take};
+ghost use Rattle.line_io.specs.Streams.{Streams};
 ghost use Rattle.change_rules.specs.declared.Limits.{Limits};
 ghost use Rattle.step_rules.specs.State.{State, Stored, IsState, IsHeld, at_start, world_at};
 ghost use Rattle.step_rules.specs.Served.{IsServed};
@@ -13,7 +14,7 @@ ghost use Rattle.step_rules.specs.declared.Refusal.TheVariants.{Remote};
 ghost use Rattle.step_rules.specs.Rises.{EachWas, HasFailed};
 ghost use Rattle.id_groups.specs.Lists.{IsIn};
 ghost use Rattle.run_rules.specs.Run.{Run, output_of};
-ghost use Rattle.run_rules.specs.Ends.{Streams, End, Done, NoMemory, NoLog};
+ghost use Rattle.run_rules.specs.Ends.{End, Done, NoMemory, NoLog};
 ghost use Rattle.run_rules.specs.Means.{Means, RefusesLog};
 ghost use Rattle.run_rules.specs.Stopped.{Stopped, ArePrefixes, acknowledged};
 ghost use Rattle.run_rules.specs.Premises.{Start};

@@ -7,8 +7,8 @@ use Rattle.disk_trait.proofs.Telling.{goes-both, goes-from, goes-new, goes-told,
 use Rattle.gated_log.specs.Holding.{IsOnDisk}
 use Rattle.gated_log.specs.Load.{IsSureOf}
 use Rattle.change_rules.specs.Change.{text_of}
-use Rattle.change_rules.specs.Holding.{HoldAs}
-use Rattle.dag_store.specs.Loading.{KeepsHolding, IsLoadedStore}
+use Rattle.change_rules.specs.Holding.{HoldAs, KeepsHolding}
+use Rattle.dag_store.specs.Loading.{IsLoadedStore}
 use Rattle.dag_run.specs.Seen.{seen}
 use Rattle.dag_run.specs.Ends.{OpensRun}
 use Rattle.dag_run.specs.declared.stops.Stop.TheVariants as stops

@@ -1,9 +1,10 @@
 use Rattle.std.proofs.Common.{None, Some, [], length, ap, refl}
+use Rattle.flush_rebuild.specs.Cloning.{clone_fault}
 use Rattle.segment_codec.specs.Record.{Segment}
 use Rattle.high_segments.specs.Views.{flats_in}
 use Rattle.name_map.specs.Added.{payloads_of}
 use Rattle.change_rules.specs.Tables.{known_in}
-use Rattle.flush_rebuild.specs.Pulling.{clone_fault, unlike_name}
+use Rattle.flush_rebuild.specs.Pulling.{unlike_name}
 use Rattle.flush_rebuild.proofs.BaseBeside.{view-may, first-told}
 use Rattle.flush_rebuild.proofs.agreeing.check_cloned.Goals as goal
 

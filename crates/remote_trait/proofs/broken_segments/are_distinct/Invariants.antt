@@ -1,5 +1,5 @@
 use Rattle.std.proofs.Common.{◌≡◌, drop}
-use Rattle.remote_rules.specs.CloneData.{are_distinct}
+use Rattle.segment_codec.specs.Reading.{are_distinct}
 use Rattle.remote_trait.proofs.broken_segments.are_distinct.Given as goal
 
 abbrev pub invariant-numbers : goal.invariant-numbers
