@@ -5,7 +5,7 @@ ghost use Rattle.id_groups.specs.Lists.{is_in};
 ghost use Rattle.std.specs.Prelude.{nat_eq};
 ghost use Rattle.segment_codec.specs.Lent.{segment_of, parents_left};
 ghost use Rattle.batch_codec.specs.Reading.{are_known, knows_merge, knows_segment, knows_needed, knows_from, flush_fits, clone_fits, whole_fits, kind_fits};
-ghost use Rattle.batch_codec.specs.Lent.{segments_of, ids_of, payload_in};
+ghost use Rattle.batch_codec.specs.Lent.{segments_of, lent_ids, payload_in};
 
 use crate::counts::{CLONE, FLUSH, VERSION, WHOLE};
 use crate::lent::{KnownSlice, Parts, SegmentSlice};
@@ -36,7 +36,7 @@ fn leap_from(place: u32, leap: u32, above: bool) -> u32 {
 /// Whether the number is one of a known id. The search begins at the place near, leaps farther and farther from there, and goes on by
 /// halves; the place behind the one that was found is kept as near.
 fn knows(known: KnownSlice<'_>, number: u64, near: &mut u32) -> bool
-    ensures { result ≡ is_in nat_eq number (ids_of known.entry) }
+    ensures { result ≡ is_in nat_eq number (lent_ids known.entry) }
 {
     let mut low = 0u32;
     let mut high = known.count;
@@ -71,7 +71,7 @@ fn narrowed(low: u32, middle: u32, high: u32, above: bool) -> (u32, u32)
 
 /// Whether each parent is known, which is sought near a place.
 fn knows_all(known: KnownSlice<'_>, parents: Parents<'_>, near: u32) -> bool
-    ensures { result ≡ are_known (ids_of known.entry) (parents_left parents.entry) }
+    ensures { result ≡ are_known (lent_ids known.entry) (parents_left parents.entry) }
 {
     let mut rest = parents;
     let mut near = near;
@@ -85,7 +85,7 @@ fn knows_all(known: KnownSlice<'_>, parents: Parents<'_>, near: u32) -> bool
 
 /// Whether the segment begins with no merge, or its parents are known, which are sought near a place.
 fn knows_merge_of(known: KnownSlice<'_>, segment: SegmentRef<'_>, near: u32) -> bool
-    ensures { result ≡ knows_merge (ids_of known.entry) (segment_of segment.entry).parents }
+    ensures { result ≡ knows_merge (lent_ids known.entry) (segment_of segment.entry).parents }
 {
     let mut parents = segment.parents();
     if parents.next().is_none() {
@@ -105,7 +105,7 @@ fn knows_segment_of(
     cloned: u64,
     near: &mut u32,
 ) -> bool
-    ensures { result ≡ knows_segment cloned (ids_of known.entry) (segment_of segment.entry) }
+    ensures { result ≡ knows_segment cloned (lent_ids known.entry) (segment_of segment.entry) }
 {
     let greatest = segment.high().number().min(cloned.saturating_sub(1));
     cloned <= segment.low().number()
@@ -114,7 +114,7 @@ fn knows_segment_of(
 
 /// Whether of each record that begins below the cloned count the greatest cloned id, and each parent of a merge, is known.
 fn knows_what_is_needed(known: KnownSlice<'_>, section: SegmentSlice<'_>, cloned: u64) -> bool
-    ensures { result ≡ knows_needed cloned (ids_of known.entry) (segments_of section.entry) }
+    ensures { result ≡ knows_needed cloned (lent_ids known.entry) (segments_of section.entry) }
 {
     let mut rest = section.bytes;
     let mut near = 0;
@@ -132,7 +132,7 @@ fn knows_what_is_needed(known: KnownSlice<'_>, section: SegmentSlice<'_>, cloned
 
 /// Whether the known ids, which ascend below `after`, are all those from the cloned count on.
 fn knows_behind(known: KnownSlice<'_>, cloned: u64, after: u64) -> bool
-    ensures { result ≡ knows_from cloned after (ids_of known.entry) }
+    ensures { result ≡ knows_from cloned after (lent_ids known.entry) }
 {
     if after <= cloned {
         return true;

@@ -6,7 +6,7 @@ ghost use Rattle.segment_codec.specs.Lent.{segment_of};
 ghost use Rattle.segment_codec.specs.Turns.{place_behind};
 ghost use Rattle.batch_codec.specs.Reading.{are_within, may_stand, may_rise, behind_segment, behind_level, records_at, section_at, level_section_at, levels_at, names_at, known_at, heads_at, ids_in, ids_ascend};
 ghost use Rattle.batch_codec.specs.Payload.{size_since_second};
-ghost use Rattle.batch_codec.specs.Lent.{segments_of, knowns_of, names_of};
+ghost use Rattle.batch_codec.specs.Lent.{segments_of, knowns_of, lent_names};
 
 use crate::counts::FIRST_VERSION;
 use crate::fixed::{front_u64, read_piece, read_u16, read_u32};
@@ -188,7 +188,7 @@ pub fn read_names<'a>(
     total: usize,
 ) -> Option<(NameSlice<'a>, &'a [u8])>
     requires { length bytes.now ≤ total }
-    ensures exact { Gives (λ r. (names_of r.0, r.1.now)) result (names_at count bytes.now) }
+    ensures exact { Gives (λ r. (lent_names r.0, r.1.now)) result (names_at count bytes.now) }
     ensures count { IfSome result (λ r. r.0.count ≡ count) }
     ensures size { IfSome result (λ r. length bytes.now ≡ 20 * count + length r.1.now) }
     ensures start { IfSome result (λ r. r.0.start + length bytes.now ≡ total) }
@@ -206,7 +206,7 @@ pub fn read_names<'a>(
 #[tactic(auto, unfolding(crate::specs::Reading::heads_at))]
 pub fn read_heads<'a>(bytes: &'a [u8], total: usize) -> Option<(NameSlice<'a>, &'a [u8])>
     requires { length bytes.now ≤ total }
-    ensures exact { Gives (λ r. (names_of r.0, r.1.now)) result (heads_at bytes.now) }
+    ensures exact { Gives (λ r. (lent_names r.0, r.1.now)) result (heads_at bytes.now) }
     ensures size { IfSome result (λ r. length bytes.now ≡ 2 + 20 * r.0.count + length r.1.now) }
     ensures start { IfSome result (λ r. r.0.start + 20 * r.0.count + length r.1.now ≡ total) }
 {

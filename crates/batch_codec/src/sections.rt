@@ -2,7 +2,7 @@
 
 ghost use Rattle.std.specs.Prelude.{◌≡◌, ◌*◌, ◌<◌, Some, length, flat_map, slice_get, slice_index};
 ghost use Rattle.segment_codec.specs.Record.{segment_bytes};
-ghost use Rattle.batch_codec.specs.Lent.{segments_of, knowns_of, ids_of, names_of, lent_known, payload_of};
+ghost use Rattle.batch_codec.specs.Lent.{segments_of, knowns_of, lent_ids, lent_names, lent_known, payload_of};
 
 use crate::fixed::{front_u64, piece};
 use crate::lent::{KnownRef, KnownSlice, NameSlice, SegmentSlice};
@@ -43,7 +43,7 @@ impl<'a> KnownSlice<'a> {
     /// The number of the id at place `i`.
     pub(crate) fn number_at(&self, i: u32) -> u64
         requires { i < self.now.count }
-        ensures { result ≡ slice_index (ids_of self.now) i }
+        ensures { result ≡ slice_index (lent_ids self.now) i }
     {
         let (_, entry) = self.bytes.split_at(28 * i as usize);
         front_u64(entry)
@@ -79,15 +79,15 @@ impl<'a> KnownSlice<'a> {
 impl<'a> NameSlice<'a> {
     /// How many names there are.
     pub fn len(&self) -> u32
-        ensures { result ≡ length (names_of self.now) }
+        ensures { result ≡ length (lent_names self.now) }
     {
         self.count
     }
 
     /// The name at place `i`. `i` is below `len`.
     pub fn at(&self, i: u32) -> NameRef<'a>
-        requires { i < length (names_of self.now) }
-        ensures { slice_get (names_of self.now) i ≡ Some result.bytes.now }
+        requires { i < length (lent_names self.now) }
+        ensures { slice_get (lent_names self.now) i ≡ Some result.bytes.now }
     {
         NameRef::over(piece(self.bytes, 20 * i as usize, 20))
     }
@@ -95,7 +95,7 @@ impl<'a> NameSlice<'a> {
     /// The names, one after another.
     pub fn bytes(&self) -> &'a [u8]
         ensures bytes { result.now ≡ self.now.bytes.now }
-        ensures size { length result.now ≡ 20 * length (names_of self.now) }
+        ensures size { length result.now ≡ 20 * length (lent_names self.now) }
     {
         self.bytes
     }
@@ -170,7 +170,7 @@ impl<'a> BatchRef<'a> {
 
     /// The heads of the remote that was cloned.
     pub fn heads(&self) -> NameSlice<'a>
-        ensures names { names_of result ≡ (payload_of self.now).heads }
+        ensures names { lent_names result ≡ (payload_of self.now).heads }
         ensures start { result.start ≡ self.now.parts.heads.start }
     {
         self.parts.heads
@@ -186,7 +186,7 @@ impl<'a> BatchRef<'a> {
 
     /// The names of all other ids, in their order.
     pub fn other_names(&self) -> NameSlice<'a>
-        ensures names { names_of result ≡ (payload_of self.now).other_names }
+        ensures names { lent_names result ≡ (payload_of self.now).other_names }
         ensures start { result.start ≡ self.now.parts.other_names.start }
     {
         self.parts.other_names

@@ -8,7 +8,7 @@ use Rattle.id_groups.specs.Name.{Name, IsName}
 use Rattle.batch_codec.specs.Payload.{Payload, payload_bytes, known_bytes, names_bytes, names_start}
 use Rattle.batch_codec.specs.Grammar.{IsPayload}
 use Rattle.batch_codec.proofs.Entries.{knowns-size, names-size}
-use Rattle.name_index.specs.Index.{NamedPlace, StandsAt as NameStandsAt, Stand}
+use Rattle.name_index.specs.Index.{NamedPlace, NameStandsAt, NamesStand}
 use Rattle.name_map.specs.declared.build.OtherNames.{OtherNames}
 use Rattle.name_map.specs.Added.{Placed, StandsAt, names_from}
 use Rattle.name_map.specs.Build.{others_of}
@@ -20,7 +20,7 @@ pub other-names-in : (p : Payload) → IsPayload p → Stands p (names_bytes p.o
 other-names-in p h = names-stand p h
 
 -- names stand where their bytes do
-names-are-there : (bytes : List ℕ) (place : ℕ) (names : List Name) → AllByRecursion IsName names → take (length (names_bytes names)) (drop place bytes) ≡ names_bytes names → Stand bytes (names_from place names)
+names-are-there : (bytes : List ℕ) (place : ℕ) (names : List Name) → AllByRecursion IsName names → take (length (names_bytes names)) (drop place bytes) ≡ names_bytes names → NamesStand bytes (names_from place names)
 names-are-there bytes place [] h s = tt
 names-are-there bytes place (x ∷ names) h s =
     let parts = stand-parts x (names_bytes names) place bytes s in
@@ -30,7 +30,7 @@ names-are-there bytes place (x ∷ names) h s =
     )
 
 -- the names of a payload's other ids stand in the log
-pub others-stand : (bytes : List ℕ) (a : Placed) → IsPayload a.payload → StandsAt bytes a → Stand bytes (names_from (a.at + names_start a.payload) a.payload.other_names)
+pub others-stand : (bytes : List ℕ) (a : Placed) → IsPayload a.payload → StandsAt bytes a → NamesStand bytes (names_from (a.at + names_start a.payload) a.payload.other_names)
 others-stand bytes a h stand =
     let s = other-names-in a.payload h in
     let names = names_bytes a.payload.other_names in
@@ -40,7 +40,7 @@ others-stand bytes a h stand =
     names-are-there bytes (a.at + names_start a.payload) a.payload.other_names h.other_names (stand-parts names s.behind (a.at + names_start a.payload) bytes at).0
 
 -- each of them by its number
-pub other-at : (bytes : List ℕ) (place : ℕ) (names : List Name) (i : ℕ) → Stand bytes (names_from place names) → i < length names → NameStandsAt bytes (record { place = place + 20 * i; name = get_or names i [] })
+pub other-at : (bytes : List ℕ) (place : ℕ) (names : List Name) (i : ℕ) → NamesStand bytes (names_from place names) → i < length names → NameStandsAt bytes (record { place = place + 20 * i; name = get_or names i [] })
 other-at bytes place [] i h lt = absurd (omega (arith, lt))
 other-at bytes place (x ∷ names) zero h lt = let e : place ≡ place + 20 * 0 = omega arith in subst (λ n. NameStandsAt bytes (record { place = n; name = x })) e h.0
 other-at bytes place (x ∷ names) (suc i) h lt =

@@ -4,7 +4,7 @@ use Rattle.std.proofs.lemmas.List.{length-take, length-drop, drop-drop}
 use Rattle.id_groups.specs.Name.{Name}
 use Rattle.batch_codec.specs.Payload.{Known}
 use Rattle.batch_codec.specs.Reading.{knowns_in, names_read}
-use Rattle.name_index.specs.Index.{NamedPlace, Stand, StandFrom, names_in, places_in}
+use Rattle.name_index.specs.Index.{NamedPlace, NamesStand, StandFrom, names_in, places_in}
 use Rattle.name_map.specs.Added.{named_from, names_from, every}
 
 pub every-more : (first step n : ℕ) → every first step (n + 1) ≡ every first step n ++ (first + step * n) ∷ []
@@ -72,7 +72,7 @@ others-from n at b len =
     subst (λ (k : ℕ). StandFrom at b (names_from k (names_read n b))) e (names-stand n at 0 b (omega (arith, len)))
 
 -- what stands from the place 0 stands
-pub stand-zero : (b : List ℕ) (named : List NamedPlace) → StandFrom 0 b named → Stand b named
+pub stand-zero : (b : List ℕ) (named : List NamedPlace) → StandFrom 0 b named → NamesStand b named
 stand-zero b [] h = tt
 stand-zero b (n ∷ named) h =
     let e : n.place - 0 ≡ n.place = omega arith in

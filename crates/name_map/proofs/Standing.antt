@@ -12,7 +12,7 @@ use Rattle.batch_codec.specs.Payload.{Known, Payload, payload_bytes, known_bytes
 use Rattle.batch_codec.specs.Grammar.{IsPayload}
 use Rattle.batch_codec.proofs.Entries.{FitsKnown}
 use Rattle.batch_codec.proofs.Places.{Stands, known-stands}
-use Rattle.name_index.specs.Index.{NamedPlace, StandsAt, Stand, names_in}
+use Rattle.name_index.specs.Index.{NamedPlace, NameStandsAt, NamesStand, names_in}
 use Rattle.name_map.specs.Added.{Placed, known_of, named_from, named_of, start_of, FollowInLog, AllStand}
 use Rattle.name_map.proofs.Lists.{in-append, in-left, in-right}
 use Rattle.name_map.proofs.Orders.{known-within}
@@ -41,7 +41,7 @@ pub record HasEntry (bytes : List ℕ) (all : List Known) (named : NamedPlace) :
   pub name : entry.name ≡ named.name
   pub behind : 8 ≤ named.place
   pub within : named.place + 20 ≤ length bytes
-  pub stands : StandsAt bytes named
+  pub stands : NameStandsAt bytes named
   pub id : from_be_bytes w64 (take 8 (drop (named.place - 8) bytes)) ≡ entry.id
 
 entry-here : (bytes : List ℕ) (all : List Known) (place : ℕ) (k : Known) → FitsKnown k → IsIn k all → take (length (known_bytes k)) (drop place bytes) ≡ known_bytes k
@@ -106,11 +106,11 @@ all-entries count bytes all (a ∷ added) follow sub stand named i =
 pub entry-of : (bytes : List ℕ) (added : List Placed) → FollowInLog 0 added → AllStand bytes added → (named : NamedPlace) → IsIn named (named_of added) → HasEntry bytes (known_of added) named
 entry-of bytes added follow stand = all-entries 0 bytes (known_of added) added follow (λ k i. i) stand
 
-each-stands : (bytes : List ℕ) (named : List NamedPlace) → ((n : NamedPlace) → IsIn n named → StandsAt bytes n) → Stand bytes named
+each-stands : (bytes : List ℕ) (named : List NamedPlace) → ((n : NamedPlace) → IsIn n named → NameStandsAt bytes n) → NamesStand bytes named
 each-stands bytes [] h = tt
 each-stands bytes (n ∷ named) h = (h n (inl refl), each-stands bytes named (λ m i. h m (inr i)))
 
-pub names-stand : (bytes : List ℕ) (added : List Placed) → FollowInLog 0 added → AllStand bytes added → Stand bytes (named_of added)
+pub names-stand : (bytes : List ℕ) (added : List Placed) → FollowInLog 0 added → AllStand bytes added → NamesStand bytes (named_of added)
 names-stand bytes added follow stand = each-stands bytes (named_of added) (λ n i. (entry-of bytes added follow stand n i).stands)
 
 -- ---- names and places

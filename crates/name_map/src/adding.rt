@@ -3,8 +3,8 @@
 ghost use Rattle.std.specs.Prelude.{◌≡◌, ◌<◌, ◌+◌, ◌*◌, ◌^◌, ◌∷◌, ◌++◌, List, [], true, false, IfOk, OnOk, OnErr, Err};
 ghost use Rattle.id_groups.specs.Lists.{AreDistinct};
 ghost use Rattle.batch_codec.specs.Payload.{known_names};
-ghost use Rattle.batch_codec.specs.Lent.{payload_of, knowns_of, names_of};
-ghost use Rattle.name_index.specs.Index.{NamedPlace, IsIndexOf, Stand, names_in};
+ghost use Rattle.batch_codec.specs.Lent.{payload_of, knowns_of, lent_names};
+ghost use Rattle.name_index.specs.Index.{NamedPlace, IsIndexOf, NamesStand, names_in};
 ghost use Rattle.name_map.specs.declared.fault.MapFault.TheVariants.{Double as FaultDouble};
 ghost use Rattle.name_map.specs.Added.{every, named_from, names_from};
 ghost use Rattle.name_map.specs.Adding.{Apart, Meet, OthersFit};
@@ -35,8 +35,8 @@ pub(crate) fn places_every(
 
 /// Whether the index has one of the names.
 fn has_one_of(index: &NameIndex, bytes: &[u8], names: &NameSlice<'_>) -> bool
-    ensures meet { (all : List NamedPlace) → IsIndexOf index.now all → Stand bytes.now all → result ≡ true → Meet (names_in all) (names_of names.now) }
-    ensures apart { (all : List NamedPlace) → IsIndexOf index.now all → Stand bytes.now all → result ≡ false → Apart (names_in all) (names_of names.now) }
+    ensures meet { (all : List NamedPlace) → IsIndexOf index.now all → NamesStand bytes.now all → result ≡ true → Meet (names_in all) (lent_names names.now) }
+    ensures apart { (all : List NamedPlace) → IsIndexOf index.now all → NamesStand bytes.now all → result ≡ false → Apart (names_in all) (lent_names names.now) }
 {
     'names: for i in 0..names.len() {
         if index.find(bytes, names.at(i)).is_some() {
@@ -56,8 +56,8 @@ fn insert_known(
     known: &KnownSlice<'_>,
 ) -> Result<(), MapFault>
     requires { start < 2 ^ 63 }
-    ensures added { (all : List NamedPlace) → IsIndexOf index.old all → Stand bytes.now all → OnOk result (IsIndexOf index.new (all ++ named_from start (knowns_of known.now))) }
-    ensures double { (all : List NamedPlace) → IsIndexOf index.old all → Stand bytes.now all → result ≡ Err FaultDouble → AreDistinct (names_in (all ++ named_from start (knowns_of known.now))) → ⊥ }
+    ensures added { (all : List NamedPlace) → IsIndexOf index.old all → NamesStand bytes.now all → OnOk result (IsIndexOf index.new (all ++ named_from start (knowns_of known.now))) }
+    ensures double { (all : List NamedPlace) → IsIndexOf index.old all → NamesStand bytes.now all → result ≡ Err FaultDouble → AreDistinct (names_in (all ++ named_from start (knowns_of known.now))) → ⊥ }
     ensures unchanged { OnErr result (index.new ≡ index.old) }
 {
     let places = places_every(alloc, start + ID_BYTES, ENTRY_BYTES, known.len())?;
@@ -75,7 +75,7 @@ fn insert_new_known(
     known: &KnownSlice<'_>,
 ) -> Result<(), AllocError>
     requires { start < 2 ^ 63 }
-    ensures added { (all : List NamedPlace) → IsIndexOf index.old all → Stand bytes.now all → AreDistinct (names_in (all ++ named_from start (knowns_of known.now)))
+    ensures added { (all : List NamedPlace) → IsIndexOf index.old all → NamesStand bytes.now all → AreDistinct (names_in (all ++ named_from start (knowns_of known.now)))
         → OnOk result (IsIndexOf index.new (all ++ named_from start (knowns_of known.now))) }
     ensures unchanged { OnErr result (index.new ≡ index.old) }
 {
@@ -90,8 +90,8 @@ pub(crate) fn check_own_names(
     known: &KnownSlice<'_>,
     others: &NameSlice<'_>,
 ) -> Result<(), MapFault>
-    ensures ok { OnOk result (AreDistinct (names_in (named_from 0 (knowns_of known.now) ++ names_from 0 (names_of others.now)))) }
-    ensures double { result ≡ Err FaultDouble → AreDistinct (names_in (named_from 0 (knowns_of known.now) ++ names_from 0 (names_of others.now))) → ⊥ }
+    ensures ok { OnOk result (AreDistinct (names_in (named_from 0 (knowns_of known.now) ++ names_from 0 (lent_names others.now)))) }
+    ensures double { result ≡ Err FaultDouble → AreDistinct (names_in (named_from 0 (knowns_of known.now) ++ names_from 0 (lent_names others.now))) → ⊥ }
 {
     let mut index = NameIndex::empty(alloc);
     insert_known(alloc, &mut index, &[], 0, known)?;
@@ -107,8 +107,8 @@ pub(crate) fn check_others(
     bytes: &[u8],
     batch: &BatchRef<'_>,
 ) -> Result<(), MapFault>
-    ensures ok { (all : List NamedPlace) → IsIndexOf index.now all → Stand bytes.now all → OnOk result (OthersFit (names_in all) (known_names (payload_of batch.now)) (payload_of batch.now).other_names) }
-    ensures double { (all : List NamedPlace) → IsIndexOf index.now all → Stand bytes.now all → result ≡ Err FaultDouble → AreDistinct (names_in all ++ known_names (payload_of batch.now) ++ (payload_of batch.now).other_names) → ⊥ }
+    ensures ok { (all : List NamedPlace) → IsIndexOf index.now all → NamesStand bytes.now all → OnOk result (OthersFit (names_in all) (known_names (payload_of batch.now)) (payload_of batch.now).other_names) }
+    ensures double { (all : List NamedPlace) → IsIndexOf index.now all → NamesStand bytes.now all → result ≡ Err FaultDouble → AreDistinct (names_in all ++ known_names (payload_of batch.now) ++ (payload_of batch.now).other_names) → ⊥ }
 {
     let others = batch.other_names();
     if others.len() == 0 {
@@ -141,8 +141,8 @@ pub(crate) fn add_part(
 ) -> Result<(), MapFault>
     requires { part.start < 2 ^ 63 }
     ensures part { OnOk result (parts.new.items ≡ parts.old.items ++ part ∷ []) }
-    ensures index { (all : List NamedPlace) → IsIndexOf index.old all → Stand bytes.now all → OnOk result (IsIndexOf index.new (all ++ named_from part.start (knowns_of known.now))) }
-    ensures double { (all : List NamedPlace) → IsIndexOf index.old all → Stand bytes.now all → result ≡ Err FaultDouble → AreDistinct (names_in (all ++ named_from part.start (knowns_of known.now))) → ⊥ }
+    ensures index { (all : List NamedPlace) → IsIndexOf index.old all → NamesStand bytes.now all → OnOk result (IsIndexOf index.new (all ++ named_from part.start (knowns_of known.now))) }
+    ensures double { (all : List NamedPlace) → IsIndexOf index.old all → NamesStand bytes.now all → result ≡ Err FaultDouble → AreDistinct (names_in (all ++ named_from part.start (knowns_of known.now))) → ⊥ }
     ensures unchanged { OnErr result ((parts.new.items ≡ parts.old.items) × (index.new ≡ index.old)) }
 {
     let start = part.start();
@@ -168,7 +168,7 @@ pub(crate) fn add_new_part(
 ) -> Result<(), AllocError>
     requires { part.start < 2 ^ 63 }
     ensures part { OnOk result (parts.new.items ≡ parts.old.items ++ part ∷ []) }
-    ensures index { (all : List NamedPlace) → IsIndexOf index.old all → Stand bytes.now all → AreDistinct (names_in (all ++ named_from part.start (knowns_of known.now)))
+    ensures index { (all : List NamedPlace) → IsIndexOf index.old all → NamesStand bytes.now all → AreDistinct (names_in (all ++ named_from part.start (knowns_of known.now)))
         → OnOk result (IsIndexOf index.new (all ++ named_from part.start (knowns_of known.now))) }
     ensures unchanged { OnErr result ((parts.new.items ≡ parts.old.items) × (index.new ≡ index.old)) }
 {

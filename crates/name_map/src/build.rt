@@ -7,7 +7,7 @@ ghost use Rattle.id_groups.specs.Name.{Name};
 ghost use Rattle.batch_codec.specs.Grammar.{IsPayload};
 ghost use Rattle.batch_codec.specs.Lent.{payload_of};
 ghost use Rattle.batch_codec.specs.Payload.{known_names, payload_bytes};
-ghost use Rattle.name_index.specs.Index.{NamedPlace, StandsAt as NameStandsAt};
+ghost use Rattle.name_index.specs.Index.{NamedPlace, NameStandsAt};
 ghost use Rattle.name_map.specs.declared.fault.MapFault.TheVariants.{Double as FaultDouble};
 ghost use Rattle.name_map.specs.Added.{Placed, AllStand, StandsAt, known_of, payloads_of};
 ghost use Rattle.name_map.specs.Map.{IsMapOf, IsIdOf};

@@ -5,7 +5,7 @@ ghost use Rattle.std.specs.List.{AllByRecursion};
 ghost use Rattle.batch_codec.specs.Reading.{ids_ascend};
 ghost use Rattle.batch_codec.specs.Payload.{known_ids};
 ghost use Rattle.batch_codec.specs.Grammar.{IsPayload};
-ghost use Rattle.batch_codec.specs.Lent.{payload_of, ids_of as lent_ids};
+ghost use Rattle.batch_codec.specs.Lent.{payload_of, lent_ids};
 ghost use Rattle.name_map.specs.Added.{every};
 ghost use Rattle.name_map.specs.Part.{ids_of, upward, count_below, IsIndexIn, IsPlaceIn, IsPart};
 

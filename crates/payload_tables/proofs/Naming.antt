@@ -10,7 +10,7 @@ use Rattle.batch_codec.specs.Payload.{names_bytes}
 use Rattle.batch_codec.proofs.Entries.{names-size}
 use Rattle.segment_codec.specs.Record.{Segment, segment_bytes}
 use Rattle.flat_segments.specs.Placed.{PlacedSegment, placed_segments}
-use Rattle.name_index.specs.Index.{NamedPlace, Stand, StandsAt, Finds}
+use Rattle.name_index.specs.Index.{NamedPlace, NamesStand, NameStandsAt, Finds}
 use Rattle.name_map.specs.Added.{names_from}
 use Rattle.payload_tables.specs.Pending.{HeldRow, PlainPending, HoldsRows, FindsRow, row_names, segments_from}
 
@@ -54,8 +54,8 @@ get-in (y ∷ names) zero x e = inl (sym (ap (some_or x) e))
 get-in (y ∷ names) (suc k) x e = inr (get-in names k x e)
 
 -- the names that the index holds stand in the bytes
-pub named-stand : (p : PlainPending) (rows : List HeldRow) → (h : HoldsRows p rows) → Stand p.names h.index.named
-named-stand p rows h = all-each (StandsAt p.names) h.index.named (λ n i.
+pub named-stand : (p : PlainPending) (rows : List HeldRow) → (h : HoldsRows p rows) → NamesStand p.names h.index.named
+named-stand p rows h = all-each (NameStandsAt p.names) h.index.named (λ n i.
     let r = names-from-in 0 (row_names rows) n (h.index.sound n i) in
     let w = whole-names rows h.whole in
     record {

@@ -8,7 +8,7 @@ use Rattle.commit_graph.proofs.Histories.{in-append}
 use Rattle.commit_graph.proofs.Down.{in-left, in-right}
 use Rattle.commit_graph.proofs.Naming.{each, all-each}
 use Rattle.batch_codec.specs.Payload.{names_bytes}
-use Rattle.name_index.specs.Index.{NamedPlace, Stand, StandsAt, names_in, IsIndexOf}
+use Rattle.name_index.specs.Index.{NamedPlace, NamesStand, NameStandsAt, names_in, IsIndexOf}
 use Rattle.flat_segments.specs.Placed.{PlacedSegment}
 use Rattle.flat_segments.specs.Kept.{KeptFlats, entry_of, IsSectionOf}
 use Rattle.name_map.specs.Added.{names_from}
@@ -16,8 +16,8 @@ use Rattle.payload_tables.specs.Pending.{FindsNames}
 use Rattle.payload_tables.proofs.Naming.{name-in-bytes, names-from-in, get-in}
 
 -- the names that the index holds stand in the bytes of all
-pub held-stand : (bytes : List ℕ) (names : List Name) (index : _) (f : FindsNames index names) → bytes ≡ names_bytes names → AllByRecursion IsName names → Stand bytes f.named
-held-stand bytes names index f e w = all-each (StandsAt bytes) f.named (λ n i.
+pub held-stand : (bytes : List ℕ) (names : List Name) (index : _) (f : FindsNames index names) → bytes ≡ names_bytes names → AllByRecursion IsName names → NamesStand bytes f.named
+held-stand bytes names index f e w = all-each (NameStandsAt bytes) f.named (λ n i.
     let r = names-from-in 0 names n (f.sound n i) in
     record {
       whole = (each IsName names w n.name (get-in names r.0 n.name r.2)).0;

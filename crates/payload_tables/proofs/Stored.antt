@@ -2,7 +2,7 @@
 use Rattle.std.proofs.Common.{◌≡◌, ◌<◌, ◌≤◌, ◌^◌, ◌⊎◌, ℕ, zero, suc, ◌+◌, ◌*◌, ◌-◌, true, false, Option, Some, None, is_some, List, [], ◌∷◌, ◌++◌, length, take, drop, slice_get, true≢false, sym, ap, ap₂, subst, ◌∙◌, ⊎_elim, inl, inr, lit≤, arith}
 use Rattle.std.specs.List.{last_or}
 use Rattle.std.proofs.lemmas.List.{drop-take, take-take, drop-drop}
-use Rattle.name_index.specs.Index.{NamedPlace, Stand, StandsAt, IsIndexOf, names_in}
+use Rattle.name_index.specs.Index.{NamedPlace, NamesStand, NameStandsAt, IsIndexOf, names_in}
 use Rattle.name_map.specs.Added.{names_from, Placed, payloads_of, known_of, FollowInLog}
 use Rattle.name_map.proofs.Places.{names-are}
 use Rattle.commit_graph.proofs.Naming.{each, all-each}
@@ -124,8 +124,8 @@ module _ (bytes : List ℕ) (tables : PlainTables) (others : PlainOthers) (below
   pub others-index : IsIndexOf others.index (names_from others.names (other_names_in (newest (payloads_of added))))
   others-index = index-of others None added b.others_of
 
-  pub others-named : Stand bytes (names_from others.names (other_names_in (newest (payloads_of added))))
-  others-named = all-each (StandsAt bytes) (names_from others.names names) (λ n i.
+  pub others-named : NamesStand bytes (names_from others.names (other_names_in (newest (payloads_of added))))
+  others-named = all-each (NameStandsAt bytes) (names_from others.names names) (λ n i.
       let r = names-from-in others.names names n i in
       let lt = get-less names r.0 n.name r.2 in
       let c = facts.count in

@@ -8,7 +8,7 @@ ghost use Rattle.flat_segments.specs.Kept.{IsSectionOf};
 ghost use Rattle.name_map.specs.Added.{every, names_from};
 ghost use Rattle.name_index.specs.Index.{IsIndexOf};
 ghost use Rattle.id_groups.specs.Lists.{AreDistinct};
-ghost use Rattle.batch_codec.specs.Lent.{payload_of, names_of};
+ghost use Rattle.batch_codec.specs.Lent.{payload_of, lent_names};
 ghost use Rattle.name_map.specs.Adding.{placed};
 ghost use Rattle.batch_codec.specs.Payload.{payload_bytes};
 ghost use Rattle.payload_tables.specs.Kept.{AreOthersOf, AreNoOthers};
@@ -178,8 +178,8 @@ impl OthersTable {
 
 /// The index of names that stand, or will stand, at a place; one of no names where two of them are the same.
 fn index_of(alloc: Global, names: &NameSlice<'_>, at: u64) -> Result<NameIndex, AllocError>
-    requires { at + 20 * length (names_of names.now) < 2 ^ 64 }
-    ensures { IfOk result (λ index. AreDistinct (names_of names.now) → IsIndexOf index (names_from at (names_of names.now))) }
+    requires { at + 20 * length (lent_names names.now) < 2 ^ 64 }
+    ensures { IfOk result (λ index. AreDistinct (lent_names names.now) → IsIndexOf index (names_from at (lent_names names.now))) }
 {
     let places = places_every(alloc, at, names.len())?;
     let mut index = NameIndex::empty(alloc);

@@ -1,4 +1,4 @@
--- IsOneAsk that can't be.
+-- Asks that can't be.
 use Rattle.std.proofs.Common.{◌≡◌, ◌≢◌, ◌≤◌, ◌+◌, ℕ, List, [], ◌∷◌, ◌++◌, Option, Some, None, length, refl, sym, ap, ◌∙◌, inl, inr, arith, true≢false, is_some}
 use Rattle.std.specs.List.{AllZip, AllByRecursion}
 use Rattle.remote_rules.specs.Mirror.{Mirror}

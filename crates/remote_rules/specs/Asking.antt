@@ -30,7 +30,7 @@ abbrev pub total : List ℕ → ℕ
 total [] = 0
 total (count ∷ counts) = count + total counts
 
--- IsOneAsk for so many names each, one behind the other while they are answered. The first number is for how many names the
+-- Asks for so many names each, one behind the other while they are answered. The first number is for how many names the
 -- answered ones were.
 abbrev pub AsksInTurn : ℕ → List ℕ → List Mirror → Option MirrorFault → List Mirror → Type 0
 AsksInTurn answered [] old end new = (answered ≡ 0) × (end ≡ None) × (new ≡ old)

@@ -1,7 +1,7 @@
 use Rattle.std.proofs.Common.{List, Err, ap, subst}
 use Rattle.id_groups.specs.Name.{Name}
 use Rattle.batch_codec.specs.Payload.{known_names}
-use Rattle.batch_codec.specs.Lent.{payload_of, knowns_of, names_of}
+use Rattle.batch_codec.specs.Lent.{payload_of, knowns_of, lent_names}
 use Rattle.name_index.specs.Index.{names_in}
 use Rattle.name_map.specs.Adding.{Meet}
 use Rattle.name_map.proofs.More.{own-double, own-fit, none-meet}
@@ -12,7 +12,7 @@ pub returns-in_err-check_own_names-clause-double : goal.returns-in_err-check_own
 returns-in_err-check_own_names-clause-double c = λ all is stand e distinct.
     let fault = double-same c.from_residual.result c.in_err-check_own_names.field-0.0 c.from_residual.ensures.1 e in
     c.in_err-check_own_names.ensures.double (ap Err fault)
-    (own-double (names_in all) (payload_of c.args.batch.now) (knowns_of c.known.result) (names_of c.other_names-others.result) c.known.ensures.known c.other_names-others.ensures.names distinct)
+    (own-double (names_in all) (payload_of c.args.batch.now) (knowns_of c.known.result) (lent_names c.other_names-others.result) c.known.ensures.known c.other_names-others.ensures.names distinct)
 
 pub returns-then-has_one_of-clause-double : goal.returns-then-has_one_of-clause-double
 returns-then-has_one_of-clause-double c = λ all is stand e distinct.
@@ -22,5 +22,5 @@ returns-then-has_one_of-clause-double c = λ all is stand e distinct.
 
 pub returns-clause-ok : goal.returns-clause-ok
 returns-clause-ok c = λ all is stand.
-    own-fit (names_in all) (payload_of c.args.batch.now) (knowns_of c.known.result) (names_of c.other_names-others.result) c.known.ensures.known c.other_names-others.ensures.names
+    own-fit (names_in all) (payload_of c.args.batch.now) (knowns_of c.known.result) (lent_names c.other_names-others.result) c.known.ensures.known c.other_names-others.ensures.names
     c.in_ok-check_own_names.ensures.ok (c.has_one_of.ensures.apart all is stand c.if-has_one_of.false)

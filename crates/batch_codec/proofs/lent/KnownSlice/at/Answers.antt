@@ -1,7 +1,7 @@
 use Rattle.std.proofs.Common.{◌<◌, ◌+◌, ◌*◌, ◌^◌, ℕ, Some, take, drop, length, refl, sym, ap, ◌∙◌, arith}
 use Rattle.std.proofs.lemmas.List.{drop-drop, length-take, length-drop}
 use Rattle.batch_codec.specs.Payload.{Known}
-use Rattle.batch_codec.specs.Lent.{ids_of}
+use Rattle.batch_codec.specs.Lent.{lent_ids}
 use Rattle.batch_codec.proofs.Entries.{knowns-length, ids-length, known-at, id-at}
 use Rattle.batch_codec.proofs.Ascending.{below}
 use Rattle.batch_codec.proofs.lent.KnownSlice.at.Goals as goal
@@ -12,7 +12,7 @@ number_at-requires c = let lt = c.requires in omega (arith, lt, knowns-length c.
 pub from_number-requires : goal.from_number-requires
 from_number-requires c =
     let lt = c.requires in
-    let small = below 0 (2 ^ 57) (ids_of c.args.self.now) c.args.i c.args.self.now.ascending (omega (arith, lt, knowns-length c.args.self.now.count c.args.self.now.bytes.now, ids-length c.args.self.now.count c.args.self.now.bytes.now)) in
+    let small = below 0 (2 ^ 57) (lent_ids c.args.self.now) c.args.i c.args.self.now.ascending (omega (arith, lt, knowns-length c.args.self.now.count c.args.self.now.bytes.now, ids-length c.args.self.now.count c.args.self.now.bytes.now)) in
     let e = c.number_at.ensures in
     omega (arith, small, e)
 
