@@ -13,7 +13,7 @@ fi
 copy=$(mktemp -d)
 trap 'rm -rf "$copy"' EXIT
 mkdir -p "$copy/crates/lent/src"
-grep -E '^[a-z_]+:' crates.txt | grep -vE '^(command_lines|dag_run|segdag|bench|bench_[a-z]*|remote_store|[a-z_]*_rows|run_rules):' > "$copy/crates.txt"
+grep -E '^[a-z_]+:' crates.txt | grep -vE '^(command_lines|dag_run|segdag|bench|remote_store|[a-z_]*_rows|run_rules):' > "$copy/crates.txt"
 for crate in $(cut -d: -f1 "$copy/crates.txt"); do
     mkdir "$copy/crates/$crate"
     for part in src specs proofs; do

@@ -6,9 +6,7 @@ use Rattle.std.proofs.lemmas.List.Concat.{flat_map-cons, flat_map-append}
 use Rattle.std.proofs.lemmas.Bool.{lt-ltb}
 use Rattle.id_groups.specs.Id.{id_end}
 use Rattle.segment_codec.specs.Record.{Segment, IsSegment, segment_bytes}
-use Rattle.flat_segments.specs.Placed.{PlacedSegment, placed_segments, AreRecords, Stand}
-use Rattle.flat_segments.specs.Kept.{KeptFlats, IsTableOf}
-use Rattle.flat_segments.proofs.Callers.{placed-stand}
+use Rattle.flat_segments.specs.Placed.{AreRecords}
 use Rattle.flat_segments.proofs.Adding.{all-append}
 
 pub pair-segment : (low high a b : ℕ) → low ≤ high → high < 2 ^ 56 → a < low → b < a → IsSegment (record { low = low; high = high; level = 0; parents = a ∷ b ∷ [] })
@@ -59,7 +57,28 @@ wrote-next old new count h w = built-next old new count (count + 1) w.0 h w.1 w.
 pub built-all : (bytes : List ℕ) (count : ℕ) → count ≤ 2 ^ 30 → Built bytes count → (segments : List Segment) × AreRecords segments bytes × (length segments ≤ 2 ^ 30)
 built-all bytes count le h = let few = h.few in (h.segments, h.records, omega (arith, few, le))
 
--- the table of records that stand at 0
-pub filled-all : (records : List ℕ) (segments : List Segment) (table : KeptFlats) → AreRecords segments records → IsTableOf table ([] ++ placed_segments 0 segments)
-    → (x : List PlacedSegment) × IsTableOf table x × Stand records x
-filled-all records segments table are is = (placed_segments 0 segments, is, placed-stand records [] 0 segments (are.bytes_are ∙ sym (append-nil (flat_map segment_bytes segments))))
+pub one-segment : (low high a : ℕ) → low ≤ high → high < 2 ^ 56 → a < low → IsSegment (record { low = low; high = high; level = 0; parents = a ∷ [] })
+one-segment low high a order small first =
+    let k : 2 ^ 56 ≤ id_end = lit≤ tt in
+    record {
+      ascending = order;
+      one_group = lt-ltb low (2 ^ 56) (omega (arith, order, small)) ∙ sym (lt-ltb high (2 ^ 56) small);
+      valid = omega (arith, small, k);
+      level = lit≤ tt;
+      below = (first, tt);
+      distinct = ((λ n. n), tt);
+      level_parents = lit≤ tt;
+    }
+
+pub root-segment : (low high : ℕ) → low ≤ high → high < 2 ^ 56 → IsSegment (record { low = low; high = high; level = 0; parents = [] })
+root-segment low high order small =
+    let k : 2 ^ 56 ≤ id_end = lit≤ tt in
+    record {
+      ascending = order;
+      one_group = lt-ltb low (2 ^ 56) (omega (arith, order, small)) ∙ sym (lt-ltb high (2 ^ 56) small);
+      valid = omega (arith, small, k);
+      level = lit≤ tt;
+      below = tt;
+      distinct = tt;
+      level_parents = lit≤ tt;
+    }

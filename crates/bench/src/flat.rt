@@ -5,12 +5,11 @@ ghost use Rattle.segment_codec.specs.Record.{Segment};
 ghost use Rattle.flat_segments.specs.Placed.{PlacedSegment, AreRecords, Stand};
 ghost use Rattle.flat_segments.specs.Kept.{IsTableOf};
 
-mod graph;
 mod lookups;
 
+use crate::graph::{Shape, filled, written};
 use crate::telling::told;
 use flat_segments::FlatTable;
-use graph::{filled, written};
 use lookups::{count_ends, sum_of_lows};
 use std::io;
 use std::time::Instant;
@@ -21,7 +20,7 @@ const LOOK_UPS: u64 = 1_000_000;
 
 pub fn run(rt: &HostRuntime) -> io::Result<()> {
     let start = Instant::now(rt)?;
-    let records = written(rt.alloc(), SEGMENTS)?;
+    let records = written(rt.alloc(), Shape::Far, SEGMENTS)?;
     told(
         rt,
         "records of 250,000 segments, bytes",

@@ -6,11 +6,14 @@
 ghost use Rattle.std.specs.Prelude.{◌≤◌};
 
 mod flat;
+mod graph;
+mod levels;
 mod map;
 mod names;
 mod placing;
 mod plans;
 mod random;
+mod remote;
 mod spans;
 mod telling;
 mod walks;
@@ -23,21 +26,25 @@ use std::process::ExitCode;
 #[derive(Clone, Copy)]
 enum Bench {
     Flat,
+    Levels,
     Map,
     Names,
     Placing,
     Plans,
+    Remote,
     Spans,
     Walks,
 }
 
 /// The word for each benchmark.
-const WORDS: [(&str, Bench); 7] = [
+const WORDS: [(&str, Bench); 9] = [
     ("flat", Bench::Flat),
+    ("levels", Bench::Levels),
     ("map", Bench::Map),
     ("names", Bench::Names),
     ("placing", Bench::Placing),
     ("plans", Bench::Plans),
+    ("remote", Bench::Remote),
     ("spans", Bench::Spans),
     ("walks", Bench::Walks),
 ];
@@ -67,10 +74,12 @@ fn run(rt: &HostRuntime, bench: Bench, size: u64) -> io::Result<()>
 {
     match bench {
         Bench::Flat => flat::run(rt),
+        Bench::Levels => levels::run(rt, size),
         Bench::Map => map::run(rt),
         Bench::Names => names::run(rt),
         Bench::Placing => placing::run(rt),
         Bench::Plans => plans::run(rt, size),
+        Bench::Remote => remote::run(rt, size),
         Bench::Spans => spans::run(rt),
         Bench::Walks => walks::run(rt, size),
     }
@@ -103,7 +112,7 @@ fn main(rt: HostRuntime) -> ExitCode {
         Ok(true) => ExitCode::SUCCESS,
         Ok(false) => {
             let _told = eprintln!(rt;
-                "usage: bench [flat|map|names|placing|plans|spans|walks [--size N]]"
+                "usage: bench [flat|levels|map|names|placing|plans|remote|spans|walks [--size N]]"
             );
             ExitCode::from(2)
         }

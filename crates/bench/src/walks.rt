@@ -5,12 +5,12 @@ ghost use Rattle.std.specs.Prelude.{◌≤◌};
 mod draws;
 mod queries;
 
-use crate::telling::told;
+use crate::telling::{headed, told};
 use draws::Apart;
 use queries::{OfAll, Queries, Query};
 use sample_tables::{Rule, draw_history};
 use segment_codec::SegmentTable;
-use std::io::{self, Eprint, Print};
+use std::io;
 use std::time::Instant;
 
 /// The demo's rule: of sixteen commits about one is a merge and one begins a branch.
@@ -48,12 +48,6 @@ fn time_history(rt: &HostRuntime, name: &str, rule: Rule, size: u64) -> io::Resu
     )?;
     let view = sample.view(sample.count());
     time_all(rt, &Queries::new(rt.alloc(), &view))
-}
-
-/// Says on both outputs what comes.
-fn headed(rt: &HostRuntime, name: &str) -> io::Result<()> {
-    eprintln!(rt; "{name}:")?;
-    println!(rt; "{name}:")
 }
 
 fn time_all<T: SegmentTable>(rt: &HostRuntime, table: &Queries<'_, T>) -> io::Result<()> {

@@ -1,6 +1,6 @@
 #![tactic(auto)]
 
-//! Finding and fetching names over mirrors in memory, and over mirrors that tell what isn't so.
+//! Finding and fetching names over mirrors in memory, and over mirrors that tell what isn't so; and logs as mirrors.
 
 #[cfg(test)]
 mod broken;
@@ -14,6 +14,8 @@ mod counted;
 mod drawn;
 #[cfg(test)]
 mod liars;
+#[cfg(test)]
+mod logs;
 #[cfg(test)]
 mod mirrors;
 #[cfg(test)]

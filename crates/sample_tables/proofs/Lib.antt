@@ -2,3 +2,4 @@ mod Pushing
 mod Listed
 mod Histories
 mod Joining
+mod Growing

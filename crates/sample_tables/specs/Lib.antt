@@ -1,3 +1,4 @@
 pub mod Samples
 pub mod Others
 pub mod Drawn
+pub mod Grown

@@ -1,7 +1,8 @@
 #![tactic(auto)]
 
 //! The queries over flat tables: of small graphs against plain walks over the parents of each commit, and of chains of many segments
-//! against marks and arithmetic.
+//! against marks and arithmetic. Then levels against a plain computation over ids, and the queries over views with levels against
+//! flat views.
 
 #[cfg(test)]
 mod asked;
@@ -12,8 +13,10 @@ mod compared;
 #[cfg(test)]
 mod draws;
 #[cfg(test)]
+mod graphs;
+#[cfg(test)]
 mod joined;
 #[cfg(test)]
-mod plain;
+mod levels;
 #[cfg(test)]
-mod tests;
+mod plain;
