@@ -1,5 +1,5 @@
-//! A flush over a fresh disk, and a strip and a pull over a log, stopped behind each call of the disk or failing at one: what each crash leaves is
-//! the world from before or the one after, and only what the moment allows.
+//! A flush and a clone over a fresh disk, and a strip and a pull over a log, stopped behind each call of the disk or failing at one: what each
+//! crash leaves is the world from before or the one after, and only what the moment allows.
 
 ghost use Rattle.std.specs.Prelude.{◌≤◌};
 
@@ -16,7 +16,7 @@ use std::alloc::{AllocError, Global};
 const ALL: &str = "0 query all\n0 status\n";
 
 /// What it is answered over the empty one, over that of the two commits, over that of the first alone, and over that of both with the
-/// first in master.
+/// first in master, and over the first alone as a master.
 const NOTHING: &str = "ok 0\nok 0 0 0\n";
 
 const BOTH: &str = "00000000000000000000000000000000000000b1
@@ -36,6 +36,11 @@ ok 2
 ok 1 1 0
 ";
 
+const CLONED: &str = "00000000000000000000000000000000000000a1
+ok 1
+ok 1 0 0
+";
+
 /// What is answered where the disk fails while the store is loaded.
 const NOT_LOADED: &str = "err disk\n";
 
@@ -48,13 +53,15 @@ enum Change {
     Strip,
     /// A pull over their log, of a mirror that has the first.
     Pull,
+    /// A clone of that mirror over a fresh disk.
+    Clone,
 }
 
 impl Change {
     /// The disk's bytes before it.
     fn start(self) -> &'static [u8] {
         match self {
-            Change::Flush => &[],
+            Change::Flush | Change::Clone => &[],
             Change::Strip | Change::Pull => &LOG,
         }
     }
@@ -65,6 +72,7 @@ impl Change {
             Change::Flush => FLUSH,
             Change::Strip => "0 strip 00000000000000000000000000000000000000b1\n",
             Change::Pull => "0 pull\n",
+            Change::Clone => "0 clone\n",
         }
     }
 
@@ -74,6 +82,7 @@ impl Change {
             Change::Flush => "ok added N0\nok added N1\nok flushed 0 2\n",
             Change::Strip => "ok stripped 0 1\n",
             Change::Pull => "ok pulled 1 1\n",
+            Change::Clone => "ok cloned 1\n",
         }
     }
 
@@ -81,14 +90,14 @@ impl Change {
     fn not_stored(self) -> &'static str {
         match self {
             Change::Flush => "ok added N0\nok added N1\nerr disk\n",
-            Change::Strip | Change::Pull => "err disk\n",
+            Change::Strip | Change::Pull | Change::Clone => "err disk\n",
         }
     }
 
     /// What the world before it answers.
     fn before(self) -> &'static str {
         match self {
-            Change::Flush => NOTHING,
+            Change::Flush | Change::Clone => NOTHING,
             Change::Strip | Change::Pull => BOTH,
         }
     }
@@ -99,6 +108,7 @@ impl Change {
             Change::Flush => BOTH,
             Change::Strip => FIRST,
             Change::Pull => MOVED,
+            Change::Clone => CLONED,
         }
     }
 
@@ -107,7 +117,7 @@ impl Change {
         ensures { result ≤ 4 }
     {
         match self {
-            Change::Flush => 4,
+            Change::Flush | Change::Clone => 4,
             Change::Strip | Change::Pull => 3,
         }
     }
@@ -125,16 +135,17 @@ impl Change {
             Change::Flush => &[0, 1, 50, 109, 110],
             Change::Strip => &[110, 111, 150, 198, 199],
             Change::Pull => &[110, 111, 150, 239, 240],
+            Change::Clone => &[0, 1, 50, 117, 118],
         }
     }
 }
 
-/// The mirrors beside a change: a pull has one, whose master is the first commit.
+/// The mirrors beside a change: a pull and a clone have one, whose master is the first commit.
 fn beside(alloc: Global, change: Change) -> Result<Vec<Box<dyn Remote>>, AllocError> {
     let mut list: Vec<Box<dyn Remote>> = Vec::new(alloc);
     match change {
         Change::Flush | Change::Strip => {}
-        Change::Pull => list.push(Box::new(alloc, mirror(alloc)?)?)?,
+        Change::Pull | Change::Clone => list.push(Box::new(alloc, mirror(alloc)?)?)?,
     }
     Ok(list)
 }
@@ -331,6 +342,17 @@ fn a_pull_stops_behind_each_call(rt: HostRuntime) -> Result<(), AllocError> {
 }
 
 #[test]
+fn a_clone_stops_behind_each_call(rt: HostRuntime) -> Result<(), AllocError> {
+    for calls in 0..9u8 {
+        assert!(rt;
+            stop_is_right(rt.alloc(), Change::Clone, u64::from(calls))?,
+            "behind {calls}"
+        );
+    }
+    Ok(())
+}
+
+#[test]
 fn a_flush_fails_at_each_call(rt: HostRuntime) -> Result<(), AllocError> {
     for call in 1..9u8 {
         assert!(rt;
@@ -363,6 +385,17 @@ fn a_pull_fails_at_each_call(rt: HostRuntime) -> Result<(), AllocError> {
     Ok(())
 }
 
+#[test]
+fn a_clone_fails_at_each_call(rt: HostRuntime) -> Result<(), AllocError> {
+    for call in 1..9u8 {
+        assert!(rt;
+            failure_is_right(rt.alloc(), Change::Clone, u64::from(call))?,
+            "at {call}"
+        );
+    }
+    Ok(())
+}
+
 /// The world that a crash leaves while the gate is written, with what was there before or with what is written.
 fn left_by_gate(alloc: Global, change: Change, fill: Fill) -> Result<World, AllocError> {
     let mut disk = MemoryDisk::new(alloc, change.start(), &[], None)?;
@@ -377,8 +410,11 @@ fn left_by_gate(alloc: Global, change: Change, fill: Fill) -> Result<World, Allo
     )? {
         return Ok(World::Wrong);
     }
+    let size = disk.bytes().len() as u64;
+    if change.sizes().last() != Some(&size) {
+        return Ok(World::Wrong);
+    }
     let moment = change.closed() + 2;
-    let size = 240;
     world_left(alloc, change, &disk, &Choice { moment, fill, size })
 }
 
@@ -394,5 +430,6 @@ fn either_world_is_left_while_the_gate_is_written(rt: HostRuntime) -> Result<(),
     assert!(rt; leaves_either(rt.alloc(), Change::Flush)?);
     assert!(rt; leaves_either(rt.alloc(), Change::Strip)?);
     assert!(rt; leaves_either(rt.alloc(), Change::Pull)?);
+    assert!(rt; leaves_either(rt.alloc(), Change::Clone)?);
     Ok(())
 }
