@@ -61,7 +61,7 @@ count-grows before (p ∷ payloads) n h e =
 
 cloned-most : (p : Payload) → IsPayload p → p.cloned ≤ p.after
 cloned-most p h = ⊎_elim (λ (f : IsFlush p). let e = f.cloned in omega (arith, e))
-    (λ o. ⊎_elim (λ (c : IsClone p). let e = c.cloned in omega (arith, e)) (λ (w : grammar.IsWhole p). w.cloned) o) h.by_kind
+    (λ o. ⊎_elim (λ (c : IsClone p). let e = c.cloned in omega (arith, e)) (λ (w : grammar.IsWholePayload p). w.cloned) o) h.by_kind
 
 -- no more was cloned than there is
 clone-bound : (payloads : List Payload) → AreLawful [] payloads → cloned_count payloads ≤ count_after 0 payloads
