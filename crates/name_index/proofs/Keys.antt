@@ -8,7 +8,7 @@ use Rattle.std.specs.List.Sorted.{IsSortedBy}
 use Rattle.std.proofs.lemmas.Cmp.{ranked, nat_list_cmp_total}
 use Rattle.std.proofs.lemmas.List.Sorted.{ranks_by, sorted_far}
 use Rattle.id_groups.specs.Lists.{IsIn}
-use Rattle.name_index.specs.Runs.{IsAscending}
+use Rattle.name_index.specs.Runs.{IsAscending, StandsFirst}
 
 abbrev pub less : List ℕ → List ℕ → Bool
 less a b = is_lt (slice_cmp nat_cmp a b)
@@ -71,6 +71,15 @@ again-first k m ms up (inl e) = e
 again-first k m ms up (inr i) =
     let back = each-of (λ z. less z m ≡ false) ms up.1.0 k i in
     tied-keys k m back up.0.0
+
+-- a key before keys that ascend, the first of which isn't less
+pub first-ascends : (k : List ℕ) (ks : List (List ℕ)) → StandsFirst k ks → IsAscending ks → IsAscending (k ∷ ks)
+first-ascends k [] f up = (tt, tt)
+first-ascends k (m ∷ ms) f up = ((f, none-less ms up.0), up)
+  where
+    none-less : (zs : List (List ℕ)) → AllByRecursion (λ z. less z m ≡ false) zs → AllByRecursion (λ z. less z k ≡ false) zs
+    none-less [] h = tt
+    none-less (z ∷ zs) h = (order.chain z m k h.0 f, none-less zs h.1)
 
 -- a sorted list's keys ascend, and the other way round
 module _ {X : Type 0} (key : X → List ℕ) where

@@ -51,6 +51,11 @@ abbrev pub IsAscending : List (List ℕ) → Type 0
 IsAscending [] = ⊤
 IsAscending (k ∷ ks) = AllByRecursion (λ m. is_lt (slice_cmp nat_cmp m k) ≡ false) ks × IsAscending ks
 
+-- the first of the keys, if there is one, isn't less than this one
+abbrev pub StandsFirst : List ℕ → List (List ℕ) → Type 0
+StandsFirst k [] = ⊤
+StandsFirst k (m ∷ ms) = is_lt (slice_cmp nat_cmp m k) ≡ false
+
 -- a key may stand behind so many of these: each of them is less, and none behind them is
 pub record MayStandAt (k : List ℕ) (ks : List (List ℕ)) (at : ℕ) : Type 0 where
   pub front : AllByRecursion (λ m. is_lt (slice_cmp nat_cmp m k) ≡ true) (take at ks)

@@ -16,7 +16,7 @@ const GUESSES: u32 = 12;
 /// How many of so many entries have fronts within the distance, where fronts are spread evenly as hashes are. It is a
 /// guess: no clause asks anything of it.
 #[inline]
-fn count_within(distance: u64, len: usize) -> usize {
+pub(crate) fn count_within(distance: u64, len: usize) -> usize {
     ((distance >> 32).wrapping_mul(len as u64) >> 32) as usize
 }
 
