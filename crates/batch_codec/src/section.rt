@@ -1,9 +1,9 @@
 //! Sections of a payload, read from the bytes that begin with one.
 
-ghost use Rattle.std.specs.Prelude.{◌≡◌, ◌≤◌, ◌<◌, ◌+◌, ◌*◌, ◌^◌, ◌||◌, nat_lt, nat_le, IfSome, length};
+ghost use Rattle.std.specs.Prelude.{◌≡◌, ◌≤◌, ◌<◌, ◌+◌, ◌*◌, ◌^◌, ◌||◌, ◌&&◌, ◌∷◌, [], ℕ, false, not, nat_lt, nat_le, IfSome, MatchOption, length};
 ghost use Rattle.segment_codec.specs.Reading.{Gives};
-ghost use Rattle.segment_codec.specs.Lent.{segment_of};
-ghost use Rattle.segment_codec.specs.Turns.{place_behind};
+ghost use Rattle.segment_codec.specs.Lent.{segment_of, parents_left};
+ghost use Rattle.segment_codec.specs.Turns.{goes_on, is_only, place_behind};
 ghost use Rattle.batch_codec.specs.Reading.{are_within, may_stand, may_rise, behind_segment, behind_level, records_at, section_at, level_section_at, levels_at, names_at, known_at, heads_at, ids_in, ids_ascend};
 ghost use Rattle.batch_codec.specs.Payload.{size_since_second};
 ghost use Rattle.batch_codec.specs.Lent.{segments_of, knowns_of, lent_names};
@@ -11,8 +11,8 @@ ghost use Rattle.batch_codec.specs.Lent.{segments_of, knowns_of, lent_names};
 use crate::counts::FIRST_VERSION;
 use crate::fixed::{front_u64, read_piece, read_u16, read_u32};
 use crate::lent::{KnownSlice, NameSlice, SegmentSlice};
-use id_groups::FIRST_OTHER;
-use segment_codec::{SegmentRef, read_segment};
+use id_groups::{FIRST_OTHER, Id};
+use segment_codec::{Parents, SegmentRef, read_segment};
 
 /// Whether the number is of a master id below the end, or of the other group.
 fn is_within(number: u64, end: u64) -> bool
@@ -34,14 +34,37 @@ fn parents_are_within(segment: SegmentRef<'_>, end: u64) -> bool
     true
 }
 
+/// The only one of these parents; `None` where there are none or several.
+fn only_parent(parents: Parents<'_>) -> Option<Id>
+    ensures { MatchOption result ((n : ℕ) → is_only n (parents_left parents.entry) ≡ false) (λ parent. parents_left parents.entry ≡ parent ∷ []) }
+{
+    let mut rest = parents;
+    let parent = rest.next()?;
+    if rest.next().is_some() {
+        return None;
+    }
+    Some(parent)
+}
+
+/// Whether each parent is a master id below the end, or of the other group, and the segment goes on from none, unless it is the
+/// first.
+fn parents_fit(segment: SegmentRef<'_>, end: u64, is_first: bool) -> bool
+    ensures { result ≡ ((is_first || not (goes_on (segment_of segment.entry))) && are_within end (segment_of segment.entry).parents) }
+{
+    let Some(parent) = only_parent(segment.parents()) else {
+        return parents_are_within(segment, end);
+    };
+    (is_first || parent.number() != segment.low().number().saturating_sub(1))
+        && is_within(parent.number(), end)
+}
+
 /// Whether the record may come at this place of a section that begins at `first` and whose master parents are below `end`.
 fn fits(segment: SegmentRef<'_>, end: u64, first: u64, place: u64) -> bool
     ensures { result ≡ may_stand end first place (segment_of segment.entry) }
 {
     segment.level() == 0
         && segment.low().number() == place
-        && (place == first || !segment.goes_on())
-        && parents_are_within(segment, end)
+        && parents_fit(segment, end, place == first)
 }
 
 /// So many records, each of which may come at its place, the place behind them, and the rest.
