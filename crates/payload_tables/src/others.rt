@@ -15,7 +15,7 @@ ghost use Rattle.payload_tables.specs.Kept.{AreOthersOf, AreNoOthers};
 
 use batch_codec::{BatchRef, NameSlice};
 use flat_segments::Section;
-use name_index::{IndexFault, NameIndex};
+use name_index::NameIndex;
 use segment_codec::read_segment;
 use std::alloc::{AllocError, Global};
 use std::marker::Model;
@@ -101,7 +101,7 @@ impl OthersTable {
     }
 
     /// The other ids of a payload that stands, or will stand, at the place `at` in the log. Where two of its names are the
-    /// same, names aren't found.
+    /// same, it tells nothing of names.
     pub fn read(alloc: Global, batch: &BatchRef<'_>, at: u64) -> Result<OthersTable, AllocError>
         requires { at + length (payload_bytes (payload_of batch.now)) < 2 ^ 63 }
         ensures { IfOk result (λ others. AreDistinct (payload_of batch.now).other_names → AreOthersOf others (placed at batch.now)) }
@@ -176,18 +176,16 @@ impl OthersTable {
     }
 }
 
-/// The index of names that stand, or will stand, at a place; one of no names where two of them are the same.
+/// The index of names that stand, or will stand, at a place. Whether two of them are the same isn't looked at: of such names it tells
+/// nothing.
 fn index_of(alloc: Global, names: &NameSlice<'_>, at: u64) -> Result<NameIndex, AllocError>
     requires { at + 20 * length (lent_names names.now) < 2 ^ 64 }
     ensures { IfOk result (λ index. AreDistinct (lent_names names.now) → IsIndexOf index (names_from at (lent_names names.now))) }
 {
     let places = places_every(alloc, at, names.len())?;
     let mut index = NameIndex::empty(alloc);
-    match index.insert(&[], at, names.bytes(), places) {
-        Ok(()) => Ok(index),
-        Err(IndexFault::Double) => Ok(index),
-        Err(IndexFault::Memory) => Err(AllocError),
-    }
+    index.insert_new(&[], at, names.bytes(), places)?;
+    Ok(index)
 }
 
 /// The section of records that stand, or will stand, at a place.
