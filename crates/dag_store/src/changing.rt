@@ -1,11 +1,10 @@
 //! A session's change, from its plan to the disk.
 
-ghost use Rattle.std.specs.Prelude.{◌≡◌, ◌<◌, ◌≤◌, ◌+◌, ◌^◌, ℕ, List, [], ◌∷◌, ◌++◌, true, false, length, Ok, IfOk, IfSome, OnErr, OnOk, map};
+ghost use Rattle.std.specs.Prelude.{◌≡◌, ◌<◌, ◌≤◌, ◌+◌, ◌^◌, ℕ, List, [], true, false, length, Ok, IfOk, IfSome, OnErr, OnOk, map};
 ghost use Rattle.outside.specs.Counts.{Rose};
 ghost use Rattle.disk_trait.specs.Calls.{Goes};
 ghost use Rattle.batch_codec.specs.Payload.{Payload, payload_bytes};
 ghost use Rattle.change_rules.specs.Lawful.{MayFollow};
-ghost use Rattle.batch_codec.specs.Lent.{payload_of};
 ghost use Rattle.gated_log.specs.Held.{Held, log_bytes, longer};
 ghost use Rattle.gated_log.specs.Holding.{IsOnDisk};
 ghost use Rattle.name_map.specs.Added.{Placed, payloads_of};
@@ -27,7 +26,7 @@ use crate::session::Session;
 use crate::store::Store;
 use batch_codec::BatchRef;
 use disk_trait::Disk;
-use flush_rebuild::{Change, Limits, OthersTable, PendingRows, Tables};
+use flush_rebuild::{Change, Limits, PendingRows, Tables};
 use gated_log::{Committed, Log, ReserveFault};
 use id_groups::Name;
 use lazy_names::LazyNames;
@@ -80,28 +79,6 @@ pub(crate) fn reloaded<R: Remote>(
     }
 }
 
-/// A session without rows on so many payloads, the last of which stands, or will stand, at this place of the log.
-fn stored_session(
-    alloc: Global,
-    payloads: u32,
-    batch: &BatchRef<'_>,
-    at: u64,
-) -> Result<Session, AllocError>
-    requires room { at + length (payload_bytes (payload_of batch.now)) < 2 ^ 63 }
-    requires follows { (added : List Placed) × MayFollow (payloads_of added) (payload_of batch.now) }
-    ensures { (added : List Placed) → MayFollow (payloads_of added) (payload_of batch.now) → payloads ≡ length added + 1
-        → IfOk result (IsOnNewest (added ++ record { at = at; payload = payload_of batch.now } ∷ [])) }
-{
-    let others = OthersTable::read(alloc, batch, at)?;
-    let first = u64::from(others.count());
-    Ok(Session {
-        payloads,
-        below: batch.after(),
-        others,
-        pending: PendingRows::empty(alloc, first),
-    })
-}
-
 /// Takes the memory for the payload of a change: it is added to the tables, and the log has room for it. The answer is a session
 /// without rows that is on it.
 fn add_change(
@@ -144,9 +121,9 @@ fn add_payload(
     };
     let bytes = log.bytes();
     let at = bytes.len() as u64 + 8;
-    let session = stored_session(alloc, log.batch_count() + 1, &batch, at)?;
-    tables.add_lawful(bytes, &batch, at)?;
-    Ok(session)
+    let payloads = log.batch_count() + 1;
+    let others = tables.add_lawful(bytes, &batch, at)?;
+    Ok(Session::with_others(alloc, tables, payloads, others))
 }
 
 /// Takes the memory for a change: where nothing changes, the session is on the newest payloads without rows; or the log and the

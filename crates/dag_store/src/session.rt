@@ -29,6 +29,26 @@ impl Model for Session {
 }
 
 impl Session {
+    /// A session without rows on all of so many payloads, of which these are the tables, and these their other ids.
+    pub(crate) fn with_others(
+        alloc: Global,
+        tables: &Tables,
+        payloads: u32,
+        others: OthersTable,
+    ) -> Session
+        requires tables { (added : List Placed) × AreTablesOf tables.now added }
+        requires others { others ≡ tables.now.others }
+        ensures { (added : List Placed) → AreTablesOf tables.now added → payloads ≡ length added → IsOnNewest added result }
+    {
+        let first = u64::from(others.count());
+        Session {
+            payloads,
+            below: tables.master_count(),
+            others,
+            pending: PendingRows::empty(alloc, first),
+        }
+    }
+
     /// A session without rows on all of so many payloads, of which these are the tables.
     pub(crate) fn newest(
         alloc: Global,
@@ -39,13 +59,7 @@ impl Session {
         ensures { (added : List Placed) → AreTablesOf tables.now added → payloads ≡ length added → IfOk result (IsOnNewest added) }
     {
         let others = tables.others().copy(alloc)?;
-        let first = u64::from(others.count());
-        Ok(Session {
-            payloads,
-            below: tables.master_count(),
-            others,
-            pending: PendingRows::empty(alloc, first),
-        })
+        Ok(Session::with_others(alloc, tables, payloads, others))
     }
 
     /// Its base, lent with the log's bytes.

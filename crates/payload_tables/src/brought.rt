@@ -32,6 +32,13 @@ impl Brought {
         Ok(Brought { others, heads })
     }
 
+    /// The other ids once more, whose parts are shared.
+    pub(crate) fn share(&self, alloc: Global) -> Result<OthersTable, AllocError>
+        ensures { IfOk result (λ others. others ≡ self.now.others) }
+    {
+        self.others.copy(alloc)
+    }
+
     /// Keeps the other ids; of a clone or a whole store also its heads, and how many commits were cloned.
     pub(crate) fn keep(
         self,

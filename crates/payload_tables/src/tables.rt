@@ -118,22 +118,24 @@ impl Tables {
         Ok(())
     }
 
-    /// Adds a payload as `add_batch` does, where it is known that it may come behind those that were added: no name is sought. Want
-    /// of memory changes nothing.
+    /// Adds a payload as `add_batch` does, where it is known that it may come behind those that were added: no name is sought. The
+    /// answer is what the tables keep of its other ids, once more and shared with them. Want of memory changes nothing.
     pub fn add_lawful(
         &mut self,
         bytes: &[u8],
         batch: &BatchRef<'_>,
         at: u64,
-    ) -> Result<(), AllocError>
+    ) -> Result<OthersTable, AllocError>
         requires room { at + length (payload_bytes (payload_of batch.now)) < 2 ^ 63 }
         requires lawful { (added : List Placed) × AreTablesOf self.old added × AllStand bytes.now added × MayFollow (payloads_of added) (payload_of batch.now) }
         ensures added { (added : List Placed) → AreTablesOf self.old added → AllStand bytes.now added → MayFollow (payloads_of added) (payload_of batch.now)
             → OnOk result (AreTablesOf self.new (added ++ placed at batch.now ∷ [])) }
+        ensures others { IfOk result (λ others. others ≡ self.new.others) }
         ensures unchanged { OnErr result (self.new ≡ self.old) }
     {
         batch.is_payload();
         let brought = Brought::read(self.alloc, batch, at)?;
+        let others = brought.share(self.alloc)?;
         extend_lawful(
             &mut self.flat,
             &mut self.levels,
@@ -144,7 +146,7 @@ impl Tables {
         )?;
         brought.keep(batch, &mut self.others, &mut self.heads, &mut self.cloned);
         self.version = batch.version();
-        Ok(())
+        Ok(others)
     }
 
     /// Appends the records of the segments of levels that come with these master records, which are those of a payload that may come
