@@ -67,6 +67,28 @@ impl IdSet {
         ensures canonical { IsCanonical self.new }
         ensures unchanged { OnErr result (self.new ≡ self.old) }
     {
+        self.put(span)
+    }
+
+    /// Adds the id, wherever it stands. On want of memory the set stays as it was. For loops that go down: below all that is
+    /// held it takes no call, but where the set grows.
+    #[inline(always)]
+    pub fn push_below(&mut self, id: Id) -> Result<(), AllocError>
+        ensures members { OnOk result ((x : ℕ) → IsMember self.new x ↔ (IsMember self.old x ⊎ (x ≡ id))) }
+        ensures canonical { IsCanonical self.new }
+        ensures unchanged { OnErr result (self.new ≡ self.old) }
+    {
+        self.put(IdSpan::single(id))
+    }
+
+    /// Adds the ids of the span: at the lowest span, below it, or elsewhere.
+    #[inline(always)]
+    fn put(&mut self, span: IdSpan) -> Result<(), AllocError>
+        requires { IsSpan span }
+        ensures members { OnOk result ((x : ℕ) → IsMember self.new x ↔ (IsMember self.old x ⊎ IsInSpan x span)) }
+        ensures canonical { IsCanonical self.new }
+        ensures unchanged { OnErr result (self.new ≡ self.old) }
+    {
         if last_joins(&self.spans, &span) {
             let last = self.spans.len() - 1;
             let high = self.spans[last].high;

@@ -6,7 +6,7 @@ use Rattle.span_set.specs.Members.{IsCanonical, IsMember}
 use Rattle.span_set.specs.Places.{AreAbove, BeginsRightAbove}
 use Rattle.span_set.proofs.LastSpan.{some-right, longer-canonical, longer-members}
 use Rattle.span_set.proofs.MemberLemmas.{push-canonical, push-members}
-use Rattle.span_set.proofs.set.IdSet.insert_span.Goals as goal
+use Rattle.span_set.proofs.set.IdSet.put.Goals as goal
 
 pub invariant_of-self-then-are_all_above : goal.invariant_of-self-then-are_all_above
 invariant_of-self-then-are_all_above c =
