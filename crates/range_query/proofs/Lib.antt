@@ -8,6 +8,7 @@ pub mod RisingLemmas
 pub mod Lowests
 pub mod Highests
 pub mod DescendantLemmas
+pub mod ByteCounts
 pub mod MergeLemmas
 pub mod RangeLemmas
 pub mod FallLemmas

@@ -37,7 +37,7 @@ fn add_head(answer: &mut IdSet, waiting: &mut WorkList, id: Id) -> Result<(), Al
     ensures canonical { IsCanonical answer.old → IsCanonical answer.new }
 {
     if !is_waiting(waiting, id) {
-        answer.insert_span(IdSpan::single(id))?;
+        answer.push_below(id)?;
     }
     Ok(())
 }

@@ -3,6 +3,7 @@
 ghost use Rattle.std.specs.Prelude.{ℕ, ◌≤◌, ◌⊎◌, ◌↔◌, length, IfOk, OnOk, IsTrue, ◌-◌, ◌^◌, min};
 ghost use Rattle.id_groups.specs.Span.{IsInSpan};
 ghost use Rattle.commit_graph.specs.Sets as sets;
+ghost use Rattle.segment_codec.specs.Number.{number_bytes};
 ghost use Rattle.segment_codec.specs.Lent.{segment_of};
 ghost use Rattle.segment_codec.specs.Table.{IsHeld, parents_at};
 ghost use Rattle.span_set.specs.Members.{IsMember, IsCanonical};
@@ -15,16 +16,43 @@ use segment_codec::{SegmentRef, SegmentTable, Steps};
 use span_set::IdSet;
 use std::alloc::{AllocError, Global};
 
-/// Whether the segment's lowest id has two or more parents.
-fn begins_with_merge(segment: SegmentRef<'_>) -> bool
+/// How many bytes a number up to this one takes at most.
+fn longest_up_to(number: u64) -> usize
+    ensures { (n : ℕ) → n ≤ number → length (number_bytes n) ≤ result }
+{
+    let mut rest = number;
+    let mut longest = 1;
+    'groups: while rest >= 128 {
+        rest /= 128;
+        longest += 1;
+    }
+    longest
+}
+
+/// Whether the segment's lowest id has two or more parents. One parent takes at most `longest` bytes, so of most merges
+/// the number of their bytes tells it, and none is read.
+#[inline(always)]
+fn begins_with_merge(segment: SegmentRef<'_>, longest: usize) -> bool
+    requires { (n : ℕ) → n ≤ (segment_of segment).low → length (number_bytes n) ≤ longest }
     ensures { IsTrue result ↔ (2 ≤ length (segment_of segment.entry).parents) }
 {
+    if segment.parents_len() > longest {
+        return true;
+    }
     let mut parents = segment.parents();
     parents.next().is_some() && parents.next().is_some()
 }
 
-/// Adds the lowest id of the segment where it is a merge and one of the span's ids.
-fn add_lowest(answer: &mut IdSet, span: &IdSpan, segment: SegmentRef<'_>) -> Result<(), AllocError>
+/// Adds the lowest id of the segment where it is a merge and one of the span's ids. None of these takes more than
+/// `longest` bytes.
+#[inline(always)]
+fn add_lowest(
+    answer: &mut IdSet,
+    span: &IdSpan,
+    segment: SegmentRef<'_>,
+    longest: usize,
+) -> Result<(), AllocError>
+    requires { (n : ℕ) → n ≤ span.now.high → length (number_bytes n) ≤ longest }
     ensures members { OnOk result ((x : ℕ) → IsMember answer.new x ↔ (IsMember answer.old x ⊎ IsMergeIn span.now (segment_of segment.entry) x)) }
     ensures canonical { IsCanonical answer.old → IsCanonical answer.new }
 {
@@ -32,13 +60,14 @@ fn add_lowest(answer: &mut IdSet, span: &IdSpan, segment: SegmentRef<'_>) -> Res
     if low < span.low.number() || span.high.number() < low {
         return Ok(());
     }
-    if begins_with_merge(segment) {
-        answer.insert_span(IdSpan::single(segment.low()))?;
+    if begins_with_merge(segment, longest) {
+        answer.push_below(segment.low())?;
     }
     Ok(())
 }
 
 /// Adds the merges among the span's ids. It goes down over the flat segments that have an id of the span.
+#[inline(never)]
 fn add_merges<T: SegmentTable>(
     answer: &mut IdSet,
     table: &T,
@@ -52,12 +81,13 @@ fn add_merges<T: SegmentTable>(
     ensures counted { min steps.old.taken (2 ^ 64 - 1) ≤ steps.new.taken }
 {
     let end = count_below(table, span.high, steps) + 1;
+    let longest = longest_up_to(span.high.number());
     'down: for k in (0..end).rev() {
         let segment = table.flat_at(k, steps);
         if segment.high().number() < span.low.number() {
             return Ok(());
         }
-        add_lowest(answer, span, segment)?;
+        add_lowest(answer, span, segment, longest)?;
     }
     Ok(())
 }
