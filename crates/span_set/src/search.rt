@@ -50,14 +50,14 @@ pub(crate) fn last_joins(spans: &[IdSpan], span: &IdSpan) -> bool
     low == span.high.number() + 1 && low != FIRST_OTHER
 }
 
-/// Whether all spans lie above `span` and none joins it.
+/// Whether all spans lie more than one above `span`, so that none joins it.
 #[inline(always)]
 pub(crate) fn are_all_above(spans: &[IdSpan], span: &IdSpan) -> bool
     requires { IsCanonical spans.now }
     ensures { IsTrue result → AreAbove span.now spans.now }
 {
     let len = spans.len();
-    len == 0 || span.high.number() < gap_below(&spans[len - 1])
+    len == 0 || span.high.number() + 1 < spans[len - 1].low.number()
 }
 
 /// How many spans lie above `span` without joining it, of which there are at most `to`.

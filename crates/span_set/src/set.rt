@@ -89,6 +89,10 @@ impl IdSet {
         ensures canonical { IsCanonical self.new }
         ensures unchanged { OnErr result (self.new ≡ self.old) }
     {
+        if are_all_above(&self.spans, &span) {
+            self.spans.push(span)?;
+            return Ok(());
+        }
         if last_joins(&self.spans, &span) {
             let last = self.spans.len() - 1;
             let high = self.spans[last].high;
@@ -96,10 +100,6 @@ impl IdSet {
                 low: span.low,
                 high,
             };
-            return Ok(());
-        }
-        if are_all_above(&self.spans, &span) {
-            self.spans.push(span)?;
             return Ok(());
         }
         self.insert_within(span)

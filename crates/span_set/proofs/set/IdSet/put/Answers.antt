@@ -12,7 +12,7 @@ pub invariant_of-self-then-are_all_above : goal.invariant_of-self-then-are_all_a
 invariant_of-self-then-are_all_above c =
     let xs = c.self.inside.spans.items in
     subst IsCanonical (sym c.in_ok-push.ensures.items)
-    (push-canonical c.args.span xs c.self.invariant c.requires (subst (AreAbove c.args.span) c.deref-2.ensures.value (c.are_all_above.ensures c.if-are_all_above.true)))
+    (push-canonical c.args.span xs c.self.invariant c.requires (subst (AreAbove c.args.span) c.deref.ensures.value (c.are_all_above.ensures c.if-are_all_above.true)))
 
 pub returns-then-are_all_above-clause-members : goal.returns-then-are_all_above-clause-members
 returns-then-are_all_above-clause-members c = λ x.
@@ -24,7 +24,7 @@ pub returns-then-are_all_above-clause-canonical : goal.returns-then-are_all_abov
 returns-then-are_all_above-clause-canonical c =
     let xs = c.self.inside.spans.items in
     subst IsCanonical (sym c.in_ok-push.ensures.items)
-    (push-canonical c.args.span xs c.self.invariant c.requires (subst (AreAbove c.args.span) c.deref-2.ensures.value (c.are_all_above.ensures c.if-are_all_above.true)))
+    (push-canonical c.args.span xs c.self.invariant c.requires (subst (AreAbove c.args.span) c.deref.ensures.value (c.are_all_above.ensures c.if-are_all_above.true)))
 
 -- the last span made longer, from the facts of the calls
 joined : (xs : List IdSpan) (t f : IdSpan) (last n : ℕ) → last ≡ n → n ≡ length xs → f ≡ get_or xs (last - 1) f → BeginsRightAbove t xs → IsSpan t → IsCanonical xs
@@ -38,19 +38,19 @@ joined xs t f last n e len is right st c =
       λ x. longer-members t (record { low = t.low; high = f.high }) f xs (last - 1) x size refl high right st c,
     )
 
-pub invariant_of-self : goal.invariant_of-self
-invariant_of-self c =
+pub invariant_of-self-then-last_joins : goal.invariant_of-self-then-last_joins
+invariant_of-self-then-last_joins c =
     (joined c.self.inside.spans.items c.args.span c.index.result.now c.len-last.result _ c.len-last.ensures c.self.inside.spans.ok.0 c.index.ensures
-    (subst (BeginsRightAbove c.args.span) c.deref.ensures.value (c.last_joins.ensures c.if-last_joins.true)) c.requires c.self.invariant).0
+    (subst (BeginsRightAbove c.args.span) c.deref-2.ensures.value (c.last_joins.ensures c.if-last_joins.true)) c.requires c.self.invariant).0
 
 pub returns-then-last_joins-clause-canonical : goal.returns-then-last_joins-clause-canonical
 returns-then-last_joins-clause-canonical c =
     (joined c.self.inside.spans.items c.args.span c.index.result.now c.len-last.result _ c.len-last.ensures c.self.inside.spans.ok.0 c.index.ensures
-    (subst (BeginsRightAbove c.args.span) c.deref.ensures.value (c.last_joins.ensures c.if-last_joins.true)) c.requires c.self.invariant).0
+    (subst (BeginsRightAbove c.args.span) c.deref-2.ensures.value (c.last_joins.ensures c.if-last_joins.true)) c.requires c.self.invariant).0
 
 pub returns-then-last_joins-clause-members : goal.returns-then-last_joins-clause-members
 returns-then-last_joins-clause-members c = λ x.
     let xs = c.self.inside.spans.items in
     subst (λ l. IsMember (slice_set xs (c.len-last.result - 1) (record { low = c.args.span.low; high = c.index.result.now.high })) x ↔ (IsMember l x ⊎ IsInSpan x c.args.span)) c.self.view_is
     ((joined xs c.args.span c.index.result.now c.len-last.result _ c.len-last.ensures c.self.inside.spans.ok.0 c.index.ensures
-    (subst (BeginsRightAbove c.args.span) c.deref.ensures.value (c.last_joins.ensures c.if-last_joins.true)) c.requires c.self.invariant).1 x)
+    (subst (BeginsRightAbove c.args.span) c.deref-2.ensures.value (c.last_joins.ensures c.if-last_joins.true)) c.requires c.self.invariant).1 x)
