@@ -117,6 +117,7 @@ fn read_whole<D: Disk>(alloc: Global, from: &mut D, limit: u64) -> Result<Whole,
     ensures answers { IfSome (D.bytes from.old) (λ bytes. ReadsWhole limit bytes result) }
     ensures err { IfErr result IsOfReading }
     ensures holds { (w : World NameBytes) → Goes (KeepsHolding limit w) (D.told from.old) (D.told from.new) }
+    ensures loaded { Goes LeavesOldOrFresh (D.told from.old) (D.told from.new) }
     ensures unwritten { result ≡ Err Compacted.FromBad → Goes IsUntouched (D.told from.old) (D.told from.new) }
     ensures later { D.faults from.old ≤ D.faults from.new }
     ensures cause { (fault : _) → result ≡ Err (Compacted.FromDisk fault) → Rose (D.faults from.old) (D.faults from.new) }
@@ -197,8 +198,8 @@ fn write_whole<D: Disk>(alloc: Global, to: &mut D, limit: u64, whole: &Whole) ->
     }
 }
 
-/// Writes what the first disk's log holds to the second disk, in one batch of a log that has none. The first is only loaded. Of an
-/// empty log no batch is written.
+/// Writes what the first disk's log holds to the second disk, in one batch of a log that has none. The first is only loaded: a crash
+/// leaves what it might have left before, or at most a byte where it had no more than one. Of an empty log no batch is written.
 ///
 /// Where each list of bytes that a crash of the second disk may leave is a log without a batch, at each moment since each one has no
 /// batch, or holds the world, with the same known names, cloned count and heads of the remote; and so does each one where it is done.
@@ -210,6 +211,7 @@ pub fn compact<D: Disk>(alloc: Global, from: &mut D, to: &mut D, limit: u64) -> 
     ensures writes { IfSome (D.bytes to.old) (λ bytes. IsWrittenAs limit bytes result) }
     ensures shrinks { (payloads : List Payload) (w : World NameBytes) → IfSome (D.bytes from.old) (λ bytes. HoldAs limit bytes payloads w → Shrinks limit payloads w result) }
     ensures holds { (w : World NameBytes) → Goes (KeepsHolding limit w) (D.told from.old) (D.told from.new) }
+    ensures from_loaded { Goes LeavesOldOrFresh (D.told from.old) (D.told from.new) }
     ensures moments { (payloads : List Payload) (w : World NameBytes)
         → IfSome (D.bytes from.old) (λ bytes. HoldAs limit bytes payloads w → Goes (KeepsNoneOrWhole limit payloads w) (D.told to.old) (D.told to.new)) }
     ensures done { (payloads : List Payload) (w : World NameBytes) (shrunk : _) → result ≡ Compacted.Done shrunk
