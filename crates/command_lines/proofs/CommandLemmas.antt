@@ -18,7 +18,7 @@ use Rattle.run_rules.specs.Grammar.{SpellsCommand, SpellsVerb, SpellsNames, more
 use Rattle.command_lines.specs.declared.command.Verb.{Verb as Given}
 use Rattle.command_lines.specs.declared.words.Word.{Word}
 use Rattle.command_lines.specs.declared.words.Word.TheVariants as words
-use Rattle.command_lines.specs.Meant.{meant}
+use Rattle.command_lines.specs.Meant.{meant, TakesMemory}
 use Rattle.command_lines.specs.Parts.{word_text, verb_word, AreNames, SpellsArgs, HasWord, SpellsParts, FitsNone, MayWant}
 use Rattle.command_lines.proofs.NamesLemmas.{words-of-text, split-words}
 use Rattle.command_lines.proofs.TextLemmas.{none-in, is_clear, clear, number-no-blank}
@@ -247,27 +247,44 @@ fits-none front behind word is f verb h =
     none CountMirrors (Some args) h word e f = absurd h
     none (Drop k) None h word e f = absurd h
 
--- which verbs of a word may want memory
-pub may-want : (front : List ℕ) (behind : Option (List ℕ)) (word : Word) → front ≡ word_text word → MayWant word → (verb : Verb) → SpellsParts front behind verb → MayWantMemory verb
-may-want front behind word is m verb h =
+-- which verbs of a word take memory to be read
+pub may-want : (front args : List ℕ) (word : Word) → front ≡ word_text word → MayWant word → (verb : Verb) → SpellsParts front (Some args) verb → TakesMemory verb
+may-want front args word is m verb h =
     let same = one-word h.0 word (sym h.1 ∙ is) in
-    may verb h.0 h.2.0 (subst MayWant (sym same) m)
+    may verb h.0 h.2.0 h.2.1 (subst MayWant (sym same) m)
   where
-    may : (verb : Verb) (word : Word) → verb_word verb ≡ Some word → MayWant word → MayWantMemory verb
-    may Discard word e m = subst MayWant (sym (some-same words.Discard word e)) m
-    may Status word e m = subst MayWant (sym (some-same words.Status word e)) m
-    may Levels word e m = subst MayWant (sym (some-same words.Levels word e)) m
-    may CountMirrors word e m = subst MayWant (sym (some-same words.Mirrors word e)) m
-    may (Drop k) word e m = subst MayWant (sym (some-same words.DropAt word e)) m
-    may (Add name parents) word e m = tt
-    may (Flush heads) word e m = tt
-    may Reload word e m = tt
-    may (Query x) word e m = tt
-    may (Count x) word e m = tt
-    may (IdOf name) word e m = tt
-    may Clone word e m = tt
-    may Pull word e m = tt
-    may (Strip names) word e m = tt
+    may : (verb : Verb) (word : Word) → verb_word verb ≡ Some word → SpellsArgs verb (Some args) → MayWant word → TakesMemory verb
+    may Discard word e a m = subst MayWant (sym (some-same words.Discard word e)) m
+    may Status word e a m = subst MayWant (sym (some-same words.Status word e)) m
+    may Levels word e a m = subst MayWant (sym (some-same words.Levels word e)) m
+    may CountMirrors word e a m = subst MayWant (sym (some-same words.Mirrors word e)) m
+    may (Drop k) word e a m = subst MayWant (sym (some-same words.DropAt word e)) m
+    may Reload word e a m = subst MayWant (sym (some-same words.Reload word e)) m
+    may (IdOf name) word e a m = subst MayWant (sym (some-same words.Id word e)) m
+    may Clone word e a m = subst MayWant (sym (some-same words.Clone word e)) m
+    may Pull word e a m = subst MayWant (sym (some-same words.Pull word e)) m
+    may (Add name parents) word e a m = tt
+    may (Flush heads) word e a m = some-names args heads a
+    may (Query x) word e a m = tt
+    may (Count x) word e a m = tt
+    may (Strip names) word e a m = tt
+
+-- which takes memory to be read may want it
+pub takes-wants : (verb : Verb) → TakesMemory verb → MayWantMemory verb
+takes-wants (Add name parents) t = tt
+takes-wants (Flush heads) t = tt
+takes-wants (Query x) t = tt
+takes-wants (Count x) t = tt
+takes-wants (Strip names) t = tt
+takes-wants Reload t = tt
+takes-wants (IdOf name) t = tt
+takes-wants Clone t = tt
+takes-wants Pull t = tt
+takes-wants Discard t = t
+takes-wants Status t = t
+takes-wants Levels t = t
+takes-wants CountMirrors t = t
+takes-wants (Drop k) t = t
 
 -- a text that is no word at all
 pub no-word : (front : List ℕ) (behind : Option (List ℕ)) → ((word : Word) → ¬ (front ≡ word_text word)) → (verb : Verb) → ¬ (SpellsParts front behind verb)

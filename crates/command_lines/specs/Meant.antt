@@ -36,3 +36,12 @@ abbrev pub HasRightCount : Verb → Type 0
 HasRightCount (Add name parents) = length parents ≤ 8
 HasRightCount (Strip names) = names ≢ []
 HasRightCount _ = ⊤
+
+-- to read the command takes memory: it has a list of names, or an expression
+abbrev pub TakesMemory : Verb → Type 0
+TakesMemory (Add name parents) = ⊤
+TakesMemory (Flush heads) = heads ≢ []
+TakesMemory (Query e) = ⊤
+TakesMemory (Count e) = ⊤
+TakesMemory (Strip names) = ⊤
+TakesMemory _ = ⊥

@@ -105,11 +105,11 @@ FitsNone words.Pull None = ⊥
 FitsNone words.Mirrors None = ⊥
 FitsNone _ _ = ⊤
 
--- a command of this word may find no memory
+-- to read what stands behind the word takes memory
 abbrev pub MayWant : Word → Type 0
-MayWant words.Discard = ⊥
-MayWant words.Status = ⊥
-MayWant words.Levels = ⊥
-MayWant words.Mirrors = ⊥
-MayWant words.DropAt = ⊥
-MayWant _ = ⊤
+MayWant words.Add = ⊤
+MayWant words.Flush = ⊤
+MayWant words.Query = ⊤
+MayWant words.Count = ⊤
+MayWant words.Strip = ⊤
+MayWant _ = ⊥

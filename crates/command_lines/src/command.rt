@@ -8,7 +8,7 @@ ghost use Rattle.step_rules.specs.Step.{MayWantMemory};
 ghost use Rattle.step_rules.specs.Verb.{Verb as Asked};
 ghost use Rattle.run_rules.specs.Built.{is_built};
 ghost use Rattle.run_rules.specs.Grammar.{SpellsCommand, SpellsVerb};
-ghost use Rattle.command_lines.specs.Meant.{meant, HasRightCount};
+ghost use Rattle.command_lines.specs.Meant.{meant, HasRightCount, TakesMemory};
 ghost use Rattle.command_lines.specs.Parts.{FitsNone, HasWord, MayWant, SpellsParts};
 
 use crate::NameList;
@@ -182,7 +182,7 @@ fn parse_args(alloc: Global, word: Word, args: &[u8]) -> Result<Verb, CommandFau
 fn parse_bare(alloc: Global, word: Word) -> Result<Verb, CommandFault>
     ensures ok { IfOk result (λ verb. HasWord word None (meant verb)) }
     ensures syntax { result ≡ Err CommandFault.Syntax → FitsNone word None }
-    ensures memory { result ≡ Err CommandFault.Memory → MayWant word }
+    ensures memory { result ≡ Err CommandFault.Memory → ⊥ }
 {
     match word {
         Word::Flush => Ok(Verb::Flush(NameList::new(Vec::new(alloc)))),
@@ -201,7 +201,7 @@ fn parse_bare(alloc: Global, word: Word) -> Result<Verb, CommandFault>
 fn parse_two(alloc: Global, head: &[u8], args: &[u8]) -> Result<Verb, CommandFault>
     ensures ok { IfOk result (λ verb. SpellsParts head.now (Some args.now) (meant verb)) }
     ensures syntax { result ≡ Err CommandFault.Syntax → (verb : Asked) → ¬ (SpellsParts head.now (Some args.now) verb) }
-    ensures memory { result ≡ Err CommandFault.Memory → (verb : Asked) → SpellsParts head.now (Some args.now) verb → MayWantMemory verb }
+    ensures memory { result ≡ Err CommandFault.Memory → (verb : Asked) → SpellsParts head.now (Some args.now) verb → TakesMemory verb }
 {
     match word_of(head) {
         Some(word) => parse_args(alloc, word, args),
@@ -213,7 +213,7 @@ fn parse_two(alloc: Global, head: &[u8], args: &[u8]) -> Result<Verb, CommandFau
 fn parse_one(alloc: Global, text: &[u8]) -> Result<Verb, CommandFault>
     ensures ok { IfOk result (λ verb. SpellsParts text.now None (meant verb)) }
     ensures syntax { result ≡ Err CommandFault.Syntax → (verb : Asked) → ¬ (SpellsParts text.now None verb) }
-    ensures memory { result ≡ Err CommandFault.Memory → (verb : Asked) → SpellsParts text.now None verb → MayWantMemory verb }
+    ensures memory { result ≡ Err CommandFault.Memory → ⊥ }
 {
     match word_of(text) {
         Some(word) => parse_bare(alloc, word),
@@ -225,7 +225,7 @@ fn parse_one(alloc: Global, text: &[u8]) -> Result<Verb, CommandFault>
 fn parse_verb(alloc: Global, text: &[u8]) -> Result<Verb, CommandFault>
     ensures ok { IfOk result (λ verb. IsTrue (is_built (meant verb)) × SpellsVerb text.now (meant verb)) }
     ensures syntax { result ≡ Err CommandFault.Syntax → (verb : Asked) → IsTrue (is_built verb) → ¬ (SpellsVerb text.now verb) }
-    ensures memory { result ≡ Err CommandFault.Memory → (verb : Asked) → IsTrue (is_built verb) → SpellsVerb text.now verb → MayWantMemory verb }
+    ensures memory { result ≡ Err CommandFault.Memory → (verb : Asked) → IsTrue (is_built verb) → SpellsVerb text.now verb → TakesMemory verb }
 {
     match blank(text) {
         Some(len) => parse_two(alloc, &text[..len], &text[len + 1..]),
@@ -253,7 +253,7 @@ fn split_session<'a>(line: &'a [u8]) -> Option<(u8, &'a [u8])>
 
 impl Command {
     /// The command that a line spells. `Syntax` exactly where the line isn't in the grammar; `Memory` never comes for a
-    /// line whose command takes no memory.
+    /// line whose command has neither a list of names nor an expression, nor for one whose command takes no memory.
     pub fn parse(alloc: Global, line: &[u8]) -> Result<Command, CommandFault>
         ensures ok { IfOk result (λ command. SpellsCommand line.now command.session (meant command.verb)) }
         ensures session { IfOk result (λ command. command.session < 16) }
@@ -261,6 +261,8 @@ impl Command {
         ensures syntax { result ≡ Err CommandFault.Syntax → (s : ℕ) (verb : Asked) → ¬ (SpellsCommand line.now s verb) }
         ensures memory { result ≡ Err CommandFault.Memory
             → (s : ℕ) (verb : Asked) → SpellsCommand line.now s verb → MayWantMemory verb }
+        ensures taken { result ≡ Err CommandFault.Memory
+            → (s : ℕ) (verb : Asked) → SpellsCommand line.now s verb → TakesMemory verb }
     {
         let Some((session, text)) = split_session(line) else {
             return Err(CommandFault::Syntax);

@@ -35,6 +35,4 @@ returns-in-None-clause-syntax c = λ e verb built h.
     c.parse_one.ensures.syntax e verb (in-parts text text None verb (position-none 32 text (sym c.in-None.ensures)) (sym (append-nil text)) built h)
 
 pub returns-in-None-clause-memory : goal.returns-in-None-clause-memory
-returns-in-None-clause-memory c = λ e verb built h.
-    let text = c.args.text.now in
-    c.parse_one.ensures.memory e verb (in-parts text text None verb (position-none 32 text (sym c.in-None.ensures)) (sym (append-nil text)) built h)
+returns-in-None-clause-memory c = λ e verb built h. absurd (c.parse_one.ensures.memory e)
