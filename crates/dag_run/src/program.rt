@@ -391,7 +391,8 @@ fn run_mode<D: Disk, I: Source, O: Sink>(
 /// those of a demonstration in memory, of which the last four replies are put, or the framed requests of the input over the one
 /// mirror; or puts the bundle of the log's master; or writes the log anew to the spare disk. The mirrors are asked as the lines say, and
 /// as many of the names that they give are kept as the words say. Only writing a log anew touches the spare disk: no run does. A
-/// demonstration and serving don't touch the log, and all but the run and serving leave the mirrors and the input alone.
+/// demonstration and serving don't touch the log, and all but the run and serving leave the mirrors and the input alone. Only a run tells
+/// changes.
 pub fn top<D: Disk, I: Source, O: Sink>(
     alloc: Global,
     words: &[String],
@@ -436,6 +437,7 @@ pub fn top<D: Disk, I: Source, O: Sink>(
     ensures unwritten { result.status ≡ 4 → Goes IsUntouched (D.told log.old) (D.told log.new) × (input.new ≡ input.old) × (output.new ≡ output.old) × (mirrors.new ≡ mirrors.old) }
     ensures quiet { IsOneOf (2 ∷ 7 ∷ 10 ∷ 11 ∷ 13 ∷ 14 ∷ 15 ∷ []) result.status → (input.new ≡ input.old) × (output.new ≡ output.old) × (mirrors.new ≡ mirrors.old) }
     ensures untouched { result.status ≡ 2 → log.new ≡ log.old }
+    ensures changes { (IsUsageOf Mode.Run (map string_bytes words.now) → ⊥) → result.changes ≡ [] }
     ensures disk { result.status ≡ 3 → Rose (D.faults log.old) (D.faults log.new) }
     ensures spare_disk { result.status ≡ 13 → Rose (D.faults spare.old) (D.faults spare.new) }
     ensures source { result.status ≡ 5 → Rose (I.faults input.old) (I.faults input.new) }

@@ -98,6 +98,9 @@ returns-in-Ok-clause-quiet g c = λ quiet.
 pub returns-in-Ok-clause-untouched : goal.returns-in-Ok-clause-untouched
 returns-in-Ok-clause-untouched g c = λ two. mode-untouched c.in-Ok.usage.mode c.run_mode.result.status _ c.run_mode.ensures.known two
 
+pub returns-in-Ok-clause-changes : goal.returns-in-Ok-clause-changes
+returns-in-Ok-clause-changes g c = λ none. c.run_mode.ensures.changes (λ mode. none (c.in-Ok.usage, c.in-Ok.ensures, mode))
+
 pub returns-in-Ok-clause-spare : goal.returns-in-Ok-clause-spare
 returns-in-Ok-clause-spare g c = λ h.
     c.run_mode.ensures.spare (⊎_elim (λ none. inl (λ mode. none (c.in-Ok.usage, c.in-Ok.ensures, mode))) (λ status. inr status) h)
