@@ -1,6 +1,7 @@
 //! The remotes that the words of the command line name.
 
-ghost use Rattle.std.specs.Prelude.{◌≡◌, ◌<◌, ◌≤◌, ◌-◌, ◌^◌, ℕ, List, length, map, take, drop, string_bytes, IfSome, IfNone};
+ghost use Rattle.std.specs.Prelude.{◌≡◌, ◌<◌, ◌≤◌, ◌-◌, ◌^◌, ℕ, List, length, map, take, drop, string_bytes, IfOk, IfSome, IfNone};
+ghost use Rattle.change_rules.specs.Standard.{standard};
 ghost use Rattle.segdag.specs.Remotes.{remote_words, IsBundleWord};
 
 use dag_run::split_words;
@@ -18,21 +19,25 @@ fn file_at(rt: &HostRuntime, path: &str) -> Result<FileDisk<HostRuntime>, AllocE
     Ok(FileDisk::new(rt.clone()?, path, false))
 }
 
-/// The log at this path as a remote.
+/// The log at this path as a remote. It may have as many bytes as the program's own log.
 pub fn log_at(
     rt: &HostRuntime,
     path: &str,
-) -> Result<Box<StoreRemote<FileDisk<HostRuntime>>>, AllocError> {
+) -> Result<Box<StoreRemote<FileDisk<HostRuntime>>>, AllocError>
+    ensures { IfOk result (λ remote. remote.value.limit ≡ standard.log) }
+{
     let disk = file_at(rt, path)?;
     let remote = Box::new(rt.alloc(), StoreRemote::new(disk, Limits::standard()))?;
     Ok(remote)
 }
 
-/// The bundle at this path as a remote.
+/// The bundle at this path as a remote. It may have 2^30 bytes.
 pub fn bundle_at(
     rt: &HostRuntime,
     path: &str,
-) -> Result<Box<BundleRemote<FileDisk<HostRuntime>>>, AllocError> {
+) -> Result<Box<BundleRemote<FileDisk<HostRuntime>>>, AllocError>
+    ensures { IfOk result (λ remote. remote.value.limit ≡ 2 ^ 30) }
+{
     let disk = file_at(rt, path)?;
     let remote = Box::new(rt.alloc(), BundleRemote::new(disk, BUNDLE_LIMIT))?;
     Ok(remote)
