@@ -21,7 +21,7 @@ ghost use Rattle.name_map.specs.Adding.{placed};
 ghost use Rattle.name_map.specs.Map.{IsMapOf, names_with};
 ghost use Rattle.payload_tables.specs.declared.fault.TableFault.TheVariants.{Unlawful};
 ghost use Rattle.flat_segments.specs.Kept.{KeptFlats};
-ghost use Rattle.segment_levels.specs.Kept.{KeptFlats as KeptLevels};
+ghost use Rattle.segment_levels.specs.Kept.{KeptLevels};
 ghost use Rattle.payload_tables.specs.Kept.{AreMastersOf, HaveMasters, master_records};
 ghost use Rattle.payload_tables.specs.Extents.{IsExtentOf, IsFront};
 
