@@ -29,7 +29,9 @@ impl<R: Files + Drop> FileDisk<R> {
     /// The file at this path, not opened yet. With `make` it is made where there is none, and its folder's entry made
     /// sure of; without, it is opened for reading alone, and each call fails where there is none.
     pub fn new(rt: R, path: String, make: bool) -> FileDisk<R>
-        ensures { result.faults ≡ 0 }
+        ensures path { result.path ≡ path }
+        ensures make { result.make ≡ make }
+        ensures faults { result.faults ≡ 0 }
     {
         FileDisk {
             rt,

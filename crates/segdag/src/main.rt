@@ -2,7 +2,7 @@
 
 //! The program `segdag`: answers command lines of standard input on standard output, over the log in a file.
 
-ghost use Rattle.std.specs.Prelude.{◌≡◌, ◌⊎◌, ◌<◌, ◌^◌, ◌==◌, ◌&&◌, ◌∷◌, [], not, length, map, string_bytes, if◌then◌else◌, ℕ, List, IfSome, MatchResult};
+ghost use Rattle.std.specs.Prelude.{◌≡◌, ◌⊎◌, ◌<◌, ◌^◌, ◌==◌, ◌&&◌, ◌∷◌, ◌++◌, [], true, not, length, map, string_bytes, if◌then◌else◌, ℕ, List, IfOk, IfSome, MatchResult};
 ghost use Rattle.std.specs.Process.{exit_status};
 ghost use Rattle.disk_trait.specs.Since.{IsUntouched};
 ghost use Rattle.outside.specs.Counts.{Rose};
@@ -120,11 +120,10 @@ fn words_of(rt: &HostRuntime) -> Result<Vec<String>, u8> {
 }
 
 /// The file at this path with this behind it; it is made where there is none. Nothing is opened yet.
-fn disk_at(
-    rt: &HostRuntime,
-    path: &str,
-    ending: &str,
-) -> Result<FileDisk<HostRuntime>, AllocError> {
+fn disk_at(rt: &HostRuntime, path: &str, ending: &str) -> Result<FileDisk<HostRuntime>, AllocError>
+    ensures make { IfOk result (λ disk. disk.make ≡ true) }
+    ensures path { IfOk result (λ disk. string_bytes disk.path ≡ path.now ++ ending.now) }
+{
     let path = format!(in rt.alloc(); "{path}{ending}")?;
     Ok(FileDisk::new(rt.clone()?, path, true))
 }

@@ -1,6 +1,6 @@
 //! The remotes that the words of the command line name.
 
-ghost use Rattle.std.specs.Prelude.{◌≡◌, ◌<◌, ◌≤◌, ◌-◌, ◌^◌, ℕ, List, length, map, take, drop, string_bytes, IfOk, IfSome, IfNone};
+ghost use Rattle.std.specs.Prelude.{◌≡◌, ◌<◌, ◌≤◌, ◌-◌, ◌^◌, ℕ, List, false, length, map, take, drop, string_bytes, IfOk, IfSome, IfNone};
 ghost use Rattle.change_rules.specs.Standard.{standard};
 ghost use Rattle.segdag.specs.Remotes.{remote_words, IsBundleWord};
 
@@ -14,7 +14,10 @@ use std::alloc::AllocError;
 const BUNDLE_LIMIT: u64 = 1 << 30;
 
 /// The file at this path, for reading alone. It has to be there when it is read, and nothing is opened yet.
-fn file_at(rt: &HostRuntime, path: &str) -> Result<FileDisk<HostRuntime>, AllocError> {
+fn file_at(rt: &HostRuntime, path: &str) -> Result<FileDisk<HostRuntime>, AllocError>
+    ensures make { IfOk result (λ disk. disk.make ≡ false) }
+    ensures path { IfOk result (λ disk. string_bytes disk.path ≡ path.now) }
+{
     let path = format!(in rt.alloc(); "{path}")?;
     Ok(FileDisk::new(rt.clone()?, path, false))
 }
