@@ -117,21 +117,60 @@ fn said_over(
     replies(alloc, cache, &mut disk, mirrors, lines)
 }
 
+/// The drawn log that is cloned.
+fn drawn_log(alloc: Global, draws: &mut Draws) -> Result<Vec<u8>, AllocError> {
+    let stored = stored_lines(alloc, draws, COMMITS)?;
+    let mut nobody = Mirrors::new(Vec::new(alloc));
+    log_behind(alloc, &mut nobody, stored.as_str())
+}
+
+/// The log of a clone of it.
+fn cloned_log(alloc: Global, whole: &[u8]) -> Result<Vec<u8>, AllocError> {
+    let mut origin = mirrors_of(alloc, &[Made::Whole], whole, &[])?;
+    log_behind(alloc, &mut origin, "9 clone\n")
+}
+
+/// The replies to lines over the log itself, which has each name.
+fn said_by_whole(alloc: Global, whole: &[u8], lines: &str) -> Result<Vec<u8>, AllocError> {
+    let mut nobody = Mirrors::new(Vec::new(alloc));
+    said_over(alloc, 1, whole, &mut nobody, lines)
+}
+
+/// The replies to lines over the clone, beside the mirrors and with the room of the seed.
+fn said_by_clone(
+    alloc: Global,
+    seed: u64,
+    whole: &[u8],
+    clone: &[u8],
+    lines: &str,
+) -> Result<Vec<u8>, AllocError> {
+    let made = BESIDE[(seed % 5) as usize % BESIDE.len()];
+    let mut beside = mirrors_of(alloc, made, whole, clone)?;
+    let room = (seed % 5) as u32 + 1;
+    said_over(alloc, room, clone, &mut beside, lines)
+}
+
+/// Whether the lines are answered over the clone as over the log, and long.
+fn are_same(
+    alloc: Global,
+    seed: u64,
+    whole: &[u8],
+    clone: &[u8],
+    lines: &str,
+) -> Result<bool, AllocError> {
+    let wanted = said_by_whole(alloc, whole, lines)?;
+    let said = said_by_clone(alloc, seed, whole, clone, lines)?;
+    Ok(wanted.len() > 3000 && said == wanted)
+}
+
 /// Whether the lines of the seed are answered over the clone as over the log.
 fn is_answered_so(alloc: Global, seed: u64) -> Result<bool, AllocError> {
     let mut draws = Draws::of(seed);
-    let mut nobody = mirrors_of(alloc, &[], &[], &[])?;
-    let stored = stored_lines(alloc, &mut draws, COMMITS)?;
-    let whole = log_behind(alloc, &mut nobody, stored.as_str())?;
-    let mut origin = mirrors_of(alloc, &[Made::Whole], &whole, &[])?;
-    let clone = log_behind(alloc, &mut origin, "9 clone\n")?;
-    let made = BESIDE[(seed % 5) as usize % BESIDE.len()];
-    let mut beside = mirrors_of(alloc, made, &whole, &clone)?;
+    let whole = drawn_log(alloc, &mut draws)?;
+    let clone = cloned_log(alloc, &whole)?;
     let lines = drawn_lines(alloc, &mut draws, COMMITS, LINES)?;
-    let wanted = said_over(alloc, 1, &whole, &mut nobody, lines.as_str())?;
-    let room = (seed % 5) as u32 + 1;
-    let said = said_over(alloc, room, &clone, &mut beside, lines.as_str())?;
-    Ok(wanted.len() > 3000 && clone.len() < whole.len() && said == wanted)
+    let same = are_same(alloc, seed, &whole, &clone, lines.as_str())?;
+    Ok(same && clone.len() < whole.len())
 }
 
 /// The first of so many seeds whose lines are answered otherwise, if there is one.
