@@ -137,21 +137,44 @@ fn append_rungs(out: &mut Vec<u8>) -> Result<(), AllocError> {
     Ok(())
 }
 
-/// A flush of a ladder of 35 ids, whose first 32 make one segment of level 1 with this highest id and this span.
-fn ladder(alloc: Global, high: u8, span: u8) -> Result<Vec<u8>, AllocError> {
-    let mut out = Vec::from_slice(alloc, &[2, 1])?;
+/// Appends what stands before the records of a ladder's flush: the counts, and how many segments its master has.
+fn append_counts(out: &mut Vec<u8>) -> Result<(), AllocError> {
+    out.extend_from_slice(&[2, 1])?;
     out.extend_from_slice(&[0; 15])?;
-    out.extend_from_slice(&[35, 0, 0, 0, 0, 0, 0, 0, 0, 0, 0, 0, 18])?;
+    out.extend_from_slice(&[35, 0, 0, 0, 0, 0, 0, 0, 0, 0, 0, 0, 18])
+}
+
+/// Appends its master records, and the one segment of level 1 with this highest id and this span.
+fn append_segments(out: &mut Vec<u8>, high: u8, span: u8) -> Result<(), AllocError> {
     out.extend_from_slice(&[1, 0, 0, 0, 0, 0, 0, 0, 0, 1, 1, 0])?;
-    append_rungs(&mut out)?;
-    out.extend_from_slice(&[0, 0, 0, 1, 1, 1, 0, 0, 0, 0, 0, 0, 0, high, span, 0])?;
+    append_rungs(out)?;
+    out.extend_from_slice(&[0, 0, 0, 1, 1, 1, 0, 0, 0, 0, 0, 0, 0, high, span, 0])
+}
+
+/// Appends an id of the ladder with its name.
+fn append_name(out: &mut Vec<u8>, id: u8) -> Result<(), AllocError> {
+    out.extend_from_slice(&[0; 7])?;
+    out.push(id)?;
+    out.extend_from_slice(&[0; 19])?;
+    out.push(id.wrapping_add(1))?;
+    Ok(())
+}
+
+/// Appends the names of the ladder's 35 ids.
+fn append_names(out: &mut Vec<u8>) -> Result<(), AllocError> {
     out.extend_from_slice(&[0, 0, 0, 35])?;
     for id in 0..35u8 {
-        out.extend_from_slice(&[0; 7])?;
-        out.push(id)?;
-        out.extend_from_slice(&[0; 19])?;
-        out.push(id.wrapping_add(1))?;
+        append_name(out, id)?;
     }
+    Ok(())
+}
+
+/// A flush of a ladder of 35 ids, whose first 32 make one segment of level 1 with this highest id and this span.
+fn ladder(alloc: Global, high: u8, span: u8) -> Result<Vec<u8>, AllocError> {
+    let mut out = Vec::new(alloc);
+    append_counts(&mut out)?;
+    append_segments(&mut out, high, span)?;
+    append_names(&mut out)?;
     out.extend_from_slice(&[0; 10])?;
     Ok(out)
 }
@@ -173,10 +196,10 @@ fn ladder_sizes(
 
 #[test]
 fn a_ladder_has_a_segment_of_level_1(rt: HostRuntime) -> Result<(), Fail> {
-    assert_eq!(rt; ladder_sizes(rt.alloc(), 31, 31)?, Some((1290, 1, 284, 12)));
+    assert!(rt; ladder_sizes(rt.alloc(), 31, 31)? == Some((1290, 1, 284, 12)));
     // other segments are in the grammar too: that they are those of the levels isn't said by it
-    assert_eq!(rt; ladder_sizes(rt.alloc(), 29, 29)?, Some((1290, 1, 284, 12)));
-    assert_eq!(rt; ladder_sizes(rt.alloc(), 35, 35)?, None);
+    assert!(rt; ladder_sizes(rt.alloc(), 29, 29)? == Some((1290, 1, 284, 12)));
+    assert!(rt; ladder_sizes(rt.alloc(), 35, 35)? == None);
     Ok(())
 }
 
@@ -207,12 +230,12 @@ fn starts_of(bytes: &[u8]) -> Option<[u64; 6]> {
 
 #[test]
 fn both_versions_say_the_same(rt: HostRuntime) {
-    assert_eq!(rt; counts_of(&payloads::CHAIN), Some((1, 1, 0, 0, 0)));
-    assert_eq!(rt; counts_of(&CHAIN), Some((2, 1, 0, 0, 0)));
-    assert_eq!(rt; counts_of(&payloads::CLONE), Some((1, 2, 0, 10, 10)));
-    assert_eq!(rt; counts_of(&CLONE), Some((2, 2, 0, 10, 10)));
-    assert_eq!(rt; counts_of(&MORE), Some((2, 1, 2, 2, 0)));
-    assert_eq!(rt; counts_of(&STORE), Some((2, 3, 0, 6, 5)));
+    assert!(rt; counts_of(&payloads::CHAIN) == Some((1, 1, 0, 0, 0)));
+    assert!(rt; counts_of(&CHAIN) == Some((2, 1, 0, 0, 0)));
+    assert!(rt; counts_of(&payloads::CLONE) == Some((1, 2, 0, 10, 10)));
+    assert!(rt; counts_of(&CLONE) == Some((2, 2, 0, 10, 10)));
+    assert!(rt; counts_of(&MORE) == Some((2, 1, 2, 2, 0)));
+    assert!(rt; counts_of(&STORE) == Some((2, 3, 0, 6, 5)));
 }
 
 #[test]
