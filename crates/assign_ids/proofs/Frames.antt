@@ -158,10 +158,6 @@ module _ (parents : ℕ → List Node) (n : ℕ) where
   pub top-within : (before frames : List Frame) (f : Frame) (order wanted : List ℕ) → before ≡ frames ++ f ∷ [] → Leads before order wanted → f.number < n
   top-within before frames f order wanted is h = (below-front frames f (subst AreOfBelow is h.below)).1
 
-  -- with no frame left the order is the wanted one
-  pub leads-end : (frames : List Frame) (order wanted : List ℕ) → frames ≡ [] → Leads frames order wanted → order ≡ wanted
-  leads-end frames order wanted is h = ap (λ fs. all_resumed fs order) (sym is) ∙ h.resume
-
   -- a stack of the head alone
   pub start-turn : HaveOlderParents parents → (empty frames : List Frame) (head : ℕ) (order : List ℕ) → empty ≡ [] → frames ≡ empty ++ record { number = head; done = 0 } ∷ []
       → head < n → is_in nat_eq head order ≡ false → Leads frames order (place nat_eq (rows_below parents n) order head)

@@ -1,9 +1,9 @@
 -- Placing of numbers.
 use Rattle.std.proofs.Common.{◌≡◌, ℕ, zero, suc, ◌+◌, ◌<◌, ◌≤◌, true, false, inl, inr, List, [], ◌∷◌, ◌++◌, length, take, get_or, refl, sym, ap, subst, ◌∙◌, ⊎_elim, arith, le_of_suc-le-suc}
-use Rattle.std.specs.Prelude.{nat_eq, fold, ◌↔◌}
+use Rattle.std.specs.Prelude.{nat_eq, ◌↔◌}
 use Rattle.std.proofs.Math.Dec.{eqb}
 use Rattle.std.proofs.lemmas.Bool.{eq-eqb}
-use Rattle.std.proofs.lemmas.List.{take_more, take_all}
+use Rattle.std.proofs.lemmas.List.{take_all}
 use Rattle.std.proofs.lemmas.Map.Views.{exact_unsigned_eq}
 use Rattle.std.proofs.Math.Nat.{eq-or-lt_of_le}
 use Rattle.id_groups.specs.Lists.{IsIn, is_in, AreAllIn, AreDistinct}
@@ -106,20 +106,7 @@ below-at n [] i lt h = absurd (omega (arith, lt))
 below-at n (k ∷ ks) zero lt h = h.0
 below-at n (k ∷ ks) (suc i) lt h = below-at n ks i (omega (arith, lt)) h.1
 
-fold-append : (f : List ℕ → ℕ → List ℕ) (ks : List ℕ) (k : ℕ) (o : List ℕ) → fold f o (ks ++ k ∷ []) ≡ f (fold f o ks) k
-fold-append f [] k o = refl
-fold-append f (j ∷ ks) k o = fold-append f ks k (f o j)
-
 module _ (parents : ℕ → List Node) (size : ℕ) where
-  -- the order over the heads up to the i-th, and the i-th
-  pub next-head : (heads : List ℕ) (i now : ℕ) (order : List ℕ) → i < length heads → now ≡ size
-      → order ≡ place_all nat_eq (rows_below parents size) [] (take i heads)
-      → place nat_eq (rows_below parents now) order (get_or heads i 0) ≡ place_all nat_eq (rows_below parents size) [] (take (i + 1) heads)
-  next-head heads i now order lt same e =
-      ap (λ n. place nat_eq (rows_below parents n) order (get_or heads i 0)) same
-      ∙ ap (λ o. place nat_eq (rows_below parents size) o (get_or heads i 0)) e
-      ∙ sym (fold-append (λ o k. place nat_eq (rows_below parents size) o k) (take i heads) (get_or heads i 0) [])
-      ∙ ap (λ ks. place_all nat_eq (rows_below parents size) [] ks) (sym (take_more heads i 0 lt))
 
   pub all-heads : HaveOlderParents parents → (heads : List ℕ) (i : ℕ) (order : List ℕ) → length heads ≤ i
       → order ≡ place_all nat_eq (rows_below parents size) [] (take i heads) → AreBelow size heads → ((n : ℕ) → AreBelow n heads → size ≤ n)

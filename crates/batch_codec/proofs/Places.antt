@@ -4,7 +4,7 @@ use Rattle.std.specs.List.{flat_map}
 use Rattle.std.specs.Int.{w16, w32, w64, to_be_bytes}
 use Rattle.std.proofs.lemmas.Bool.{eqb-true}
 use Rattle.segment_codec.specs.Record.{Segment, segment_bytes}
-use Rattle.batch_codec.specs.Payload.{Payload, known_bytes, names_bytes, cloned_bytes, levels_bytes, payload_bytes, size_since_second, master_start, levels_start, known_start, heads_start, others_start, names_start}
+use Rattle.batch_codec.specs.Payload.{Payload, known_bytes, names_bytes, cloned_bytes, levels_bytes, payload_bytes, size_since_second, master_start, known_start, heads_start, others_start, names_start}
 use Rattle.batch_codec.specs.Grammar.{IsPayload}
 use Rattle.batch_codec.proofs.Entries.{knowns-size, names-size}
 use Rattle.batch_codec.proofs.Payloads.{payload-known-fits}
@@ -59,26 +59,6 @@ master-stands p =
       behind = behind;
       whole = sym (simp append_assoc refl);
       size = omega (arith, length-append cloned count, cloned-size p.version p.cloned);
-    }
-
-pub levels-stand : (p : Payload) → (p.version ≡ 1 → p.levels ≡ []) → Stands p (flat_map segment_bytes p.levels) (levels_start p)
-unfolding payload_bytes
-levels-stand p none =
-    let first : List ℕ = p.version ∷ p.kind ∷ to_be_bytes w64 p.before in
-    let cloned : List ℕ = cloned_bytes p.version p.cloned in
-    let masters : List ℕ = flat_map segment_bytes p.master in
-    let count : List ℕ = count_bytes p.version p.levels in
-    let levels : List ℕ = flat_map segment_bytes p.levels in
-    let mid : List ℕ = to_be_bytes w32 (length p.master) ++ (masters ++ count) in
-    let front : List ℕ = first ++ (to_be_bytes w64 p.after ++ (cloned ++ mid)) in
-    let tail : List ℕ = to_be_bytes w16 (length p.heads) ++ (names_bytes p.heads ++ (to_be_bytes w32 (length p.other_names) ++ (to_be_bytes w32 (length p.others) ++ (flat_map segment_bytes p.others ++ names_bytes p.other_names)))) in
-    let behind : List ℕ = to_be_bytes w32 (length p.known) ++ (flat_map known_bytes p.known ++ tail) in
-    let parts : first ++ (to_be_bytes w64 p.after ++ (cloned ++ (to_be_bytes w32 (length p.master) ++ (masters ++ ((count ++ levels) ++ behind))))) ≡ front ++ (levels ++ behind) = sym (simp append_assoc refl) in
-    record {
-      front = front;
-      behind = behind;
-      whole = ap (λ (z : List ℕ). first ++ (to_be_bytes w64 p.after ++ (cloned ++ (to_be_bytes w32 (length p.master) ++ (masters ++ (z ++ behind)))))) (levels-parts p.version p.levels none) ∙ parts;
-      size = omega (arith, length-append cloned mid, length-append masters count, cloned-size p.version p.cloned, count-size p.version p.levels);
     }
 
 pub known-stands : (p : Payload) → (p.version ≡ 1 → p.levels ≡ []) → Stands p (flat_map known_bytes p.known) (known_start p)

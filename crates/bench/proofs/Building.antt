@@ -1,26 +1,11 @@
 -- The records that are written one after another.
-use Rattle.std.proofs.Common.{◌≡◌, ℕ, ◌+◌, ◌<◌, ◌≤◌, ◌^◌, List, [], ◌∷◌, ◌++◌, length, refl, sym, ap, ◌∙◌, arith, lit≤, ⊎_elim}
+use Rattle.std.proofs.Common.{◌≡◌, ℕ, ◌+◌, ◌<◌, ◌≤◌, ◌^◌, List, [], ◌∷◌, ◌++◌, length, refl, sym, ap, ◌∙◌, arith, lit≤}
 use Rattle.std.specs.Prelude.{flat_map}
 use Rattle.std.proofs.lemmas.List.{length-append, append-nil}
 use Rattle.std.proofs.lemmas.List.Concat.{flat_map-cons, flat_map-append}
-use Rattle.std.proofs.lemmas.Bool.{lt-ltb}
-use Rattle.id_groups.specs.Id.{id_end}
 use Rattle.segment_codec.specs.Record.{Segment, IsSegment, segment_bytes}
 use Rattle.flat_segments.specs.Placed.{AreRecords}
 use Rattle.flat_segments.proofs.Adding.{all-append}
-
-pub pair-segment : (low high a b : ℕ) → low ≤ high → high < 2 ^ 56 → a < low → b < a → IsSegment (record { low = low; high = high; level = 0; parents = a ∷ b ∷ [] })
-pair-segment low high a b order small first second =
-    let k : 2 ^ 56 ≤ id_end = lit≤ tt in
-    record {
-      ascending = order;
-      one_group = lt-ltb low (2 ^ 56) (omega (arith, order, small)) ∙ sym (lt-ltb high (2 ^ 56) small);
-      valid = omega (arith, small, k);
-      level = lit≤ tt;
-      below = (first, (omega (arith, first, second), tt));
-      distinct = (λ i. ⊎_elim (λ e. absurd (omega (arith, second, e))) (λ n. n) i, ((λ n. n), tt));
-      level_parents = lit≤ tt;
-    }
 
 pub record Built (bytes : List ℕ) (count : ℕ) : Type 0 where
   pub segments : List Segment
@@ -56,29 +41,3 @@ wrote-next old new count h w = built-next old new count (count + 1) w.0 h w.1 w.
 
 pub built-all : (bytes : List ℕ) (count : ℕ) → count ≤ 2 ^ 30 → Built bytes count → (segments : List Segment) × AreRecords segments bytes × (length segments ≤ 2 ^ 30)
 built-all bytes count le h = let few = h.few in (h.segments, h.records, omega (arith, few, le))
-
-pub one-segment : (low high a : ℕ) → low ≤ high → high < 2 ^ 56 → a < low → IsSegment (record { low = low; high = high; level = 0; parents = a ∷ [] })
-one-segment low high a order small first =
-    let k : 2 ^ 56 ≤ id_end = lit≤ tt in
-    record {
-      ascending = order;
-      one_group = lt-ltb low (2 ^ 56) (omega (arith, order, small)) ∙ sym (lt-ltb high (2 ^ 56) small);
-      valid = omega (arith, small, k);
-      level = lit≤ tt;
-      below = (first, tt);
-      distinct = ((λ n. n), tt);
-      level_parents = lit≤ tt;
-    }
-
-pub root-segment : (low high : ℕ) → low ≤ high → high < 2 ^ 56 → IsSegment (record { low = low; high = high; level = 0; parents = [] })
-root-segment low high order small =
-    let k : 2 ^ 56 ≤ id_end = lit≤ tt in
-    record {
-      ascending = order;
-      one_group = lt-ltb low (2 ^ 56) (omega (arith, order, small)) ∙ sym (lt-ltb high (2 ^ 56) small);
-      valid = omega (arith, small, k);
-      level = lit≤ tt;
-      below = tt;
-      distinct = tt;
-      level_parents = lit≤ tt;
-    }

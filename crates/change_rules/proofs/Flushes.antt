@@ -215,10 +215,6 @@ module _ {N : Type 0} (same : N → N → Bool) (exact : (x y : N) → same x y 
         (in-append x (names_of (rows_named same (rows_of w) order)) (names_of (rows_outside same w.others order))
         (subst (IsIn x) (map-append (λ r. r.name) (rows_named same (rows_of w) order) (rows_outside same w.others order)) i))
 
-    -- the names of the new master, behind those of the old one
-    pub flush-order : (more : List N) × (master_after same w heads ≡ names_of w.master ++ more)
-    flush-order = (placed.more, placed.grown)
-
     -- no row is lost by a flush
     pub flush-keeps : (r : Row N) → IsIn r (rows_of w) → IsIn r (rows_of (flushed same w heads))
     flush-keeps r i = by_order (is_in same r.name order) refl

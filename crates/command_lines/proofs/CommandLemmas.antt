@@ -1,7 +1,6 @@
 -- What the parts of a command's text say of the whole.
-use Rattle.std.proofs.Common.{◌≡◌, ◌==◌, ◌<◌, ◌+◌, take, drop, ℕ, List, [], ◌∷◌, ◌++◌, ◌⊎◌, inl, inr, length, refl, sym, ◌∙◌, ap, subst, arith, codes, decimal, Option, Some, None, Ok, Err, true, nat_eq, append-nil}
+use Rattle.std.proofs.Common.{◌≡◌, ◌==◌, ◌<◌, ◌+◌, take, drop, ℕ, List, [], ◌∷◌, ◌++◌, ◌⊎◌, inl, inr, length, refl, sym, ◌∙◌, ap, subst, arith, codes, decimal, Option, Some, None, Ok, Err, true, append-nil}
 use Rattle.std.specs.Prelude.{◌≢◌, ◌≤◌, IsTrue, IfOk, if◌then◌else◌, position}
-use Rattle.std.specs.Cmp.Lexicographic.{pointwise}
 use Rattle.std.specs.declared.result.Result.{Result}
 use Rattle.std.specs.List.{AllZip}
 use Rattle.std.proofs.lemmas.Grind.{common_steps}
@@ -19,7 +18,7 @@ use Rattle.command_lines.specs.declared.command.Verb.{Verb as Given}
 use Rattle.command_lines.specs.declared.words.Word.{Word}
 use Rattle.command_lines.specs.declared.words.Word.TheVariants as words
 use Rattle.command_lines.specs.Meant.{meant, TakesMemory}
-use Rattle.command_lines.specs.Parts.{word_text, verb_word, AreNames, SpellsArgs, HasWord, SpellsParts, FitsNone, MayWant}
+use Rattle.command_lines.specs.Parts.{word_text, verb_word, AreNames, SpellsArgs, HasWord, SpellsParts, FitsNone}
 use Rattle.command_lines.proofs.NamesLemmas.{words-of-text, split-words}
 use Rattle.command_lines.proofs.TextLemmas.{none-in, is_clear, clear, number-no-blank}
 
@@ -57,42 +56,6 @@ word-no-blank word = clear (word_text word) (all word)
     all words.Strip = refl
     all words.Mirrors = refl
     all words.DropAt = refl
-
-abbrev word_in : List ℕ → Option Word
-word_in text =
-    if pointwise nat_eq text (codes "add") then Some words.Add
-    else if pointwise nat_eq text (codes "flush") then Some words.Flush
-    else if pointwise nat_eq text (codes "reload") then Some words.Reload
-    else if pointwise nat_eq text (codes "discard") then Some words.Discard
-    else if pointwise nat_eq text (codes "query") then Some words.Query
-    else if pointwise nat_eq text (codes "count") then Some words.Count
-    else if pointwise nat_eq text (codes "id") then Some words.Id
-    else if pointwise nat_eq text (codes "status") then Some words.Status
-    else if pointwise nat_eq text (codes "levels") then Some words.Levels
-    else if pointwise nat_eq text (codes "clone") then Some words.Clone
-    else if pointwise nat_eq text (codes "pull") then Some words.Pull
-    else if pointwise nat_eq text (codes "strip") then Some words.Strip
-    else if pointwise nat_eq text (codes "mirrors") then Some words.Mirrors
-    else Some words.DropAt
-
-word-again : (word : Word) → word_in (word_text word) ≡ Some word
-word-again words.Add = refl
-word-again words.Flush = refl
-word-again words.Reload = refl
-word-again words.Discard = refl
-word-again words.Query = refl
-word-again words.Count = refl
-word-again words.Id = refl
-word-again words.Status = refl
-word-again words.Levels = refl
-word-again words.Clone = refl
-word-again words.Pull = refl
-word-again words.Strip = refl
-word-again words.Mirrors = refl
-word-again words.DropAt = refl
-
-one-word : (v w : Word) → word_text v ≡ word_text w → v ≡ w
-one-word v w e = some-same v w (sym (word-again v) ∙ ap word_in e ∙ word-again w)
 
 -- names behind a word: none, or a blank and their words
 names-parts : (text word : List ℕ) (names : List Name) → SpellsNames text word names
@@ -211,64 +174,6 @@ pub ok-parts : {E : Type 0} (text front : List ℕ) (behind : Option (List ℕ))
 ok-parts text front behind (Ok verb) is h = of-parts text front behind (meant verb) is h
 ok-parts text front behind (Err fault) is h = tt
 
--- what fits none of a word's verbs
-pub fits-none : (front : List ℕ) (behind : Option (List ℕ)) (word : Word) → front ≡ word_text word → FitsNone word behind → (verb : Verb) → ¬ (SpellsParts front behind verb)
-fits-none front behind word is f verb h =
-    let same = one-word h.0 word (sym h.1 ∙ is) in
-    none verb behind h.2.1 h.0 h.2.0 (subst (λ w. FitsNone w behind) (sym same) f)
-  where
-    none : (verb : Verb) (behind : Option (List ℕ)) → SpellsArgs verb behind → (word : Word) → verb_word verb ≡ Some word → FitsNone word behind → ⊥
-    none (Add name parents) (Some args) h word e f = let g = subst (λ w. FitsNone w (Some args)) (sym (some-same words.Add word e)) f in g name parents h.0 h.1
-    none (Flush heads) (Some args) h word e f = let g = subst (λ w. FitsNone w (Some args)) (sym (some-same words.Flush word e)) f in g heads h
-    none (Flush heads) None h word e f = subst (λ w. FitsNone w None) (sym (some-same words.Flush word e)) f
-    none Reload None h word e f = subst (λ w. FitsNone w None) (sym (some-same words.Reload word e)) f
-    none Discard None h word e f = subst (λ w. FitsNone w None) (sym (some-same words.Discard word e)) f
-    none (Strip names) (Some args) h word e f = let g = subst (λ w. FitsNone w (Some args)) (sym (some-same words.Strip word e)) f in g names h
-    none (Query x) (Some args) h word e f = let g = subst (λ w. FitsNone w (Some args)) (sym (some-same words.Query word e)) f in g x h
-    none (Count x) (Some args) h word e f = let g = subst (λ w. FitsNone w (Some args)) (sym (some-same words.Count word e)) f in g x h
-    none (IdOf name) (Some args) h word e f = let g = subst (λ w. FitsNone w (Some args)) (sym (some-same words.Id word e)) f in g name h
-    none Status None h word e f = subst (λ w. FitsNone w None) (sym (some-same words.Status word e)) f
-    none Levels None h word e f = subst (λ w. FitsNone w None) (sym (some-same words.Levels word e)) f
-    none Clone None h word e f = subst (λ w. FitsNone w None) (sym (some-same words.Clone word e)) f
-    none Pull None h word e f = subst (λ w. FitsNone w None) (sym (some-same words.Pull word e)) f
-    none CountMirrors None h word e f = subst (λ w. FitsNone w None) (sym (some-same words.Mirrors word e)) f
-    none (Drop k) (Some args) h word e f = let g = subst (λ w. FitsNone w (Some args)) (sym (some-same words.DropAt word e)) f in g k h
-    none Pull (Some args) h word e f = absurd h
-    none (Add name parents) None h word e f = absurd h
-    none Reload (Some args) h word e f = absurd h
-    none Discard (Some args) h word e f = absurd h
-    none (Strip names) None h word e f = absurd h
-    none (Query x) None h word e f = absurd h
-    none (Count x) None h word e f = absurd h
-    none (IdOf name) None h word e f = absurd h
-    none Status (Some args) h word e f = absurd h
-    none Levels (Some args) h word e f = absurd h
-    none Clone (Some args) h word e f = absurd h
-    none CountMirrors (Some args) h word e f = absurd h
-    none (Drop k) None h word e f = absurd h
-
--- which verbs of a word take memory to be read
-pub may-want : (front args : List ℕ) (word : Word) → front ≡ word_text word → MayWant word → (verb : Verb) → SpellsParts front (Some args) verb → TakesMemory verb
-may-want front args word is m verb h =
-    let same = one-word h.0 word (sym h.1 ∙ is) in
-    may verb h.0 h.2.0 h.2.1 (subst MayWant (sym same) m)
-  where
-    may : (verb : Verb) (word : Word) → verb_word verb ≡ Some word → SpellsArgs verb (Some args) → MayWant word → TakesMemory verb
-    may Discard word e a m = subst MayWant (sym (some-same words.Discard word e)) m
-    may Status word e a m = subst MayWant (sym (some-same words.Status word e)) m
-    may Levels word e a m = subst MayWant (sym (some-same words.Levels word e)) m
-    may CountMirrors word e a m = subst MayWant (sym (some-same words.Mirrors word e)) m
-    may (Drop k) word e a m = subst MayWant (sym (some-same words.DropAt word e)) m
-    may Reload word e a m = subst MayWant (sym (some-same words.Reload word e)) m
-    may (IdOf name) word e a m = subst MayWant (sym (some-same words.Id word e)) m
-    may Clone word e a m = subst MayWant (sym (some-same words.Clone word e)) m
-    may Pull word e a m = subst MayWant (sym (some-same words.Pull word e)) m
-    may (Add name parents) word e a m = tt
-    may (Flush heads) word e a m = some-names args heads a
-    may (Query x) word e a m = tt
-    may (Count x) word e a m = tt
-    may (Strip names) word e a m = tt
-
 -- which takes memory to be read may want it
 pub takes-wants : (verb : Verb) → TakesMemory verb → MayWantMemory verb
 takes-wants (Add name parents) t = tt
@@ -285,10 +190,6 @@ takes-wants Status t = t
 takes-wants Levels t = t
 takes-wants CountMirrors t = t
 takes-wants (Drop k) t = t
-
--- a text that is no word at all
-pub no-word : (front : List ℕ) (behind : Option (List ℕ)) → ((word : Word) → ¬ (front ≡ word_text word)) → (verb : Verb) → ¬ (SpellsParts front behind verb)
-no-word front behind none verb h = none h.0 h.1
 
 -- a text that is no name fits none
 pub no-name : (args : List ℕ) (word : Word) → word ≡ words.Id → None ≡ name_of args → FitsNone word (Some args)

@@ -31,10 +31,6 @@ pub lines-append : (xs ys : List (List ℕ)) → lines_text (xs ++ ys) ≡ lines
 lines-append [] ys = refl
 lines-append (x ∷ xs) ys = ap (λ t. (x ++ 10 ∷ []) ++ t) (lines-append xs ys) ∙ sym (append_assoc (x ++ 10 ∷ []) (lines_text xs) (lines_text ys))
 
--- nothing was sent, and nothing waits
-pub sends-none : (x : List ℕ) → Sends [] [] x x
-sends-none x = ([], sym (append-nil x), refl)
-
 -- a block was put, or not, and then a line was appended
 pub sends-more : (text block mid new line x y z : List ℕ) → Sends text block x y → Sends block mid y z → new ≡ mid ++ line → Sends (text ++ line) new x z
 sends-more text block mid new line x y z a b is = (

@@ -14,12 +14,12 @@ use Rattle.batch_codec.specs.Payload.{Payload}
 use Rattle.change_rules.specs.declared.Limits.{Limits}
 use Rattle.change_rules.specs.Holding.{HoldAs, HoldBytes, KeepsHolding}
 use Rattle.change_rules.specs.Unlawful.{IsNoLog}
-use Rattle.dag_store.specs.Loading.{LoadAnswers, Opens, IsNoLogFault}
+use Rattle.dag_store.specs.Loading.{LoadAnswers, Opens}
 use Rattle.dag_store.specs.declared.replies.LoadFault.{LoadFault}
 use Rattle.dag_store.specs.declared.replies.LoadFault.TheVariants as loads
 use Rattle.dag_run.specs.declared.bundling.Unbundled.{Unbundled}
 use Rattle.dag_run.specs.declared.bundling.Unbundled.TheVariants.{NotLoaded, NoLog, Memory, Unnamed}
-use Rattle.dag_run.specs.Bundling.{unbundled_of, unbundled_status, PutsWhole, BundleMeans, IsBundleStatus, Bundles, BundleRefuses, IsOfStore}
+use Rattle.dag_run.specs.Bundling.{unbundled_of, unbundled_status, PutsWhole, BundleMeans, Bundles, BundleRefuses, IsOfStore}
 use Rattle.dag_run.specs.Ends.{StatusRefuses}
 
 pub if-map : {X : Type 0} (F G : X → Type 0) (a : Option X) → ((x : X) → F x → G x) → IfSome a F → IfSome a G
@@ -41,20 +41,6 @@ none-answers limits bytes (loads.Batch k) h = inr (inr (h.0, k, h.1.1, h.2))
 none-answers limits bytes (loads.Disk fault) h = tt
 none-answers limits bytes loads.Memory h = tt
 
-pub no-log-fault : (fault : LoadFault) → unbundled_of fault ≡ NoLog → IsNoLogFault fault
-no-log-fault (loads.Frame at) e = tt
-no-log-fault (loads.TooLarge size) e = tt
-no-log-fault (loads.Batch k) e = tt
-no-log-fault (loads.Disk fault) e = absurd (cc e)
-no-log-fault loads.Memory e = absurd (cc e)
-
-pub disk-fault : (fault : LoadFault) → unbundled_of fault ≡ NotLoaded → (cause : _) × (fault ≡ loads.Disk cause)
-disk-fault (loads.Frame at) e = absurd (cc e)
-disk-fault (loads.TooLarge size) e = absurd (cc e)
-disk-fault (loads.Batch k) e = absurd (cc e)
-disk-fault (loads.Disk fault) e = (fault, refl)
-disk-fault loads.Memory e = absurd (cc e)
-
 -- ---- where one was
 pub store-refuses : (limit : ℕ) (bytes : List ℕ) (r : Result (Vec ℕ Global) Unbundled) → IfErr r IsOfStore → (IsNoLog limit bytes → ⊥) → BundleRefuses limit bytes r
 store-refuses limit bytes (Ok bundle) is h = h
@@ -62,34 +48,6 @@ store-refuses limit bytes (Err NotLoaded) is h = absurd is
 store-refuses limit bytes (Err NoLog) is h = absurd is
 store-refuses limit bytes (Err Memory) is h = tt
 store-refuses limit bytes (Err Unnamed) is h = h
-
-pub of-store : (r : Result (Vec ℕ Global) Unbundled) (fault : Unbundled) → IfErr r IsOfStore → r ≡ Err fault → IsOfStore fault
-of-store r fault is e = subst (λ (q : Result (Vec ℕ Global) Unbundled). IfErr q IsOfStore) e is
-
--- ---- statuses
-pub status-none : (fault : Unbundled) (status : ℕ) → status ≡ unbundled_status fault → IsBundleStatus status
-status-none NotLoaded status e = subst IsBundleStatus (sym e) refl
-status-none NoLog status e = subst IsBundleStatus (sym e) refl
-status-none Memory status e = subst IsBundleStatus (sym e) refl
-status-none Unnamed status e = subst IsBundleStatus (sym e) refl
-
-pub status-disk : (fault : Unbundled) → unbundled_status fault ≡ 3 → fault ≡ NotLoaded
-status-disk NotLoaded e = refl
-status-disk NoLog e = absurd (cc e)
-status-disk Memory e = absurd (cc e)
-status-disk Unnamed e = absurd (cc e)
-
-pub status-no-log : (fault : Unbundled) → unbundled_status fault ≡ 4 → fault ≡ NoLog
-status-no-log NotLoaded e = absurd (cc e)
-status-no-log NoLog e = refl
-status-no-log Memory e = absurd (cc e)
-status-no-log Unnamed e = absurd (cc e)
-
-pub status-sink : (fault : Unbundled) → unbundled_status fault ≡ 6 → ⊥
-status-sink NotLoaded e = cc e
-status-sink NoLog e = cc e
-status-sink Memory e = cc e
-status-sink Unnamed e = cc e
 
 -- ---- what was put
 pub bundle-put : (payloads : List Payload) (w : World Name) (bundle : Vec ℕ Global) (status : ℕ) (o n : Option (List ℕ)) → WhereTold o n (PutsWhole bundle.items status)

@@ -3,8 +3,6 @@ use Rattle.std.proofs.Common.{ℕ, zero, suc, ◌≡◌, ◌≤◌, ◌<◌, ◌
 use Rattle.std.specs.List.{AllByRecursion}
 use Rattle.std.proofs.lemmas.List.{take_more, map-append}
 use Rattle.std.specs.declared.result.Result.{Result}
-use Rattle.outside.specs.Told.{WhereTold, TookFront}
-use Rattle.outside.proofs.ToldLemmas.{WhereTold-map, WhereTold-same}
 use Rattle.commit_graph.specs.World.{empty_world}
 use Rattle.disk_trait.specs.Images.{Told, fresh_disk}
 use Rattle.disk_trait.specs.Calls.{Goes}
@@ -29,7 +27,7 @@ use Rattle.dag_store.specs.Loading.{Opens}
 use Rattle.change_rules.specs.Tables.{cloned_count}
 use Rattle.remote_rules.specs.Serving.{BeginsWith}
 use Rattle.dag_run.specs.Enough.{AreEnough, HasEnough, IsEnoughOn}
-use Rattle.dag_run.specs.Demo.{RunsAfresh, IsReady, IsBehind, IsAnswered, LeadsOn, AllAnswered, AreLastReplies, DemoMeans}
+use Rattle.dag_run.specs.Demo.{RunsAfresh, IsReady, IsBehind, IsAnswered, LeadsOn, AllAnswered, AreLastReplies}
 use Rattle.dag_run.specs.Lines.{LineReplies, LineLeaves}
 use Rattle.dag_run.specs.declared.stops.Stop.{Stop}
 use Rattle.dag_run.proofs.Doing.{text-short, short-silent, ready-line}
@@ -201,18 +199,6 @@ last-replies size from asked store (Ok sink) is behind h =
       record { earlier = behind.0; last = f.2.0; run = f.2.1; four = f.1 },
       f.3,
     )
-
--- ---- what is put
-pub demo-unread : (size from : ℕ) (o : Option (List ℕ)) → WhereTold o o (DemoMeans size from 7)
-demo-unread size from o = WhereTold-same o _ (λ x. inl (refl, refl))
-
-pub demo-put : (size from : ℕ) (bytes : List ℕ) (o p : Option (List ℕ)) → (replies : List Reply) × AreLastReplies size from replies × (bytes ≡ output_of replies) → WhereTold o p (λ x y. y ≡ x ++ bytes) → WhereTold o p (DemoMeans size from 0)
-demo-put size from bytes o p are put =
-    WhereTold-map o p (λ x y. y ≡ x ++ bytes) _ (λ x y e. inr (are.0, are.1, inl (refl, e ∙ ap (λ bs. x ++ bs) are.2))) put
-
-pub demo-cut : (size from : ℕ) (bytes : List ℕ) (o p : Option (List ℕ)) → (replies : List Reply) × AreLastReplies size from replies × (bytes ≡ output_of replies) → WhereTold o p (TookFront bytes) → WhereTold o p (DemoMeans size from 6)
-demo-cut size from bytes o p are put =
-    WhereTold-map o p (TookFront bytes) _ (λ x y t. inr (are.0, are.1, inr (refl, subst (λ bs. TookFront bs x y) are.2 t))) put
 
 -- ---- items of a slice
 pub map-more : {X : Type 0} (f : X → List ℕ) (xs : List X) (i : ℕ) (x : X) → i < length xs → x ≡ get_or xs i x → map f (take (i + 1) xs) ≡ map f (take i xs) ++ f x ∷ []

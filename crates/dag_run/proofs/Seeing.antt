@@ -2,7 +2,7 @@
 use Rattle.std.proofs.Common.{ℕ, ◌≡◌, List, Option, Some, None, IfSome, refl, ◌≤◌, arith}
 use Rattle.outside.specs.Counts.{Rose}
 use Rattle.outside.specs.Told.{WhereTold}
-use Rattle.outside.proofs.ToldLemmas.{WhereTold-same, WhereTold-join}
+use Rattle.outside.proofs.ToldLemmas.{WhereTold-same}
 use Rattle.disk_trait.specs.Images.{Told, IsSound}
 use Rattle.dag_run.specs.Seen.{Seen, seen}
 
@@ -21,11 +21,6 @@ seen-each (Some d) None (Some i) j (Some o) p Q P R q l t = absurd q
 seen-each (Some d) (Some e) (Some i) None (Some o) p Q P R q l t = absurd l
 seen-each (Some d) (Some e) (Some i) (Some j) (Some o) None Q P R q l t = absurd t
 seen-each (Some d) (Some e) (Some i) (Some j) (Some o) (Some p) Q P R q l t = record { disk = q; left = l; taken = t }
-
--- a step of the three behind what was so
-pub seen-step : (d e f : Option Told) (i j k o p q : Option (List ℕ)) (A B : Seen → Seen → Type 0) (Q : Told → Told → Type 0) (P R : List ℕ → List ℕ → Type 0)
-    → ((x y z : Seen) → A x y → Each Q P R y z → B x z) → WhereTold (seen d i o) (seen e j p) A → WhereTold e f Q → WhereTold j k P → WhereTold p q R → WhereTold (seen d i o) (seen f k q) B
-seen-step d e f i j k o p q A B Q P R g a dd ii oo = WhereTold-join (seen d i o) (seen e j p) (seen f k q) A (Each Q P R) B g a (seen-each e f j k p q Q P R dd ii oo)
 
 -- a sound disk that stays as it is
 pub sound-told : (d : Option Told) → IfSome d IsSound → WhereTold d d (λ x y. (y ≡ x) × IsSound x)

@@ -70,9 +70,6 @@ module _ (began : ℕ) (kept : PlainStore) (tables : PlainTables) (k : IsKept ke
     passed : refused_first (tests kept.limits st.store s verb) ≡ None
     passed = ⊎_elim (λ e. sym e) (λ n. absurd n) (tried-all (Unit {0}) old left (tests kept.limits st.store s verb) None made.tried.gained (made.tried.serving right))
 
-    abbrev end_store : Stored
-    end_store = after_flush st.store s new
-
     abbrev end_state : State
     end_state = record { store = after_flush st.store s new; outside = outside_next st.outside left made.tried.gained b }
 

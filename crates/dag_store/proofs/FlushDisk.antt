@@ -1,5 +1,5 @@
 -- What a flush leaves of the disk and of the store.
-use Rattle.std.proofs.Common.{◌≡◌, ℕ, true, List, [], ◌∷◌, ◌++◌, set, Option, Some, None, Result, Ok, Err, IfOk, refl, sym, ap, ap₂, subst, ◌∙◌}
+use Rattle.std.proofs.Common.{◌≡◌, ℕ, List, [], ◌∷◌, ◌++◌, set, Option, Some, None, Result, Ok, Err, IfOk, refl, sym, ap, ap₂, subst, ◌∙◌}
 use Rattle.std.specs.Prelude.{OnErr, MatchResult}
 use Rattle.disk_trait.specs.Images.{Told}
 use Rattle.disk_trait.specs.Calls.{Goes}
@@ -7,14 +7,13 @@ use Rattle.disk_trait.proofs.Telling.{goes-both, goes-map}
 use Rattle.gated_log.specs.Held.{Held}
 use Rattle.gated_log.specs.Holding.{HasPayloads, KeepsOldOrNew, HasNew}
 use Rattle.lazy_names.specs.Cache.{PlainCache}
-use Rattle.change_rules.specs.declared.Limits.{Limits}
 use Rattle.flush_rebuild.specs.declared.plan.Change.{Change}
 use Rattle.step_rules.specs.declared.Refusal.{Refusal}
 use Rattle.dag_store.specs.declared.changing.Next.{Next}
 use Rattle.dag_store.specs.declared.replies.Flushed.{Flushed}
 use Rattle.dag_store.specs.declared.replies.Flushed.TheVariants.{Done, Refused, Disk}
 use Rattle.dag_store.specs.Kept.{PlainSession, PlainStore}
-use Rattle.dag_store.specs.Flushes.{HasRoom, HasStored, FlushLeaves, IsQuiet, LeavesStore}
+use Rattle.dag_store.specs.Flushes.{HasRoom, HasStored, FlushLeaves, LeavesStore}
 use Rattle.dag_store.specs.Finishes.{FinishesAs, Finishes}
 
 -- the payload is stored
@@ -82,9 +81,3 @@ leaves-ends kept reserved room cache s at is (Err refusal) end e =
 pub made-of : (next : Result Next Refusal) (Ready : Next → Type 0) (Stays : Type 0) → IfOk next Ready → OnErr next Stays → MatchResult next Ready (λ refusal. Stays)
 made-of (Ok ready) Ready Stays r o = r
 made-of (Err refusal) Ready Stays r o = o
-
-pub quiet-same : (log : Held) (sessions : List PlainSession) (limits : Limits) (cache : PlainCache) (change : Change) (end : Flushed) → Finishes log sessions limits cache change end → IsQuiet end → change.same ≡ true
-quiet-same log sessions limits cache change (Done new counts None) f q = f.0
-quiet-same log sessions limits cache change (Done new counts (Some clock)) f q = absurd q
-quiet-same log sessions limits cache change (Refused same refusal) f q = absurd f
-quiet-same log sessions limits cache change (Disk fault) f q = absurd q

@@ -1,10 +1,10 @@
 -- What is asked of a rebase and of a plan.
-use Rattle.std.proofs.Common.{◌≡◌, ◌≤◌, ◌<◌, ◌+◌, ◌*◌, ◌^◌, ℕ, Bool, true, false, true≢false, Result, Ok, Err, IfOk, OnOk, List, [], ◌∷◌, ◌++◌, map, length, drop, Option, refl, sym, ap, ap₂, subst, ◌∙◌, arith}
+use Rattle.std.proofs.Common.{◌≡◌, ◌≤◌, ◌<◌, ◌+◌, ◌*◌, ◌^◌, ℕ, true, false, true≢false, Result, Ok, Err, IfOk, OnOk, List, [], ◌∷◌, ◌++◌, map, length, drop, Option, refl, sym, ap, ap₂, subst, ◌∙◌, arith}
 use Rattle.std.specs.declared.alloc.AllocError.{AllocError}
 use Rattle.std.proofs.lemmas.List.{take-append-drop, length-map, map-append}
 use Rattle.std.proofs.lemmas.Bool.{eq-eqb, ne_eqb}
 use Rattle.id_groups.specs.Name.{Name, same_name}
-use Rattle.commit_graph.specs.World.{World, names_of}
+use Rattle.commit_graph.specs.World.{names_of}
 use Rattle.batch_codec.specs.Grammar.{count_after}
 use Rattle.gated_log.specs.Held.{Held, log_bytes, longer}
 use Rattle.gated_log.proofs.Places.{length-log}
@@ -13,7 +13,6 @@ use Rattle.change_rules.specs.declared.Limits.{Limits}
 use Rattle.change_rules.specs.Lawful.{MayFollow}
 use Rattle.name_map.specs.Added.{Placed, payloads_of, AllStand, FollowInLog as Following}
 use Rattle.change_rules.specs.Change.{text_of}
-use Rattle.change_rules.specs.Lazy.{has_lazy}
 use Rattle.payload_tables.specs.declared.base.BaseRef.{BaseRef}
 use Rattle.payload_tables.specs.Kept.{PlainTables, AreTablesOf}
 use Rattle.flush_rebuild.specs.declared.plan.Change.{Change}
@@ -110,12 +109,6 @@ module _ (log : Held) (tables : PlainTables) (added : List Placed) (over : AreOv
 
   pub log-size : length bytes ≡ log_length log.payloads → length bytes ≡ log_length (map text_of st.payloads)
   log-size e = e ∙ ap log_length (over.texts ∙ ap (map text_of) o.payloads)
-
--- whether the stored world has lazy names, as the tables tell it
-pub lacking : (began s : ℕ) (added : List Placed) (x : PlainSession) (st : Stored) → IsOn began added x st s → (unnamed : Bool) → ((w : World Name) → StandFor (payloads_of added) w → unnamed ≡ has_lazy (payloads_of added) w)
-    → unnamed ≡ has_lazy st.payloads st.stored
-lacking began s added x st o unnamed f =
-    f st.stored (subst (λ l. StandFor l st.stored) (sym o.payloads) o.hold.stand) ∙ ap (λ l. has_lazy l st.stored) o.payloads
 
 pub count-added : (log : Held) (tables : PlainTables) (added : List Placed) → AreOver log tables added → length log.payloads ≡ length added
 count-added log tables added v = ap length v.texts ∙ length-map (payloads_of added) text_of ∙ length-map added (λ (a : Placed). a.payload)

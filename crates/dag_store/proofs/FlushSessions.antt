@@ -9,11 +9,10 @@ use Rattle.change_rules.specs.Lawful.{MayFollow}
 use Rattle.name_map.specs.Added.{Placed, payloads_of}
 use Rattle.change_rules.specs.Tables.{other_names_in}
 use Rattle.payload_tables.specs.Kept.{PlainOthers, AreOthersIn, AreOthersOf, last_added}
-use Rattle.payload_tables.specs.Pending.{PlainPending, HoldsRows}
+use Rattle.payload_tables.specs.Pending.{HoldsRows}
 use Rattle.payload_tables.proofs.Lists.{count-last, last-of, distinct-parts}
 use Rattle.flush_rebuild.specs.Asked.{MayStore, others_count}
 use Rattle.dag_store.specs.Kept.{PlainSession, IsSessionOf, base_added}
-use Rattle.dag_store.specs.Loading.{IsOnNewest}
 
 -- a session on all payloads
 pub all-session : (added : List Placed) (x : PlainSession) → x.payloads ≡ length added → x.below ≡ count_after 0 (payloads_of added) → AreOthersIn x.others (last_added added) → MayStore x.pending added → IsSessionOf added x
@@ -25,18 +24,6 @@ all-session added x n b o p =
       others = subst (λ l. AreOthersIn x.others (last_added l)) (sym all) o;
       pending = subst (MayStore x.pending) (sym all) p;
     }
-
--- the session on the newest payloads with rows that may be stored
-pub session-with : (added : List Placed) (x : PlainSession) (pending : PlainPending) → IsOnNewest added x → MayStore pending added
-    → IsSessionOf added (record { payloads = x.payloads; below = x.below; others = x.others; pending = pending }) × (x.payloads ≡ length added)
-session-with added x pending h p =
-    let s = h.0 in
-    let n = h.1 in
-    let all : base_added added x ≡ added = take_all x.payloads added (omega (arith, n)) in (
-      all-session added (record { payloads = x.payloads; below = x.below; others = x.others; pending = pending }) n
-          (s.below ∙ ap (λ l. count_after 0 (payloads_of l)) all) (subst (λ l. AreOthersIn x.others (last_added l)) all s.others) p,
-      n,
-    )
 
 -- a session on older payloads stays one
 pub older-session : (added : List Placed) (at : ℕ) (last : Payload) (x : PlainSession) → IsSessionOf added x → IsSessionOf (added ++ record { at = at; payload = last } ∷ []) x

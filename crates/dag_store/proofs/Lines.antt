@@ -89,10 +89,6 @@ module _ (payloads : List Payload) (w : World Name) (rows : List (Row Name)) whe
   pub finds-whole : (names : List Name) (i : ℕ) → length names ≤ i → (old mid : List Mirror) (a b : PlainCache) (ids : List ℕ) → FindsAll payloads w rows (take i names) old mid a b (Ok ids) → FindsAll payloads w rows names old mid a b (Ok ids)
   finds-whole names i le old mid a b ids h = subst (λ (l : List Name). FindsAll payloads w rows l old mid a b (Ok ids)) (take_all i names le) h
 
-  pub err-all : (names : List Name) (old new : List Mirror) (a b : PlainCache) (r : Result (List ℕ) Refusal) (f : Refusal) → IsErrAnd r (λ g. g ≡ f) → FindsAll payloads w rows names old new a b (Err f) → FindsAll payloads w rows names old new a b r
-  err-all names old new a b (Ok v) f h q = absurd h
-  err-all names old new a b (Err g) f h q = subst (λ z. FindsAll payloads w rows names old new a b (Err z)) (sym h) q
-
   pub err-items : (names : List Name) (old new : List Mirror) (a b : PlainCache) (r : Result (Vec ℕ Global) Refusal) (f : Refusal) → IsErrAnd r (λ g. g ≡ f) → FindsAll payloads w rows names old new a b (Err f)
       → FindsAll payloads w rows names old new a b (items_of r)
   err-items names old new a b (Ok v) f h q = absurd h

@@ -1,6 +1,6 @@
 -- Parents that are looked up one by one, and one that comes twice.
-use Rattle.std.proofs.Common.{◌≡◌, ◌<◌, ◌+◌, inl, inr, ℕ, suc, Bool, true, false, ◌||◌, List, [], ◌∷◌, ◌++◌, length, get_or, take, drop, refl, sym, ◌∙◌, ap, subst, Some, None, add-one}
-use Rattle.std.proofs.Math.Seq.{drop-cons, take-suc}
+use Rattle.std.proofs.Common.{◌≡◌, ◌<◌, ◌+◌, inl, inr, ℕ, suc, Bool, true, false, ◌||◌, List, [], ◌∷◌, ◌++◌, length, get_or, drop, refl, sym, ◌∙◌, ap, subst, Some, None, add-one}
+use Rattle.std.proofs.Math.Seq.{drop-cons}
 use Rattle.id_groups.specs.Lists.{IsIn, is_in, AreDistinct}
 use Rattle.id_groups.specs.Name.{Name, same_name}
 use Rattle.id_groups.proofs.Listing.{missing}
@@ -73,20 +73,3 @@ pub in-next : (x : Name) (xs : List Name) (i : ℕ) (y : Name) → i < length xs
     → is_in same_name x xs ≡ is_in same_name x (drop i xs) → ¬ (x ≡ y) → is_in same_name x xs ≡ is_in same_name x (drop (i + 1) xs)
 in-next x xs i y below is so_far apart =
     so_far ∙ ap (is_in same_name x) (behind xs i y below is) ∙ ap (λ b. b || is_in same_name x (drop (i + 1) xs)) (same-false x y apart)
-
--- the search for a parent that comes twice, item by item
-pub twice-found : (parents : List Name) (i : ℕ) (p : Name) → i < length parents → p ≡ get_or parents i p
-    → twice [] parents ≡ twice (take i parents) (drop i parents) → true ≡ is_in same_name p (take i parents) → twice [] parents ≡ Some (Twice p)
-twice-found parents i p below is so_far test =
-    so_far ∙ ap (twice (take i parents)) (behind parents i p below is) ∙ twice-first (take i parents) p (drop (i + 1) parents) (sym test)
-
-pub twice-step : (parents : List Name) (i : ℕ) (p : Name) → i < length parents → p ≡ get_or parents i p
-    → twice [] parents ≡ twice (take i parents) (drop i parents) → false ≡ is_in same_name p (take i parents)
-    → twice [] parents ≡ twice (take (i + 1) parents) (drop (i + 1) parents)
-twice-step parents i p below is so_far test =
-    let front : take (i + 1) parents ≡ take i parents ++ p ∷ [] = front-one parents i p below is in
-    so_far ∙ ap (twice (take i parents)) (behind parents i p below is) ∙ twice-next (take i parents) p (drop (i + 1) parents) (sym test)
-    ∙ ap (λ t. twice t (drop (i + 1) parents)) (sym front)
-  where
-    front-one : {X : Type 0} (xs : List X) (i : ℕ) (y : X) → i < length xs → y ≡ get_or xs i y → take (i + 1) xs ≡ take i xs ++ y ∷ []
-    front-one xs i y below is = rw add-one (take-suc xs i y below ∙ ap (λ z. take i xs ++ z ∷ []) (sym is))

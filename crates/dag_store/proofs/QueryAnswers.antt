@@ -34,7 +34,7 @@ use Rattle.dag_store.specs.Looking.{IsViewId, Sees}
 use Rattle.dag_store.specs.Adding.{FindsAll}
 use Rattle.dag_store.specs.Querying.{Evaluates}
 use Rattle.dag_store.proofs.Lines.{finds-memory}
-use Rattle.dag_store.proofs.QueryGraph.{answered, held}
+use Rattle.dag_store.proofs.QueryGraph.{answered}
 
 module _ (base : BaseRef) (pending : PlainPending) (added : List Placed) (w : World Name) (rows : List (Row Name)) (s : Sees base pending added w rows) where
   pub few-masters : length w.master ≤ 2 ^ 32
@@ -44,11 +44,6 @@ module _ (base : BaseRef) (pending : PlainPending) (added : List Placed) (w : Wo
       omega (arith, small, below, count)
 
   module _ (flats : List Segment) (segments : AreSegmentsOf (with_pending w rows) flats) where
-    -- the ids of names that were found are those of the table
-    pub ids-held : (names : List Name) → AreAllIn names (names_of (rows_of (with_pending w rows))) → (x : ℕ) → IsIn x (map (id_in same_name (with_pending w rows)) names) → IsHeld flats x
-    ids-held [] a x i = absurd i
-    ids-held (name ∷ names) a x (inl e) = subst (IsHeld flats) (sym e) (held (with_pending w rows) s.view.world few-masters flats segments name a.0)
-    ids-held (name ∷ names) a x (inr i) = ids-held names a.1 x i
 
     covers : Cover flats (length w.master) (length (w.others ++ rows))
     covers = record { front = segments.masters; back = segments.others; parts = segments.parts; master_ids = segments.master_ids; other_ids = segments.other_ids; room = (let few = few-masters in let l : 2 ^ 32 ≤ 2 ^ 56 = lit≤ tt in omega (arith, few, l)) }

@@ -1,5 +1,5 @@
 -- The stored names of a base, as the log's bytes have them.
-use Rattle.std.proofs.Common.{◌≡◌, ◌<◌, ◌≤◌, ◌+◌, ◌-◌, ◌*◌, ◌^◌, ℕ, Bool, true, false, Option, Some, None, is_some, List, [], ◌∷◌, ◌++◌, map, filter, flat_map, length, take, drop, slice_get, nat_eq, nat_lt, refl, sym, ap, ap₂, ◌∙◌, subst, inl, inr, ⊎_elim, lit≤, zero-le, arith, if◌then◌else◌}
+use Rattle.std.proofs.Common.{◌≡◌, ◌<◌, ◌≤◌, ◌+◌, ◌-◌, ◌*◌, ◌^◌, ℕ, Bool, true, false, Some, None, List, [], ◌∷◌, ◌++◌, map, filter, flat_map, length, take, drop, slice_get, nat_eq, nat_lt, refl, sym, ap, ap₂, ◌∙◌, subst, inl, inr, ⊎_elim, lit≤, zero-le, arith, if◌then◌else◌}
 use Rattle.std.proofs.lemmas.Bool.Decides.{nat_tests}
 use Rattle.std.specs.Prelude.{⊤}
 use Rattle.std.specs.List.{AllByRecursion}
@@ -29,7 +29,7 @@ use Rattle.payload_tables.specs.Pending.{HeldRow, PlainPending, HoldsRows}
 use Rattle.payload_tables.proofs.Basing.{base-others}
 use Rattle.payload_tables.proofs.Naming.{places-many, row-name}
 use Rattle.payload_tables.proofs.Rows.{get-below}
-use Rattle.dag_store.specs.Names.{name_at, known_at, known_in_parts, others_at, stored_at, name_among, pending_name, name_or, name_in, lent_name}
+use Rattle.dag_store.specs.Names.{name_at, known_at, known_in_parts, others_at, stored_at, name_among, pending_name, name_or, name_in}
 
 -- ---- the entries that stand in the log are the payloads'
 
@@ -192,11 +192,6 @@ row-here p rows h id place e lt name is =
     let within : nat_lt (id - (2 ^ 56 + p.first)) (length p.places) ≡ true = grind (arith, nat_tests, same, lt) in
     rw (behind, within, same) (ap Some (is x.0 x.1 ∙ sym (row-name p rows place x.0 h x.1)))
 
--- the name that is found among the stored ones
-pub among-named : (base : BaseRef) (added : List Placed) → IsBaseOf base added → (id : ℕ) (r : Option NameRef) → NamesAs (stored_in added) id r → name_among (stored_at base) id ≡ lent_name r
-among-named base added b id None h = ap (λ known. name_among known id) (stored-are base added b) ∙ no-name (stored_in added) id h
-among-named base added b id (Some name) h = ap (λ known. name_among known id) (stored-are base added b) ∙ one-name 0 (stored_in added) (ascend-stored base added b) id name.bytes.now h
-
 -- the name that is found is that of the id
 pub among-in : (known : List Known) (id : ℕ) (name : Name) → name_among known id ≡ Some name → IsIn {X = Known} (record { id = id; name = name }) known
 among-in [] id name e = absurd (cc e)
@@ -211,7 +206,3 @@ among-in (k ∷ known) id name e = ⊎_elim
 pub stored-name : (base : BaseRef) (added : List Placed) → IsBaseOf base added → (id : ℕ) (name : Name) → IsIn {X = Known} (record { id = id; name = name }) (stored_in added)
     → name_among (stored_at base) id ≡ Some name
 stored-name base added b id name i = ap (λ known. name_among known id) (stored-are base added b) ∙ one-name 0 (stored_in added) (ascend-stored base added b) id name i
-
-pub named-some : (base : BaseRef) (added : List Placed) → IsBaseOf base added → (id : ℕ) (r : Option NameRef) → NamesAs (stored_in added) id r → is_some r ≡ is_some (name_among (stored_at base) id)
-named-some base added b id None h = sym (ap is_some (among-named base added b id None h))
-named-some base added b id (Some name) h = sym (ap is_some (among-named base added b id (Some name) h))

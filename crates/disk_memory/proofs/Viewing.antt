@@ -1,10 +1,8 @@
 -- The scene that the code keeps, and the list that it fills.
-use Rattle.std.proofs.Common.{◌≡◌, ◌⊎◌, inl, inr, ⊎_elim, ℕ, suc, ◌≤◌, ◌<◌, ◌+◌, ◌-◌, max, min, Bool, true, false, List, [], ◌∷◌, ◌++◌, length, get_or, map, slice_index, refl, sym, ◌∙◌, ap, subst, arith, length-append, nat_lt, nat_le, true≢false}
+use Rattle.std.proofs.Common.{◌≡◌, ◌⊎◌, inl, inr, ⊎_elim, ℕ, suc, ◌≤◌, ◌<◌, ◌+◌, ◌-◌, max, min, Bool, true, false, List, [], ◌∷◌, ◌++◌, length, get_or, map, slice_index, refl, sym, ◌∙◌, ap, subst, arith, nat_lt, nat_le, true≢false}
 use Rattle.std.specs.Prelude.{◌&&◌, ◌||◌, not, if◌then◌else◌}
 use Rattle.std.specs.List.{list_any}
-use Rattle.std.proofs.lemmas.Bool.{cases_eq}
 use Rattle.std.proofs.lemmas.Bool.Decides.{leb_tells}
-use Rattle.std.proofs.lemmas.List.{get_or_append_left, get_or-append_right}
 use Rattle.disk_trait.specs.Images.{IsImage, IsWithin, IsWritten, longest}
 use Rattle.disk_trait.proofs.Writes.{le-longest}
 use Rattle.disk_memory.specs.declared.crash.Fill.{Fill}
@@ -71,19 +69,6 @@ loose_is view place loose = both (nat_lt place (length view.stable.items)) (list
 pub record IsFilled (f : ℕ → ℕ) (image : List ℕ) (count : ℕ) : Type 0 where
   pub long : length image ≡ count
   pub each : (place : ℕ) → place < count → get_or image place 0 ≡ f place
-
-pub filled_none : (f : ℕ → ℕ) → IsFilled f [] 0
-filled_none f = record { long = refl; each = λ place lt. absurd (omega (arith, lt)) }
-
-pub filled_more : (f : ℕ → ℕ) (image : List ℕ) (count byte : ℕ) → IsFilled f image count → byte ≡ f count → IsFilled f (image ++ byte ∷ []) (count + 1)
-filled_more f image count byte h here = record {
-  long = (let l = h.long in omega (arith, length-append image (byte ∷ []), l));
-  each = λ place lt. at place lt (cases_eq place count);
-}
-  where
-    at : (place : ℕ) → place < count + 1 → (place ≡ count) ⊎ (place ≡ count → ⊥) → get_or (image ++ byte ∷ []) place 0 ≡ f place
-    at place lt (inr other) = (let before : place < count = omega (arith, lt, other) in let l = h.long in get_or_append_left image (byte ∷ []) 0 place (omega (arith, l, before)) ∙ h.each place before)
-    at place lt (inl same) = get_or-append_right image (byte ∷ []) count place 0 h.long (omega (arith, same)) ∙ ap (λ k. get_or (byte ∷ []) k 0) (let z : place - count ≡ 0 = omega (arith, same) in z) ∙ here ∙ ap f (sym same)
 
 fill_is : (fill : Fill) (scene : Scene) (view : View) (place : ℕ) → Shows scene view → fill_byte fill view place ≡ filled fill scene place
 fill_is Old scene view place s = ap (λ l. slice_index l place) s.stable_are

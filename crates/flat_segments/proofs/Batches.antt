@@ -1,8 +1,8 @@
 -- The records of a batch, gone over from the first to the last.
-use Rattle.std.proofs.Common.{◌≡◌, ℕ, suc, ◌+◌, ◌-◌, ◌<◌, ◌≤◌, ◌^◌, Bool, true, false, not, List, [], ◌∷◌, ◌++◌, length, map, take, Err, cond, refl, sym, subst, ap, ◌∙◌, arith, append_assoc}
+use Rattle.std.proofs.Common.{◌≡◌, ℕ, suc, ◌+◌, ◌-◌, ◌<◌, ◌≤◌, ◌^◌, Bool, true, false, not, List, [], ◌∷◌, ◌++◌, length, map, Err, cond, refl, sym, subst, ap, ◌∙◌, arith, append_assoc}
 use Rattle.std.specs.Prelude.{filter, flat_map}
 use Rattle.std.specs.List.{AllByRecursion}
-use Rattle.std.proofs.lemmas.List.{append-nil, take_at, length-append}
+use Rattle.std.proofs.lemmas.List.{append-nil, length-append}
 use Rattle.std.proofs.lemmas.List.Concat.{flat_map-cons}
 use Rattle.std.specs.declared.result.Result.{Result}
 use Rattle.segment_codec.specs.Record.{Segment, IsSegment, segment_bytes}
@@ -156,10 +156,6 @@ module _ (first at : ℕ) (records : List ℕ) (old new : List PlainEntry) (next
         end = ap (λ q. place_behind next q) (sym l) ∙ p.behind;
         kept = sym (append-nil new) ∙ ap (λ q. new ++ kept_of (placed_segments (at + (length records - length rest)) q)) (sym l) ∙ p.kept;
       }
-
-  -- those that were there before are there still
-  pub has-front : take (length old) new ≡ old
-  has-front = ap (take (length old)) h.front ∙ take_at old h.more (length old) refl
 
 abbrev bad : ℕ → Result ℕ FlatFault
 bad n = Err (BadSegment n)

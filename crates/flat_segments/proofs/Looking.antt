@@ -131,9 +131,3 @@ module _ (v : FlatView) where
 
   pub master-begin : (id : ℕ) → begin_of v.master.end (master_flats v) ≤ id
   master-begin id = let e = follow-begin 0 v.master.end (master_flats v) (view-facts v).master_ids in omega (arith, e)
-
-  pub others-begin : (id : ℕ) → 2 ^ 56 ≤ id → begin_of v.others.end (flats_of v.others) ≤ id
-  others-begin id le = let e = v.other_ids in omega (arith, e, le)
-
-  pub pending-begin : (id : ℕ) → v.others.end ≤ id → begin_of v.pending.end (flats_of v.pending) ≤ id
-  pending-begin id le = let e = v.pending_ids in omega (arith, e, le)

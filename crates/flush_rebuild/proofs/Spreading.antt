@@ -7,7 +7,7 @@ use Rattle.std.proofs.lemmas.Bool.{cases_lt}
 use Rattle.id_groups.specs.Id.{is_master_id, other_id}
 use Rattle.commit_graph.proofs.Places.{below-master}
 use Rattle.assign_ids.specs.Numbers.{AreBelow}
-use Rattle.flush_rebuild.specs.Stripping.{is_marked, places_of, AreSpread}
+use Rattle.flush_rebuild.specs.Stripping.{is_marked, places_of}
 
 -- one more number of an id
 pub places-next : (ids : List ℕ) (i x : ℕ) → i < length ids → x ≡ get_or ids i x → places_of (take (i + 1) ids) ≡ places_of (take i ids) ++ (x - 2 ^ 56) ∷ []
@@ -65,9 +65,6 @@ spread-more rows given marks i b lt below e s = record {
   where
     le-refl : (x : ℕ) → x ≤ x
     le-refl x = omega arith
-
-pub spread-end : (rows : List (List ℕ)) (given marks : List Bool) (i : ℕ) → length given ≤ i → SpreadSoFar rows given marks i → AreSpread rows given marks
-spread-end rows given marks i le s = record { long = s.long; each = λ k lt. s.done k (omega (arith, lt, le)) lt }
 
 -- the parents of a number lie below the marks
 pub parents-few : (i n : ℕ) (ps : List ℕ) → i < n → AllByRecursion (λ p. p < other_id i) ps → AllByRecursion (λ p. p < 2 ^ 56 + n) ps

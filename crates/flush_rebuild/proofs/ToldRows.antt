@@ -79,12 +79,6 @@ rows-short all [] parents = omega arith
 rows-short all (n ∷ names) [] = omega arith
 rows-short all (n ∷ names) (ps ∷ parents) = let r = rows-short all names parents in omega (arith, r)
 
-name-with : (all names : List Name) (parents : List (List ℕ)) (k : ℕ) (x : Name) → slice_get (names_of (rows_with all names parents)) k ≡ Some x → slice_get names k ≡ Some x
-name-with all [] parents k x e = absurd (no-some x (sym e))
-name-with all (n ∷ names) [] k x e = absurd (no-some x (sym e))
-name-with all (n ∷ names) (ps ∷ parents) zero x e = e
-name-with all (n ∷ names) (ps ∷ parents) (suc k) x e = name-with all names parents k x e
-
 pub named-ids : (all : List Name) (end : ℕ) (ids : List ℕ) → AllByRecursion (λ n. n < end) ids → end ≤ length all → AllZip (λ n p. (n < end) × (slice_get all n ≡ Some p)) ids (names_at_all all ids)
 named-ids all end [] h le = tt
 named-ids all end (n ∷ ids) h le =
@@ -192,18 +186,6 @@ module _ (w : World Name) (cloned : ℕ) (fresh : PlainFresh) (unbroken : first_
 
   pub ends : (s : Segment) → IsIn s segments → s.high < total
   ends s i = (lowest 0 total segments follow s i).2
-
-  -- a cloned row is the world's
-  pub cloned-row : (k : ℕ) (name : Name) → k < cloned → slice_get (names_of rows) k ≡ Some name → slice_get (names_of w.master) k ≡ Some name
-  cloned-row k name lt e =
-      sym (take-get (names_of w.master) cloned k lt)
-      ∙ sym (front-get (take cloned (names_of w.master)) fresh.names k (let f = front-long in omega (arith, f, lt)))
-      ∙ name-with all all listed k name e
-    where
-      front-get : (xs ys : List Name) (k : ℕ) → k < length xs → slice_get (xs ++ ys) k ≡ slice_get xs k
-      front-get [] ys k lt = absurd (let z : ⊥ = omega (arith, lt) in z)
-      front-get (x ∷ xs) ys zero lt = refl
-      front-get (x ∷ xs) ys (suc k) lt = front-get xs ys k (omega (arith, lt))
 
 -- ---- ids that weren't cloned have stored names
 

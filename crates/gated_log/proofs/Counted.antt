@@ -3,10 +3,10 @@ use Rattle.std.proofs.Common.{◌≡◌, ℕ, ◌+◌, ◌≤◌, List, length, 
 use Rattle.std.proofs.lemmas.Bool.{le-leb}
 use Rattle.std.specs.Prelude.{OnOk, Result, Ok, Err}
 use Rattle.disk_trait.specs.Images.{Unsynced, Told, moment_of, surely}
-use Rattle.disk_trait.specs.Calls.{after_call, Passes, Writes, FailsToWrite, Syncs, Succeeds, OrRefuses, Goes, with_range, overwritten}
+use Rattle.disk_trait.specs.Calls.{after_call, Passes, Syncs, Succeeds, OrRefuses, Goes}
 use Rattle.disk_trait.proofs.Moments.{moment-call}
 use Rattle.disk_trait.proofs.Telling.{goes-then, goes-map, goes-same, goes-from}
-use Rattle.gated_log.specs.Load.{WithinCalls, LoadCalls, KeepsBytes, IsUnwritten}
+use Rattle.gated_log.specs.Load.{WithinCalls, LoadCalls, KeepsBytes}
 use Rattle.gated_log.proofs.LoadCalls.{IsSized, ReadsOnce, size_was}
 
 abbrev pub Step : Told → Told → Type 0
@@ -21,62 +21,20 @@ same-step t new e = let m = ap moment_of e in omega (arith, m)
 pass-step : (a b : Told) → OrRefuses Passes a b → Step a b
 pass-step a b r = ⊎_elim (λ p. after-step a a.now a.now a.bytes b p.1) (λ p. same-step a b p.1) r
 
-fails-step : (at : ℕ) (piece : List ℕ) (a b : Told) → OrRefuses (FailsToWrite at piece) a b → Step a b
-fails-step at piece a b r =
-    let lost = with_range a.now at (length piece) in
-    ⊎_elim (λ p. ⊎_elim (λ q. after-step a a.now a.now a.bytes b q) (λ q. after-step a lost lost q.0 b q.2) p.1) (λ p. same-step a b p.1) r
-
 pub steps-pass : (a b : Option Told) → Goes (OrRefuses Passes) a b → Goes Step a b
 steps-pass a b w = goes-map (OrRefuses Passes) Step a b pass-step w
-
-pub steps-passed : (a b : Option Told) → Goes (Succeeds Passes) a b → Goes Step a b
-steps-passed a b w = goes-map (Succeeds Passes) Step a b (λ x y r. after-step x x.now x.now x.bytes y r.1) w
 
 pub steps-sync : (a b : Option Told) → Goes (Succeeds Syncs) a b → Goes Step a b
 steps-sync a b w = goes-map (Succeeds Syncs) Step a b (λ x y r. after-step x x.now (surely x.bytes) x.bytes y r.1) w
 
-pub steps-write : (at : ℕ) (piece : List ℕ) (a b : Option Told) → Goes (Succeeds (Writes at piece)) a b → Goes Step a b
-steps-write at piece a b w = goes-map (Succeeds (Writes at piece)) Step a b (λ x y r. after-step x _ _ (overwritten x.bytes at piece) y r.1) w
-
-pub steps-fails : (at : ℕ) (piece : List ℕ) (a b : Option Told) → Goes (OrRefuses (FailsToWrite at piece)) a b → Goes Step a b
-steps-fails at piece a b w = goes-map (OrRefuses (FailsToWrite at piece)) Step a b (fails-step at piece) w
-
 pub steps-once : (a b : Option Told) → Goes ReadsOnce a b → Goes Step a b
 steps-once a b w = goes-map ReadsOnce Step a b (λ x y r. ⊎_elim (λ e. same-step x y e) (λ p. after-step x x.now x.now x.bytes y p) r) w
-
-pub none-made : (a : Option Told) → Goes (WithinCalls 4) a a
-none-made a = goes-same (WithinCalls 4) a (λ x. omega arith)
-
--- two writes that are made sure of, or the first alone
-pub first-pair : (a b : Option Told) → Goes (WithinCalls 2) a b → Goes (WithinCalls 4) a b
-first-pair a b v = goes-map (WithinCalls 2) (WithinCalls 4) a b (λ x y r. omega (arith, r)) v
-
-pub both-pairs : (a b c : Option Told) → Goes (WithinCalls 2) a b → Goes (WithinCalls 2) b c → Goes (WithinCalls 4) a c
-both-pairs a b c v w = goes-then (WithinCalls 2) (WithinCalls 2) (WithinCalls 4) a b c (λ x y z r s. omega (arith, r, s)) v w
-
--- what load does behind sync and size
-pub sized-then : (a b c : Option Told) → Goes IsSized a b → Goes (WithinCalls 2) b c → Goes (WithinCalls 4) a c
-sized-then a b c v w = goes-then IsSized (WithinCalls 2) (WithinCalls 4) a b c (λ x y z s r. let m = s.clock in omega (arith, m, r)) v w
-
-pub sized-made : (a b : Option Told) → Goes IsSized a b → Goes (WithinCalls 4) a b
-sized-made a b v = goes-map IsSized (WithinCalls 4) a b (λ x y s. let m = s.clock in omega (arith, m)) v
-
-pub in-two : (a b c : Option Told) → Goes Step a b → Goes Step b c → Goes (WithinCalls 2) a c
-in-two a b c v w = goes-then Step Step (WithinCalls 2) a b c (λ x y z r s. omega (arith, r, s)) v w
 
 pub in-one : (a b : Option Told) → Goes Step a b → Goes (WithinCalls 2) a b
 in-one a b v = goes-map Step (WithinCalls 2) a b (λ x y r. omega (arith, r)) v
 
 pub in-none : (a : Option Told) → Goes (WithinCalls 2) a a
 in-none a = goes-same (WithinCalls 2) a (λ x. omega arith)
-
-pub sized-unwritten : (a b : Option Told) → Goes IsSized a b → Goes (IsUnwritten 2) a b
-sized-unwritten a b v = goes-map IsSized (IsUnwritten 2) a b (λ x y s. (let m = s.clock in omega (arith, m), s.bytes, s.sure)) v
-
-pub read-unwritten : (a b c : Option Told) → Goes IsSized a b → Goes Passes b c → Goes (IsUnwritten 3) a c
-read-unwritten a b c v w =
-    goes-then IsSized Passes (IsUnwritten 3) a b c
-    (λ x y z s r. (let m = s.clock in let k = ap moment_of r ∙ moment-call y y.now y.now y.bytes in omega (arith, m, k), ap (λ (t : Told). t.bytes) r ∙ s.bytes, ap (λ (t : Told). t.now) r ∙ s.sure)) v w
 
 -- ---- as many calls as loading may make
 within-six : (a b : Told) → moment_of b ≤ moment_of a + 6 → LoadCalls a b

@@ -42,10 +42,6 @@ fresh_write_fails a b f w = goes-from (OrRefuses (FailsToWrite 0 (0 ∷ []))) Le
 pub fresh_sync : (a b c : Option Told) → IfSome a IsFresh → Goes (Succeeds (Writes 0 (0 ∷ []))) a b → Goes Kept b c → Goes LeavesFresh a c
 fresh_sync a b c f w k = goes-then LeavesFresh Kept LeavesFresh a b c kept-fresh (goes-from (Succeeds (Writes 0 (0 ∷ []))) LeavesFresh IsFresh a b (λ x y h r. fresh-writes x y h r) f w) k
 
-pub fresh_none : (a : Option Told) → IfSome a IsFresh → Goes LeavesFresh a a
-fresh_none None f = tt
-fresh_none (Some x) f = fresh-same x f
-
 -- ---- and of loading as a whole
 pub old_kept : (a b : Option Told) → Goes Kept a b → Goes LeavesOldOrFresh a b
 old_kept a b k = goes-map Kept LeavesOldOrFresh a b (λ x y h. weakened (λ moment. IsImage x.now) (λ moment image. IsImage x.now image ⊎ ((length x.bytes ≤ 1) × (length image ≤ 1))) x y (λ moment image is. inl is) h) k

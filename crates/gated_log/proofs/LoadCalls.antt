@@ -1,5 +1,5 @@
 -- The calls of loading, and what a crash leaves at each moment of them.
-use Rattle.std.proofs.Common.{◌≡◌, ◌⊎◌, inl, inr, ⊎_elim, ℕ, suc, ◌≤◌, ◌+◌, ◌-◌, min, List, [], ◌∷◌, ◌++◌, length, take, drop, Option, Some, None, IfSome, IfOk, IfErr, OnOk, Result, Ok, Err, refl, sym, ◌∙◌, ap, subst, arith, append_assoc, take_at}
+use Rattle.std.proofs.Common.{◌≡◌, ◌⊎◌, inl, inr, ⊎_elim, ℕ, suc, ◌≤◌, ◌+◌, ◌-◌, min, List, [], ◌∷◌, ◌++◌, length, take, drop, Option, Some, None, IfSome, IfOk, OnOk, Result, Ok, Err, refl, sym, ◌∙◌, ap, subst, arith, append_assoc, take_at}
 use Rattle.std.proofs.lemmas.List.{append-nil, drop_all, take_all}
 use Rattle.disk_trait.specs.Images.{Unsynced, IsImage, IsSound, Told, moment_of, LeftAt, surely}
 use Rattle.disk_trait.specs.Calls.{after_call, Passes, Writes, FailsToWrite, Syncs, Succeeds, OrRefuses, Goes, with_range, overwritten}
@@ -12,8 +12,6 @@ use Rattle.gated_log.specs.Held.{Held, log_bytes}
 use Rattle.gated_log.specs.Holding.{IsLogWithin, HasPayloads, Begins}
 use Rattle.gated_log.specs.Load.{Loads, IsLogOf, KeepsImages, KeepsPayloads, IsLoaded, IsFresh, IsStarted, OnlyReads, after_reads}
 use Rattle.gated_log.specs.declared.LoadLog.{LoadLog}
-use Rattle.gated_log.specs.declared.LoadLog.TheVariants.{Memory, Disk}
-use Rattle.disk_trait.specs.declared.DiskFault.{DiskFault}
 use Rattle.gated_log.proofs.Reading.{one-log}
 
 now-left : (t : Told) (image : List ℕ) → IsImage t.now image → LeftAt t (moment_of t) image
@@ -131,12 +129,6 @@ start_images limit size None (Some y) d s k h le = absurd s
 start_images limit size (Some x) None d s k h le = absurd s
 start_images limit size (Some x) (Some y) None s k h le = k
 start_images limit size (Some x) (Some y) (Some z) s k h le = λ long. absurd (omega (arith, h, le, long, ap length s.bytes))
-
-pub sized_bytes : (F : List ℕ → Type 0) (a c : Option Told) → Goes IsSized a c → IfSome c (λ t. F t.bytes) → IfSome a (λ t. F t.bytes)
-sized_bytes F a c s h = if_back IsSized (λ t. F t.bytes) (λ t. F t.bytes) a c (λ x y r f. subst F r.bytes f) s h
-
-pub passed_bytes : (F : List ℕ → Type 0) (a c : Option Told) → Goes (Succeeds Passes) a c → IfSome c (λ t. F t.bytes) → IfSome a (λ t. F t.bytes)
-passed_bytes F a c s h = if_back (Succeeds Passes) (λ t. F t.bytes) (λ t. F t.bytes) a c (λ x y r f. subst F (ap (λ (t : Told). t.bytes) r.1) f) s h
 
 -- ---- the log that was read is on the disk
 loaded_at : (limit : ℕ) (log : Held) (a c d : Told) → IsSized a c → Passes c d → 2 ≤ length c.bytes → length c.bytes ≤ limit → IsLogOf limit c.bytes log → IsLoaded log a d
@@ -256,21 +248,6 @@ start_done size (Some x) None d (Ok log) s w h le = absurd s
 start_done size (Some x) (Some y) None (Ok log) s w h le = absurd w
 start_done size (Some x) (Some y) (Some z) (Ok log) s w h le = started_at log x y z s (omega (arith, h, le)) w
 
--- what starting answers, of the bytes that were there
-pub start_answers : (limit size : ℕ) (c : Option (List ℕ)) (r : Result Held LoadLog) → IfSome c (λ b. size ≡ length b) → size ≤ 1 → 1 ≤ limit
-    → IfOk r (λ log. (log.payloads ≡ []) × (log.gate ≡ 0) × (log.limit ≡ limit)) → IfErr r (λ e. (e ≡ Memory) ⊎ ((fault : DiskFault) × (e ≡ Disk fault)))
-    → IfSome c (λ b. Loads limit b r)
-start_answers limit size None r h le least ok err = tt
-start_answers limit size (Some t) (Ok log) h le least ok err = record {
-  most = ok.2;
-  fits = omega (arith, h, le, least);
-  is_log = inl (omega (arith, h, le), ok.0);
-  begins = λ long. absurd (omega (arith, h, le, long));
-  fresh = λ _. (ok.0, ok.1);
-}
-start_answers limit size (Some t) (Err e) h le least ok (inl memory) = subst (λ x. Loads limit t (Err x)) (sym memory) (omega (arith, h, le, least))
-start_answers limit size (Some t) (Err e) h le least ok (inr (fault, disk)) = subst (λ x. Loads limit t (Err x)) (sym disk) tt
-
 -- ---- reading
 -- the whole of the bytes came
 all_read : (bytes before new old items : List ℕ) (n len size : ℕ) → len ≡ size → length before ≡ len → size ≡ length bytes → n ≡ min (length before) (length bytes - 0) → new ≡ take n bytes ++ drop n before
@@ -292,21 +269,8 @@ pub read_answers : (limit : ℕ) (items : List ℕ) (a : Option (List ℕ)) (r :
 read_answers limit items None r h l = tt
 read_answers limit items (Some t) r h l = subst (λ b. Loads limit b r) h l
 
-pub once_same : (a : Option Told) → Goes ReadsOnce a a
-once_same a = goes-same ReadsOnce a (λ x. inl refl)
-
-pub once_fails : (a b : Option Told) → Goes (OrRefuses Passes) a b → Goes ReadsOnce a b
-once_fails a b w = goes-map (OrRefuses Passes) ReadsOnce a b (λ x y r. ⊎_elim (λ p. inr p.1) (λ p. inl p.1) r) w
-
-pub once_passes : (a b : Option Told) → Goes (Succeeds Passes) a b → Goes ReadsOnce a b
-once_passes a b w = goes-map (Succeeds Passes) ReadsOnce a b (λ x y r. inr r.1) w
-
 pub passed : (a b : Option Told) → Goes (Succeeds Passes) a b → Goes Passes a b
 passed a b w = goes-map (Succeeds Passes) Passes a b (λ x y r. r.1) w
-
--- ---- only reads
-reads-none : (t : Told) → t ≡ after_reads 0 t
-reads-none t = let make : List Unsynced → Told = λ past. record { bytes = t.bytes; past = past; now = t.now } in sym (ap make (append-nil t.past))
 
 reads-one : (a b : Told) → Passes a b → b ≡ after_reads 1 a
 reads-one a b w = w
@@ -316,15 +280,5 @@ reads-two a b c w x =
     let make : List Unsynced → Told = λ past. record { bytes = a.bytes; past = past; now = a.now } in
     x ∙ ap (λ (t : Told). after_call t t.now t.now t.bytes) w ∙ ap make (append_assoc a.past (a.now ∷ a.now ∷ []) (a.now ∷ a.now ∷ []))
 
-pub only_fails : (a b : Option Told) → Goes (OrRefuses Passes) a b → Goes (OnlyReads 2) a b
-only_fails a b w = goes-map (OrRefuses Passes) (OnlyReads 2) a b (λ x y r. ⊎_elim (λ p. (1, omega arith, reads-one x y p.1)) (λ p. (0, omega arith, p.1 ∙ reads-none x)) r) w
-
-pub only_one : (a b : Option Told) → Goes (Succeeds Passes) a b → Goes (OnlyReads 2) a b
-only_one a b w = goes-map (Succeeds Passes) (OnlyReads 2) a b (λ x y r. (1, omega arith, reads-one x y r.1)) w
-
 pub only_two : (a b c : Option Told) → Goes (Succeeds Passes) a b → Goes ReadsOnce b c → Goes (OnlyReads 2) a c
 only_two a b c w x = goes-then (Succeeds Passes) ReadsOnce (OnlyReads 2) a b c (λ x y z r s. ⊎_elim (λ e. (1, omega arith, e ∙ reads-one x y r.1)) (λ p. (2, omega arith, reads-two x y z r.1 p)) s) w x
-
-pub two_done : {T E : Type 0} (a b c : Option Told) (r : Result T E) → Goes (Succeeds Passes) a b → OnOk r (Goes Passes b c) → OnOk r (Goes (λ old new. new ≡ after_reads 2 old) a c)
-two_done a b c (Ok log) w x = goes-then (Succeeds Passes) Passes (λ old new. new ≡ after_reads 2 old) a b c (λ x y z r s. reads-two x y z r.1 s) w x
-two_done a b c (Err e) w x = tt

@@ -1,11 +1,10 @@
 -- Reading one batch after another.
-use Rattle.std.proofs.Common.{◌≡◌, ◌≢◌, inr, ℕ, zero, suc, ◌≤◌, ◌<◌, ◌+◌, ◌-◌, ◌^◌, List, [], ◌∷◌, ◌++◌, length, get_or, take, drop, refl, sym, ◌∙◌, ap, subst, arith, length-append, append_assoc, take-append-drop, lit<}
+use Rattle.std.proofs.Common.{◌≡◌, ◌≢◌, ℕ, zero, suc, ◌≤◌, ◌<◌, ◌+◌, ◌-◌, ◌^◌, List, [], ◌∷◌, ◌++◌, length, get_or, take, drop, sym, ◌∙◌, ap, subst, arith, length-append, append_assoc, take-append-drop, lit<}
 use Rattle.std.proofs.lemmas.List.{length-take-le, length-drop, drop_more, get_or-drop, drop-drop}
 use Rattle.std.proofs.lemmas.Nat.{be_bytes_8}
 use Rattle.std.specs.List.{AllByRecursion}
 use Rattle.std.specs.Int.{w64, to_be_bytes, from_be_bytes}
-use Rattle.gated_log.specs.Log.{batch, batches, HasLength, IsDamaged, gates_of}
-use Rattle.gated_log.specs.Scan.{IsClosedAt}
+use Rattle.gated_log.specs.Log.{batch, batches, HasLength, gates_of}
 use Rattle.gated_log.proofs.Places.{gates_of-push}
 use Rattle.gated_log.proofs.Shapes.{batches-push, lengths-push}
 
@@ -17,9 +16,6 @@ pub record IsScanned (bytes open_gates : List ℕ) (at : ℕ) : Type 0 where
   pub place : at ≡ length (batches done)
   pub inside : at < length bytes
   pub opened : open_gates ≡ gates_of 0 done
-
-pub scanned_none : (bytes open_gates : List ℕ) → 2 ≤ length bytes → open_gates ≡ [] → IsScanned bytes open_gates 0
-scanned_none bytes open_gates long none = record { done = []; lengths = tt; whole = refl; place = refl; inside = omega (arith, long); opened = none }
 
 gate_at : (bytes : List ℕ) (at : ℕ) → at < length bytes → drop at bytes ≡ get_or bytes at 0 ∷ drop (at + 1) bytes
 gate_at bytes at inside = drop_more bytes at 0 inside
@@ -59,41 +55,3 @@ scanned_more bytes open_gates at size fit s is_open room is small within =
         below [] ys i h = lit< tt
         below (x ∷ xs) ys zero h = h
         below (x ∷ xs) ys (suc i) h = below xs ys i h
-
--- a batch that runs past the end
-pub damaged_short : (bytes open_gates : List ℕ) (at : ℕ) → 2 ≤ length bytes → IsScanned bytes open_gates at → get_or bytes at 0 ≡ 1 → length bytes - at - 1 < 9 → IsDamaged bytes at
-damaged_short bytes open_gates at long s is_open short =
-    let behind = drop (at + 1) bytes in (
-      long,
-      s.done,
-      behind,
-      s.lengths,
-      s.whole ∙ ap (λ l. batches s.done ++ l) (gate_at bytes at s.inside ∙ ap (λ g. g ∷ behind) is_open),
-      s.place,
-      inr (let n = length-drop (at + 1) bytes in omega (arith, n, short)),
-    )
-
-pub damaged_long : (bytes open_gates : List ℕ) (at size : ℕ) → 2 ≤ length bytes → IsScanned bytes open_gates at → get_or bytes at 0 ≡ 1
-    → size ≡ from_be_bytes w64 (take 8 (drop (at + 1) bytes)) → length bytes - at - 1 - 9 < size → IsDamaged bytes at
-damaged_long bytes open_gates at size long s is_open is past =
-    let behind = drop (at + 1) bytes in (
-      long,
-      s.done,
-      behind,
-      s.lengths,
-      s.whole ∙ ap (λ l. batches s.done ++ l) (gate_at bytes at s.inside ∙ ap (λ g. g ∷ behind) is_open),
-      s.place,
-      inr (let n = length-drop (at + 1) bytes in omega (arith, n, past, is)),
-    )
-
-pub closed_at : (bytes open_gates : List ℕ) (at : ℕ) → IsScanned bytes open_gates at → get_or bytes at 0 ≢ 1 → IsClosedAt bytes open_gates at
-closed_at bytes open_gates at s shut = record {
-  payloads = s.done;
-  gate = get_or bytes at 0;
-  behind = drop (at + 1) bytes;
-  lengths = s.lengths;
-  closed = shut;
-  whole = s.whole ∙ ap (λ l. batches s.done ++ l) (gate_at bytes at s.inside);
-  place = s.place;
-  opened = s.opened;
-}

@@ -2,7 +2,7 @@
 use Rattle.std.proofs.Common.{◌≡◌, ℕ, zero, suc, ◌+◌, ◌<◌, ◌≤◌, ◌^◌, ◌⊎◌, Bool, true, false, cond, ◌&&◌, List, [], ◌∷◌, length, take, Option, Some, None, refl, sym, subst, ap, ◌∙◌, arith, lit≤, ⊎_elim}
 use Rattle.std.specs.Prelude.{nat_eq, nat_lt, nat_le}
 use Rattle.std.specs.List.{list_all, range_with_len}
-use Rattle.std.proofs.lemmas.Bool.{lt-ltb, le-ltb, le-leb, lt-leb, ltb-true, leb-true}
+use Rattle.std.proofs.lemmas.Bool.{lt-leb, ltb-true, leb-true}
 use Rattle.id_groups.specs.Lists.{IsIn}
 use Rattle.id_groups.proofs.Listing.{and_true, both_true, in-all-true}
 use Rattle.segment_codec.specs.Record.{Segment}
@@ -20,7 +20,7 @@ use Rattle.segment_levels.specs.Kept.{KeptLevels, PlainGroups, AreLevelsAbove}
 use Rattle.segment_levels.specs.Whole.{IsWholeTo}
 use Rattle.segment_levels.specs.Flats.{flats_of}
 use Rattle.segment_levels.specs.Tests.{is_kept, is_ending, are_levels}
-use Rattle.segment_levels.specs.Endings.{at_level, held_from, high_ending, ending_in, level_ending, BelongTogether}
+use Rattle.segment_levels.specs.Endings.{at_level, held_from, high_ending, level_ending, BelongTogether}
 use Rattle.segment_levels.proofs.Ascending.{all-from-in, ascend-few, ascend-decided}
 use Rattle.segment_levels.proofs.Deciding.{EndingFacts, ending-decided, ending-none, all-kept-means, all-kept-decided}
 use Rattle.segment_levels.proofs.Leveled.{level-high}
@@ -160,31 +160,6 @@ module _ (v : FlatView) (levels : KeptLevels) (table : FlatKept) (records : List
   together-endings j id = same-endings (flats_of table records) table.end (master_count v) levels.levels j id whole-is b.small few-flats b.levels_of.levels
 
 -- ---- a look-up
-
-pub ending-number : (flats : List Segment) (count : ℕ) (levels : List PlainGroups) (level id : ℕ) → 1 ≤ level → ending_in flats count levels level id ≡ high_ending count levels level id
-ending-number flats count levels zero id le = absurd (omega (arith, le))
-ending-number flats count levels (suc k) id le = refl
-
--- past the count, or above the last level
-pub no-ending : (flats : List Segment) (count : ℕ) (levels : List PlainGroups) (level id : ℕ) → 1 ≤ level → (count ≤ id) ⊎ (length levels < level) → ending_in flats count levels level id ≡ None
-no-ending flats count levels level id some out =
-    ending-number flats count levels level id some
-    ∙ ⊎_elim
-    (λ (le : count ≤ id). ap (λ b. cond (b && nat_le level (length levels)) (at_level level (if_ends id (held_from None (take level levels) id))) None) (le-ltb id count le))
-    (λ (lt : length levels < level).
-    ap (λ b. cond b (at_level level (if_ends id (held_from None (take level levels) id))) None) (and-false (nat_lt id count) (nat_le level (length levels)) (lt-leb level (length levels) lt)))
-    out
-  where
-    and-false : (a b : Bool) → b ≡ false → (a && b) ≡ false
-    and-false true b e = e
-    and-false false b e = refl
-
-pub some-ending : (flats : List Segment) (count : ℕ) (levels : List PlainGroups) (level id : ℕ) → 1 ≤ level → id < count → level ≤ length levels
-    → ending_in flats count levels level id ≡ at_level level (if_ends id (held_from None (take level levels) id))
-some-ending flats count levels level id some lt le =
-    ending-number flats count levels level id some
-    ∙ ap (λ b. cond (b && nat_le level (length levels)) (at_level level (if_ends id (held_from None (take level levels) id))) None) (lt-ltb id count lt)
-    ∙ ap (λ b. cond b (at_level level (if_ends id (held_from None (take level levels) id))) None) (le-leb level (length levels) le)
 
 -- so many of the levels can be read
 pub front-readable : (n : ℕ) (levels : List PlainGroups) → AreReadable levels → AreReadable (take n levels)

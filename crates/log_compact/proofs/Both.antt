@@ -20,28 +20,10 @@ use Rattle.compact_rules.proofs.Wholes.{whole-held, whole-same, held-some}
 use Rattle.log_compact.specs.declared.answer.Shrunk.{Shrunk}
 use Rattle.log_compact.specs.declared.answer.Compacted.{Compacted}
 use Rattle.log_compact.specs.declared.answer.Compacted.TheVariants.{Done, FromDisk, FromBad, ToDisk, NotFresh, Full, Memory}
-use Rattle.log_compact.specs.Compacts.{PlainWhole, whole_list, batch_of, HoldsWhole, IsNoneOrWhole, KeepsNoneOrWhole, HasWhole, shrunk_of, Shrinks, IsReadAs, IsWrittenAs, IsOfReading, IsWholeOf, ReadsWhole, AnswersWhole, WritesWhole, IsNoneOrNew, KeepsNoneOrNew, HasText, written_to}
+use Rattle.log_compact.specs.Compacts.{PlainWhole, whole_list, batch_of, HoldsWhole, IsNoneOrWhole, KeepsNoneOrWhole, HasWhole, shrunk_of, Shrinks, IsReadAs, IsOfReading, IsWholeOf, ReadsWhole, AnswersWhole, IsNoneOrNew, KeepsNoneOrNew, HasText, written_to}
 use Rattle.log_compact.proofs.FromLog.{lawful-log, held-same, spelled-so}
 
 -- ---- where the log that is read refuses
-
-pub reads-err : (limit : ℕ) (bytes : List ℕ) (r : Compacted) → ReadsWhole limit bytes (Err r) → IsReadAs limit bytes r
-reads-err limit bytes (Done shrunk) h = absurd h
-reads-err limit bytes (FromDisk fault) h = tt
-reads-err limit bytes FromBad h = h
-reads-err limit bytes (ToDisk fault) h = absurd h
-reads-err limit bytes NotFresh h = absurd h
-reads-err limit bytes (Full most) h = absurd h
-reads-err limit bytes Memory h = tt
-
-pub writes-err : (limit : ℕ) (bytes : List ℕ) (r : Compacted) → IsOfReading r → IsWrittenAs limit bytes r
-writes-err limit bytes (Done shrunk) h = absurd h
-writes-err limit bytes (FromDisk fault) h = tt
-writes-err limit bytes FromBad h = tt
-writes-err limit bytes (ToDisk fault) h = tt
-writes-err limit bytes NotFresh h = absurd h
-writes-err limit bytes (Full most) h = absurd h
-writes-err limit bytes Memory h = tt
 
 pub shrinks-err : (limit : ℕ) (bytes : List ℕ) (payloads : List Payload) (w : World Name) (r : Compacted) → ReadsWhole limit bytes (Err r) → HoldAs limit bytes payloads w → Shrinks limit payloads w r
 shrinks-err limit bytes payloads w (Done shrunk) h hold = absurd h
@@ -55,12 +37,6 @@ shrinks-err limit bytes payloads w Memory h hold = tt
 pub not-done : (r : Compacted) (shrunk : _) → IsOfReading r → r ≡ Done shrunk → ⊥
 not-done r shrunk is e = subst IsOfReading e is
 
-pub not-fresh : (r : Compacted) → IsOfReading r → r ≡ NotFresh → ⊥
-not-fresh r is e = subst IsOfReading e is
-
-pub not-to-disk : (r : Compacted) (fault : _) → IsOfReading r → r ≡ ToDisk fault → ⊥
-not-to-disk r fault is e = subst IsOfReading e is
-
 -- ---- where it doesn't
 
 pub reads-ok : (limit : ℕ) (bytes : List ℕ) (whole : PlainWhole) (r : Compacted) → ReadsWhole limit bytes (Ok whole) → AnswersWhole limit whole r → IsReadAs limit bytes r
@@ -71,15 +47,6 @@ reads-ok limit bytes whole (ToDisk fault) m a = lawful-log limit bytes m.0 m.1.0
 reads-ok limit bytes whole NotFresh m a = lawful-log limit bytes m.0 m.1.0 m.1.1 m.2.lawful
 reads-ok limit bytes whole (Full most) m a = lawful-log limit bytes m.0 m.1.0 m.1.1 m.2.lawful
 reads-ok limit bytes whole Memory m a = tt
-
-pub writes-ok : (limit : ℕ) (bytes : List ℕ) (whole : PlainWhole) (r : Compacted) → WritesWhole limit bytes whole r → IsWrittenAs limit bytes r
-writes-ok limit bytes whole (Done shrunk) h = h.0
-writes-ok limit bytes whole (FromDisk fault) h = tt
-writes-ok limit bytes whole FromBad h = tt
-writes-ok limit bytes whole (ToDisk fault) h = tt
-writes-ok limit bytes whole NotFresh h = h
-writes-ok limit bytes whole (Full most) h = h.0
-writes-ok limit bytes whole Memory h = tt
 
 batch-none : (text : List ℕ) → batch_of text ≡ [] → text ≡ []
 batch-none [] e = refl

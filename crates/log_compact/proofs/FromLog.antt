@@ -35,8 +35,8 @@ use Rattle.payload_tables.proofs.Lists.{names-length}
 use Rattle.flush_rebuild.proofs.Invented.{some-world}
 use Rattle.compact_rules.specs.Whole.{whole_change}
 use Rattle.log_compact.specs.declared.answer.Compacted.{Compacted}
-use Rattle.log_compact.specs.declared.answer.Compacted.TheVariants.{Done, FromDisk, FromBad, ToDisk, NotFresh, Full, Memory}
-use Rattle.log_compact.specs.Compacts.{PlainWhole, whole_list, batch_of, MakesWhole, ReadsWhole, IsOfReading, from_answer}
+use Rattle.log_compact.specs.declared.answer.Compacted.TheVariants.{FromBad, Memory}
+use Rattle.log_compact.specs.Compacts.{PlainWhole, whole_list, batch_of, MakesWhole, ReadsWhole, from_answer}
 use Rattle.log_compact.proofs.ToDisk.{fault-untouched}
 use Rattle.log_compact.specs.Sections.{StandsWhole}
 
@@ -55,9 +55,6 @@ some-bytes p = let f = masters-fit p in omega (arith, f)
 pub batch-some : (text : List ℕ) → 0 < length text → batch_of text ≡ text ∷ []
 batch-some [] lt = absurd (omega (arith, lt))
 batch-some (byte ∷ text) lt = refl
-
-pub none-texts : (ps : List Payload) (w : World Name) → ps ≡ [] → batch_of [] ≡ map text_of (whole_list ps w)
-none-texts ps w e = ap (λ l. map text_of (whole_list l w)) (sym e)
 
 pub whole-texts : (ps : List Payload) (w : World Name) (text : List ℕ) → ps ≢ [] → text ≡ payload_bytes (whole_change ps w) → batch_of text ≡ map text_of (whole_list ps w)
 whole-texts [] w text some e = absurd (some refl)
@@ -140,31 +137,6 @@ read-refused limit bytes (logs.Damaged at) h = inr (inl (at, h.1))
 read-refused limit bytes (logs.TooLarge size) h = inl h.0
 read-refused limit bytes (logs.Disk fault) h = tt
 read-refused limit bytes logs.Memory h = tt
-
-pub reading-fault : (fault : LoadLog) → IsOfReading (from_answer fault)
-reading-fault (logs.Damaged at) = tt
-reading-fault (logs.TooLarge size) = tt
-reading-fault (logs.Disk fault) = tt
-reading-fault logs.Memory = tt
-
-pub from-disk : (fault : LoadLog) (disk : _) → from_answer fault ≡ FromDisk disk → fault ≡ logs.Disk disk
-from-disk (logs.Damaged at) disk e = absurd (cc e)
-from-disk (logs.TooLarge size) disk e = absurd (cc e)
-from-disk (logs.Disk fault) disk e = refl
-from-disk logs.Memory disk e = absurd (cc e)
-
-pub read-made : (limit : ℕ) (bytes : List ℕ) (log : Held) (r : Result PlainWhole Compacted) → IsLogOf limit bytes log → MakesWhole log.payloads r → ReadsWhole limit bytes r
-read-made limit bytes log (Ok whole) l m = (m.0, (l.fits, subst (IsLog bytes) m.1 l.is_log), m.2)
-read-made limit bytes log (Err (Done shrunk)) l m = absurd m
-read-made limit bytes log (Err (FromDisk fault)) l m = absurd m
-read-made limit bytes log (Err FromBad) l m = inr (inr (log.payloads, m.0, l.is_log, m.1))
-read-made limit bytes log (Err (ToDisk fault)) l m = absurd m
-read-made limit bytes log (Err NotFresh) l m = absurd m
-read-made limit bytes log (Err (Full most)) l m = absurd m
-read-made limit bytes log (Err Memory) l m = tt
-
-pub made-no-disk : (texts : List (List ℕ)) (r : Result PlainWhole Compacted) (fault : _) → MakesWhole texts r → r ≡ Err (FromDisk fault) → ⊥
-made-no-disk texts r fault m e = subst (MakesWhole texts) e m
 
 -- ---- its disk
 

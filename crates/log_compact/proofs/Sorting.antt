@@ -18,26 +18,6 @@ is-below n m lt = lt-ltb n m lt
 is-above : (n m : ℕ) → m ≤ n → nat_lt n m ≡ false
 is-above n m le = le-ltb n m le
 
--- one segment, by its group
-master-one : (s : Segment) → s.low < 2 ^ 56 → (masters_in (s ∷ []) ≡ s ∷ []) × (others_in (s ∷ []) ≡ [])
-master-one s lt = let e = is-below s.low (2 ^ 56) lt in (ap (λ b. cond b (s ∷ []) []) e, ap (λ b. cond (not b) (s ∷ []) []) e)
-
-other-one : (s : Segment) → 2 ^ 56 ≤ s.low → (masters_in (s ∷ []) ≡ []) × (others_in (s ∷ []) ≡ s ∷ [])
-other-one s le = let e = is-above s.low (2 ^ 56) le in (ap (λ b. cond b (s ∷ []) []) e, ap (λ b. cond (not b) (s ∷ []) []) e)
-
--- what is built with a segment is so with that of each group
-pub built-master : (b : Building) (p : Payload) (s : Segment) → s.low < 2 ^ 56 → IsBuilt b (record p { master = p.master ++ s ∷ [] })
-    → IsBuilt b (record p { master = p.master ++ masters_in (s ∷ []); others = p.others ++ others_in (s ∷ []) })
-built-master b p s lt is =
-    subst₂ (λ m o. IsBuilt b (record p { master = p.master ++ m; others = o })) (sym (master-one s lt).0)
-    (sym (ap (λ l. p.others ++ l) (master-one s lt).1 ∙ append-nil p.others)) is
-
-pub built-other : (b : Building) (p : Payload) (s : Segment) → 2 ^ 56 ≤ s.low → IsBuilt b (record p { others = p.others ++ s ∷ [] })
-    → IsBuilt b (record p { master = p.master ++ masters_in (s ∷ []); others = p.others ++ others_in (s ∷ []) })
-built-other b p s le is =
-    subst₂ (λ m o. IsBuilt b (record p { master = m; others = p.others ++ o }))
-    (sym (ap (λ l. p.master ++ l) (other-one s le).0 ∙ append-nil p.master)) (sym (other-one s le).1) is
-
 -- one segment more of those that were gone over
 sorted-more : (test : Segment → Bool) (front ss : List Segment) (i : ℕ) (s : Segment) → slice_get ss i ≡ Some s
     → (front ++ filter test (take i ss)) ++ filter test (s ∷ []) ≡ front ++ filter test (take (i + 1) ss)

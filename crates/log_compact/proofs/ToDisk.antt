@@ -1,40 +1,23 @@
 -- The log that is written: what is answered, and what its disk has.
-use Rattle.std.proofs.Common.{◌≡◌, ◌≢◌, ◌≤◌, ◌⊎◌, inl, inr, ⊎_elim, ℕ, List, [], ◌∷◌, ◌++◌, length, Option, Err, IfSome, refl, sym, ap, subst, subst₂, ◌∙◌, arith}
+use Rattle.std.proofs.Common.{◌≡◌, ◌≢◌, ◌≤◌, ◌⊎◌, inl, inr, ⊎_elim, ℕ, List, [], ◌∷◌, ◌++◌, Option, Err, IfSome, refl, sym, ap, subst, subst₂, ◌∙◌, arith}
 use Rattle.disk_trait.specs.Since.{IsUntouched}
 use Rattle.disk_trait.specs.Images.{Told, moment_of}
 use Rattle.disk_trait.specs.Calls.{Goes}
 use Rattle.disk_trait.proofs.Moments.{weakened, joined, started}
-use Rattle.disk_trait.proofs.Telling.{goes-map, goes-both, goes-from, goes-then, goes-same, goes-new}
-use Rattle.segment_codec.proofs.Tables.{le_or_lt}
-use Rattle.gated_log.specs.Log.{IsLog, log_length, batches}
-use Rattle.gated_log.specs.Held.{Held, log_bytes}
-use Rattle.gated_log.specs.Holding.{IsLogWithin, HasPayloads, IsOldOrNew, KeepsOldOrNew, HasNew, IsOnDisk}
+use Rattle.disk_trait.proofs.Telling.{goes-map, goes-both, goes-from, goes-then, goes-same}
+use Rattle.gated_log.specs.Log.{IsLog}
+use Rattle.gated_log.specs.Held.{Held}
+use Rattle.gated_log.specs.Holding.{IsLogWithin, HasPayloads, IsOldOrNew, KeepsOldOrNew, HasNew}
 use Rattle.gated_log.specs.Commit.{Answers}
-use Rattle.gated_log.specs.Load.{Loads, IsLogOf, IsLoaded, IsUnwritten, KeepsBytes, KeepsImages, KeepsPayloads}
+use Rattle.gated_log.specs.Load.{Loads, IsLogOf, IsUnwritten, KeepsImages, KeepsPayloads}
 use Rattle.gated_log.specs.declared.LoadLog.{LoadLog}
 use Rattle.gated_log.specs.declared.LoadLog.TheVariants as logs
 use Rattle.gated_log.specs.declared.Committed.TheVariants as ends
 use Rattle.log_compact.specs.declared.answer.Compacted.{Compacted}
 use Rattle.log_compact.specs.declared.answer.Compacted.TheVariants.{Done, FromDisk, FromBad, ToDisk, NotFresh, Full, Memory}
-use Rattle.log_compact.specs.Compacts.{PlainWhole, batch_of, IsUnstored, StoresWhole, AnswersWhole, WritesWhole, IsNoneOrNew, KeepsNoneOrNew, HasText, to_answer, written_to}
+use Rattle.log_compact.specs.Compacts.{PlainWhole, batch_of, IsUnstored, StoresWhole, AnswersWhole, WritesWhole, IsNoneOrNew, KeepsNoneOrNew, HasText, to_answer}
 
 -- ---- what a commit does
-
-one-closed : (log : Held) → log.payloads ≡ [] → length (log_bytes log) ≡ 1
-one-closed log none = ap (λ (ps : List (List ℕ)). length (batches ps ++ log.gate ∷ [])) none
-
-pub stored-done : (log new : Held) (clock limit : ℕ) (whole : PlainWhole) → log.payloads ≡ [] → limit ≡ log.limit → batch_of whole.text ≡ whole.text ∷ [] → Answers log whole.text (ends.Done new clock)
-    → StoresWhole limit whole (Done (written_to whole new.payloads))
-stored-done log new clock limit whole none most one a =
-    let now : new.payloads ≡ batch_of whole.text = a.1 ∙ ap (λ ps. ps ++ whole.text ∷ []) none ∙ sym one in
-    let closed = one-closed log none in let fits = a.0 in
-    (ap (written_to whole) now, subst (λ ps. log_length ps ≤ limit) (sym one) (omega (arith, closed, fits, most)))
-
-pub stored-full : (log same : Held) (n limit : ℕ) (whole : PlainWhole) → log.payloads ≡ [] → limit ≡ log.limit → (whole.text ≡ [] → ⊥) → Answers log whole.text (ends.Full same n)
-    → StoresWhole limit whole (Full n)
-stored-full log same n limit whole none most some a =
-    let closed = one-closed log none in let over = a.0 in
-    (a.2 ∙ sym most, some, omega (arith, closed, over, most))
 
 pub commit-moments : (log : Held) (text : List ℕ) (a b : Option Told) → log.payloads ≡ [] → batch_of text ≡ text ∷ [] → Goes (KeepsOldOrNew log text) a b → Goes (KeepsNoneOrNew log.limit text) a b
 commit-moments log text a b none one = goes-map (KeepsOldOrNew log text) (KeepsNoneOrNew log.limit text) a b
@@ -52,15 +35,6 @@ commit-done log new clock text a b none one ans = goes-map (HasNew new clock) (H
 pub same-moments : (limit : ℕ) (text : List ℕ) (a : Option Told) → Goes (KeepsNoneOrNew limit text) a a
 same-moments limit text a = goes-same (KeepsNoneOrNew limit text) a (λ x has. started (λ moment. IsNoneOrNew limit text) x (λ image left. inl (has image left)))
 
-pub same-text : (log : Held) (text : List ℕ) (a : Option Told) → log.payloads ≡ [] → text ≡ [] → IfSome a (λ t. HasPayloads log.limit t log.payloads) → Goes (HasText log.limit text) a a
-same-text log text a none empty h = goes-from (λ x y. y ≡ x) (HasText log.limit text) (λ t. HasPayloads log.limit t log.payloads) a a
-    (λ x y has e. subst (λ t. HasPayloads log.limit t (batch_of text)) (sym e) (subst (HasPayloads log.limit x) (none ∙ ap batch_of (sym empty)) has)) h
-    (goes-same (λ x y. y ≡ x) a (λ x. refl))
-
-pub stored-none : (limit : ℕ) (whole : PlainWhole) (payloads : List (List ℕ)) → 1 ≤ limit → payloads ≡ [] → whole.text ≡ [] → StoresWhole limit whole (Done (written_to whole payloads))
-stored-none limit whole payloads least none empty =
-    (ap (written_to whole) (none ∙ ap batch_of (sym empty)), subst (λ text. log_length (batch_of text) ≤ limit) (sym empty) least)
-
 -- ---- behind a load
 
 pub load-moments : (limit : ℕ) (text : List ℕ) (a b : Option Told) → Goes (KeepsPayloads limit []) a b → Goes (KeepsNoneOrNew limit text) a b
@@ -77,12 +51,6 @@ then-moments limit text a b c = goes-then (KeepsPayloads limit []) (KeepsNoneOrN
 pub then-text : (limit : ℕ) (text : List ℕ) (a b c : Option Told) → Goes (KeepsPayloads limit []) a b → Goes (HasText limit text) b c → Goes (HasText limit text) a c
 then-text limit text a b c = goes-then (KeepsPayloads limit []) (HasText limit text) (HasText limit text) a b c (λ x y z k h. h)
 
-pub loaded-payloads : (log : Held) (a b : Option Told) → Goes (IsLoaded log) a b → IfSome b (λ t. HasPayloads log.limit t log.payloads)
-loaded-payloads log a b h = goes-new (IsLoaded log) (λ t. HasPayloads log.limit t log.payloads) a b (λ x y l. l.payloads) h
-
-pub loaded-disk : (log : Held) (a b : Option Told) → Goes (IsLoaded log) a b → IfSome b (IsOnDisk log)
-loaded-disk log a b h = goes-new (IsLoaded log) (IsOnDisk log) a b (λ x y l. l.on_disk) h
-
 -- the log that was loaded has a batch, so that the file wasn't fresh
 pub fresh-or-taken : (limit : ℕ) (bytes : List ℕ) (log : Held) (whole : PlainWhole) (r : Compacted) → IsLogOf limit bytes log
     → ((log.payloads ≢ []) × (r ≡ NotFresh)) ⊎ ((log.payloads ≡ []) × StoresWhole limit whole r) → WritesWhole limit bytes whole r
@@ -95,16 +63,6 @@ fresh-or-taken limit bytes log whole NotFresh l (inr s) = absurd s.1
 fresh-or-taken limit bytes log whole (Full most) l (inr s) = ((l.fits, subst (IsLog bytes) s.0 l.is_log), s.1)
 fresh-or-taken limit bytes log whole Memory l (inr s) = tt
 
-pub any-answers : (limit : ℕ) (log : Held) (whole : PlainWhole) (r : Compacted) → ((log.payloads ≢ []) × (r ≡ NotFresh)) ⊎ ((log.payloads ≡ []) × StoresWhole limit whole r) → AnswersWhole limit whole r
-any-answers limit log whole r (inl s) = subst (AnswersWhole limit whole) (sym s.1) tt
-any-answers limit log whole (Done shrunk) (inr s) = s.1
-any-answers limit log whole (FromDisk fault) (inr s) = s.1
-any-answers limit log whole FromBad (inr s) = s.1
-any-answers limit log whole (ToDisk fault) (inr s) = tt
-any-answers limit log whole NotFresh (inr s) = tt
-any-answers limit log whole (Full most) (inr s) = s.1
-any-answers limit log whole Memory (inr s) = tt
-
 pub fault-answers : (limit : ℕ) (whole : PlainWhole) (fault : LoadLog) → AnswersWhole limit whole (to_answer fault)
 fault-answers limit whole (logs.Damaged at) = tt
 fault-answers limit whole (logs.TooLarge size) = tt
@@ -116,12 +74,6 @@ fault-writes limit bytes whole (logs.Damaged at) h = inr (inl (at, h.1))
 fault-writes limit bytes whole (logs.TooLarge size) h = inl h.0
 fault-writes limit bytes whole (logs.Disk fault) h = tt
 fault-writes limit bytes whole logs.Memory h = tt
-
-pub to-disk : (fault : LoadLog) (disk : _) → to_answer fault ≡ ToDisk disk → fault ≡ logs.Disk disk
-to-disk (logs.Damaged at) disk e = absurd (cc e)
-to-disk (logs.TooLarge size) disk e = absurd (cc e)
-to-disk (logs.Disk fault) disk e = refl
-to-disk logs.Memory disk e = absurd (cc e)
 
 pub not-done : (fault : LoadLog) (shrunk : _) → to_answer fault ≡ Done shrunk → ⊥
 not-done (logs.Damaged at) shrunk e = cc e
@@ -143,15 +95,6 @@ fault-untouched limit (logs.TooLarge size) d e some loads images large damaged i
     (goes-both KeepsImages (IsUnwritten 2) Both d e (λ a b i u. (i, u)) images (large size refl))
 fault-untouched limit (logs.Disk fault) d e some loads images large damaged is = absurd (cc is)
 fault-untouched limit logs.Memory d e some loads images large damaged is = absurd (cc is)
-
-pub taken-untouched : (limit : ℕ) (log : Held) (whole : PlainWhole) (r : Compacted) (d e : Option Told) → ((log.payloads ≢ []) × (r ≡ NotFresh)) ⊎ ((log.payloads ≡ []) × StoresWhole limit whole r)
-    → IfSome d (λ t. IsLogOf limit t.bytes log) → Goes KeepsImages d e → Goes KeepsBytes d e → r ≡ NotFresh → Goes IsUntouched d e
-taken-untouched limit log whole r d e (inl s) h images kept is =
-    let Both : Told → Told → Type 0 = λ a b. KeepsImages a b × KeepsBytes a b in
-    goes-from Both IsUntouched (λ t. IsLogOf limit t.bytes log) d e
-    (λ a b l both. ⊎_elim (λ few. absurd (s.0 (l.fresh few).0)) (λ many. (both.1 (omega (arith, many)), both.0 (omega (arith, many)))) (le_or_lt (length a.bytes) 1))
-    h (goes-both KeepsImages KeepsBytes Both d e (λ a b i k. (i, k)) images kept)
-taken-untouched limit log whole r d e (inr s) h images kept is = absurd (subst (StoresWhole limit whole) is s.1)
 
 pub unstored : IsUnstored NotFresh
 unstored = tt

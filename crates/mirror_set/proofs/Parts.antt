@@ -4,7 +4,7 @@ use Rattle.std.specs.Prelude.{⊤, slice_get, reverse, IfSome, IfErr, OnOk}
 use Rattle.std.specs.Option.{option_to_list}
 use Rattle.std.specs.declared.result.Result.{Result}
 use Rattle.std.proofs.Math.Seq.{take-add}
-use Rattle.std.proofs.lemmas.List.{drop-drop, length-map, take_all}
+use Rattle.std.proofs.lemmas.List.{drop-drop, length-map}
 use Rattle.std.proofs.lemmas.Bool.{eq-eqb}
 use Rattle.std.proofs.lemmas.Map.Views.{exact_unsigned_eq}
 use Rattle.std.specs.Prelude.{nat_eq}
@@ -22,17 +22,16 @@ use Rattle.remote_rules.specs.Lawful.{MayStandHere, IsLawfulClone}
 use Rattle.remote_rules.specs.Clones.{IsCloneOf}
 use Rattle.remote_rules.specs.Mirror.{Mirror}
 use Rattle.remote_rules.proofs.Unbroken.{unbroken-is-lawful}
-use Rattle.remote_trait.specs.Calls.{Leaves, Refreshes, Fails, ToldSo, AreMaster, raised}
+use Rattle.remote_trait.specs.Calls.{Refreshes, Fails, ToldSo, AreMaster}
 use Rattle.remote_trait.specs.Honest.{AreNamesOf}
-use Rattle.remote_trait.specs.declared.fault.RemoteFault.{RemoteFault}
 use Rattle.remote_trait.specs.declared.fault.RemoteFault.TheVariants as remote
 use Rattle.remote_trait.proofs.Items.{named-is}
 use Rattle.mirror_set.specs.Asking.{IsItsClone}
 use Rattle.mirror_set.specs.Round.{Stays}
-use Rattle.mirror_set.specs.Fresh.{IsPulledFrom, IsItsFresh, GivesFresh, AsksOn, AsksLine, GaveLine, AreNamesBelow, names_between, count_from, part_fault}
+use Rattle.mirror_set.specs.Fresh.{IsPulledFrom, IsItsFresh, AsksOn, AsksLine, GaveLine, AreNamesBelow, names_between, count_from}
 use Rattle.mirror_set.specs.declared.pulling.PartFault.{PartFault}
 use Rattle.mirror_set.specs.declared.pulling.PartFault.TheVariants as part
-use Rattle.mirror_set.proofs.Rounds.{stays, stays-self, stays-then}
+use Rattle.mirror_set.proofs.Rounds.{stays, stays-then}
 use Rattle.mirror_set.proofs.FlatNames.{given-line, never-few}
 
 -- ---- segments of clone data that break no rule
@@ -127,11 +126,6 @@ pub failed-on : {T : Type 0} (told : CloneData) (most : ℕ) (a b : Mirror) (r :
 failed-on told most a b r x fault e same o = subst (λ q. IfErr q (λ f. AsksOn told most a b (Err f))) (sym e) (subst (λ f. AsksOn told most a b (Err f)) (sym same) o)
 
 -- ---- one call for names
-
-pub line-failed : (x : Name) (count : ℕ) (names more : List Name) (a b : Mirror) → Leaves (raised count) a b → (fault : RemoteFault) → (fault ≡ remote.Failed → Fails a b)
-    → AsksLine x count names more a b (Err (part_fault fault))
-line-failed x count names more a b l remote.Failed f = (stays count a b l, f refl)
-line-failed x count names more a b l remote.Memory f = stays count a b l
 
 -- ---- names of ids below an end
 
@@ -263,24 +257,7 @@ module _ (told : CloneData) (e : first_broken told ≡ None) (from k : ℕ) (bef
       let up = reach.0 in let most = reach.1 in let was = h.count in
       asks-then told (length names) (place_behind 0 (take (k + 1) told.segments) - from - length names) (count_from from told) (omega (arith, up, most, was)) before mid now h.stay fault o
 
-pub so-whole : (told : CloneData) (from k : ℕ) (before now : Mirror) (names : List Name) → length told.segments ≤ k → SoFar told from k before now names
-    → (Stays (count_from from told) before now) × (length names ≡ count_from from told) × AreNamesBelow from (place_behind 0 told.segments) told now names
-so-whole told from k before now names le h =
-    let all = take_all k told.segments le in
-    let size : length names ≡ count_from from told = h.count ∙ ap (λ l. place_behind 0 l - from) all in
-    (subst (λ n. Stays n before now) size h.stay, size, subst (λ l. AreNamesBelow from (place_behind 0 l) told now names) all h.below)
-
 -- ---- all calls on one mirror
-
-pub none-yet : (from : ℕ) (told : CloneData) (m : Mirror) → AreNamesBelow from 0 told m []
-none-yet from told m = by_master m.master
-  where
-    by_master : (o : Option (List (Row Name))) → IfSome o (λ rows. AreMaster rows → IsCloneOf rows told → [] ≡ names_between rows from (0 - from))
-    by_master None = tt
-    by_master (Some rows) = λ w c. let none : 0 - from ≡ 0 = omega arith in sym (between-none rows from (0 - from) none)
-
-pub so-first : (told : CloneData) (from : ℕ) (m : Mirror) → SoFar told from 0 m m []
-so-first told from m = record { stay = stays-self 0 m; count = omega arith; below = none-yet from told m }
 
 module _ (from : ℕ) (told : CloneData) (before mid now : Mirror) (r : Refreshes before mid) (i : IsItsClone told mid) where
   pub pulled-part : (most : ℕ) → most ≤ count_from from told → Stays most mid now → IsPulledFrom from before now
@@ -329,25 +306,3 @@ module _ (from : ℕ) (told : CloneData) (before mid now : Mirror) (r : Refreshe
           dropped zero rows = refl
           dropped (suc n) [] = refl
           dropped (suc n) (row ∷ rows) = dropped n rows
-
-  pub fresh-failed : (most : ℕ) (fault : PartFault) → AsksOn told most mid now (Err fault) → GivesFresh from before now (Err fault)
-  fresh-failed most part.Failed o = fails-behind before mid now r.faults r.to_come o.1
-  fresh-failed most (part.BadClone at) o = absurd o
-  fresh-failed most (part.BadNames asked given) o = record { fewer = o.1.fewer; untold = by_master now.master (its-clone most o.0).honest o.1.untold }
-    where
-      by_master : (o : Option (List (Row Name))) → IfSome o (λ rows. IsCloneOf rows told) → IfSome o (λ rows. AreMaster rows → IsCloneOf rows told → ⊥) → IfSome o (λ rows. AreMaster rows → ⊥)
-      by_master None c h = tt
-      by_master (Some rows) c h = λ w. h w c
-  fresh-failed most part.Memory o = tt
-
--- nothing was asked behind a refresh
-pub nothing-asked : (from : ℕ) (before now : Mirror) → Refreshes before now → IsPulledFrom from before now
-nothing-asked from before now r = record { mid = now; refreshed = r; most = 0; stays = stays-self 0 now; few = by_master now.master }
-  where
-    by_master : (o : Option (List (Row Name))) → IfSome o (λ rows. 0 ≤ length rows - from)
-    by_master None = tt
-    by_master (Some rows) = omega arith
-
-pub gives-fault : (from : ℕ) (before now : Mirror) (fault : RemoteFault) → (fault ≡ remote.Failed → Fails before now) → GivesFresh from before now (Err (part_fault fault))
-gives-fault from before now remote.Failed f = f refl
-gives-fault from before now remote.Memory f = tt

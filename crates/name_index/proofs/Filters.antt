@@ -82,9 +82,6 @@ PassMore words more = (f : ℕ) → lets_pass words f ≡ true → lets_pass mor
 abbrev pub Marking : List ℕ → List Entry → List Entry → Type 0
 Marking words rest entries = (more : List ℕ) → PassMore words more → PassAll more rest → PassAll more entries
 
-pub mark-start : (words : List ℕ) (entries : List Entry) → Marking words entries entries
-mark-start words entries more m pass = pass
-
 pub mark-more : (words now : List ℕ) (e : Entry) (rest entries : List Entry) → PassMore words now → lets_pass now e.front ≡ true → Marking words (e ∷ rest) entries → Marking now rest entries
 mark-more words now e rest entries keeps own before more m pass = before more (λ f h. m f (keeps f h)) (m e.front own, pass)
 

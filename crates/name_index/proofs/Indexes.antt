@@ -41,11 +41,6 @@ name-of n [] i = absurd i
 name-of n (m ∷ ms) (inl e) = inl (ap (λ z. z.name) e)
 name-of n (m ∷ ms) (inr i) = inr (name-of n ms i)
 
-pub name-left : (name : Name) (xs ys : List NamedPlace) → IsIn name (names_in xs) → IsIn name (names_in (xs ++ ys))
-name-left name [] ys i = absurd i
-name-left name (z ∷ xs) ys (inl e) = inl e
-name-left name (z ∷ xs) ys (inr i) = inr (name-left name xs ys i)
-
 pub name-right : (name : Name) (xs ys : List NamedPlace) → IsIn name (names_in ys) → IsIn name (names_in (xs ++ ys))
 name-right name [] ys i = i
 name-right name (z ∷ xs) ys i = inr (name-right name xs ys i)
@@ -172,9 +167,6 @@ module _ (at : ℕ) (bytes : List ℕ) (rest others : List Entry) (entry : Entry
         fewer = λ h. ⊎_elim (λ i. absurd (not-in held _ result f t (subst (λ x. IsIn x (names_in held)) (sym name) i))) (λ i. i) (subst (λ x. HaveCommon (names_in x) (names_in held)) b.is (l.fewer h));
         more = λ h. l.more (subst (λ x. HaveCommon (names_in x) (names_in held)) (sym b.is) (inr h));
       }
-
-pub looked-start : (at : ℕ) (bytes : List ℕ) (entries : List Entry) (others : List Name) (named : List NamedPlace) → entries ≡ map entry_of named → StandFrom at bytes named → Looked at bytes entries others named
-looked-start at bytes entries others named e h = record { left = named; rest_of = e; stand = h; fewer = λ z. z; more = λ z. z }
 
 pub looked-end : (at : ℕ) (bytes : List ℕ) (rest : List Entry) (others : List Name) (named : List NamedPlace) → rest ≡ [] → Looked at bytes rest others named → HaveCommon (names_in named) others → ⊥
 looked-end at bytes rest others named e l h = subst (λ x. HaveCommon (names_in x) others) (nil-is l.left (sym e ∙ l.rest_of)) (l.fewer h)

@@ -39,10 +39,6 @@ pub none-front : (mark : ℕ) (xs ys : List ℕ) → HasNone mark (xs ++ ys) →
 none-front mark [] ys h = tt
 none-front mark (x ∷ xs) ys h = (h.0, none-front mark xs ys h.1)
 
-pub none-back : (mark : ℕ) (xs ys : List ℕ) → HasNone mark (xs ++ ys) → HasNone mark ys
-none-back mark [] ys h = h
-none-back mark (x ∷ xs) ys h = none-back mark xs ys h.1
-
 -- none where none stands at any place
 pub none-each : (mark : ℕ) (xs : List ℕ) → ((k : ℕ) (d : ℕ) → k < length xs → (get_or xs k d == mark) ≡ false) → HasNone mark xs
 none-each mark [] h = tt

@@ -11,10 +11,9 @@ use Rattle.segment_codec.specs.Table.{Follow}
 use Rattle.batch_codec.specs.Payload.{Payload, Known, names_bytes}
 use Rattle.batch_codec.specs.Grammar.{IsPayload, cut_below, cloned_head_names}
 use Rattle.std.specs.Prelude.{nat_lt}
-use Rattle.std.proofs.lemmas.Bool.{lt-ltb, le-ltb}
+use Rattle.std.proofs.lemmas.Bool.{le-ltb}
 use Rattle.batch_codec.specs.Reading.{names_read}
 use Rattle.batch_codec.proofs.Entries.{names-size, names-again}
-use Rattle.flat_segments.specs.Placed.{AreRecords}
 use Rattle.flat_segments.proofs.Batches.{left-first, none-left}
 use Rattle.payload_tables.proofs.Lists.{same-self, same-exact}
 
@@ -39,9 +38,6 @@ pub record EndsSoFar (below : ℕ) (highs parents rest : List ℕ) (segments : L
   pub highs_are : highs ≡ map (λ s. s.high) (cut_below below done)
   pub parents_are : parents ≡ flat_map (λ s. s.parents) (cut_below below done)
 
-pub ends-start : (below : ℕ) (records : List ℕ) (segments : List Segment) → AreRecords segments records → EndsSoFar below [] [] records segments
-ends-start below records segments a = record { done = []; left = segments; parts = refl; rest_is = a.bytes_are; each_left = a.each; highs_are = refl; parents_are = refl }
-
 pub ends-more : (below : ℕ) (highs parents rest : List ℕ) (segments : List Segment) → EndsSoFar below highs parents rest segments → (s : Segment) (after : List ℕ) → IsSegment s → rest ≡ segment_bytes s ++ after
     → (more_highs more_parents : List ℕ) → more_highs ≡ highs ++ map (λ q. q.high) (cut_below below (s ∷ [])) → more_parents ≡ parents ++ flat_map (λ q. q.parents) (cut_below below (s ∷ [])) → EndsSoFar below more_highs more_parents after segments
 ends-more below highs parents rest segments f s after whole read more_highs more_parents eh ep =
@@ -63,10 +59,6 @@ pub ends-done : (below : ℕ) (highs parents rest : List ℕ) (segments : List S
 ends-done below highs parents rest segments f none =
     let all : segments ≡ f.done = f.parts ∙ ap (λ l. f.done ++ l) (none-left f.left rest f.each_left f.rest_is none) ∙ append-nil f.done in
     (f.highs_are ∙ ap (λ l. map (λ (s : Segment). s.high) (cut_below below l)) (sym all), f.parents_are ∙ ap (λ l. flat_map (λ (s : Segment). s.parents) (cut_below below l)) (sym all))
-
--- the ends of one segment, where it lies below the id and where it doesn't
-pub cut-kept : (below : ℕ) (s : Segment) → s.low < below → cut_below below (s ∷ []) ≡ record s { high = min s.high (below - 1) } ∷ []
-cut-kept below s lt = ap (λ b. cond b (record s { high = min s.high (below - 1) } ∷ []) []) (lt-ltb s.low below lt)
 
 pub cut-gone : (below : ℕ) (s : Segment) → below ≤ s.low → cut_below below (s ∷ []) ≡ []
 cut-gone below s le = ap (λ b. cond b (record s { high = min s.high (below - 1) } ∷ []) []) (le-ltb s.low below le)

@@ -19,12 +19,6 @@ module _ {N : Type 0} where
     pub sound : (x : N) → IsIn x found → IsIn x xs × P x
     pub whole : (k : ℕ) (y : N) → k < i → slice_get xs k ≡ Some y → P y → IsIn y found
 
-  pub kept-none : (xs : List N) (P : N → Type 0) (found : List N) → found ≡ [] → AreKept xs P 0 found
-  kept-none xs P found e = record {
-    sound = λ x j. absurd (subst (IsIn x) e j);
-    whole = λ k y lt at p. absurd (omega (arith, lt));
-  }
-
   some-same : (x y : N) → Some x ≡ Some y → x ≡ y
   some-same x y h = cc
 
@@ -80,12 +74,6 @@ module _ {N : Type 0} where
   pub record AreChosen (rows : List (Row N)) (P : Row N → Type 0) (i : ℕ) (found : List N) : Type 0 where
     pub sound : (x : N) → IsIn x found → HasRow rows P x
     pub whole : (k : ℕ) (row : Row N) → k < i → slice_get rows k ≡ Some row → P row → IsIn row.name found
-
-  pub chosen-none : (rows : List (Row N)) (P : Row N → Type 0) (found : List N) → found ≡ [] → AreChosen rows P 0 found
-  chosen-none rows P found e = record {
-    sound = λ x j. absurd (subst (IsIn x) e j);
-    whole = λ k row lt at p. absurd (omega (arith, lt));
-  }
 
   pub chosen-put : (rows : List (Row N)) (P : Row N → Type 0) (i : ℕ) (r : Row N) → slice_get rows i ≡ Some r → (found : List N) → AreChosen rows P i found → P r
       → (name : N) → name ≡ r.name → (new : List N) → ((x : N) → IsIn x new ↔ (IsIn x found ⊎ (x ≡ name))) → (last : List N) → last ≡ new → AreChosen rows P (i + 1) last

@@ -113,13 +113,6 @@ module _ {N : Type 0} where
     pub sound : (x : N) → IsIn x found → parents g (among set) x
     pub whole : (k : ℕ) (row : Row N) → k < i → slice_get rows k ≡ Some row → IsIn row.name set → (p : N) → IsIn p row.parents → IsIn p found
 
-  -- no row so far
-  pub parents-none : (g : Graph N) (rows : List (Row N)) (set found : List N) → found ≡ [] → AreParents g rows set 0 found
-  parents-none g rows set found e = record {
-    sound = λ x j. absurd (subst (IsIn x) e j);
-    whole = λ k row lt at s p j. absurd (omega (arith, lt));
-  }
-
   -- what the set reaches, gathered: the rows from a place on have led on to their parents
   pub record AreReached (g : Graph N) (rows : List (Row N)) (set : List N) (i : ℕ) (found : List N) : Type 0 where
     pub sound : (x : N) → IsIn x found → ancestors g (among set) x

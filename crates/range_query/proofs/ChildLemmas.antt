@@ -62,10 +62,6 @@ module _ (flats : List Segment) (lawful : IsLawful flats) (set : List IdSpan) wh
         (p.0, p.2, subst (IsIn p.0) (sym (ap (λ z. parents_at flats z) h.0 ∙ parents-low flats lawful s i)) p.1)
     part-child x (inr m) = (x - 1, m.2, subst (IsIn (x - 1)) (sym (parents-over flats lawful s i x m.0 m.1)) (inl refl))
 
-    pub part-in : (x : ℕ) → s.low ≤ s.high → IsChildIn set s x → IsInSegment x s
-    part-in x o (inl h) = let e = h.0 in (omega arith, omega arith)
-    part-in x o (inr m) = let a = m.0 in (omega arith, m.1)
-
   pub group-at : (k : ℕ) (s : Segment) → slice_get flats k ≡ Some s → s.low < 2 ^ 56 → s.high < 2 ^ 56
   group-at k s e lt = same-group s.low s.high (lawful.each s (at-in flats k s e)).segment.one_group lt
 
@@ -103,11 +99,6 @@ module _ (flats : List Segment) (lawful : IsLawful flats) (set : List IdSpan) wh
   -- all ids down to a lowest one have their children
   module _ (fresh before after : List IdSpan) (low id below next : ℕ) (at : id ≡ below - 1) (some : low < below)
       (added : (x : ℕ) → IsMember after x ↔ (IsMember before x ⊎ ((next ≤ x) × (x ≤ id) × Child x))) where
-    pub sound-more : ((x : ℕ) → IsMember before x → IsMember fresh x ⊎ Child x) → (x : ℕ) → IsMember after x → IsMember fresh x ⊎ Child x
-    sound-more sound x m = ⊎_elim (λ o. sound x o) (λ h. inr h.2) ((added x).0 m)
-
-    pub whole-more : (end : ℕ) → ((x : ℕ) → below ≤ x → x < end → Child x → IsMember before x) → (x : ℕ) → next ≤ x → x < end → Child x → IsMember after x
-    whole-more end whole x a b c = (added x).1 (⊎_elim (λ (le : x ≤ id). inr (a, le, c)) (λ (lt : id < x). inl (whole x (omega arith) b c)) (le_or_lt x id))
 
   -- a child is one of the ids of either group, above the lowest member
   pub both-whole : (none first all : List IdSpan) (lowest master others from : ℕ) → Cover flats master others → none ≡ [] → ((x : ℕ) → IsMember set x → lowest ≤ x)

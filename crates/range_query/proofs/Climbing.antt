@@ -20,9 +20,6 @@ above least (n ∷ ns) m h (inr i) =
     let p = and_parts (leb least n) (ascend_from (n + 1) ns) h in
     omega (arith, leb-true least n p.0, above (n + 1) ns m p.1 i)
 
-pub climb-next : (n : ℕ) (ns : List ℕ) → Climb (n ∷ ns) → Climb ns
-climb-next n ns h = (n + 1, (and_parts (leb h.0 n) (ascend_from (n + 1) ns) h.1).1)
-
 -- where the first is above all members, none is a member
 pub climb-out : (set : List IdSpan) (greatest n : ℕ) (all ns : List ℕ) → all ≡ n ∷ ns → Climb all → ((x : ℕ) → IsMember set x → x ≤ greatest) → greatest < n
     → ((p : ℕ) × IsIn p all × IsMember set p) → ⊥

@@ -100,17 +100,6 @@ pub record Pushing (near0 far0 parents left near far : List ℕ) (least end l e 
   pub low : (p : ℕ) → IsIn p parents → IsIn p left ⊎ (l ≤ p)
   pub raised : IsRaised far0 far (λ p. IsIn p parents) end e
 
-pub pushing-none : (near0 far0 parents : List ℕ) (least end l : ℕ) → l ≤ least → (parents ≡ [] → l ≡ 0) → Pushing near0 far0 parents parents near0 far0 least end l end
-pushing-none near0 far0 parents least end l le none = record {
-  added = λ x i. inl i;
-  all = λ x. (λ h. h, λ h. h);
-  sub = λ x i. i;
-  most = le;
-  none = none;
-  low = λ p i. inl i;
-  raised = record { up = le_refl end; is = λ lt. absurd (omega arith); over = λ x i. inl i; kept = λ x i. i };
-}
-
 module _ (near0 far0 parents left near far : List ℕ) (least end l e : ℕ) (h : Pushing near0 far0 parents left near far least end l e) where
   pub pushing-one : (x : ℕ) (rest near' far' : List ℕ) (l' e' : ℕ) → left ≡ x ∷ rest → l' ≡ min l x → ((w : ℕ) → IsIn w near' → IsIn w near ⊎ (w ≡ x))
       → ((w : ℕ) → IsOfBoth near' far' w ↔ (IsOfBoth near far w ⊎ (w ≡ x))) → IsRaised far far' (λ p. p ≡ x) e e'

@@ -158,15 +158,6 @@ before-place flats id place k x p le h =
     let r = of-in (take k flats) x h in
     let lt = p.before r.0 (in-take-more flats k place r.0 le r.1) in let top = r.2.1 in omega arith
 
--- the segment at a place is one of those up to it
-pub at-take : (flats : List Segment) (k n : ℕ) (s : Segment) → n ≡ suc k → slice_get flats k ≡ Some s → IsIn s (take n flats)
-at-take flats k n s e at = subst (λ j. IsIn s (take j flats)) (sym e) (go flats k at)
-  where
-    go : (flats : List Segment) (k : ℕ) → slice_get flats k ≡ Some s → IsIn s (take (suc k) flats)
-    go [] k e = absurd (none-some s e)
-    go (t ∷ rest) zero e = inl (sym (some-same t s e))
-    go (t ∷ rest) (suc k) e = inr (go rest k e)
-
 pub at-drop : (flats : List Segment) (k : ℕ) (s : Segment) → slice_get flats k ≡ Some s → IsIn s (drop k flats)
 at-drop [] k s e = absurd (none-some s e)
 at-drop (t ∷ rest) zero s e = inl (sym (some-same t s e))

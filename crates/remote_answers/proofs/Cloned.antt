@@ -1,6 +1,6 @@
 -- The clone data that are made of a master group are those of its world.
-use Rattle.std.proofs.Common.{◌≡◌, ℕ, zero, suc, ◌+◌, ◌<◌, ◌≤◌, ◌^◌, ◌⊎◌, Bool, true, false, not, cond, ◌||◌, inl, inr, List, [], ◌∷◌, ◌++◌, Option, Some, length, map, flat_map, filter, take, get_or, refl, sym, ap, ap₂, subst, ◌∙◌, arith, nat_eq, ⊎_elim}
-use Rattle.std.specs.Prelude.{slice_get, slice_index_or, filter_map}
+use Rattle.std.proofs.Common.{◌≡◌, ℕ, zero, suc, ◌+◌, ◌<◌, ◌≤◌, ◌^◌, ◌⊎◌, Bool, true, false, not, cond, ◌||◌, inl, inr, List, [], ◌∷◌, ◌++◌, Some, length, map, flat_map, filter, take, get_or, refl, sym, ap, ap₂, subst, ◌∙◌, arith, nat_eq, ⊎_elim}
+use Rattle.std.specs.Prelude.{slice_get, slice_index_or}
 use Rattle.std.specs.Option.{option_map}
 use Rattle.std.specs.List.{AllByRecursion, range_with_len}
 use Rattle.std.proofs.lemmas.List.{map-append, take_more}
@@ -16,7 +16,6 @@ use Rattle.segment_rules.specs.Flat.{flat_segments_of}
 use Rattle.remote_rules.specs.CloneData.{CloneData, KnownName, head_ids, merge_parents}
 use Rattle.remote_rules.specs.Known.{master_world}
 use Rattle.remote_rules.specs.Honest.{clone_data_of, named_ids, stored_ids, master_segments}
-use Rattle.remote_trait.specs.Honest.{IsNamed}
 use Rattle.remote_answers.specs.Master.{IsMasterIn}
 use Rattle.remote_answers.specs.Marks.{AreMarks, IsWithin, stored_by}
 use Rattle.remote_answers.proofs.Marking.{filter-same, range-under, range-more, in-stored, high-within}
@@ -45,17 +44,7 @@ all-more P [] (suc k) s h e p = cc
 all-more P (x ∷ xs) zero s h e p = let same : x ≡ s = cc e in (subst P (sym same) p, tt)
 all-more P (x ∷ xs) (suc k) s h e p = subst (λ n. AllByRecursion P (take n (x ∷ xs))) (let z : suc (k + 1) ≡ suc k + 1 = omega arith in z) (h.0, all-more P xs k s h.1 e p)
 
-pub take-short : (xs : List Segment) (k : ℕ) → length (take k xs) ≤ k
-take-short xs zero = omega arith
-take-short [] (suc k) = omega arith
-take-short (x ∷ xs) (suc k) = let r = take-short xs k in omega (arith, r)
-
 -- ---- names
-
-pub named-one : (rows : List (Row Name)) (id : ℕ) (name : Name) → IsNamed rows id name → named_ids (master_world rows) (id ∷ []) ≡ record { id = id; name = name } ∷ []
-named-one rows id name n =
-    ap (λ (o : Option (Row Name)). filter_map (λ (z : Option KnownName). z) (option_map (λ (row : Row Name). record { id = id; name = row.name }) o ∷ [])) n.there
-    ∙ ap (λ (z : Name). record { id = id; name = z } ∷ []) n.named
 
 pub named-join : (rows : List (Row Name)) (xs ys : List ℕ) → named_ids (master_world rows) (xs ++ ys) ≡ named_ids (master_world rows) xs ++ named_ids (master_world rows) ys
 named-join rows xs ys = filter_map-append (λ id. option_map (λ (row : Row Name). record { id = id; name = row.name }) (slice_get rows id)) xs ys

@@ -1,10 +1,10 @@
 -- Marks of ids, and the ids that clone data name.
-use Rattle.std.proofs.Common.{◌≡◌, ◌≢◌, ℕ, zero, suc, ◌+◌, ◌<◌, ◌≤◌, Bool, true, false, cond, ◌||◌, inl, inr, List, [], ◌∷◌, ◌++◌, Some, length, map, flat_map, filter, take, set, replicate, get_or, refl, sym, ap, ap₂, subst, ◌∙◌, true≢false, arith, nat_eq, append_assoc, append-nil, ⊎_elim}
+use Rattle.std.proofs.Common.{◌≡◌, ◌≢◌, ℕ, zero, suc, ◌+◌, ◌<◌, ◌≤◌, Bool, true, false, cond, ◌||◌, inl, inr, List, [], ◌∷◌, ◌++◌, Some, length, map, flat_map, filter, take, set, get_or, refl, sym, ap, ap₂, subst, ◌∙◌, true≢false, arith, nat_eq, append_assoc, append-nil, ⊎_elim}
 use Rattle.std.proofs.lemmas.Bool.{eq-eqb}
 use Rattle.std.proofs.lemmas.Map.Views.{exact_unsigned_eq}
 use Rattle.std.specs.Prelude.{slice_get}
 use Rattle.std.specs.List.{AllByRecursion, range_with_len}
-use Rattle.std.proofs.lemmas.List.{get_or-set_other, get_or-replicate, length-set, take_more}
+use Rattle.std.proofs.lemmas.List.{get_or-set_other, length-set, take_more}
 use Rattle.std.proofs.lemmas.Grind.{get_or-set_at, flat_map-append}
 use Rattle.id_groups.specs.Lists.{IsIn, is_in}
 use Rattle.segment_codec.specs.Record.{Segment}
@@ -40,13 +40,6 @@ in-last k xs x = in-both k xs (x ∷ []) ∙ ap (λ b. is_in nat_eq k xs || b) (
 
 differ : (k x : ℕ) → nat_eq k x ≡ false → k ≢ x
 differ k x e f = true≢false (sym (same-self x) ∙ ap (λ z. nat_eq z x) (sym f) ∙ e)
-
-pub none-marked : (count : ℕ) → AreMarks count [] (replicate count false)
-none-marked count = record { size = size count; each = λ id lt. get_or-replicate count id false false lt }
-  where
-    size : (n : ℕ) → length (replicate n false) ≡ n
-    size zero = refl
-    size (suc n) = ap suc (size n)
 
 -- one id more is marked
 pub one-marked : (count : ℕ) (ids : List ℕ) (marks : List Bool) (id : ℕ) → AreMarks count ids marks → id < length marks → AreMarks count (ids ++ id ∷ []) (set marks id true)

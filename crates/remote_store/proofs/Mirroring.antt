@@ -2,7 +2,6 @@
 use Rattle.std.proofs.Common.{◌≡◌, ◌≤◌, ℕ, List, [], Option, Some, None, IfSome, IfOk, Result, Ok, Err, refl, sym, ap, subst, ◌∙◌, arith, append-nil, is_some}
 use Rattle.std.specs.Prelude.{option_and_then, MatchOption}
 use Rattle.std.specs.Option.{option_map}
-use Rattle.outside.specs.Counts.{Rose}
 use Rattle.id_groups.specs.Name.{Name}
 use Rattle.commit_graph.specs.World.{Row}
 use Rattle.disk_trait.specs.Images.{Told}
@@ -11,18 +10,14 @@ use Rattle.gated_log.specs.Load.{OnlyReads}
 use Rattle.remote_rules.specs.CloneData.{CloneData}
 use Rattle.remote_rules.specs.Honest.{IsHonest, clone_data_of}
 use Rattle.remote_rules.specs.Known.{master_world}
-use Rattle.remote_trait.specs.Calls.{Leaves, Refreshes, Fails, ToldSo, AreGrown, AreMaster}
+use Rattle.remote_trait.specs.Calls.{Refreshes, ToldSo, AreGrown, AreMaster}
 use Rattle.remote_trait.specs.declared.fault.RemoteFault.{RemoteFault}
 use Rattle.remote_trait.specs.declared.fault.RemoteFault.TheVariants.{Failed, Memory}
-use Rattle.remote_store.specs.Told.{told_in, texts_within, master_told}
+use Rattle.remote_store.specs.Told.{texts_within, master_told}
 use Rattle.remote_store.specs.Fit.{IsUnfit}
 use Rattle.remote_store.specs.Remote.{PlainStore, bytes_in, rows_told, mirror_of, Reads, KeepsStore}
 
 -- ---- reads alone
-
-pub no-reads : (t : Option Told) → Goes (OnlyReads 2) t t
-no-reads None = tt
-no-reads (Some t) = (0, omega arith, ap (λ past. record { bytes = t.bytes; past = past; now = t.now }) (sym (append-nil t.past)))
 
 pub same-bytes : (a b : Option Told) → Goes (OnlyReads 2) a b → bytes_in b ≡ bytes_in a
 same-bytes None None g = refl
@@ -45,17 +40,6 @@ module _ (before now : PlainStore) (limit : now.limit ≡ before.limit) (told : 
   cloned-same : (mirror_of now).cloned ≡ (mirror_of before).cloned
   cloned-same = ap (option_map (λ rows. clone_data_of (master_world rows))) rows-same
 
-  pub reads-leave : (count : ℕ → ℕ) → before.faults ≤ now.faults → now.asked ≡ count before.asked → before.asked ≤ now.asked → Leaves count (mirror_of before) (mirror_of now)
-  reads-leave count faults asked more = record {
-    master = rows-same;
-    cloned = cloned-same;
-    settled = same-honest before.told now.told told;
-    to_come = tt;
-    faults = faults;
-    asked = asked;
-    more = more;
-  }
-
   grown : (a b : Option (List (Row Name))) → b ≡ a → ToldSo a b AreGrown
   grown None None e = tt
   grown None (Some y) e = cc
@@ -77,19 +61,7 @@ module _ (before now : PlainStore) (limit : now.limit ≡ before.limit) (told : 
       sound-same : (a b : Option (List (Row Name))) (c d : Option CloneData) → b ≡ a → d ≡ c → MatchOption a (Unit {0}) (IsHonest c) → MatchOption b (Unit {0}) (IsHonest d)
       sound-same a b c d e f h = subst (λ o. MatchOption o (Unit {0}) (IsHonest d)) (sym e) (subst (λ k. MatchOption a (Unit {0}) (IsHonest k)) (sym f) h)
 
-pub failed-so : (before now : PlainStore) → Rose before.faults now.faults → Fails (mirror_of before) (mirror_of now)
-failed-so before now rose = record { faults = rose; to_come = tt }
-
 -- ---- what is told
-
--- what holds of what the texts tell holds of what the remote does
-pub told-through : (r : PlainStore) (texts : List (List ℕ)) (Q : List ℕ → Type 0) (P : List (Row Name) → Type 0) → IfSome (bytes_in r.told) (λ bytes. (texts_within r.limit bytes ≡ Some texts) × Q bytes) → IfSome (told_in texts) P
-    → IfSome (rows_told r) P
-told-through r texts Q P h g = by_bytes (bytes_in r.told) h
-  where
-    by_bytes : (o : Option (List ℕ)) → IfSome o (λ bytes. (texts_within r.limit bytes ≡ Some texts) × Q bytes) → IfSome (option_and_then (master_told r.limit) o) P
-    by_bytes None h = tt
-    by_bytes (Some bytes) h = subst (λ o. IfSome (option_and_then told_in o) P) (sym h.0) g
 
 pub told-clone : (o : Option (List (Row Name))) (given : CloneData) → IfSome o (λ rows. given ≡ clone_data_of (master_world rows)) → IfSome (option_map (λ rows. clone_data_of (master_world rows)) o) (λ told. given ≡ told)
 told-clone None given h = tt

@@ -1,5 +1,5 @@
 -- Drawn histories: what is added so far, and what the next number does to it.
-use Rattle.std.proofs.Common.{◌≡◌, ℕ, zero, suc, ◌+◌, ◌-◌, ◌/◌, ◌<◌, ◌≤◌, ◌^◌, inr, List, [], ◌∷◌, ◌++◌, Some, None, refl, sym, subst, ap, ◌∙◌, arith, ⊎_elim, if◌then◌else◌, eq-eqb}
+use Rattle.std.proofs.Common.{◌≡◌, ℕ, zero, suc, ◌+◌, ◌-◌, ◌/◌, ◌<◌, ◌≤◌, ◌^◌, inr, List, [], ◌∷◌, ◌++◌, Some, None, sym, subst, ap, ◌∙◌, arith, ⊎_elim, if◌then◌else◌, eq-eqb}
 use Rattle.std.specs.Prelude.{nat_lt}
 use Rattle.std.proofs.lemmas.Bool.{ne_eqb, lt-ltb}
 use Rattle.segment_codec.specs.Record.{Segment}
@@ -7,7 +7,6 @@ use Rattle.segment_codec.specs.Table.{parents_in, parents_at, Follow}
 use Rattle.segment_codec.proofs.Tables.{le_or_lt, found-head, follow-held}
 use Rattle.flat_segments.proofs.Looking.{at-front, none-outside, at-back}
 use Rattle.sample_tables.specs.declared.history.Begin.{Begin}
-use Rattle.sample_tables.specs.declared.history.Begin.TheVariants.{Root}
 use Rattle.sample_tables.specs.declared.history.Rule.{Rule}
 use Rattle.sample_tables.specs.Drawn.{MayBegin, parents_begun, next_drawn, drawn, begin_by, parents_by, history}
 use Rattle.sample_tables.specs.Samples.{Written, IsSampleOf, next_segment}
@@ -50,18 +49,6 @@ pub record Draws (rule : Rule) (start i : ℕ) (sample : Written) (begun : Begin
 -- before the commit i: some commits wait to be added, and may be
 abbrev pub Waits : Rule → ℕ → ℕ → ℕ → Written → Begin → ℕ → Type 0
 Waits rule start commits i sample begun state = (sample.table.end < i) × (i ≤ commits) × MayBegin sample.table.end begun × Draws rule start i sample begun state
-
-pub none-drawn-yet : (rule : Rule) (start : ℕ) (sample : Written) → IsSampleOf sample [] → Draws rule start 1 sample Root start
-none-drawn-yet rule start sample is =
-    let empty : 0 ≡ sample.table.end = in-turn sample [] is in
-    record {
-      segments = [];
-      is = is;
-      done = λ j lt. absurd (omega (arith, lt, empty));
-      opens = ap (λ n. history rule start n) empty;
-      goes = λ j a b. absurd (omega (arith, a, b));
-      state_is = refl;
-    }
 
 pub next-state : (start state i : ℕ) → 0 < i → state ≡ drawn start (i - 2) → (if nat_lt 1 i then next_drawn state else state) ≡ drawn start (i - 1)
 next-state start state zero lt e = absurd (omega (arith, lt))

@@ -95,11 +95,6 @@ follow-within first end (t ∷ rest) h s (inl e) =
 follow-within first end (t ∷ rest) h s (inr i) =
     let order = h.1 in let r = follow-within (t.high + 1) end rest h.2 s i in let a = r.0 in (omega arith, r.1, r.2)
 
-in-front-or-back : {X : Type 0} (x : X) (front back : List X) → IsIn x (front ++ back) → IsIn x front ⊎ IsIn x back
-in-front-or-back x [] back i = inr i
-in-front-or-back x (y ∷ front) back (inl e) = inl (inl e)
-in-front-or-back x (y ∷ front) back (inr i) = ⊎_elim (λ j. inl (inr j)) (λ j. inr j) (in-front-or-back x front back i)
-
 pub over-append : (s : Segment) (front back : List Segment) → AreOver s front → AreOver s back → AreOver s (front ++ back)
 over-append s [] back f b = b
 over-append s (t ∷ front) back f b = (f.0, over-append s front back f.1 b)

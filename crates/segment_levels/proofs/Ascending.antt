@@ -81,10 +81,6 @@ pub ascend-decided : (least : ℕ) (ns : List ℕ) → Ascend least ns → ascen
 ascend-decided least [] h = refl
 ascend-decided least (n ∷ ns) h = both_true (nat_le least n) (ascend_from (n + 1) ns) (le-leb least n h.0) (ascend-decided (n + 1) ns h.1)
 
-pub ascend-lower : (least lower : ℕ) (ns : List ℕ) → lower ≤ least → Ascend least ns → Ascend lower ns
-ascend-lower least lower [] le h = tt
-ascend-lower least lower (n ∷ ns) le h = (let a = h.0 in omega (arith, a, le), h.1)
-
 pub ascend-above : (least : ℕ) (ns : List ℕ) (m : ℕ) → Ascend least ns → IsIn m ns → least ≤ m
 ascend-above least [] m h i = absurd i
 ascend-above least (n ∷ ns) m h (inl e) = let a = h.0 in omega (arith, a, e)

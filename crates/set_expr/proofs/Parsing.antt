@@ -1,10 +1,10 @@
 -- What a text spells whose first word is cut off.
-use Rattle.std.proofs.Common.{◌≡◌, ◌==◌, ◌≢◌, ◌<◌, ◌≤◌, ◌+◌, ◌-◌, ℕ, suc, Bool, true, false, ◌⊎◌, inl, inr, List, [], ◌∷◌, ◌++◌, Some, None, Ok, Err, take, drop, length, get_or, refl, sym, ◌∙◌, ap, subst, arith, append_assoc, append-nil, ⊎_elim, add-one, drop-cons}
+use Rattle.std.proofs.Common.{◌≡◌, ◌==◌, ◌≢◌, ◌<◌, ◌≤◌, ◌+◌, ◌-◌, ℕ, suc, Bool, true, false, ◌⊎◌, inl, inr, List, [], ◌∷◌, ◌++◌, Some, None, Ok, Err, take, length, get_or, refl, sym, ◌∙◌, ap, subst, arith, append_assoc, append-nil, ⊎_elim, add-one}
 use Rattle.std.specs.Prelude.{⊤, IsTrue, nat_eq, ◌↔◌, codes, IfOk}
 use Rattle.std.specs.declared.result.Result.{Result}
 use Rattle.std.specs.Cmp.Lexicographic.{pointwise, bytes_decides}
 use Rattle.std.proofs.lemmas.Bool.{true≢false, eqb-false, ne_eqb}
-use Rattle.std.proofs.lemmas.List.{length-append, take_more, take_all, drop_all}
+use Rattle.std.proofs.lemmas.List.{length-append, take_more, take_all}
 use Rattle.outside.specs.Parts.{HasNone}
 use Rattle.outside.proofs.PartsLemmas.{none-append}
 use Rattle.id_groups.specs.Name.{Name, SpellsName, name_of}
@@ -60,9 +60,6 @@ none-bare text levels nodes zero e rest f = let above = nodes-above e in omega (
 unmarked-one : (b : ℕ) → (b ≡ 40 → ⊥) → (b ≡ 41 → ⊥) → (b ≡ 44 → ⊥) → Unmarked (b ∷ [])
 unmarked-one b x y z = record { opening = (ne_eqb b 40 x, tt); closing = (ne_eqb b 41 y, tt); comma = (ne_eqb b 44 z, tt) }
 
-pub unmarked-none : (xs : List ℕ) → Unmarked (take 0 xs)
-unmarked-none xs = record { opening = tt; closing = tt; comma = tt }
-
 pub unmarked-more : (xs : List ℕ) (i d : ℕ) → i < length xs → Unmarked (take i xs)
     → (((get_or xs i d ≡ 40) ⊎ ((get_or xs i d ≡ 41) ⊎ (get_or xs i d ≡ 44))) → ⊥) → Unmarked (take (i + 1) xs)
 unmarked-more xs i d lt u off =
@@ -75,22 +72,11 @@ unmarked-more xs i d lt u off =
       comma = none-append 44 (take i xs) (b ∷ []) u.comma one.comma;
     })
 
-pub breaks-at : (xs : List ℕ) (i d : ℕ) → i < length xs → ((get_or xs i d ≡ 40) ⊎ ((get_or xs i d ≡ 41) ⊎ (get_or xs i d ≡ 44))) → Breaks (drop i xs)
-breaks-at xs i d lt mark = subst Breaks (sym (drop-cons xs i d lt)) mark
-
-pub breaks-end : (xs : List ℕ) (i : ℕ) → length xs ≤ i → Breaks (drop i xs)
-breaks-end xs i le = subst Breaks (sym (drop_all i xs le)) tt
-
 -- what breaks a word and is no opening bracket ends an expression
 pub breaks-ends : (xs : List ℕ) → Breaks xs → ((rest : List ℕ) → xs ≡ 40 ∷ rest → ⊥) → Ends xs
 breaks-ends [] b none = tt
 breaks-ends (c ∷ xs) (inl e) none = absurd (none xs (ap (λ z. z ∷ xs) e))
 breaks-ends (c ∷ xs) (inr e) none = e
-
--- what ends an expression breaks a word
-ends-breaks : (xs : List ℕ) → Ends xs → Breaks xs
-ends-breaks [] e = tt
-ends-breaks (c ∷ xs) e = inr e
 
 -- a text that is cut at the same kind of place twice
 breaks-marked : (b : ℕ) (xs rest : List ℕ) → Unmarked (b ∷ xs) → Breaks (b ∷ rest) → ⊥

@@ -2,8 +2,8 @@
 use Rattle.std.proofs.Common.{◌≡◌, ℕ, zero, suc, ◌-◌, ◌<◌, ◌≤◌, ◌⊎◌, inl, inr, List, [], ◌∷◌, length, get_or, take, drop, sym, subst, arith, ⊎_elim, le_of_suc-le-suc, ap, ◌∙◌, add-zero, le_refl}
 use Rattle.std.proofs.lemmas.List.{take-append-drop, get_or-drop, length-drop}
 use Rattle.id_groups.specs.declared.span.IdSpan.{IdSpan}
-use Rattle.id_groups.specs.Span.{IsSpan, IsInSpan}
-use Rattle.span_set.specs.Members.{IsMember, IsCanonical, AreBelow}
+use Rattle.id_groups.specs.Span.{IsInSpan}
+use Rattle.span_set.specs.Members.{IsMember, IsCanonical}
 use Rattle.span_set.specs.Places.{BeginAbove, BeginWithin}
 use Rattle.span_set.proofs.Order.{span-at, below-at}
 use Rattle.span_set.proofs.MemberLemmas.{member-either, member-at, member-first, canonical-right}
@@ -18,16 +18,6 @@ begin-above-front id (x ∷ xs) (suc m) d c lt h =
 
 pub begin-above-step : (id : ℕ) (xs : List IdSpan) (m n : ℕ) (d : IdSpan) → n ≡ suc m → IsCanonical xs → m < length xs → id < (get_or xs m d).low → BeginAbove id (take n xs)
 begin-above-step id xs m n d e c lt h = subst (λ k. BeginAbove id (take k xs)) (sym e) (begin-above-front id xs m d c lt h)
-
-begin-within-all : (id : ℕ) (s : IdSpan) (xs : List IdSpan) → IsCanonical xs → IsSpan s → AreBelow s xs → s.low ≤ id → BeginWithin id xs
-begin-within-all id s [] c o b h = tt
-begin-within-all id s (x ∷ xs) c o b h =
-    let p = c.0.order in let u = b.0.under in (omega arith, begin-within-all id s xs c.2 o b.1 h)
-
-pub begin-within-rest : (id : ℕ) (xs : List IdSpan) (m : ℕ) (d : IdSpan) → IsCanonical xs → m < length xs → (get_or xs m d).low ≤ id → BeginWithin id (drop m xs)
-begin-within-rest id [] m d c lt h = absurd (omega arith)
-begin-within-rest id (x ∷ xs) zero d c lt h = (h, begin-within-all id x xs c.2 c.0 c.1 h)
-begin-within-rest id (x ∷ xs) (suc m) d c lt h = begin-within-rest id xs m d c.2 (le_of_suc-le-suc lt) h
 
 not-above : (id x : ℕ) (xs : List IdSpan) → BeginAbove id xs → x ≤ id → IsMember xs x → ⊥
 not-above id x [] h le m = absurd m

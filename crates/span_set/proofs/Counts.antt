@@ -134,9 +134,6 @@ filled-canonical (s ∷ xs) c = both_true _ _ (le-leb _ _ c.0.order) (filled-can
 pub filled-first : (s : IdSpan) (xs : List IdSpan) → are_filled (s ∷ xs) ≡ true → s.low ≤ s.high
 filled-first s xs f = leb-true _ _ (and_true _ _ f).0
 
-pub filled-rest : (s : IdSpan) (xs : List IdSpan) → are_filled (s ∷ xs) ≡ true → are_filled xs ≡ true
-filled-rest s xs f = (and_true _ _ f).1
-
 -- the first id of what is left of a span
 pub first-left : (low n m : ℕ) (ys : List ℕ) (id : ℕ) → n ≡ suc m → id ≡ low + m → descending_from low n ++ ys ≡ id ∷ (descending_from low m ++ ys)
 first-left low n m ys id e f =

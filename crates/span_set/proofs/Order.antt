@@ -39,11 +39,6 @@ below-all : (s u : IdSpan) (xs : List IdSpan) → IsSpan u → AreBelow u xs →
 below-all s u [] c h b = tt
 below-all s u (x ∷ xs) c h b = (below-trans x u s c h.0 b, below-all s u xs c h.1 b)
 
-pub below-rest : (s : IdSpan) (xs : List IdSpan) (m : ℕ) (d : IdSpan) → IsCanonical xs → m < length xs → IsBelow (get_or xs m d) s → AreBelow s (drop m xs)
-below-rest s [] m d h lt b = absurd (omega arith)
-below-rest s (x ∷ xs) zero d h lt b = (b, below-all s x xs h.0 h.1 b)
-below-rest s (x ∷ xs) (suc m) d h lt b = below-rest s xs m d h.2 (le_of_suc-le-suc lt) b
-
 pub not-below-front : (s : IdSpan) (xs : List IdSpan) (m : ℕ) (d : IdSpan) → IsCanonical xs → m < length xs → (IsBelow (get_or xs m d) s → ⊥) → AreNotBelow s (take (suc m) xs)
 not-below-front s [] m d h lt n = tt
 not-below-front s (x ∷ xs) zero d h lt n = (n, tt)

@@ -43,9 +43,6 @@ named-refusal : (asked : Bool) (finds : List KnownName) (refusal : Option Refusa
 named-refusal true finds refusal = refl
 named-refusal false finds refusal = refl
 
-refusals_of : List Test → List (Option Refusal)
-refusals_of tests = map (λ t. t.refusal) tests
-
 -- the test for a full log, where there is one
 abbrev pub log_part : Limits → Stored → ℕ → Verb → List (Option Refusal)
 log_part limits st s (Flush heads) = full limit.Log limits.log (log_after st (flush_of st s heads) (flush_change st.stored (flush_of st s heads))) ∷ []

@@ -131,10 +131,6 @@ change-shape st s new payload = by_test (same_world new st.stored)
     by_test true = inr (inl (record { base = length st.past; pending = [] }, le_refl _, refl))
     by_test false = inr (inr (new, payload, [], refl))
 
--- the shape of what a refused command leaves
-same-shape : (st : Stored) (s : ℕ) (now : Stored) → now ≡ st → Shape st s now
-same-shape st s now e = inl e
-
 to-shape : (st : Stored) (s : ℕ) (now that : Stored) → now ≡ that → Shape st s that → Shape st s now
 to-shape st s now that e h = subst (Shape st s) (sym e) h
 
