@@ -107,7 +107,6 @@ below-at n (k ∷ ks) zero lt h = h.0
 below-at n (k ∷ ks) (suc i) lt h = below-at n ks i (omega (arith, lt)) h.1
 
 module _ (parents : ℕ → List Node) (size : ℕ) where
-
   pub all-heads : HaveOlderParents parents → (heads : List ℕ) (i : ℕ) (order : List ℕ) → length heads ≤ i
       → order ≡ place_all nat_eq (rows_below parents size) [] (take i heads) → AreBelow size heads → ((n : ℕ) → AreBelow n heads → size ≤ n)
       → (n : ℕ) → AreBelow n heads → order ≡ order_of parents n heads

@@ -44,7 +44,6 @@ module _ (base : BaseRef) (pending : PlainPending) (added : List Placed) (w : Wo
       omega (arith, small, below, count)
 
   module _ (flats : List Segment) (segments : AreSegmentsOf (with_pending w rows) flats) where
-
     covers : Cover flats (length w.master) (length (w.others ++ rows))
     covers = record { front = segments.masters; back = segments.others; parts = segments.parts; master_ids = segments.master_ids; other_ids = segments.other_ids; room = (let few = few-masters in let l : 2 ^ 32 ≤ 2 ^ 56 = lit≤ tt in omega (arith, few, l)) }
 

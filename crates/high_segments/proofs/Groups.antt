@@ -79,7 +79,6 @@ up_to-append end (x ∷ xs) ys = ap (λ n. record x { high = n - 1 } ∷ up_to e
 
 -- a level with one more entry, whose parents are spelled
 module _ (l : PlainLevel) (low end grouped : ℕ) (parents spelled : List ℕ) (is : spelled ≡ flat_map number_bytes parents) (have : AllByRecursion HasNumber parents) (read : list_all (is_read l.bytes) l.entries ≡ true) where
-
   new-slice : slice_in (l.bytes ++ spelled) (record { place = length l.bytes; len = length spelled; low = low }) ≡ spelled
   new-slice = ap (take (length spelled)) (drop_at l.bytes spelled (length l.bytes) refl) ∙ ap (take (length spelled)) (sym (append-nil spelled)) ∙ take_at spelled [] (length spelled) refl
 

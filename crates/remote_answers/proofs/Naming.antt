@@ -79,7 +79,6 @@ module _ (flats : List Segment) (named : List (Row Name) → Type 0) (first k : 
 -- ---- the whole
 
 module _ (flats : List Segment) (rows : List (Row Name)) (m : IsMasterIn flats rows) (x : Name) (back room : ℕ) (out : List Name) where
-
   pub none-so_far : (id : ℕ) → IsNamed rows id x → None ≡ first_ancestor (table_graph flats) back id → AreNamesOf rows x back room (take 0 out)
   none-so_far id at none = record {
     each = λ k lt. absurd (omega (arith, lt));

@@ -200,7 +200,6 @@ module _ (names : List KnownName) (seen : BTreeSet Name) (next : ℕ) (h : HasSe
 
 module _ (names : List KnownName) (end first k : ℕ) (known : KnownName) (h : first_false first (names_fit end [] names) ≡ first_false (first + k) (names_fit end (take k names) (drop k names)))
     (lt : k < length names) (is : known ≡ get_or names k known) where
-
   at-name : first_false first (names_fit end [] names) ≡ first_false (first + k) ((nat_lt known.id end && name_fits (take k names) known) ∷ names_fit end (take k names ++ known ∷ []) (drop (k + 1) names))
   at-name = h ∙ ap (λ l. first_false (first + k) (names_fit end (take k names) l)) (behind names k known lt is)
 
