@@ -1,5 +1,6 @@
 pub mod Fronts
 pub mod Numbers
+pub mod Nine
 pub mod Groups
 pub mod Lists
 pub mod Lengths

@@ -77,3 +77,17 @@ order-means (suc k) ns h few many = (many, ascending-means 0 ns (sym (above-flat
 pub order-decided : (level : ℕ) (ns : List ℕ) → AreDistinct ns → HasLevelsParents level ns → are_in_order level ns ≡ true
 order-decided zero ns distinct h = distinct-decided ns distinct
 order-decided (suc k) ns distinct h = above-flat k (are_distinct ns) (ascend_from 0 ns) ∙ ascending-decided 0 ns (λ some. omega arith) h.1
+
+-- one number alone, and none, is in order
+pub few-in-order : (level : ℕ) (ns : List ℕ) → length ns ≤ 1 → are_in_order level ns ≡ true
+few-in-order level [] few = either (nat_eq level 0)
+  where
+    either : (b : Bool) → cond b true true ≡ true
+    either true = refl
+    either false = refl
+few-in-order level (n ∷ []) few = either (nat_eq level 0)
+  where
+    either : (b : Bool) → cond b (are_distinct (n ∷ [])) (ascend_from 0 (n ∷ [])) ≡ true
+    either true = refl
+    either false = and_from (leb 0 n) true (le-leb 0 n (omega arith)) refl
+few-in-order level (n ∷ m ∷ ns) few = absurd (omega (arith, few))

@@ -18,6 +18,7 @@ mod writing;
 pub use laws::{numbers_are_spelled, records_are_spelled, segments_go_on, tables_spelled_out};
 pub use lent::{Parents, SegmentRef};
 pub use level::write_numbers;
+pub use number::number_len;
 pub use reading::read_segment;
 pub use steps::Steps;
 pub use table::{Bounds, SegmentTable};

@@ -16,6 +16,12 @@ const TWO_GROUPS: u64 = 1 << 14;
 /// How many values four groups of seven bits have.
 const FOUR_GROUPS: u64 = 1 << 28;
 
+/// How many values eight groups of seven bits have.
+const EIGHT_GROUPS: u64 = 1 << 56;
+
+/// How many values nine groups of seven bits have.
+const NINE_GROUPS: u64 = 1 << 63;
+
 /// The value with a group of seven bits put in front; `None` where it doesn't fit 64 bits.
 fn with_group(value: u64, unit: u64, group: u64) -> Option<u64>
     ensures { MatchOption result (2 ^ 64 ≤ value + unit * group) (λ sum. (sum ≡ value + unit * group) × (sum < 2 ^ 64)) }
@@ -150,8 +156,54 @@ pub fn number_len(number: u64) -> usize
     len
 }
 
-/// Appends the number. A refusal may leave a part of it at the end.
+/// A group of seven bits, with the bit that says there are more bytes.
+#[inline(always)]
+fn with_more(number: u64) -> u8
+    ensures { result ≡ number % 128 + 128 }
+{
+    (number % 128) as u8 + MORE
+}
+
+/// The spelling of a number of nine groups.
+#[inline(always)]
+fn nine_bytes(number: u64) -> [u8; 9]
+    requires { (2 ^ 56 ≤ number) × (number < 2 ^ 63) }
+    ensures { result ≡ number_bytes number }
+{
+    let second = number / 128;
+    let third = second / 128;
+    let fourth = third / 128;
+    let fifth = fourth / 128;
+    let sixth = fifth / 128;
+    let seventh = sixth / 128;
+    let eighth = seventh / 128;
+    let ninth = eighth / 128;
+    [
+        with_more(number),
+        with_more(second),
+        with_more(third),
+        with_more(fourth),
+        with_more(fifth),
+        with_more(sixth),
+        with_more(seventh),
+        with_more(eighth),
+        ninth as u8,
+    ]
+}
+
+/// Appends the number. A refusal may leave a part of it at the end. A number of nine bytes, as an id of others is, takes no loop.
 pub fn write_number(out: &mut Vec<u8>, number: u64) -> Result<(), AllocError>
+    ensures ok { OnOk result (out.new.items ≡ out.old.items ++ number_bytes number) }
+    ensures err { OnErr result (HasFront out.old.items out.new.items) }
+{
+    if EIGHT_GROUPS <= number && number < NINE_GROUPS {
+        return out.extend_from_slice(&nine_bytes(number));
+    }
+    write_groups(out, number)
+}
+
+/// Appends the number, group by group, whatever its length.
+fn write_groups(out: &mut Vec<u8>, number: u64) -> Result<(), AllocError>
     ensures ok { OnOk result (out.new.items ≡ out.old.items ++ number_bytes number) }
     ensures err { OnErr result (HasFront out.old.items out.new.items) }
 {

@@ -1,6 +1,6 @@
 //! Records, read from bytes that begin with one.
 
-ghost use Rattle.std.specs.Prelude.{◌≡◌, ◌<◌, ◌^◌, ◌++◌, List, ℕ, IfSome, MatchOption};
+ghost use Rattle.std.specs.Prelude.{◌≡◌, ◌<◌, ◌^◌, ◌++◌, List, ℕ, length, IfSome, MatchOption};
 ghost use Rattle.std.specs.List.{AllByRecursion};
 ghost use Rattle.id_groups.specs.Lists.{is_in};
 ghost use Rattle.segment_codec.specs.Record.{Segment, IsSegment, segment_bytes};
@@ -18,6 +18,7 @@ fn read_parents<'a>(bytes: &'a [u8], count: u64, end: u64) -> Option<(Parents<'a
     requires { end < 2 ^ 57 }
     ensures exact { Gives (λ r. (parents_left r.0, r.1.now)) result (numbers_at end count bytes.now) }
     ensures below { IfSome result (λ r. AllByRecursion (λ p. p < end) (parents_left r.0)) }
+    ensures count { IfSome result (λ r. length (parents_left r.0) ≡ count) }
 {
     let mut rest = bytes;
     'numbers: for _ in 0..count {
@@ -69,9 +70,14 @@ fn ascend(parents: Parents<'_>) -> bool
     true
 }
 
-fn have_levels_order(level: u8, parents: Parents<'_>) -> bool
+/// Whether these parents, of which there are so many, stand as those of this level do. Of one alone nothing is read.
+fn have_levels_order(level: u8, count: u64, parents: Parents<'_>) -> bool
+    requires { length (parents_left parents) ≡ count }
     ensures { result ≡ are_in_order level (parents_left parents.entry) }
 {
+    if count <= 1 {
+        return true;
+    }
     if level == 0 {
         are_all_distinct(parents)
     } else {
@@ -95,7 +101,7 @@ fn read_record<'a>(bytes: &'a [u8]) -> Option<(SegmentRef<'a>, &'a [u8])>
 {
     let (head, rest) = read_head(bytes)?;
     let (parents, rest) = read_parents(rest, head.count, head.low)?;
-    if !have_levels_order(head.level, parents) {
+    if !have_levels_order(head.level, head.count, parents) {
         return None;
     }
     let segment = SegmentRef {

@@ -1,5 +1,6 @@
 use Rattle.std.proofs.Common.{◌≤◌, ◌^◌, arith, lit≤}
-use Rattle.segment_codec.proofs.Lists.{so_far-next, so_far-none, so_far-large, so_far-all, all-below}
+use Rattle.segment_codec.specs.Number.{numbers_in}
+use Rattle.segment_codec.proofs.Lists.{so_far-next, so_far-none, so_far-large, so_far-all, all-below, numbers_take}
 use Rattle.segment_codec.proofs.reading.read_parents.Goals as goal
 
 pub returns-in_err-number-clause-exact : goal.returns-in_err-number-clause-exact
@@ -32,3 +33,10 @@ returns-clause-below c =
     let k : 2 ^ 57 ≤ 2 ^ 64 = lit≤ tt in
     let small = c.requires in
     (so_far-all c.args.end c.args.count c.args.bytes.now c.numbers.counter c.numbers.rest.now c.split_at.result.0.now c.split_at.result.1.now (omega (arith, k, small)) c.numbers-test.false c.numbers.invariant c.split_at.ensures.front c.split_at.ensures.back).below
+
+pub returns-clause-count : goal.returns-clause-count
+returns-clause-count c =
+    let k : 2 ^ 57 ≤ 2 ^ 64 = lit≤ tt in
+    let small = c.requires in
+    let all = so_far-all c.args.end c.args.count c.args.bytes.now c.numbers.counter c.numbers.rest.now c.split_at.result.0.now c.split_at.result.1.now (omega (arith, k, small)) c.numbers-test.false c.numbers.invariant c.split_at.ensures.front c.split_at.ensures.back in
+    (numbers_take c.args.end c.args.count c.args.bytes.now (numbers_in c.split_at.result.0.now, c.split_at.result.1.now) (λ i. omega (arith, c.type_inv.bytes i)) all.exact).many

@@ -2,7 +2,7 @@ use Rattle.std.proofs.Common.{◌++◌, ◌∷◌, [], ◌∙◌, ◌%◌, ◌+�
 use Rattle.segment_codec.specs.Number.{number_bytes}
 use Rattle.segment_codec.proofs.Numbers.{number_next, number_last}
 use Rattle.segment_codec.proofs.Fronts.{front-more, written-more}
-use Rattle.segment_codec.proofs.number.write_number.Goals as goal
+use Rattle.segment_codec.proofs.number.write_groups.Goals as goal
 
 pub groups-preserved : goal.groups-preserved
 groups-preserved c =

@@ -1,7 +1,7 @@
 use Rattle.std.proofs.Common.{◌≡◌, ◌++◌}
 use Rattle.segment_codec.specs.Number.{number_bytes}
 use Rattle.segment_codec.specs.Record.{HasFront}
-use Rattle.segment_codec.proofs.number.write_number.Given as goal
+use Rattle.segment_codec.proofs.number.write_groups.Given as goal
 
 -- what is written, and what is still to be written, is the whole number
 abbrev pub invariant-groups : goal.invariant-groups
