@@ -8,6 +8,7 @@ pub mod Knowing
 pub mod Rising
 pub mod Payloads
 pub mod Places
+pub mod Cut
 pub mod Cloned
 pub mod Built
 pub mod Samples

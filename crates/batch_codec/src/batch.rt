@@ -1,12 +1,12 @@
 //! A payload, read as a whole.
 
-ghost use Rattle.std.specs.Prelude.{◌≡◌, ◌<◌, ◌≤◌, ◌+◌, ◌*◌, ◌^◌, ℕ, slice_index, length, IfSome, MatchOption};
+ghost use Rattle.std.specs.Prelude.{◌≡◌, ◌<◌, ◌≤◌, ◌+◌, ◌*◌, ◌^◌, [], Some, ℕ, slice_index, length, IfSome, MatchOption};
 ghost use Rattle.segment_codec.specs.Reading.{Gives};
 ghost use Rattle.batch_codec.specs.Payload.{Payload, payload_bytes, size_since_second};
 ghost use Rattle.segment_codec.specs.Turns.{place_behind};
 ghost use Rattle.batch_codec.specs.Grammar.{IsPayload};
-ghost use Rattle.batch_codec.specs.Reading.{others_at, masters_at, parts_at, ends_fit, payload_at};
-ghost use Rattle.batch_codec.specs.Lent.{segments_of, masters_of, others_of, payload_of, payload_in, HasPlaces};
+ghost use Rattle.batch_codec.specs.Reading.{Others, others_at, masters_at, joined, parts_at, ends_fit, payload_at};
+ghost use Rattle.batch_codec.specs.Lent.{segments_of, lent_names, masters_of, others_of, payload_of, payload_in, HasPlaces};
 
 use crate::counts::{Counts, read_counts};
 use crate::fixed::read_u32;
@@ -28,6 +28,18 @@ impl<'a> BatchRef<'a> {
     {
         let parts = read_payload(payload)?;
         Some(BatchRef { parts, payload })
+    }
+
+    /// The payload whose bytes these are known to be. It is read as [`BatchRef::read`] reads it, but of its other ids no record is.
+    pub fn over(payload: &'a [u8]) -> BatchRef<'a>
+        requires { (p : Payload) × IsPayload p × (payload.now ≡ payload_bytes p) }
+        ensures payload { (p : Payload) → IsPayload p → payload.now ≡ payload_bytes p → payload_of result ≡ p }
+        ensures places { HasPlaces result.parts }
+    {
+        let Some(parts) = cut_payload(payload) else {
+            unreachable!()
+        };
+        BatchRef { parts, payload }
     }
 
     /// That it is a payload in the grammar, whose sections stand where they say, for proofs of what is done with it.
@@ -102,6 +114,37 @@ fn read_masters<'a>(payload: &'a [u8]) -> Option<(MasterSections<'a>, &'a [u8])>
     Some((masters, rest))
 }
 
+/// These sections, which stand one behind the other, as those of one payload.
+fn joined_parts<'a>(
+    masters: MasterSections<'a>,
+    heads: NameSlice<'a>,
+    others: SegmentSlice<'a>,
+    other_names: NameSlice<'a>,
+) -> Parts<'a>
+    requires segments { masters.segments.start ≡ 22 + size_since_second masters.counts.version 8 }
+    requires levels { masters.levels.start ≡ masters.segments.start + length masters.segments.bytes.now + size_since_second masters.counts.version 4 }
+    requires known { masters.known.start ≡ masters.levels.start + length masters.levels.bytes.now + 4 }
+    requires heads { heads.start ≡ masters.known.start + 28 * masters.known.count + 2 }
+    requires others { others.start ≡ heads.start + 20 * heads.count + 8 }
+    requires names { other_names.start ≡ others.start + length others.bytes.now }
+    ensures parts { payload_in result ≡ joined (masters_of masters.entry) (lent_names heads.entry) (others_of others.entry other_names.entry) }
+    ensures places { HasPlaces result }
+{
+    Parts {
+        version: masters.counts.version,
+        kind: masters.counts.kind,
+        before: masters.counts.before,
+        after: masters.counts.after,
+        cloned: masters.counts.cloned,
+        master: masters.segments,
+        levels: masters.levels,
+        known: masters.known,
+        heads,
+        others,
+        other_names,
+    }
+}
+
 /// The payload, and the places behind its two sections of records.
 #[tactic(auto, unfolding(crate::specs::Reading::parts_at))]
 fn read_parts<'a>(payload: &'a [u8]) -> Option<(Parts<'a>, u64, u64)>
@@ -118,20 +161,52 @@ fn read_parts<'a>(payload: &'a [u8]) -> Option<(Parts<'a>, u64, u64)>
     if !rest.is_empty() {
         return None;
     }
-    let batch = Parts {
-        version: masters.counts.version,
-        kind: masters.counts.kind,
-        before: masters.counts.before,
-        after: masters.counts.after,
-        cloned: masters.counts.cloned,
-        master: masters.segments,
-        levels: masters.levels,
-        known: masters.known,
-        heads,
-        others,
-        other_names,
-    };
+    let batch = joined_parts(masters, heads, others, other_names);
     Some((batch, masters.end, others_end))
+}
+
+/// The sections of the other ids, where they and nothing else stand in the bytes. The records are what lies between the counts
+/// and the names, and none is read.
+fn cut_others<'a>(
+    bytes: &'a [u8],
+    after: u64,
+    total: usize,
+) -> Option<(SegmentSlice<'a>, NameSlice<'a>)>
+    requires total { length bytes.now ≤ total }
+    requires whole { (o : Others) × (others_at after bytes.now ≡ Some (o, [])) }
+    ensures exact { (o : Others) → others_at after bytes.now ≡ Some (o, []) → MatchOption result ⊥ (λ r. others_of r.0 r.1 ≡ o) }
+    ensures size { IfSome result (λ r. length bytes.now ≡ 8 + length r.0.bytes.now + 20 * r.1.count) }
+    ensures start { IfSome result (λ r. r.0.start + length r.0.bytes.now + 20 * r.1.count ≡ total) }
+    ensures names { IfSome result (λ r. r.1.start + 20 * r.1.count ≡ total) }
+{
+    let (count, rest) = read_u32(bytes)?;
+    let (records_count, rest) = read_u32(rest)?;
+    let size = 20 * count as usize;
+    let (records, names) = rest.split_at(rest.len() - size);
+    let others = SegmentSlice {
+        count: records_count,
+        bytes: records,
+        start: (total - rest.len()) as u64,
+    };
+    let other_names = NameSlice {
+        count,
+        bytes: names,
+        start: (total - size) as u64,
+    };
+    Some((others, other_names))
+}
+
+/// The sections of a payload whose bytes these are known to be. The records of its other ids aren't read.
+fn cut_payload<'a>(payload: &'a [u8]) -> Option<Parts<'a>>
+    requires { (p : Payload) × (payload_at payload.now ≡ Some p) }
+    ensures exact { (p : Payload) → payload_at payload.now ≡ Some p → MatchOption result ⊥ (λ b. payload_in b ≡ p) }
+    ensures places { IfSome result HasPlaces }
+{
+    let total = payload.len();
+    let (masters, rest) = read_masters(payload)?;
+    let (heads, rest) = read_heads(rest, total)?;
+    let (others, other_names) = cut_others(rest, masters.counts.after, total)?;
+    Some(joined_parts(masters, heads, others, other_names))
 }
 
 /// Whether the records end where the groups do.

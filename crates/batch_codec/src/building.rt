@@ -2,8 +2,9 @@
 
 ghost use Rattle.std.specs.Prelude.{◌≡◌, ◌<◌, ◌≤◌, ◌+◌, ◌/◌, ◌^◌, ◌++◌, Ok, ◌∷◌, List, flat_map, length, OnOk, OnErr, IfOk};
 ghost use Rattle.std.specs.Int.{w16, w32, w64, to_be_bytes};
+ghost use Rattle.id_groups.specs.Name.{Name as NameBytes};
 ghost use Rattle.segment_codec.specs.Record.{Segment, IsSegment, HasFront, segment_bytes};
-ghost use Rattle.batch_codec.specs.Payload.{Payload, known_bytes, payload_bytes};
+ghost use Rattle.batch_codec.specs.Payload.{Payload, known_bytes, names_bytes, payload_bytes};
 ghost use Rattle.batch_codec.specs.Grammar.{IsPayload};
 ghost use Rattle.batch_codec.specs.Building.{IsBuilt, empty_payload, with_segment, with_level_segment, with_known, with_head, with_other_segment, with_other_name, with_front, masters_behind, others_behind};
 
@@ -262,6 +263,16 @@ impl BatchBuild {
         ensures err { OnErr result (self.new ≡ self.old) }
     {
         append_name(&mut self.other_names, name)
+    }
+
+    /// Adds the names of the next other ids, which stand one after another.
+    pub fn other_names(&mut self, names: &[u8]) -> Result<(), AllocError>
+        ensures ok { OnOk result ((p : Payload) (list : List NameBytes) → IsBuilt self.old p → names.now ≡ names_bytes list
+            → IsBuilt self.new (record p { other_names = p.other_names ++ list })) }
+        ensures count { self.new.other_count ≡ self.old.other_count }
+        ensures err { OnErr result (self.new ≡ self.old) }
+    {
+        self.other_names.extend_from_slice(names)
     }
 
     /// The payload's bytes. The sections make a payload in the grammar, with as many other names as were said.
