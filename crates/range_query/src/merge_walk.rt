@@ -12,22 +12,9 @@ ghost use Rattle.range_query.specs.Parts.{IsMergeIn};
 
 use crate::place::count_below;
 use id_groups::IdSpan;
-use segment_codec::{SegmentRef, SegmentTable, Steps};
+use segment_codec::{SegmentRef, SegmentTable, Steps, number_len};
 use span_set::IdSet;
 use std::alloc::{AllocError, Global};
-
-/// How many bytes a number up to this one takes at most.
-fn longest_up_to(number: u64) -> usize
-    ensures { (n : ℕ) → n ≤ number → length (number_bytes n) ≤ result }
-{
-    let mut rest = number;
-    let mut longest = 1;
-    'groups: while rest >= 128 {
-        rest /= 128;
-        longest += 1;
-    }
-    longest
-}
 
 /// Whether the segment's lowest id has two or more parents. One parent takes at most `longest` bytes, so of most merges
 /// the number of their bytes tells it, and none is read.
@@ -81,7 +68,7 @@ fn add_merges<T: SegmentTable>(
     ensures counted { min steps.old.taken (2 ^ 64 - 1) ≤ steps.new.taken }
 {
     let end = count_below(table, span.high, steps) + 1;
-    let longest = longest_up_to(span.high.number());
+    let longest = number_len(span.high.number());
     'down: for k in (0..end).rev() {
         let segment = table.flat_at(k, steps);
         if segment.high().number() < span.low.number() {
