@@ -216,16 +216,28 @@ fn counts_of(bytes: &[u8]) -> Option<(u8, u8, u64, u64, u64)> {
 }
 
 /// Where the sections begin: master records, levels, known ids, heads, records of others, and their names.
-fn starts_of(bytes: &[u8]) -> Option<[u64; 6]> {
-    let batch = BatchRef::read(bytes)?;
-    Some([
+fn starts_in(batch: &BatchRef<'_>) -> [u64; 6] {
+    [
         batch.master_segments().start(),
         batch.level_segments().start(),
         batch.known().start(),
         batch.heads().start(),
         batch.other_segments().start(),
         batch.other_names().start(),
-    ])
+    ]
+}
+
+/// Where they begin in a payload that is read.
+fn starts_of(bytes: &[u8]) -> Option<[u64; 6]> {
+    let batch = BatchRef::read(bytes)?;
+    Some(starts_in(&batch))
+}
+
+/// Where they begin once it is known to be one.
+fn known_starts_of(bytes: &[u8]) -> Option<[u64; 6]> {
+    BatchRef::read(bytes)?;
+    let batch = BatchRef::over(bytes);
+    Some(starts_in(&batch))
 }
 
 #[test]
@@ -246,6 +258,8 @@ fn sections_stand_where_they_say(rt: HostRuntime) {
     );
     assert_eq!(rt; starts_of(&FORK), Some([30, 46, 50, 108, 116, 129]));
     assert_eq!(rt; starts_of(&STORE), Some([30, 59, 100, 186, 234, 234]));
+    assert_eq!(rt; known_starts_of(&FORK), Some([30, 46, 50, 108, 116, 129]));
+    assert_eq!(rt; known_starts_of(&CHAIN), starts_of(&CHAIN));
 }
 
 fn name(last: u8) -> Name

@@ -1,6 +1,8 @@
-use Rattle.std.proofs.Common.{arith, ◌+◌, ◌-◌}
+use Rattle.std.proofs.Common.{◌≡◌, ◌≤◌, ◌+◌, ◌-◌, length, sym, subst, arith}
+use Rattle.segment_codec.specs.Number.{number_bytes}
 use Rattle.segment_codec.specs.Lent.{segment_of}
 use Rattle.range_query.proofs.MergeLemmas.{place-held, merges-none, merges-more, merges-stop, merges-whole}
+use Rattle.range_query.proofs.ByteCounts.{number-longer}
 use Rattle.range_query.proofs.merge_walk.add_merges.Goals as goal
 
 pub overflow_add-end : goal.overflow_add-end
@@ -51,3 +53,9 @@ returns-clause-members g c =
     let lawful = g.met.T.SegmentTable.lawful c.args.table.now in
     let test = c.down-test.false in
     merges-whole flats lawful c.args.span.now c.args.answer.now c.down.k c.down.answer (omega arith) c.down.invariant.exact
+
+pub add_lowest-requires : goal.add_lowest-requires
+add_lowest-requires g c = λ n le.
+    let longer = number-longer n c.args.span.now.high le in
+    let number = c.number.ensures.number in
+    subst (λ k. length (number_bytes n) ≤ k) (sym (subst (λ m. c.number_len-longest.result ≡ length (number_bytes m)) number c.number_len-longest.ensures)) longer
