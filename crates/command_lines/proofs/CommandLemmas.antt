@@ -1,6 +1,6 @@
 -- What the parts of a command's text say of the whole.
 use Rattle.std.proofs.Common.{◌≡◌, ◌==◌, ◌<◌, ◌+◌, take, drop, ℕ, List, [], ◌∷◌, ◌++◌, ◌⊎◌, inl, inr, length, refl, sym, ◌∙◌, ap, subst, arith, codes, decimal, Option, Some, None, Ok, Err, true, append-nil}
-use Rattle.std.specs.Prelude.{◌≢◌, ◌≤◌, IsTrue, IfOk, if◌then◌else◌, position}
+use Rattle.std.specs.Prelude.{◌≢◌, ◌≤◌, IsTrue, IfOk, position}
 use Rattle.std.specs.declared.result.Result.{Result}
 use Rattle.std.specs.List.{AllZip}
 use Rattle.std.proofs.lemmas.Grind.{common_steps}

@@ -1,15 +1,15 @@
 -- Where what a remote told agrees with what is stored, its cloned rows are the world's.
-use Rattle.std.proofs.Common.{◌≡◌, ◌<◌, ◌≤◌, ◌+◌, ◌-◌, ◌&&◌, ℕ, zero, suc, Bool, true, false, ◌⊎◌, inl, inr, List, [], ◌∷◌, ◌++◌, length, map, take, drop, filter, flat_map, min, nat_eq, nat_lt, nat_le, Option, Some, None, slice_get, is_some, filter_map, refl, sym, ap, ap₂, subst, ◌∙◌, ⊎_elim, if◌then◌else◌, arith, true≢false, append-nil, length-append}
+use Rattle.std.proofs.Common.{◌≡◌, ◌<◌, ◌≤◌, ◌+◌, ◌-◌, ◌&&◌, ℕ, zero, suc, Bool, true, false, ◌⊎◌, inl, inr, List, [], ◌∷◌, ◌++◌, length, map, take, drop, flat_map, min, nat_eq, nat_lt, nat_le, Option, Some, None, slice_get, refl, sym, ap, ap₂, subst, ◌∙◌, ⊎_elim, if◌then◌else◌, arith, true≢false, append-nil}
 use Rattle.std.specs.List.{AllByRecursion, cons_option}
 use Rattle.std.specs.Cmp.Lexicographic.{pointwise}
-use Rattle.std.proofs.lemmas.Bool.{ltb-true, ltb-false, lt-ltb, le-ltb, leb-true}
+use Rattle.std.proofs.lemmas.Bool.{ltb-true, ltb-false, le-ltb, leb-true}
 use Rattle.std.proofs.lemmas.Map.Views.{exact_unsigned_eq}
-use Rattle.id_groups.specs.Lists.{IsIn, AreAllIn}
+use Rattle.id_groups.specs.Lists.{IsIn}
 use Rattle.id_groups.specs.Name.{Name, same_name}
 use Rattle.id_groups.proofs.Names.{same_name-exact, same_name-self}
 use Rattle.id_groups.proofs.Listing.{and_true}
 use Rattle.commit_graph.specs.World.{Row, World, IsWorld, IsHistory, names_of}
-use Rattle.commit_graph.specs.Ids.{id_in, parent_ids}
+use Rattle.commit_graph.specs.Ids.{id_in}
 use Rattle.commit_graph.proofs.Histories.{history-front, history-rest, in-all}
 use Rattle.commit_graph.proofs.Places.{at-name, id-in-master}
 use Rattle.segment_codec.specs.Record.{Segment}
@@ -26,11 +26,11 @@ use Rattle.change_rules.specs.Tables.{StandFor, cloned_count}
 use Rattle.change_rules.specs.Disagree.{same_segment, segments_agree, first_unlike}
 use Rattle.change_rules.proofs.Spans.{flat_segments, same-segments}
 use Rattle.change_rules.proofs.Lawful.{flat-cover, record-cover}
-use Rattle.payload_tables.proofs.Lists.{names-length, get-front}
+use Rattle.payload_tables.proofs.Lists.{get-front}
 use Rattle.payload_tables.proofs.Rows.{get-below}
 use Rattle.payload_tables.proofs.Joined.{get-map, followers-long}
-use Rattle.flush_rebuild.specs.Pulling.{told_names, names_at_all, rows_with, told_rows}
-use Rattle.flush_rebuild.proofs.ToldRows.{no-some, some-is, take-get, take-long, row-with, follow, front-long}
+use Rattle.flush_rebuild.specs.Pulling.{told_names, names_at_all, told_rows}
+use Rattle.flush_rebuild.proofs.ToldRows.{no-some, some-is, take-get, take-long, row-with, follow}
 use Rattle.flush_rebuild.proofs.Stepping.{split-at, under}
 
 -- ---- segments cut below an id

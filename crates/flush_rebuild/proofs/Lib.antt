@@ -4,6 +4,7 @@ pub mod Moving
 pub mod Marking
 pub mod Growing
 pub mod Emitting
+pub mod NamesInTurn
 pub mod Whole
 pub mod Planning
 pub mod Sizing

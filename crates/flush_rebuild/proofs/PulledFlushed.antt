@@ -6,7 +6,7 @@ use Rattle.std.proofs.lemmas.List.Elements.{filter-append}
 use Rattle.id_groups.specs.Lists.{IsIn, is_in, AreAllIn}
 use Rattle.id_groups.proofs.Listing.{found, there, missing}
 use Rattle.commit_graph.specs.World.{Row, World, IsWorld, IsHistory, rows_of, names_of, row_named, with_pending}
-use Rattle.commit_graph.proofs.Histories.{in-all, in-append, history-append, history-front}
+use Rattle.commit_graph.proofs.Histories.{in-append, history-append}
 use Rattle.commit_graph.proofs.Down.{in-left, in-right, in-reverse}
 use Rattle.assign_ids.specs.Placing.{place, place_all}
 use Rattle.assign_ids.proofs.Placings.{IsDown, history-down, place-there, place-behind}

@@ -1,27 +1,26 @@
 -- A pull is a flush of what was taken of a remote, put behind the world's others.
-use Rattle.std.proofs.Common.{◌≡◌, ◌<◌, ◌≤◌, ◌+◌, ◌-◌, ◌^◌, ℕ, Bool, true, false, not, ◌⊎◌, inl, inr, List, [], ◌∷◌, ◌++◌, length, map, take, drop, filter, nat_lt, Option, Some, None, is_some, slice_get, refl, sym, ap, ap₂, subst, ◌∙◌, ⊎_elim, if◌then◌else◌, arith, true≢false, length-append, lit≤}
+use Rattle.std.proofs.Common.{◌≡◌, ◌<◌, ◌≤◌, ◌+◌, ◌-◌, ◌^◌, ℕ, Bool, true, false, not, ◌⊎◌, inl, inr, List, [], ◌∷◌, ◌++◌, length, map, take, drop, Some, None, refl, sym, ap, subst, ◌∙◌, ⊎_elim, if◌then◌else◌, arith, true≢false, length-append, lit≤}
 use Rattle.std.specs.Prelude.{Result, Ok, Err, IfOk, MatchResult}
 use Rattle.std.specs.List.{AllByRecursion}
 use Rattle.std.proofs.lemmas.List.{map-append, length-map, take-append-drop}
 use Rattle.std.proofs.lemmas.Bool.{le-ltb}
 use Rattle.id_groups.specs.Lists.{IsIn, is_in, AreAllIn}
 use Rattle.id_groups.specs.Name.{Name, same_name}
-use Rattle.id_groups.specs.Id.{is_master_id, other_id}
+use Rattle.id_groups.specs.Id.{is_master_id}
 use Rattle.id_groups.proofs.Names.{same_name-exact, same_name-self}
 use Rattle.commit_graph.specs.World.{Row, World, IsWorld, IsHistory, IsNamedWorld, empty_world, names_of, rows_of, with_pending}
 use Rattle.commit_graph.specs.Ids.{id_in}
 use Rattle.commit_graph.proofs.Down.{in-left, in-right}
 use Rattle.commit_graph.proofs.Naming.{named-by, name-of}
-use Rattle.commit_graph.proofs.Places.{at-name, name-at, place-left, world-master, below-master, chosen, id-in-master}
-use Rattle.batch_codec.specs.Payload.{Payload, payload_bytes}
+use Rattle.commit_graph.proofs.Places.{at-name, world-master, below-master, chosen, id-in-master}
+use Rattle.batch_codec.specs.Payload.{Payload}
 use Rattle.assign_ids.specs.declared.graph.Node.{Node}
 use Rattle.assign_ids.specs.declared.graph.Node.TheVariants.{Placed as InMaster, Other}
 use Rattle.assign_ids.specs.Numbers.{others_of}
-use Rattle.name_map.specs.Added.{Placed, payloads_of, AllStand}
+use Rattle.name_map.specs.Added.{Placed, payloads_of}
 use Rattle.remote_rules.specs.Known.{master_world}
 use Rattle.change_rules.specs.declared.Limits.{Limits}
-use Rattle.change_rules.specs.declared.Limit.{Limit}
-use Rattle.change_rules.specs.declared.Limit.TheVariants.{Others, Master, Log}
+use Rattle.change_rules.specs.declared.Limit.TheVariants.{Others}
 use Rattle.change_rules.specs.Change.{flush_change}
 use Rattle.change_rules.specs.Lawful.{MayFollow}
 use Rattle.change_rules.specs.Rebase.{left_of, first_conflict}
@@ -33,21 +32,21 @@ use Rattle.change_rules.proofs.Changes.{change-stands}
 use Rattle.change_rules.proofs.Flushes.{rebase-world, name-in}
 use Rattle.change_rules.proofs.Lawful.{change-follows}
 use Rattle.mirror_set.specs.Fresh.{PlainFresh}
-use Rattle.payload_tables.specs.Kept.{PlainTables, AreTablesOf}
-use Rattle.payload_tables.specs.Pending.{PlainPending, HoldsRows}
+use Rattle.payload_tables.specs.Kept.{PlainTables}
+use Rattle.payload_tables.specs.Pending.{PlainPending}
 use Rattle.payload_tables.specs.Bases.{ArePending, held_row}
 use Rattle.flush_rebuild.specs.declared.plan.Change.{Change}
 use Rattle.flush_rebuild.specs.declared.fault.PlanFault.{PlanFault}
 use Rattle.flush_rebuild.specs.declared.fault.PlanFault.TheVariants.{Memory, Full}
 use Rattle.flush_rebuild.specs.Moves.{node_of}
-use Rattle.flush_rebuild.specs.Plans.{over, first_fault, length_with, conflict_fault, size_refusal, MayMove, IsPlanOf, IsChangeOf, IsStorable, MayComeNext, MayBeStored}
+use Rattle.flush_rebuild.specs.Plans.{first_fault, conflict_fault, size_refusal, MayMove, IsPlanOf, IsChangeOf, IsStorable, MayComeNext, MayBeStored}
 use Rattle.flush_rebuild.specs.Following.{with_payload, FollowChange, StandForNext}
 use Rattle.flush_rebuild.specs.Pulling.{MayPull, mismatch, pull_refusal}
 use Rattle.flush_rebuild.specs.Taken.{AreTaken, MayTake, MayPut, pull_sizes, any_others}
 use Rattle.flush_rebuild.proofs.Planning.{flush-small}
 use Rattle.flush_rebuild.proofs.Marking.{filter-short}
 use Rattle.flush_rebuild.proofs.PulledFlushed.{pulled-flushed}
-use Rattle.flush_rebuild.proofs.Rebased.{pending-there, w-id, placed}
+use Rattle.flush_rebuild.proofs.Rebased.{pending-there, placed}
 use Rattle.flush_rebuild.proofs.SomeTold.{rows-same}
 use Rattle.flush_rebuild.proofs.Stepping.{under}
 

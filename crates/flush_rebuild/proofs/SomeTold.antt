@@ -1,14 +1,14 @@
 -- What a remote told beside lawful payloads, where it agrees with them, is the master of some world, beside a world for which they stand.
-use Rattle.std.proofs.Common.{◌≡◌, ◌<◌, ◌≤◌, ◌+◌, ◌-◌, ◌^◌, ◌&&◌, ◌||◌, ℕ, zero, suc, Bool, true, false, not, cond, ◌⊎◌, inl, inr, List, [], ◌∷◌, ◌++◌, length, map, take, drop, filter, flat_map, nat_eq, nat_lt, Option, Some, None, slice_get, is_some, refl, sym, ap, ap₂, subst, ◌∙◌, ⊎_elim, if◌then◌else◌, arith, true≢false, append_assoc, append-nil, length-append, lit≤}
+use Rattle.std.proofs.Common.{◌≡◌, ◌<◌, ◌≤◌, ◌+◌, ◌^◌, ◌&&◌, ◌||◌, ℕ, zero, suc, Bool, true, false, not, cond, ◌⊎◌, inl, inr, List, [], ◌∷◌, ◌++◌, length, map, take, drop, filter, flat_map, nat_eq, nat_lt, Option, Some, None, slice_get, is_some, refl, sym, ap, subst, ◌∙◌, ⊎_elim, arith, true≢false, append_assoc, append-nil, length-append, lit≤}
 use Rattle.std.specs.List.{AllByRecursion, cons_option, list_all}
 use Rattle.std.proofs.lemmas.List.{map-append, length-map, take-append-drop}
-use Rattle.std.proofs.lemmas.Bool.{lt-ltb, false_from_ne_true}
+use Rattle.std.proofs.lemmas.Bool.{lt-ltb}
 use Rattle.flush_rebuild.specs.Cloning.{clone_fault}
 use Rattle.id_groups.specs.Lists.{IsIn, is_in, AreAllIn, AreDistinct}
 use Rattle.id_groups.specs.Name.{Name, same_name}
 use Rattle.id_groups.proofs.Names.{same_name-exact, same_name-self}
 use Rattle.id_groups.proofs.Listing.{and_true, not_true, there, found}
-use Rattle.commit_graph.specs.World.{Row, World, IsWorld, IsHistory, IsNext, IsNamedWorld, names_of, rows_of, with_pending}
+use Rattle.commit_graph.specs.World.{Row, World, IsWorld, IsHistory, names_of, rows_of, with_pending}
 use Rattle.commit_graph.proofs.Histories.{history-rest, in-append}
 use Rattle.commit_graph.proofs.Down.{in-left, in-right}
 use Rattle.commit_graph.proofs.Naming.{each, all-each}
@@ -19,12 +19,10 @@ use Rattle.segment_codec.proofs.Tables.{le_or_lt}
 use Rattle.segment_rules.specs.Flat.{parents_listed}
 use Rattle.batch_codec.specs.Payload.{Payload, Known, known_names}
 use Rattle.batch_codec.specs.Grammar.{count_after}
-use Rattle.name_map.specs.Added.{Placed, payloads_of, AllStand}
-use Rattle.remote_rules.specs.CloneData.{CloneData, KnownName, first_broken, first_false}
-use Rattle.remote_rules.specs.Known.{master_world}
+use Rattle.name_map.specs.Added.{Placed, payloads_of}
+use Rattle.remote_rules.specs.CloneData.{CloneData, KnownName}
 use Rattle.remote_rules.specs.Lawful.{MayStandHere}
-use Rattle.mirror_set.specs.Fresh.{PlainFresh, count_from}
-use Rattle.change_rules.specs.Lawful.{AreLawful}
+use Rattle.mirror_set.specs.Fresh.{PlainFresh}
 use Rattle.change_rules.specs.Tables.{StandFor, known_in, newest, other_names_in, cloned_count}
 use Rattle.change_rules.specs.Disagree.{first_unlike, first_bad_row, rows_fit}
 use Rattle.change_rules.proofs.Lawful.{history-distinct}
@@ -41,7 +39,7 @@ use Rattle.flush_rebuild.specs.declared.fault.PlanFault.TheVariants.{Memory}
 use Rattle.flush_rebuild.specs.Asked.{IsStored}
 use Rattle.flush_rebuild.specs.Plans.{first_fault}
 use Rattle.flush_rebuild.specs.Pulling.{MayPullOn, told_names, names_at_all, rows_with, told_rows, row_fault, mismatch}
-use Rattle.flush_rebuild.specs.Taken.{Beside, MayTake, MayWalk}
+use Rattle.flush_rebuild.specs.Taken.{MayTake, MayWalk}
 use Rattle.flush_rebuild.proofs.Asking.{stored-names}
 use Rattle.flush_rebuild.proofs.Renumber.{in-map, map-in-back}
 use Rattle.flush_rebuild.proofs.Numbered.{AllRows, Below, Behind}

@@ -1,13 +1,13 @@
 -- One row of a remote more, beside a world.
-use Rattle.std.proofs.Common.{◌≡◌, ◌<◌, ◌≤◌, ◌+◌, ◌-◌, ◌^◌, ℕ, zero, suc, Bool, true, false, not, ◌&&◌, ◌⊎◌, inl, inr, List, [], ◌∷◌, ◌++◌, length, map, take, drop, nat_eq, nat_lt, get_or, Option, Some, None, slice_get, refl, sym, ap, ap₂, subst, ◌∙◌, ⊎_elim, if◌then◌else◌, arith, length-append, lit≤}
+use Rattle.std.proofs.Common.{◌≡◌, ◌<◌, ◌≤◌, ◌+◌, ◌-◌, ◌^◌, ℕ, zero, suc, Bool, true, false, not, ◌&&◌, ◌⊎◌, inl, inr, List, [], ◌∷◌, ◌++◌, length, map, drop, nat_eq, nat_lt, get_or, Some, None, slice_get, refl, sym, ap, ap₂, subst, ◌∙◌, ⊎_elim, if◌then◌else◌, arith, length-append, lit≤}
 use Rattle.std.specs.Prelude.{MatchResult, Result, Ok, Err}
 use Rattle.std.specs.List.{AllByRecursion, AllZip}
 use Rattle.std.specs.Cmp.Lexicographic.{pointwise}
 use Rattle.std.proofs.lemmas.List.{map-append, length-map}
 use Rattle.std.proofs.lemmas.Bool.{ltb-true, ltb-false, false_from_ne_true}
-use Rattle.std.proofs.lemmas.Option.{get_or_from_slice_get, slice_get_within}
+use Rattle.std.proofs.lemmas.Option.{get_or_from_slice_get}
 use Rattle.id_groups.specs.Lists.{IsIn, is_in, AreDistinct}
-use Rattle.id_groups.specs.Name.{Name, IsName, same_name}
+use Rattle.id_groups.specs.Name.{Name, same_name}
 use Rattle.id_groups.specs.Id.{other_id}
 use Rattle.id_groups.proofs.Names.{same_name-exact, same_name-self}
 use Rattle.id_groups.proofs.Listing.{there, found}
@@ -15,10 +15,9 @@ use Rattle.commit_graph.specs.World.{Row, World, IsWorld, IsHistory, empty_world
 use Rattle.commit_graph.specs.Ids.{id_in}
 use Rattle.commit_graph.proofs.Histories.{history-rest}
 use Rattle.commit_graph.proofs.Down.{in-right}
-use Rattle.commit_graph.proofs.Places.{item-at, at-name, id-in-master, id-in-others, world-master, place-left, name-at}
+use Rattle.commit_graph.proofs.Places.{item-at, id-in-master, world-master, place-left, name-at}
 use Rattle.segment_codec.specs.Record.{Segment}
 use Rattle.segment_codec.specs.Table.{parents_at}
-use Rattle.batch_codec.specs.Payload.{Known, names_bytes}
 use Rattle.batch_codec.specs.Reading.{names_read}
 use Rattle.batch_codec.proofs.Entries.{names-again}
 use Rattle.name_map.specs.Added.{Placed, payloads_of}
@@ -32,12 +31,12 @@ use Rattle.payload_tables.specs.Bases.{IsBaseOf, held_row, stored_in}
 use Rattle.payload_tables.proofs.Lists.{names-length, get-front}
 use Rattle.payload_tables.proofs.Rows.{count-rows, names-whole}
 use Rattle.flush_rebuild.specs.declared.fault.PlanFault.{PlanFault}
-use Rattle.flush_rebuild.specs.declared.fault.PlanFault.TheVariants.{Memory, Conflict}
+use Rattle.flush_rebuild.specs.declared.fault.PlanFault.TheVariants.{Memory}
 use Rattle.flush_rebuild.specs.Asked.{IsStored}
 use Rattle.flush_rebuild.specs.Plans.{conflict_fault}
 use Rattle.flush_rebuild.specs.Rebasing.{IsKept}
 use Rattle.flush_rebuild.specs.Taken.{beside, IsBeside, IsOther, AreTaken, Beside, MayAdd}
-use Rattle.flush_rebuild.proofs.Rebased.{LeftIn, row-at-name, get-mapped, none-at, conflict-at, in-new, w-id, pending-there, stored-id, stored-row, same-ids, front-world, moved-distinct, row-kept, row-stored, IsPlaced, placed}
+use Rattle.flush_rebuild.proofs.Rebased.{LeftIn, row-at-name, get-mapped, none-at, conflict-at, in-new, w-id, pending-there, stored-id, stored-row, same-ids, front-world, moved-distinct, row-kept, row-stored, placed}
 use Rattle.flush_rebuild.proofs.Stepping.{under}
 use Rattle.flush_rebuild.proofs.Moved.{not-stored}
 use Rattle.flush_rebuild.proofs.ToldRows.{take-get}

@@ -1,16 +1,14 @@
 -- The rows that a remote told, one by one, and its cloned rows.
-use Rattle.std.proofs.Common.{◌≡◌, ◌≢◌, ◌<◌, ◌≤◌, ◌+◌, ◌-◌, ◌^◌, ℕ, zero, suc, Bool, true, false, ◌⊎◌, inl, inr, List, [], ◌∷◌, ◌++◌, length, map, take, drop, min, max, nat_eq, Option, Some, None, slice_get, is_some, filter_map, refl, sym, ap, ap₂, subst, ◌∙◌, ⊎_elim, if◌then◌else◌, arith, true≢false, append_assoc, append-nil, length-append, lit≤}
+use Rattle.std.proofs.Common.{◌≡◌, ◌≢◌, ◌<◌, ◌≤◌, ◌+◌, ◌-◌, ◌^◌, ℕ, zero, suc, Bool, true, false, ◌⊎◌, inl, inr, List, [], ◌∷◌, ◌++◌, length, map, take, nat_eq, Option, Some, None, slice_get, is_some, refl, sym, ap, ap₂, subst, ◌∙◌, ⊎_elim, if◌then◌else◌, arith, true≢false, append_assoc, append-nil, length-append}
 use Rattle.std.specs.List.{AllByRecursion, AllZip, cons_option}
-use Rattle.std.proofs.lemmas.List.{map-append, length-map}
-use Rattle.std.proofs.lemmas.Bool.{eq-eqb, ne_eqb}
+use Rattle.std.proofs.lemmas.List.{map-append}
+use Rattle.std.proofs.lemmas.Bool.{eq-eqb}
 use Rattle.std.proofs.lemmas.Map.Views.{exact_unsigned_eq}
-use Rattle.id_groups.specs.Lists.{IsIn, AreDistinct}
+use Rattle.id_groups.specs.Lists.{IsIn}
 use Rattle.id_groups.specs.Name.{Name}
-use Rattle.commit_graph.specs.World.{Row, World, IsWorld, IsHistory, names_of, rows_of}
+use Rattle.commit_graph.specs.World.{Row, World, names_of}
 use Rattle.commit_graph.proofs.Naming.{each, all-each}
-use Rattle.commit_graph.proofs.Histories.{history-rest, in-append}
 use Rattle.commit_graph.proofs.Down.{in-left, in-right}
-use Rattle.commit_graph.proofs.Places.{at-name, item-at, name-at, world-master}
 use Rattle.segment_codec.specs.Record.{Segment}
 use Rattle.segment_codec.specs.Table.{Follow}
 use Rattle.segment_codec.specs.Turns.{StandInTurn, place_behind}
@@ -19,8 +17,7 @@ use Rattle.segment_rules.specs.Flat.{parents_listed}
 use Rattle.batch_codec.specs.Payload.{Payload, Known, known_ids}
 use Rattle.batch_codec.specs.Grammar.{count_after, IsFlush, IsClone, IsWholePayload}
 use Rattle.name_map.specs.Added.{Placed, payloads_of, known_of}
-use Rattle.remote_rules.specs.CloneData.{CloneData, first_broken}
-use Rattle.remote_rules.specs.Known.{master_world}
+use Rattle.remote_rules.specs.CloneData.{first_broken}
 use Rattle.remote_rules.specs.Lawful.{MayStandHere}
 use Rattle.remote_rules.proofs.Unbroken.{unbroken-is-lawful}
 use Rattle.mirror_set.specs.Fresh.{PlainFresh, count_from}
@@ -29,13 +26,13 @@ use Rattle.change_rules.specs.Lawful.{MayFollow, AreLawful}
 use Rattle.change_rules.specs.Tables.{StandFor, known_in, newest, other_names_in, cloned_count}
 use Rattle.change_rules.proofs.Reached.{inside, lowest}
 use Rattle.payload_tables.specs.Bases.{stored_in}
-use Rattle.payload_tables.proofs.Lists.{names-length, get-front, count-last}
+use Rattle.payload_tables.proofs.Lists.{names-length, count-last}
 use Rattle.payload_tables.proofs.Leveling.{listed-long}
 use Rattle.payload_tables.proofs.Rows.{get-below}
 use Rattle.payload_tables.proofs.Joined.{get-map}
 use Rattle.flush_rebuild.specs.Asked.{IsStored}
 use Rattle.flush_rebuild.specs.Pulling.{told_names, names_at_all, rows_with, told_rows}
-use Rattle.flush_rebuild.proofs.Rebased.{row-at-name, known-all}
+use Rattle.flush_rebuild.proofs.Rebased.{known-all}
 use Rattle.flush_rebuild.proofs.Renumber.{in-map, map-in-back}
 use Rattle.flush_rebuild.proofs.Stepping.{under}
 

@@ -1,19 +1,17 @@
 -- The walk over the rows that a remote told, from the cloned ones on.
-use Rattle.std.proofs.Common.{◌≡◌, ◌<◌, ◌≤◌, ◌+◌, ◌-◌, ℕ, zero, suc, Bool, true, false, not, cond, ◌&&◌, ◌⊎◌, inl, inr, List, [], ◌∷◌, ◌++◌, length, map, take, drop, filter, max, nat_eq, Option, Some, None, slice_get, refl, sym, ap, ap₂, subst, ◌∙◌, ⊎_elim, if◌then◌else◌, arith}
-use Rattle.std.specs.List.{AllByRecursion}
+use Rattle.std.proofs.Common.{◌≡◌, ◌<◌, ◌≤◌, ◌+◌, ◌-◌, ℕ, zero, suc, true, false, not, cond, ◌&&◌, inl, inr, List, [], ◌∷◌, ◌++◌, length, map, take, drop, max, nat_eq, Some, None, slice_get, refl, sym, ap, ap₂, subst, ◌∙◌, if◌then◌else◌, arith}
 use Rattle.std.specs.Cmp.Lexicographic.{pointwise}
-use Rattle.id_groups.specs.Lists.{IsIn, is_in}
+use Rattle.id_groups.specs.Lists.{IsIn}
 use Rattle.id_groups.specs.Name.{Name, same_name}
 use Rattle.id_groups.proofs.Names.{same_name-exact, same_name-self}
 use Rattle.id_groups.proofs.Listing.{there}
-use Rattle.commit_graph.specs.World.{Row, World, names_of, rows_of, row_named, with_pending}
+use Rattle.commit_graph.specs.World.{Row, World, names_of, rows_of, with_pending}
 use Rattle.commit_graph.specs.Ids.{id_in}
 use Rattle.commit_graph.proofs.Down.{in-left}
-use Rattle.commit_graph.proofs.Places.{item-at}
 use Rattle.segment_codec.specs.Record.{Segment}
 use Rattle.segment_codec.specs.Turns.{StandInTurn, place_behind}
 use Rattle.remote_rules.specs.Lawful.{MayStandHere}
-use Rattle.change_rules.specs.Rebase.{left_of, has_parents, conflicts, first_conflict, first_lost}
+use Rattle.change_rules.specs.Rebase.{left_of, has_parents, conflicts, first_conflict}
 use Rattle.change_rules.proofs.Flushes.{row-found, name-in}
 use Rattle.mirror_set.specs.Fresh.{PlainFresh}
 use Rattle.payload_tables.specs.declared.base.BaseRef.{BaseRef}
@@ -22,7 +20,7 @@ use Rattle.payload_tables.specs.Bases.{held_row}
 use Rattle.flush_rebuild.specs.Taken.{AreTaken, MayAdd, MayWalk}
 use Rattle.flush_rebuild.proofs.Marking.{all-taken}
 use Rattle.flush_rebuild.proofs.Stepping.{split-at, take-next, under}
-use Rattle.flush_rebuild.proofs.ToldRows.{some-is, take-long, RowAt, row-at, turn, rows-total, ends}
+use Rattle.flush_rebuild.proofs.ToldRows.{some-is, take-long, RowAt, row-at, turn, rows-total}
 
 -- ---- rows that the world has
 

@@ -23,7 +23,7 @@ use Rattle.change_rules.specs.Rebase.{first_conflict}
 use Rattle.change_rules.specs.Disagree.{first_unlike, first_bad_row, segments_agree, name_agrees}
 use Rattle.payload_tables.specs.Kept.{PlainTables, AreTablesOf}
 use Rattle.flush_rebuild.specs.declared.fault.PlanFault.{PlanFault}
-use Rattle.flush_rebuild.specs.declared.fault.PlanFault.TheVariants.{BadClone, BadRow}
+use Rattle.flush_rebuild.specs.declared.fault.PlanFault.TheVariants.{BadRow}
 use Rattle.flush_rebuild.specs.Plans.{over, first_fault, length_with, conflict_fault}
 
 -- The names of a remote's ids, where the first are those of the world's master rows, so many, and the others were fetched.

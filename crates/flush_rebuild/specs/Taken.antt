@@ -1,7 +1,7 @@
 -- The rows of a remote beside a world, as a pull goes over them from the cloned ones on.
-use Rattle.std.specs.Prelude.{◌≡◌, ◌<◌, ◌≤◌, ◌+◌, ◌-◌, ◌⊎◌, ◌++◌, ◌∷◌, [], true, false, ℕ, List, Option, Some, None, length, map, take, drop, slice_get, slice_index, nat_eq, nat_lt, if◌then◌else◌}
+use Rattle.std.specs.Prelude.{◌≡◌, ◌≤◌, ◌+◌, ◌-◌, ◌⊎◌, ◌++◌, ◌∷◌, [], true, false, ℕ, List, Option, Some, None, length, map, take, drop, slice_get, slice_index, nat_eq, nat_lt, if◌then◌else◌}
 use Rattle.std.specs.Cmp.Lexicographic.{pointwise}
-use Rattle.std.specs.List.{AllByRecursion, AllZip}
+use Rattle.std.specs.List.{AllZip}
 use Rattle.id_groups.specs.Lists.{IsIn}
 use Rattle.id_groups.specs.Name.{Name, same_name}
 use Rattle.commit_graph.specs.World.{Row, World, IsWorld, IsNamedWorld, names_of, rows_of, with_pending}
@@ -22,7 +22,7 @@ use Rattle.payload_tables.specs.Kept.{PlainTables, AreTablesOf}
 use Rattle.payload_tables.specs.Pending.{PlainPending, HoldsRows}
 use Rattle.payload_tables.specs.Bases.{IsBaseOf, AreSegmentsOf, held_row, stored_in}
 use Rattle.flush_rebuild.specs.declared.fault.PlanFault.{PlanFault}
-use Rattle.flush_rebuild.specs.declared.fault.PlanFault.TheVariants.{Memory, Conflict}
+use Rattle.flush_rebuild.specs.declared.fault.PlanFault.TheVariants.{Conflict}
 use Rattle.flush_rebuild.specs.Asked.{IsStored}
 use Rattle.flush_rebuild.specs.Plans.{over, first_fault, length_with}
 use Rattle.flush_rebuild.specs.Pulling.{MayPullOn, told_rows}

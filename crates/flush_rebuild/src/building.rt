@@ -1,6 +1,6 @@
 //! The sections of a payload from runs and names.
 
-ghost use Rattle.std.specs.Prelude.{◌≡◌, ◌<◌, ◌≤◌, ◌+◌, ◌*◌, ◌^◌, ◌++◌, [], List, map, take, drop, length, slice_index_or, IfOk, OnOk};
+ghost use Rattle.std.specs.Prelude.{◌≡◌, ◌<◌, ◌≤◌, ◌+◌, ◌*◌, ◌^◌, ◌++◌, ◌∷◌, [], ℕ, List, IsTrue, map, take, drop, length, slice_index_or, IfOk, OnOk};
 ghost use Rattle.std.specs.List.{AllByRecursion};
 ghost use Rattle.segment_codec.specs.Record.{Segment, IsSegment};
 ghost use Rattle.batch_codec.specs.Payload.{Payload as PlainPayload, payload_bytes};
@@ -13,6 +13,7 @@ ghost use Rattle.segment_codec.specs.Table.{IsLawful};
 ghost use Rattle.flush_rebuild.specs.Flat.{flat_segments};
 ghost use Rattle.flush_rebuild.specs.Moves.{name_at, new_id, rest_of, change_in};
 ghost use Rattle.name_map.specs.Added.{Placed, AllStand, payloads_of};
+ghost use Rattle.name_map.specs.Part.{upward};
 ghost use Rattle.change_rules.specs.Lawful.{MayFollow, levels_with};
 ghost use Rattle.payload_tables.specs.Kept.{AreTablesOf};
 ghost use Rattle.payload_tables.specs.Places.{BringsMasters};
@@ -61,6 +62,16 @@ impl<'a> Names<'a> {
         }
         piece(self.pending, 20 * (k - self.count) as usize)
     }
+
+    /// The names of so many numbers from k on, all of which are stored.
+    fn stored_from(&self, k: u32, len: usize) -> &'a [u8]
+        requires { k + len ≤ self.now.count }
+        ensures { result.now ≡ take (20 * len) (drop (20 * k) self.now.stored.now) }
+    {
+        let (_, rest) = self.stored.split_at(20 * k as usize);
+        let (names, _) = rest.split_at(20 * len);
+        names
+    }
 }
 
 /// Adds the master ids from the first on, with the names of these numbers.
@@ -83,7 +94,56 @@ pub(crate) fn add_known(
     Ok(())
 }
 
-/// Adds the names of these numbers.
+/// Whether the number that comes behind so many that go on one by one from the first goes on so too, and is below n.
+fn goes_on(numbers: &[u32], first: u32, len: usize, n: u32) -> bool
+    ensures { IsTrue result → (len < length numbers.now) × (slice_index_or numbers.now len 0 ≡ first + len) × (first + len < n) }
+{
+    match numbers.get(len) {
+        Some(number) => *number < n && u64::from(*number) == u64::from(first) + len as u64,
+        None => false,
+    }
+}
+
+/// How many of the numbers go on one by one from the first, below n.
+fn count_in_turn(numbers: &[u32], first: u32, n: u32) -> usize
+    ensures turn { take result numbers.now ≡ upward first result }
+    ensures fits { result ≤ length numbers.now }
+    ensures below { 0 < result → first + result ≤ n }
+{
+    let mut len = 0;
+    'turn: while goes_on(numbers, first, len, n) {
+        len += 1;
+    }
+    len
+}
+
+/// Adds the names of the first of these numbers, and of those that go on from it one by one, where these are stored. The answer
+/// is the numbers behind them.
+fn add_names_in_turn<'a>(
+    build: &mut BatchBuild,
+    names: &Names<'_>,
+    first: u32,
+    numbers: &'a [u32],
+) -> Result<&'a [u32], AllocError>
+    requires first { (more : List ℕ) × (numbers.now ≡ first ∷ more) }
+    requires names { AreBelow (names.now.count + names.now.more) numbers.now }
+    ensures built { IfOk result (λ left. (done : List ℕ) × (numbers.now ≡ done ++ left.now) × (0 < length done) × ((p : PlainPayload) → IsBuilt build.old p
+        → IsBuilt build.new (record p { other_names = p.other_names ++ map (name_at (names.now.stored.now ++ names.now.pending.now)) done }))) }
+    ensures count { build.new.other_count ≡ build.old.other_count }
+{
+    let len = count_in_turn(numbers, first, names.count);
+    if len == 0 {
+        let name = names.at(first).to_name();
+        build.other_name(&name)?;
+        let (_, left) = numbers.split_at(1);
+        return Ok(left);
+    }
+    build.other_names(names.stored_from(first, len))?;
+    let (_, left) = numbers.split_at(len);
+    Ok(left)
+}
+
+/// Adds the names of these numbers: those that are stored one behind the other at once.
 pub(crate) fn add_other_names(
     build: &mut BatchBuild,
     names: &Names<'_>,
@@ -94,9 +154,9 @@ pub(crate) fn add_other_names(
         → IsBuilt build.new (record p { other_names = p.other_names ++ map (name_at (names.now.stored.now ++ names.now.pending.now)) numbers.now })) }
     ensures count { build.new.other_count ≡ build.old.other_count }
 {
-    'numbers: for i in 0..numbers.len() {
-        let name = names.at(numbers[i]).to_name();
-        build.other_name(&name)?;
+    let mut left = numbers;
+    'numbers: while let Some(first) = left.first() {
+        left = add_names_in_turn(build, names, *first, left)?;
     }
     Ok(())
 }

@@ -2,7 +2,7 @@
 use Rattle.std.specs.Prelude.{◌≡◌, ◌≢◌, ◌<◌, ◌≤◌, ◌⊎◌, ◌+◌, ℕ, List, [], ◌∷◌, length, map, Result, Ok, Err, ⊤}
 use Rattle.id_groups.specs.Name.{Name}
 use Rattle.commit_graph.specs.World.{World}
-use Rattle.disk_trait.specs.Images.{Told, IsImage}
+use Rattle.disk_trait.specs.Images.{Told}
 use Rattle.disk_trait.specs.Since.{SureNow, SureSince}
 use Rattle.gated_log.specs.Log.{IsLog, IsDamaged, log_length}
 use Rattle.gated_log.specs.Holding.{IsLogWithin, HasPayloads}
@@ -12,7 +12,7 @@ use Rattle.batch_codec.specs.Payload.{Payload}
 use Rattle.change_rules.specs.Lawful.{AreLawful}
 use Rattle.change_rules.specs.Change.{text_of}
 use Rattle.change_rules.specs.Tables.{known_in, cloned_count, remote_heads}
-use Rattle.change_rules.specs.Holding.{HoldPayloads, HoldAs, HoldBytes, HoldsNow}
+use Rattle.change_rules.specs.Holding.{HoldPayloads, HoldAs}
 use Rattle.change_rules.specs.Unlawful.{IsFirstUnlawful, IsNoLog}
 use Rattle.compact_rules.specs.Whole.{whole_change}
 use Rattle.log_compact.specs.declared.answer.Shrunk.{Shrunk}

@@ -1,5 +1,5 @@
 -- A list with one item, and with another in its place.
-use Rattle.std.proofs.Common.{ℕ, ◌≡◌, ◌∙◌, arith, List, [], ◌∷◌, length, map, refl, sym, ap, slice_set, get_or}
+use Rattle.std.proofs.Common.{◌≡◌, arith, List, [], ◌∷◌, length, map, refl, sym, ap, slice_set, get_or}
 
 pub one-item : {X Y : Type 0} (f : X → Y) (xs : List X) (x n : X) → length xs ≡ 1 → x ≡ get_or xs 0 x → (map f xs ≡ f x ∷ []) × (map f (slice_set xs 0 n) ≡ f n ∷ [])
 one-item f [] x n e at = absurd (omega (arith, e))

@@ -1,4 +1,4 @@
-use Rattle.std.proofs.Common.{◌≡◌, ◌∙◌, List, length, sym, subst}
+use Rattle.std.proofs.Common.{◌∙◌, List, length, sym, subst}
 use Rattle.id_groups.specs.Name.{same_name}
 use Rattle.name_map.specs.Added.{Placed}
 use Rattle.remote_rules.specs.Known.{master_world}

@@ -1,7 +1,6 @@
-use Rattle.std.proofs.Common.{◌≡◌, ◌∙◌, ◌≤◌, ◌+◌, List, Some, length, max, take, slice_get, subst, sym, ap, arith}
+use Rattle.std.proofs.Common.{◌≡◌, ◌∙◌, List, length, max, take, slice_get, subst, sym, ap, arith}
 use Rattle.commit_graph.proofs.Places.{item-at}
 use Rattle.segment_codec.specs.Record.{Segment}
-use Rattle.segment_codec.specs.Turns.{place_behind}
 use Rattle.high_segments.specs.Views.{flats_in}
 use Rattle.remote_rules.specs.CloneData.{CloneData}
 use Rattle.flush_rebuild.specs.Taken.{AreTaken}

@@ -1,4 +1,4 @@
-use Rattle.std.proofs.Common.{◌≡◌, ℕ, List, length, max, take}
+use Rattle.std.proofs.Common.{◌≡◌, List, length, max, take}
 use Rattle.id_groups.specs.Name.{Name}
 use Rattle.commit_graph.specs.World.{Row, World}
 use Rattle.segment_codec.specs.Turns.{place_behind}

@@ -1,6 +1,4 @@
-use Rattle.std.proofs.Common.{◌≡◌, ◌∙◌, ◌<◌, ◌≤◌, ◌+◌, ◌-◌, ◌^◌, ◌∷◌, [], ℕ, List, max, take, drop, suc, length, nat_eq, if◌then◌else◌, ap, sym, subst, arith, lit≤}
-use Rattle.id_groups.specs.Name.{Name}
-use Rattle.commit_graph.specs.World.{Row, World}
+use Rattle.std.proofs.Common.{◌≡◌, ◌∙◌, ◌≤◌, ◌+◌, ◌-◌, ◌^◌, ◌∷◌, [], ℕ, List, max, take, drop, suc, length, nat_eq, if◌then◌else◌, ap, sym, subst, arith, lit≤}
 use Rattle.segment_codec.specs.Record.{Segment}
 use Rattle.high_segments.specs.Views.{flats_in}
 use Rattle.mirror_set.specs.Fresh.{PlainFresh}

@@ -1,6 +1,6 @@
 use Rattle.std.proofs.Common.{◌≡◌, ◌∙◌, subst}
 use Rattle.batch_codec.proofs.Samples.{loose, twins, twins-is}
-use Rattle.batch_codec.specs.Building.{empty_payload, IsBuilt}
+use Rattle.batch_codec.specs.Building.{IsBuilt}
 use Rattle.format_rows.proofs.second_version.put_chain.Goals as goal
 
 pub returns : goal.returns

@@ -1,4 +1,4 @@
-use Rattle.std.proofs.Common.{◌≡◌, ◌∙◌, sym, ap, subst}
+use Rattle.std.proofs.Common.{◌∙◌}
 use Rattle.remote_serve.proofs.Turns.{started}
 use Rattle.remote_serve.proofs.serving.Desk.serve.Goals as goal
 
