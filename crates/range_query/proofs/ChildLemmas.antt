@@ -96,10 +96,6 @@ module _ (flats : List Segment) (lawful : IsLawful flats) (set : List IdSpan) wh
       → (x : ℕ) → IsMember answer x ↔ (IsMember answer x ⊎ ((next ≤ x) × (x ≤ id) × Child x))
   lacks-none answer low next id e none x = (λ m. inl m, λ h. ⊎_elim (λ m. m) (λ k. let a = k.0 in absurd (none x (omega arith) k.1 k.2)) h)
 
-  -- all ids down to a lowest one have their children
-  module _ (fresh before after : List IdSpan) (low id below next : ℕ) (at : id ≡ below - 1) (some : low < below)
-      (added : (x : ℕ) → IsMember after x ↔ (IsMember before x ⊎ ((next ≤ x) × (x ≤ id) × Child x))) where
-
   -- a child is one of the ids of either group, above the lowest member
   pub both-whole : (none first all : List IdSpan) (lowest master others from : ℕ) → Cover flats master others → none ≡ [] → ((x : ℕ) → IsMember set x → lowest ≤ x)
       → from ≡ max (lowest + 1) (2 ^ 56)
