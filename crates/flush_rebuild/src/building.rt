@@ -5,7 +5,7 @@ ghost use Rattle.std.specs.List.{AllByRecursion};
 ghost use Rattle.segment_codec.specs.Record.{Segment, IsSegment};
 ghost use Rattle.batch_codec.specs.Payload.{Payload as PlainPayload, payload_bytes};
 ghost use Rattle.batch_codec.specs.Grammar.{IsPayload};
-ghost use Rattle.batch_codec.specs.Building.{IsBuilt};
+ghost use Rattle.batch_codec.specs.Building.{IsBuilt, empty_payload};
 ghost use Rattle.assign_ids.specs.Numbers.{AreBelow};
 ghost use Rattle.flush_rebuild.specs.Moves.{flat_record};
 ghost use Rattle.change_rules.specs.Change.{known_from};
@@ -263,6 +263,40 @@ pub(crate) fn add_levels(
     build.level_records(&records, count)
 }
 
+/// Adds the sections of a flush in which the numbers of the order move behind so many master ids, to a payload without sections, and the
+/// levels that come with them.
+fn add_change(
+    alloc: Global,
+    tables: &mut Tables,
+    bytes: &[u8],
+    graph: &Graph,
+    names: &Names<'_>,
+    before: u64,
+    order: &[u32],
+    rest: &[u32],
+    build: &mut BatchBuild,
+) -> Result<(), AllocError>
+    requires numbers { names.now.count + names.now.more < 2 ^ 32 }
+    requires room { before + length order.now ≤ 2 ^ 56 }
+    requires order { AreBelow (names.now.count + names.now.more) order.now }
+    requires rest { rest.now ≡ rest_of (names.now.count + names.now.more) order.now }
+    requires payload { (flats : List Segment) × IsLawful flats × (graph.now ≡ table_rows flats (names.now.count + names.now.more))
+        × (added : List Placed) × AreTablesOf tables.old added × AllStand bytes.now added
+        × MayFollow (payloads_of added) (change_in flats (names.now.stored.now ++ names.now.pending.now) before (names.now.count + names.now.more) order.now) }
+    requires build { IsBuilt build.old (empty_payload 1 before (before + length order.now) 0) }
+    ensures unchanged { tables.new ≡ tables.old }
+    ensures built { (flats : List Segment) (added : List Placed) → IsLawful flats → graph.now ≡ table_rows flats (names.now.count + names.now.more)
+        → AreTablesOf tables.old added → AllStand bytes.now added
+        → MayFollow (payloads_of added) (change_in flats (names.now.stored.now ++ names.now.pending.now) before (names.now.count + names.now.more) order.now)
+        → OnOk result (IsBuilt build.new (change_in flats (names.now.stored.now ++ names.now.pending.now) before (names.now.count + names.now.more) order.now)) }
+    ensures count { OnOk result (build.new.other_count ≡ length rest.now) }
+{
+    let ids = ids_of(alloc, before, names.count + names.more, order, rest)?;
+    add_sections(alloc, build, graph, names, &ids, before, order, rest)?;
+    add_levels(alloc, tables, bytes, build)?;
+    Ok(())
+}
+
 /// The payload of a flush in which the numbers of the order move behind so many master ids.
 pub(crate) fn payload_of(
     alloc: Global,
@@ -288,9 +322,9 @@ pub(crate) fn payload_of(
         → IfOk result (λ payload. payload.items ≡ payload_bytes (change_in flats (names.now.stored.now ++ names.now.pending.now) before (names.now.count + names.now.more) order.now)) }
 {
     let after = before + order.len() as u64;
-    let ids = ids_of(alloc, before, names.count + names.more, order, rest)?;
     let mut build = BatchBuild::new(alloc, FLUSH, before, after, 0)?;
-    add_sections(alloc, &mut build, graph, names, &ids, before, order, rest)?;
-    add_levels(alloc, tables, bytes, &mut build)?;
+    add_change(
+        alloc, tables, bytes, graph, names, before, order, rest, &mut build,
+    )?;
     build.finish()
 }

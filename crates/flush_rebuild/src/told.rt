@@ -7,7 +7,7 @@ ghost use Rattle.id_groups.specs.Name.{IsName};
 ghost use Rattle.segment_codec.specs.Turns.{StandInTurn};
 ghost use Rattle.batch_codec.specs.Payload.{Payload as PlainPayload, Known, payload_bytes};
 ghost use Rattle.change_rules.specs.Lawful.{MayFollow};
-ghost use Rattle.batch_codec.specs.Building.{IsBuilt};
+ghost use Rattle.batch_codec.specs.Building.{IsBuilt, empty_payload};
 ghost use Rattle.remote_rules.specs.CloneData.{first_broken};
 ghost use Rattle.remote_rules.specs.Lawful.{MayStandHere};
 ghost use Rattle.change_rules.specs.Change.{told_change};
@@ -88,6 +88,33 @@ fn add_heads(build: &mut BatchBuild, heads: &HeadNames) -> Result<(), AllocError
     Ok(())
 }
 
+/// Adds what a remote told, which breaks no rule, to a payload without sections, and the levels of its segments, of which the tables, which
+/// are of no payload, are asked. It may come first in a log.
+fn add_told(
+    alloc: Global,
+    tables: &mut Tables,
+    bytes: &[u8],
+    cloned: &CloneData,
+    build: &mut BatchBuild,
+) -> Result<(), AllocError>
+    requires tables { AreTablesOf tables.old [] }
+    requires lawful { first_broken cloned.now ≡ None }
+    requires some { 0 < told_count cloned.now }
+    requires few { told_count cloned.now ≤ standard.master }
+    requires heads { length cloned.now.heads ≤ most_heads }
+    requires build { IsBuilt build.old (empty_payload 2 0 (told_count cloned.now) (told_count cloned.now)) }
+    ensures built { OnOk result (IsBuilt build.new (told_change cloned.now)) }
+    ensures count { build.new.other_count ≡ build.old.other_count }
+    ensures follows { OnOk result (MayFollow [] (told_change cloned.now)) }
+    ensures unchanged { tables.new ≡ tables.old }
+{
+    add_segments(alloc, build, &cloned.segments)?;
+    add_names(build, &cloned.names)?;
+    add_heads(build, &cloned.heads)?;
+    add_levels(alloc, tables, bytes, build)?;
+    Ok(())
+}
+
 /// The payload of what a remote told of so many commits, which breaks no rule. It may come first in a log. The tables, which are of no
 /// payload, are asked for the levels of the segments, and stay as they are.
 pub(crate) fn payload_told(
@@ -108,9 +135,6 @@ pub(crate) fn payload_told(
     ensures unchanged { tables.new ≡ tables.old }
 {
     let mut build = BatchBuild::new(alloc, CLONE, 0, count, count)?;
-    add_segments(alloc, &mut build, &cloned.segments)?;
-    add_names(&mut build, &cloned.names)?;
-    add_heads(&mut build, &cloned.heads)?;
-    add_levels(alloc, tables, bytes, &mut build)?;
+    add_told(alloc, tables, bytes, cloned, &mut build)?;
     build.finish()
 }
