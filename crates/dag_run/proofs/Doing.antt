@@ -42,7 +42,8 @@ use Rattle.command_lines.specs.Sending.{listed_text}
 use Rattle.dag_store.specs.Kept.{PlainStore}
 use Rattle.dag_store.specs.Stands.{Stands, StandsBeside, IsOutsideOf, IsAnswerable}
 use Rattle.dag_store.specs.Steps.{AreIdsOf, CountStep, ChangesOnly, KeepsAll, Leads}
-use Rattle.dag_store.specs.Flushes.{HasRoom, HasStored, Stores, StoresBy, FlushLeaves, LeavesStore, flush_end}
+use Rattle.store_plans.specs.Changes.{HasRoom}
+use Rattle.dag_store.specs.Flushes.{HasStored, Stores, StoresBy, FlushLeaves, LeavesStore, flush_end}
 use Rattle.dag_store.specs.Clones.{StoresClone, StoresCloneBy, clone_end}
 use Rattle.dag_store.specs.declared.replies.Counts.{Counts}
 use Rattle.dag_store.specs.declared.replies.Flushed.TheVariants as flushes

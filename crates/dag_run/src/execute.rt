@@ -9,7 +9,7 @@ ghost use Rattle.line_io.specs.Next.{IsLine};
 ghost use Rattle.line_io.specs.Lines.{is_empty_or_comment};
 ghost use Rattle.step_rules.specs.Verb.{Clone as ToClone, Flush as ToFlush, Pull as ToPull, Strip as ToStrip};
 ghost use Rattle.run_rules.specs.Grammar.{SpellsCommand};
-ghost use Rattle.dag_store.specs.Flushes.{HasRoom};
+ghost use Rattle.store_plans.specs.Changes.{HasRoom};
 ghost use Rattle.command_lines.specs.Meant.{meant, HasRightCount};
 ghost use Rattle.dag_run.specs.Stops.{IsLineStop};
 ghost use Rattle.command_lines.specs.Told.{told};

@@ -22,10 +22,11 @@ use Rattle.step_rules.specs.Asking.{TriesAll}
 use Rattle.step_rules.proofs.Sessions.{base-changed, pending-changed}
 use Rattle.dag_store.specs.declared.replies.Added.{Added}
 use Rattle.dag_store.specs.declared.replies.Added.TheVariants.{New, Old}
-use Rattle.dag_store.specs.Kept.{PlainSession, PlainStore, IsKept, session_at, base_added, no_cache, sixteen}
+use Rattle.store_plans.specs.Sessions.{PlainSession, base_added}
+use Rattle.dag_store.specs.Kept.{PlainStore, IsKept, session_at, no_cache, sixteen}
 use Rattle.dag_store.specs.Stands.{IsAnswerable, Stands, StandsBeside}
-use Rattle.dag_store.specs.Looking.{AreRight, AsksAlike, IsSoundCache, refusal_in}
-use Rattle.dag_store.specs.Adding.{AddsRow, IsSeen, add_tests, room_test, seen_tests}
+use Rattle.store_plans.specs.Looking.{AreRight, AsksAlike, IsSoundCache, refusal_in, seen_tests}
+use Rattle.dag_store.specs.Adding.{AddsRow, IsSeen, add_tests, room_test}
 use Rattle.dag_store.specs.Steps.{Leads, add_reply}
 use Rattle.dag_store.proofs.AddingWorlds.{pending-named}
 use Rattle.dag_store.proofs.Leading.{leads-to, next-goes, payloads-are, right-base, session-seen, sound-of, test-same, tests-same}

@@ -19,7 +19,7 @@ use Rattle.payload_tables.specs.Bases.{ArePending, held_row}
 use Rattle.payload_tables.proofs.Lists.{parents-known}
 use Rattle.payload_tables.proofs.Joined.{seen-id}
 use Rattle.step_rules.specs.Worlds.{has}
-use Rattle.dag_store.proofs.StoredNames.{names-of-rows}
+use Rattle.store_plans.proofs.StoredNames.{names-of-rows}
 use Rattle.dag_store.proofs.ParentTests.{distinct-parents}
 use Rattle.step_rules.specs.Tests.{twice}
 

@@ -26,12 +26,12 @@ use Rattle.step_rules.proofs.Trying.{tried-all}
 use Rattle.dag_store.specs.declared.adding.Sought.TheVariants as sought
 use Rattle.dag_store.specs.declared.replies.Added.{Added}
 use Rattle.dag_store.specs.declared.replies.Added.TheVariants.{New, Old}
-use Rattle.dag_store.specs.Kept.{PlainSession, base_added}
-use Rattle.dag_store.specs.Looking.{AreRight, test_in}
-use Rattle.dag_store.specs.Adding.{AddsRow, Appends, IsSeen, Seeks, add_tests, room_test, seen_tests}
+use Rattle.store_plans.specs.Sessions.{PlainSession, base_added}
+use Rattle.store_plans.specs.Looking.{AreRight, test_in, seen_tests}
+use Rattle.dag_store.specs.Adding.{AddsRow, Appends, IsSeen, Seeks, add_tests, room_test}
 use Rattle.dag_store.proofs.AddingRows.{next-id, next-pending}
-use Rattle.dag_store.proofs.Lines.{all-there}
-use Rattle.dag_store.proofs.Trials.{tried-last, tried-memory, tried-stop, tried-then}
+use Rattle.store_plans.proofs.Lines.{all-there}
+use Rattle.store_plans.proofs.Trials.{tried-last, tried-memory, tried-stop, tried-then}
 
 pub err-adds : (most : ℕ) (x : PlainSession) (payloads : List Payload) (w : World Name) (rows : List (Row Name)) (name : Name) (parents : List Name) (old new : List Mirror) (a b : PlainCache) (next : PlainSession) (r : Result Added Refusal) (f : Refusal)
     → IsErrAnd r (λ g. g ≡ f) → AddsRow most x payloads w rows name parents old new a b (Err f) next → AddsRow most x payloads w rows name parents old new a b r next

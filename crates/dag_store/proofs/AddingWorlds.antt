@@ -28,13 +28,13 @@ use Rattle.flush_rebuild.specs.Asked.{others_count, HaveParents, MayStore}
 use Rattle.flush_rebuild.proofs.Numbered.{AllRows, Behind}
 use Rattle.flush_rebuild.proofs.Invented.{FitBehind, some-world}
 use Rattle.flush_rebuild.proofs.Asking.{stored-names, lawful-small}
-use Rattle.dag_store.specs.Kept.{PlainSession, IsSessionOf, base_added}
-use Rattle.dag_store.specs.Looking.{Sees, IsViewId}
+use Rattle.store_plans.specs.Sessions.{PlainSession, IsSessionOf, base_added}
+use Rattle.store_plans.specs.Looking.{Sees, IsViewId}
 use Rattle.dag_store.specs.Adding.{IsSeen, MayBeParents, Appends}
 use Rattle.dag_store.specs.declared.replies.Added.{Added}
 use Rattle.dag_store.specs.declared.replies.Added.TheVariants.{New, Old}
 use Rattle.step_rules.specs.declared.Refusal.{Refusal}
-use Rattle.dag_store.proofs.StoredNames.{names-of-rows, stored-are, stored-there}
+use Rattle.store_plans.proofs.StoredNames.{names-of-rows, stored-are, stored-there}
 use Rattle.change_rules.specs.Lazy.{stored_names}
 use Rattle.commit_graph.proofs.Histories.{in-append}
 use Rattle.std.specs.Prelude.{OnErr, Result, Ok, Err}

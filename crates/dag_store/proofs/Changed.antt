@@ -13,10 +13,10 @@ use Rattle.payload_tables.specs.Bases.{ArePending}
 use Rattle.flush_rebuild.specs.declared.plan.Change.{Change}
 use Rattle.step_rules.specs.State.{Stored, on_newest, with_stored}
 use Rattle.step_rules.proofs.States.{alone, at-newest}
-use Rattle.dag_store.specs.Kept.{PlainSession, PlainStore, IsKept, no_cache, session_at, sixteen}
+use Rattle.store_plans.specs.Sessions.{PlainSession}
+use Rattle.dag_store.specs.Kept.{PlainStore, IsKept, no_cache, session_at, sixteen}
 use Rattle.dag_store.specs.Stands.{Stands}
-use Rattle.dag_store.specs.Flushes.{HasRoom}
-use Rattle.dag_store.specs.Changes.{IsOn, IsPrepared, IsReady, added_behind, next_place}
+use Rattle.store_plans.specs.Changes.{HasRoom, IsOn, IsPrepared, IsReady, added_behind, next_place}
 use Rattle.dag_store.proofs.Sees.{once}
 use Rattle.dag_store.proofs.Standing.{stands-with}
 use Rattle.dag_store.proofs.FlushStored.{on-of, stands-room, newest-stands, none-pending, stands-stored}

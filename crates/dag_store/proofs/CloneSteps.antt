@@ -43,18 +43,20 @@ use Rattle.step_rules.specs.Asking.{TriesAll}
 use Rattle.step_rules.specs.Step.{CommandStep, AnsweredFirst, Clones, TakesFrom, GoesOutside, IsRefused, clone_tests}
 use Rattle.step_rules.proofs.Kept.{step-state}
 use Rattle.step_rules.proofs.Plain.{all-tries}
-use Rattle.dag_store.specs.declared.changing.Next.{Next}
+use Rattle.store_plans.specs.declared.changing.Next.{Next}
 use Rattle.dag_store.specs.declared.replies.Flushed.{Flushed as Ended}
 use Rattle.dag_store.specs.declared.replies.Flushed.TheVariants as ends
-use Rattle.dag_store.specs.Kept.{PlainSession, PlainStore, IsKept, sixteen}
+use Rattle.store_plans.specs.Sessions.{PlainSession}
+use Rattle.dag_store.specs.Kept.{PlainStore, IsKept, sixteen}
 use Rattle.dag_store.specs.Stands.{IsOutsideOf, Stands, StandsBeside}
-use Rattle.dag_store.specs.Flushes.{HasRoom, FlushLeaves}
+use Rattle.store_plans.specs.Changes.{HasRoom, IsPrepared, refusal_of}
+use Rattle.dag_store.specs.Flushes.{FlushLeaves}
 use Rattle.dag_store.specs.Finishes.{FinishesAs, Finishes, payload_in}
-use Rattle.dag_store.specs.Changes.{IsPrepared, refusal_of}
-use Rattle.dag_store.specs.Clones.{clone_end, StoresCloneBy, beside, CloneStep, RefusesAsked, RefusesClone, TakesTold, CloneAnswers, PlansClone}
-use Rattle.dag_store.proofs.Sizes.{others-many}
+use Rattle.dag_store.specs.Clones.{clone_end, StoresCloneBy, beside, CloneStep, CloneAnswers}
+use Rattle.store_plans.specs.ClonePlans.{RefusesAsked, RefusesClone, TakesTold, PlansClone}
+use Rattle.store_plans.proofs.Counts.{others-many}
 use Rattle.dag_store.proofs.FlushStored.{on-of, stands-room}
-use Rattle.dag_store.proofs.CloneTold.{told-by, passed-empty, tests-told}
+use Rattle.store_plans.proofs.CloneTold.{told-by, passed-empty, tests-told}
 use Rattle.dag_store.proofs.Changed.{stands-as-before, stands-changed}
 
 -- ---- steps

@@ -34,12 +34,12 @@ use Rattle.lazy_names.specs.declared.fetched.FetchedName.{FetchedName}
 use Rattle.lazy_names.proofs.Ruled.{fetch-asks}
 use Rattle.lazy_names.proofs.Caches.{keeps-same}
 use Rattle.step_rules.specs.declared.Refusal.{Refusal}
-use Rattle.dag_store.specs.Looking.{AreServing, AreTablesBehind, IsViewId, Sees, asking_refusal, entries_of}
+use Rattle.store_plans.specs.Looking.{AreServing, AreTablesBehind, IsViewId, Sees, asking_refusal, entries_of}
 use Rattle.dag_store.specs.Steps.{known_name}
 use Rattle.dag_store.specs.Querying.{AreNamesIn, Fetches, FetchesSo, IsRightEnd, absent_ids, absent_of, lazy_ids}
-use Rattle.dag_store.proofs.Asking.{anchors-are, front-name, heads-are, knowns, serve-as, stands-for}
-use Rattle.dag_store.proofs.Heads.{known-of-id}
-use Rattle.dag_store.proofs.StoredNames.{known-all}
+use Rattle.store_plans.proofs.Asking.{anchors-are, front-name, heads-are, knowns, serve-as, stands-for}
+use Rattle.store_plans.proofs.Heads.{known-of-id}
+use Rattle.store_plans.proofs.StoredNames.{known-all}
 use Rattle.commit_graph.proofs.Down.{in-left}
 
 -- what was fetched, or why a command is refused

@@ -8,10 +8,11 @@ use Rattle.change_rules.specs.declared.Limits.{Limits}
 use Rattle.payload_tables.specs.Kept.{PlainTables}
 use Rattle.lazy_names.specs.Cache.{PlainCache}
 use Rattle.step_rules.specs.declared.Refusal.{Refusal}
-use Rattle.dag_store.specs.declared.changing.Next.{Next}
+use Rattle.store_plans.specs.declared.changing.Next.{Next}
 use Rattle.dag_store.specs.declared.replies.Flushed.{Flushed}
-use Rattle.dag_store.specs.Kept.{PlainSession, PlainStore, IsKept}
-use Rattle.dag_store.specs.Changes.{IsPrepared}
+use Rattle.store_plans.specs.Sessions.{PlainSession}
+use Rattle.dag_store.specs.Kept.{PlainStore, IsKept}
+use Rattle.store_plans.specs.Changes.{IsPrepared}
 use Rattle.dag_store.specs.Flushes.{FlushLeaves}
 use Rattle.dag_store.specs.Finishes.{IsBehind, IsToFinish, payload_in}
 use Rattle.dag_store.proofs.FlushStored.{kept-room, newest-kept, stored-kept}

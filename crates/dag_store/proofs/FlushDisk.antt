@@ -9,11 +9,13 @@ use Rattle.gated_log.specs.Holding.{HasPayloads, KeepsOldOrNew, HasNew}
 use Rattle.lazy_names.specs.Cache.{PlainCache}
 use Rattle.flush_rebuild.specs.declared.plan.Change.{Change}
 use Rattle.step_rules.specs.declared.Refusal.{Refusal}
-use Rattle.dag_store.specs.declared.changing.Next.{Next}
+use Rattle.store_plans.specs.declared.changing.Next.{Next}
 use Rattle.dag_store.specs.declared.replies.Flushed.{Flushed}
 use Rattle.dag_store.specs.declared.replies.Flushed.TheVariants.{Done, Refused, Disk}
-use Rattle.dag_store.specs.Kept.{PlainSession, PlainStore}
-use Rattle.dag_store.specs.Flushes.{HasRoom, HasStored, FlushLeaves, LeavesStore}
+use Rattle.store_plans.specs.Sessions.{PlainSession}
+use Rattle.dag_store.specs.Kept.{PlainStore}
+use Rattle.store_plans.specs.Changes.{HasRoom}
+use Rattle.dag_store.specs.Flushes.{HasStored, FlushLeaves, LeavesStore}
 use Rattle.dag_store.specs.Finishes.{FinishesAs, Finishes}
 
 -- the payload is stored

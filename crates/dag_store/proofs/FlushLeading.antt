@@ -16,15 +16,16 @@ use Rattle.step_rules.specs.State.{State, Stored}
 use Rattle.step_rules.specs.Tests.{tests}
 use Rattle.step_rules.specs.Reply.{Reply}
 use Rattle.step_rules.specs.Verb.{Verb, Reload}
-use Rattle.dag_store.specs.declared.changing.Next.{Next}
+use Rattle.store_plans.specs.declared.changing.Next.{Next}
 use Rattle.dag_store.specs.declared.replies.Flushed.{Flushed}
-use Rattle.dag_store.specs.Kept.{PlainSession, PlainStore, IsKept, IsSessionOf, session_at, sixteen}
+use Rattle.store_plans.specs.Sessions.{PlainSession, IsSessionOf}
+use Rattle.dag_store.specs.Kept.{PlainStore, IsKept, session_at, sixteen}
 use Rattle.dag_store.specs.Stands.{IsAnswerable, Stands, StandsBeside}
-use Rattle.dag_store.specs.Looking.{AreRight, AsksAlike, IsSoundCache, refusal_in}
+use Rattle.store_plans.specs.Looking.{AreRight, AsksAlike, IsSoundCache, refusal_in}
 use Rattle.dag_store.specs.Steps.{Leads, reload_reply}
-use Rattle.dag_store.specs.Flushes.{ChangeStep, FlushLeaves, HasRoom}
+use Rattle.dag_store.specs.Flushes.{ChangeStep, FlushLeaves}
+use Rattle.store_plans.specs.Changes.{HasRoom, AreOver, IsOn, IsPrepared, PreparesChange, Reloads}
 use Rattle.dag_store.specs.Finishes.{FinishesAs, payload_in}
-use Rattle.dag_store.specs.Changes.{AreOver, IsOn, IsPrepared, PreparesChange, Reloads}
 use Rattle.dag_store.proofs.Leading.{right-now, sound-of}
 use Rattle.dag_store.proofs.FlushStored.{on-of, over-of}
 use Rattle.dag_store.proofs.ChangeSteps.{MakesWorld, change-ends}

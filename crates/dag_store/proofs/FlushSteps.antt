@@ -32,18 +32,19 @@ use Rattle.step_rules.specs.Asking.{TriesAll}
 use Rattle.step_rules.proofs.Own.{refusals}
 use Rattle.step_rules.proofs.Steps.{flushed-world, some-none, first-none-cons, first-none-append}
 use Rattle.step_rules.proofs.Held.{within-limit, has-some}
-use Rattle.dag_store.specs.Kept.{PlainSession, PlainStore, IsKept, IsSessionOf, session_at, sixteen}
+use Rattle.store_plans.specs.Sessions.{PlainSession, IsSessionOf}
+use Rattle.dag_store.specs.Kept.{PlainStore, IsKept, session_at, sixteen}
 use Rattle.dag_store.specs.Stands.{StandsBeside}
-use Rattle.dag_store.specs.Looking.{AreRight, IsSoundCache, Tried}
+use Rattle.store_plans.specs.Looking.{AreRight, IsSoundCache, Tried}
 use Rattle.dag_store.specs.Steps.{Leads}
-use Rattle.dag_store.specs.Changes.{IsOn, Reloads}
-use Rattle.dag_store.proofs.Sizes.{pending-many}
-use Rattle.dag_store.proofs.Lines.{all-there}
+use Rattle.store_plans.specs.Changes.{IsOn, Reloads}
+use Rattle.store_plans.proofs.Counts.{pending-many}
+use Rattle.store_plans.proofs.Lines.{all-there}
 use Rattle.dag_store.proofs.ChangeSteps.{MakesWorld}
 use Rattle.dag_store.proofs.Leading.{leads-to, next-goes}
-use Rattle.dag_store.proofs.FlushTests.{heads-are, sizes}
+use Rattle.store_plans.proofs.FlushTests.{heads-are, sizes}
 use Rattle.dag_store.proofs.FlushStored.{on-of, newest-stands}
-use Rattle.dag_store.proofs.RebaseTests.{conflict, lost}
+use Rattle.store_plans.proofs.RebaseTests.{conflict, lost}
 
 -- ---- the new world
 

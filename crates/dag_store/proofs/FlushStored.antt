@@ -22,15 +22,14 @@ use Rattle.flush_rebuild.specs.declared.plan.Change.{Change}
 use Rattle.step_rules.specs.State.{Stored, session, world_at, base_of, with_stored, on_newest}
 use Rattle.step_rules.proofs.States.{alone, with_stored-state, at-newest}
 use Rattle.step_rules.proofs.Sessions.{newest-now, world_at-stored}
-use Rattle.dag_store.specs.Kept.{PlainSession, PlainStore, IsKept, IsSessionOf, EndsWithin, no_cache, session_at, no_session, sixteen, base_added}
+use Rattle.store_plans.specs.Sessions.{PlainSession, IsSessionOf, base_added, IsOnNewest}
+use Rattle.dag_store.specs.Kept.{PlainStore, IsKept, EndsWithin, no_cache, session_at, no_session, sixteen}
 use Rattle.dag_store.specs.Stands.{Stands}
-use Rattle.dag_store.specs.Loading.{IsOnNewest}
-use Rattle.dag_store.specs.Flushes.{HasRoom}
+use Rattle.store_plans.specs.Changes.{HasRoom, AreOver, IsOn, IsReady, added_behind, next_place}
 use Rattle.dag_store.specs.Finishes.{IsBehind}
-use Rattle.dag_store.specs.Changes.{AreOver, IsOn, IsReady, added_behind, next_place}
 use Rattle.dag_store.proofs.Sees.{added-are, all-hold, base-holds}
 use Rattle.dag_store.proofs.Standing.{kept-with, stands-with}
-use Rattle.dag_store.proofs.FlushSessions.{older-session}
+use Rattle.store_plans.proofs.FlushSessions.{older-session}
 
 -- ---- what a store says of its parts
 

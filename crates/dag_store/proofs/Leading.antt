@@ -30,10 +30,11 @@ use Rattle.step_rules.specs.Asking.{TriesAll}
 use Rattle.step_rules.specs.Step.{CommandStep, GoesOutside}
 use Rattle.step_rules.proofs.Kept.{step-state}
 use Rattle.step_rules.proofs.Sessions.{newest-now}
-use Rattle.dag_store.specs.Kept.{PlainSession, PlainStore, IsKept, session_at, base_added, no_cache, sixteen}
+use Rattle.store_plans.specs.Sessions.{PlainSession, base_added}
+use Rattle.dag_store.specs.Kept.{PlainStore, IsKept, session_at, no_cache, sixteen}
 use Rattle.dag_store.specs.Stands.{IsAnswerable, Stands, IsOutsideOf, StandsBeside}
-use Rattle.dag_store.specs.Looking.{AreRight, AreTablesBehind, AsksAlike, IsSoundCache, entries_of, found_in, refusal_in, test_in}
-use Rattle.dag_store.specs.Adding.{FindsOne, IsSeen}
+use Rattle.store_plans.specs.Looking.{AreRight, AreTablesBehind, AsksAlike, IsSoundCache, entries_of, found_in, refusal_in, test_in, FindsOne}
+use Rattle.dag_store.specs.Adding.{IsSeen}
 use Rattle.dag_store.specs.Querying.{Evaluates}
 use Rattle.dag_store.specs.Steps.{CountStep, Leads, id_reply}
 use Rattle.set_expr.specs.Expr.{Expr, commits_in}

@@ -22,13 +22,12 @@ use Rattle.payload_tables.specs.declared.base.BaseRef.{BaseRef}
 use Rattle.payload_tables.specs.Bases.{stored_in, held_row}
 use Rattle.payload_tables.specs.Pending.{HeldRow, PlainPending}
 use Rattle.payload_tables.proofs.Naming.{places-many}
-use Rattle.dag_store.specs.Looking.{Sees}
+use Rattle.store_plans.specs.Looking.{Sees, found_in}
 use Rattle.dag_store.specs.Names.{name_among, name_at, stored_at, name_or, name_in, pending_name, named_front, fetched_name}
 use Rattle.dag_store.specs.Steps.{known_name}
 use Rattle.lazy_names.specs.declared.fetched.FetchedName.{FetchedName}
-use Rattle.dag_store.specs.Looking.{found_in}
 use Rattle.remote_rules.specs.CloneData.{KnownName}
-use Rattle.dag_store.proofs.StoredNames.{known-all, stored-id, base-there}
+use Rattle.store_plans.proofs.StoredNames.{known-all, stored-id, base-there}
 use Rattle.dag_store.proofs.QueryNames.{stored-are, among-in, stored-name, row-here}
 use Rattle.dag_store.proofs.QueryGraph.{one-id}
 use Rattle.dag_store.proofs.QueryAnswers.{few-masters}

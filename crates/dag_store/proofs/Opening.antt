@@ -31,9 +31,10 @@ use Rattle.step_rules.proofs.Sessions.{copies}
 use Rattle.step_rules.proofs.States.{start-state, alone}
 use Rattle.dag_store.specs.declared.replies.LoadFault.{LoadFault}
 use Rattle.dag_store.specs.declared.replies.LoadFault.TheVariants.{Frame, TooLarge, Batch, Disk, Memory}
-use Rattle.dag_store.specs.Kept.{PlainSession, PlainStore, IsKept, EndsWithin, session_at, base_added, sixteen}
-use Rattle.dag_store.specs.Stands.{Stands, IsSessionFor}
-use Rattle.dag_store.specs.Loading.{IsOnNewest, fault_of, LoadAnswers, Opens, IsLoadedStore}
+use Rattle.store_plans.specs.Sessions.{PlainSession, base_added, IsSessionFor, IsOnNewest}
+use Rattle.dag_store.specs.Kept.{PlainStore, IsKept, EndsWithin, session_at, sixteen}
+use Rattle.dag_store.specs.Stands.{Stands}
+use Rattle.dag_store.specs.Loading.{fault_of, LoadAnswers, Opens, IsLoadedStore}
 use Rattle.dag_store.proofs.Sees.{once}
 
 -- each of the sixteen sessions is on all payloads that were added

@@ -1,7 +1,6 @@
 -- Parents that are looked up, none of which may come twice.
-use Rattle.std.proofs.Common.{◌≡◌, ◌<◌, ◌≤◌, ◌+◌, ◌||◌, ℕ, Bool, true, false, nat_eq, get_or, take, drop, ⊎_elim, inl, List, [], ◌∷◌, ◌++◌, length, Option, Some, None, Result, Ok, Err, refl, sym, ap, subst, ◌∙◌, arith, if◌then◌else◌}
+use Rattle.std.proofs.Common.{◌≡◌, ◌<◌, ◌+◌, ◌||◌, ℕ, Bool, true, false, nat_eq, get_or, take, drop, ⊎_elim, inl, List, [], ◌∷◌, ◌++◌, length, Option, Some, None, Result, Ok, Err, refl, sym, ap, subst, ◌∙◌, if◌then◌else◌, Vec, Global}
 use Rattle.std.specs.Prelude.{IsErrAnd}
-use Rattle.std.proofs.Common.{Vec, Global}
 use Rattle.id_groups.specs.Lists.{IsIn, AreDistinct, is_in}
 use Rattle.id_groups.specs.Name.{Name, same_name}
 use Rattle.commit_graph.specs.World.{Row, World, with_pending}
@@ -11,26 +10,20 @@ use Rattle.lazy_names.specs.Cache.{PlainCache}
 use Rattle.name_map.specs.Added.{Placed, payloads_of}
 use Rattle.payload_tables.specs.declared.base.BaseRef.{BaseRef}
 use Rattle.payload_tables.specs.Pending.{PlainPending}
-use Rattle.payload_tables.proofs.Basing.{base-others}
 use Rattle.step_rules.specs.declared.Refusal.{Refusal}
 use Rattle.step_rules.specs.declared.Refusal.TheVariants as why
 use Rattle.step_rules.specs.Tests.{Test, plain, twice}
-use Rattle.dag_store.specs.Looking.{AreRight, IsTold, Sees, Tried}
-use Rattle.dag_store.specs.Adding.{FindsAll, FindsParents, IsTwice, items_of, seen_tests}
+use Rattle.store_plans.specs.Looking.{AreRight, IsTold, Sees, Tried, FindsAll, items_of, seen_tests}
+use Rattle.dag_store.specs.Adding.{FindsParents, IsTwice}
 use Rattle.dag_store.proofs.AddingIds.{ids-distinct}
-use Rattle.dag_store.proofs.Lines.{found-there}
+use Rattle.store_plans.proofs.Lines.{found-there}
 use Rattle.dag_store.proofs.ParentTests.{behind, distinct-parents}
-use Rattle.dag_store.proofs.Trials.{tried-last, tried-plain, tried-stop, tried-then}
+use Rattle.store_plans.proofs.Trials.{tried-last, tried-plain, tried-stop, tried-then}
 use Rattle.payload_tables.proofs.Lists.{distinct-join, distinct-parts, same-exact, same-self}
 use Rattle.std.proofs.lemmas.Bool.{ne_eqb}
 use Rattle.std.proofs.lemmas.List.{take_more, take-append-drop}
 use Rattle.id_groups.proofs.Listing.{found, missing}
-
-pub sees-small : (base : BaseRef) (pending : PlainPending) (added : List Placed) (w : World Name) (rows : List (Row Name)) → Sees base pending added w rows → length w.master ≤ 16777216
-sees-small base pending added w rows s =
-    let b = s.base_of in
-    let small = (base-others base.bytes.now base.tables.now base.others.now base.below added b).small in
-    let c = b.count in let d = s.stand.count in omega (arith, small, c, d)
+use Rattle.store_plans.proofs.Counts.{sees-small}
 
 module _ (payloads : List Payload) (w : World Name) (rows : List (Row Name)) where
   told-twice : (before parents : List Name) → IsTold payloads w (twice before parents)

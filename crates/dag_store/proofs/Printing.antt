@@ -25,11 +25,11 @@ use Rattle.step_rules.specs.State.{Cache}
 use Rattle.step_rules.specs.Asked.{is_cached, is_found}
 use Rattle.step_rules.specs.Tests.{Test}
 use Rattle.step_rules.specs.Asking.{TriesAll, refusal_for, refused_by}
-use Rattle.dag_store.specs.Looking.{AsksAlike, IsSoundCache, IsTold, entries_of, refusal_in}
+use Rattle.store_plans.specs.Looking.{AsksAlike, IsSoundCache, IsTold, entries_of, refusal_in}
 use Rattle.dag_store.specs.Querying.{FetchesSo, IsRightEnd, absent_of, printing}
-use Rattle.dag_store.proofs.Heads.{filtered, from-map, kept}
+use Rattle.store_plans.proofs.Heads.{filtered, from-map, kept}
 use Rattle.dag_store.proofs.Leading.{ids-length, in-ids}
-use Rattle.dag_store.proofs.Trials.{tries-one}
+use Rattle.store_plans.proofs.Trials.{tries-one}
 
 abbrev W : Type 0
 W = Unit {0}

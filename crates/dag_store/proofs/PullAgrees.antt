@@ -8,7 +8,7 @@ use Rattle.flush_rebuild.specs.Pulling.{told_rows}
 use Rattle.flush_rebuild.proofs.HonestTold.{honest-told}
 use Rattle.std.proofs.Common.{List}
 use Rattle.step_rules.specs.State.{Stored}
-use Rattle.dag_store.specs.Pulls.{mismatch_of}
+use Rattle.store_plans.specs.PullPlans.{mismatch_of}
 use Rattle.dag_store.proofs.PullSteps.{Agrees}
 
 pub agrees : (added : List Placed) (st : Stored) → payloads_of added ≡ st.payloads → HoldPayloads st.payloads st.stored → Agrees st

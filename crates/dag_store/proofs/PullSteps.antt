@@ -49,17 +49,19 @@ use Rattle.step_rules.proofs.Held.{held-sizes, within-limit}
 use Rattle.step_rules.proofs.Kept.{step-state}
 use Rattle.step_rules.proofs.Plain.{all-tries}
 use Rattle.step_rules.proofs.Steps.{first-none-cons, pulled-world}
-use Rattle.dag_store.specs.declared.changing.Next.{Next}
+use Rattle.store_plans.specs.declared.changing.Next.{Next}
 use Rattle.dag_store.specs.declared.replies.Flushed.{Flushed as Ended}
 use Rattle.dag_store.specs.declared.replies.Flushed.TheVariants as ends
-use Rattle.dag_store.specs.Kept.{PlainSession, PlainStore, IsKept, sixteen}
+use Rattle.store_plans.specs.Sessions.{PlainSession}
+use Rattle.dag_store.specs.Kept.{PlainStore, IsKept, sixteen}
 use Rattle.dag_store.specs.Stands.{IsOutsideOf, Stands, StandsBeside}
-use Rattle.dag_store.specs.Flushes.{HasRoom, FlushLeaves, StoresBy}
+use Rattle.store_plans.specs.Changes.{HasRoom, IsPlanTo, IsPrepared, refusal_of}
+use Rattle.dag_store.specs.Flushes.{FlushLeaves, StoresBy}
 use Rattle.dag_store.specs.Finishes.{FinishesAs, Finishes, payload_in}
-use Rattle.dag_store.specs.Changes.{IsPlanTo, IsPrepared, refusal_of}
 use Rattle.dag_store.specs.Clones.{beside}
-use Rattle.dag_store.specs.Pulls.{AllBeginWith, PlansPull, PullAnswers, PullStep, RefusesFresh, RefusesPull, RefusesTold, TakesFresh, fresh_refusal, mismatch_of, pull_end, pull_of, rows_told}
-use Rattle.dag_store.proofs.ChangeSizes.{worlds-decided}
+use Rattle.dag_store.specs.Pulls.{AllBeginWith, PullAnswers, PullStep, pull_end}
+use Rattle.store_plans.specs.PullPlans.{PlansPull, RefusesFresh, RefusesPull, RefusesTold, TakesFresh, fresh_refusal, mismatch_of, pull_of, rows_told}
+use Rattle.store_plans.proofs.ChangeSizes.{worlds-decided}
 use Rattle.dag_store.proofs.FlushStored.{on-of, stands-room}
 use Rattle.dag_store.proofs.Changed.{stands-as-before, stands-changed}
 use Rattle.dag_store.proofs.PullTold.{TellsOn, gives-clone, gives-names, never-gave-broken, never-gave-few, next-tells}

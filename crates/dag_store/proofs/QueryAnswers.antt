@@ -30,10 +30,9 @@ use Rattle.payload_tables.specs.declared.base.BaseRef.{BaseRef}
 use Rattle.payload_tables.specs.Bases.{AreSegmentsOf}
 use Rattle.payload_tables.specs.Pending.{PlainPending}
 use Rattle.payload_tables.proofs.Basing.{base-others}
-use Rattle.dag_store.specs.Looking.{IsViewId, Sees}
-use Rattle.dag_store.specs.Adding.{FindsAll}
+use Rattle.store_plans.specs.Looking.{IsViewId, Sees, FindsAll}
 use Rattle.dag_store.specs.Querying.{Evaluates}
-use Rattle.dag_store.proofs.Lines.{finds-memory}
+use Rattle.store_plans.proofs.Lines.{finds-memory}
 use Rattle.dag_store.proofs.QueryGraph.{answered}
 
 module _ (base : BaseRef) (pending : PlainPending) (added : List Placed) (w : World Name) (rows : List (Row Name)) (s : Sees base pending added w rows) where

@@ -49,20 +49,21 @@ use Rattle.step_rules.specs.Asking.{TriesAll, refusal_for}
 use Rattle.step_rules.specs.Step.{answer_tests, printing_test}
 use Rattle.step_rules.proofs.Cached.{FindsRight, found-cached, gained-right, named-right}
 use Rattle.dag_store.specs.declared.query.Found.{Found}
-use Rattle.dag_store.specs.Kept.{PlainSession, PlainStore, IsKept, IsSessionOf, session_at, base_added, no_cache, sixteen}
+use Rattle.store_plans.specs.Sessions.{PlainSession, IsSessionOf, base_added}
+use Rattle.dag_store.specs.Kept.{PlainStore, IsKept, session_at, no_cache, sixteen}
 use Rattle.dag_store.specs.Stands.{IsAnswerable, Stands, StandsBeside}
-use Rattle.dag_store.specs.Looking.{AreRight, AsksAlike, IsSoundCache, IsViewId, entries_of, found_in, refusal_in}
-use Rattle.dag_store.specs.Adding.{IsSeen, seen_tests}
+use Rattle.store_plans.specs.Looking.{AreRight, AsksAlike, IsSoundCache, IsViewId, entries_of, found_in, refusal_in, seen_tests}
+use Rattle.dag_store.specs.Adding.{IsSeen}
 use Rattle.dag_store.specs.Querying.{AreNamesIn, AreViewIds, AsksQuery, Evaluates, Fetches, FetchesSo, FindsMembers, IsRightEnd, Prints, absent_ids, absent_of, lazy_ids, printing}
 use Rattle.dag_store.specs.Steps.{Leads, QueryStep, known_name}
 use Rattle.dag_store.proofs.AddingWorlds.{seen-small}
-use Rattle.dag_store.proofs.Asking.{get-name, master-id}
-use Rattle.dag_store.proofs.Heads.{filtered, from-map, kept}
+use Rattle.store_plans.proofs.Asking.{get-name, master-id}
+use Rattle.store_plans.proofs.Heads.{filtered, from-map, kept}
 use Rattle.dag_store.proofs.Leading.{found-same, grown, in-gained, in-ids, leads-to, next-goes, payloads-are, right-base, session-seen, sound-of, tests-same}
 use Rattle.change_rules.proofs.Cloned.{get-some}
 use Rattle.dag_store.proofs.QueryWorld.{some-seen}
 use Rattle.dag_store.proofs.Printing.{asked-most, distinct-filter, entry-at, fewer, prints-so, told-so, wanted-most}
-use Rattle.dag_store.proofs.Trials.{tried-serves, tries-append, tries-plain, tries-stop}
+use Rattle.store_plans.proofs.Trials.{tried-serves, tries-append, tries-plain, tries-stop}
 
 -- ---- a cache that takes in less
 

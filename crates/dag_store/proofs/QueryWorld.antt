@@ -1,5 +1,5 @@
 -- What is kept of a session is what it sees of some world.
-use Rattle.std.proofs.Common.{◌≡◌, ◌<◌, ◌≤◌, ◌+◌, ◌^◌, ℕ, ◌⊎◌, inl, inr, List, [], ◌∷◌, ◌++◌, length, map, take, drop, flat_map, refl, sym, ap, subst, ◌∙◌, ⊎_elim, arith}
+use Rattle.std.proofs.Common.{◌≡◌, ◌<◌, ◌≤◌, ◌+◌, ◌^◌, ℕ, ◌⊎◌, inl, inr, List, [], ◌∷◌, length, map, take, drop, flat_map, refl, sym, ap, subst, ◌∙◌, ⊎_elim, arith}
 use Rattle.std.specs.List.{AllByRecursion}
 use Rattle.std.proofs.lemmas.List.{take-append-drop, map-append}
 use Rattle.id_groups.specs.Lists.{IsIn}
@@ -11,7 +11,7 @@ use Rattle.commit_graph.proofs.Naming.{each, named-by, name-of, pending-names}
 use Rattle.segment_codec.specs.Record.{segment_bytes}
 use Rattle.segment_codec.specs.Flat.{IsFlat}
 use Rattle.flat_segments.specs.Placed.{PlacedSegment, placed_segments}
-use Rattle.batch_codec.specs.Payload.{Payload, known_names}
+use Rattle.batch_codec.specs.Payload.{known_names}
 use Rattle.batch_codec.specs.Grammar.{count_after}
 use Rattle.change_rules.specs.Lawful.{AreLawful}
 use Rattle.name_map.specs.Added.{Placed, payloads_of}
@@ -26,9 +26,10 @@ use Rattle.flush_rebuild.specs.Asked.{others_count, HaveParents, MayStore}
 use Rattle.flush_rebuild.proofs.Asking.{stored-names}
 use Rattle.flush_rebuild.proofs.Numbered.{AllRows, Behind}
 use Rattle.flush_rebuild.proofs.Invented.{FitBehind, some-world}
-use Rattle.dag_store.specs.Kept.{PlainSession, IsSessionOf, base_added}
-use Rattle.dag_store.specs.Looking.{Sees}
+use Rattle.store_plans.specs.Sessions.{PlainSession, IsSessionOf, base_added}
+use Rattle.store_plans.specs.Looking.{Sees}
 use Rattle.dag_store.specs.Adding.{IsSeen}
+use Rattle.store_plans.proofs.LawfulParts.{lawful-front}
 
 parents-fit : (m k id : ℕ) → id ≡ 2 ^ 56 + k → (ps : List ℕ) → AllByRecursion (λ p. p < id) ps → AllByRecursion (λ p. (p < m) ⊎ (2 ^ 56 ≤ p)) ps → AllByRecursion (λ p. (p < m) ⊎ ((2 ^ 56 ≤ p) × (p < 2 ^ 56 + k))) ps
 parents-fit m k id e [] h g = tt
@@ -51,10 +52,6 @@ fit-of added pending s = record {
       (⊎_elim (λ j. in-left x (flat_map known_names (payloads_of added)) (other_names_in (newest (payloads_of added))) j)
       (λ j. in-right x (flat_map known_names (payloads_of added)) (other_names_in (newest (payloads_of added))) j) d));
 }
-
-pub lawful-front : (before front behind : List Payload) → AreLawful before (front ++ behind) → AreLawful before front
-lawful-front before [] behind h = tt
-lawful-front before (p ∷ front) behind h = (h.0, lawful-front (before ++ p ∷ []) front behind h.1)
 
 names-again : (v : World Name) (rows : List (Row Name)) → row_names (map (held_row v) rows) ≡ names_of rows
 names-again v [] = refl

@@ -28,15 +28,15 @@ use Rattle.step_rules.specs.Asking.{refused_by}
 use Rattle.step_rules.specs.Worlds.{has}
 use Rattle.step_rules.proofs.Steps.{first-none-append}
 use Rattle.step_rules.proofs.Trying.{tried-all}
-use Rattle.dag_store.specs.Looking.{AreRight, IsTold, Looks, Sees, Tried, seen_as, test_in}
-use Rattle.dag_store.specs.Adding.{FindsParents, Seeks, add_tests, seen_tests}
+use Rattle.store_plans.specs.Looking.{AreRight, IsTold, Looks, Sees, Tried, seen_as, test_in, seen_tests}
+use Rattle.dag_store.specs.Adding.{FindsParents, Seeks, add_tests}
 use Rattle.dag_store.specs.declared.adding.Sought.{Sought}
 use Rattle.dag_store.specs.declared.adding.Sought.TheVariants as sought
 use Rattle.dag_store.proofs.AddingIds.{row-parents-same}
-use Rattle.dag_store.proofs.Lines.{all-there}
-use Rattle.dag_store.proofs.Looked.{look-refused, look-test}
-use Rattle.dag_store.proofs.Parents.{sees-small}
-use Rattle.dag_store.proofs.Trials.{tried-last, tried-serves, tried-stop, tried-then}
+use Rattle.store_plans.proofs.Lines.{all-there}
+use Rattle.store_plans.proofs.Looked.{look-refused, look-test}
+use Rattle.store_plans.proofs.Counts.{sees-small}
+use Rattle.store_plans.proofs.Trials.{tried-last, tried-serves, tried-stop, tried-then}
 
 pub err-seeks : (payloads : List Payload) (w : World Name) (rows : List (Row Name)) (name : Name) (parents : List Name) (old new : List Mirror) (a b : PlainCache) (r : Result Sought Refusal) (f : Refusal) → IsErrAnd r (λ g. g ≡ f)
     → Seeks payloads w rows name parents old new a b (Err f) → Seeks payloads w rows name parents old new a b r

@@ -1,5 +1,5 @@
 -- What a store's parts say of a state that it stands for.
-use Rattle.std.proofs.Common.{◌≡◌, ◌≤◌, ◌<◌, ◌+◌, ℕ, Bool, true, false, not, ◌&&◌, ◌||◌, List, [], ◌∷◌, ◌++◌, length, map, take, drop, filter, nat_eq, nat_lt, refl, sym, ap, ap₂, subst, ◌∙◌, arith, append-nil, append_assoc, if◌then◌else◌, le_refl, zero-le, true≢false}
+use Rattle.std.proofs.Common.{◌≡◌, ◌≤◌, ◌<◌, ◌+◌, ℕ, Bool, true, false, not, ◌&&◌, ◌||◌, List, [], ◌∷◌, ◌++◌, length, map, take, drop, filter, nat_eq, nat_lt, refl, sym, ap, ap₂, subst, ◌∙◌, arith, append-nil, if◌then◌else◌, le_refl, zero-le, true≢false}
 use Rattle.std.specs.List.{AllByRecursion, list_any, range_with_len}
 use Rattle.std.proofs.lemmas.List.{take_all, take-map, take-append-drop, map-append}
 use Rattle.std.proofs.lemmas.List.Elements.{filter-append}
@@ -10,7 +10,6 @@ use Rattle.id_groups.specs.Name.{Name, same_name}
 use Rattle.id_groups.proofs.Listing.{any-in, in-any, and_true, both_true}
 use Rattle.commit_graph.specs.World.{World, names_of}
 use Rattle.batch_codec.specs.Payload.{Payload, Known}
-use Rattle.batch_codec.specs.Grammar.{count_after}
 use Rattle.change_rules.specs.Lawful.{AreLawful}
 use Rattle.batch_codec.proofs.Payloads.{one-payload}
 use Rattle.gated_log.specs.Held.{Held}
@@ -24,13 +23,14 @@ use Rattle.change_rules.proofs.Cloned.{in-range}
 use Rattle.payload_tables.specs.declared.base.BaseRef.{BaseRef}
 use Rattle.payload_tables.specs.Kept.{PlainTables}
 use Rattle.payload_tables.specs.Bases.{IsBaseOf}
-use Rattle.payload_tables.proofs.Lists.{all-append, count-last}
 use Rattle.step_rules.specs.State.{Stored, session, pending_of, base_of, world_at}
 use Rattle.step_rules.specs.Asked.{is_asked}
 use Rattle.step_rules.proofs.Sessions.{newest-now}
-use Rattle.dag_store.specs.Kept.{PlainSession, IsKept, session_at, base_added, no_cache, sixteen}
+use Rattle.store_plans.specs.Sessions.{PlainSession, base_added}
+use Rattle.dag_store.specs.Kept.{IsKept, session_at, no_cache, sixteen}
 use Rattle.dag_store.specs.Stands.{Stands}
-use Rattle.dag_store.specs.Looking.{Sees, is_asked_in}
+use Rattle.store_plans.specs.Looking.{Sees, is_asked_in}
+use Rattle.store_plans.proofs.LawfulParts.{lawful-behind, known-above}
 
 both : {X : Type 0} {x y : X} {xs ys : List X} → x ≡ y → xs ≡ ys → x ∷ xs ≡ y ∷ ys
 both e f = cc
@@ -44,30 +44,6 @@ once a b (p ∷ ps) (q ∷ qs) h g e =
     let first : text_of p ≡ text_of q = cc e in
     let rest : map text_of ps ≡ map text_of qs = cc e in
     both (one-payload p q h.0.whole g.0.whole first) (once (a ++ p ∷ []) (b ++ q ∷ []) ps qs h.1 g.1 rest)
-
--- payloads that come behind lawful ones are lawful there
-pub lawful-behind : (before front behind : List Payload) → AreLawful before (front ++ behind) → AreLawful (before ++ front) behind
-lawful-behind before [] behind h = subst (λ l. AreLawful l behind) (sym (append-nil before)) h
-lawful-behind before (p ∷ front) behind h = subst (λ l. AreLawful l behind) (append_assoc before (p ∷ []) front) (lawful-behind (before ++ p ∷ []) front behind h.1)
-
-own-above : (n before after : ℕ) (ks : List Known) → n ≤ before → AllByRecursion (λ id. (before ≤ id) × (id < after)) (map (λ (k : Known). k.id) ks) → AllByRecursion (λ (k : Known). n ≤ k.id) ks
-own-above n before after [] le h = tt
-own-above n before after (k ∷ ks) le h = (let x = h.0.0 in omega (arith, le, x), own-above n before after ks le h.1)
-
-lower : (m n : ℕ) (ks : List Known) → m ≤ n → AllByRecursion (λ (k : Known). n ≤ k.id) ks → AllByRecursion (λ (k : Known). m ≤ k.id) ks
-lower m n [] le h = tt
-lower m n (k ∷ ks) le h = (let x = h.0 in omega (arith, le, x), lower m n ks le h.1)
-
--- known ids of payloads that come behind others lie above the ids of these
-pub known-above : (before more : List Payload) → AreLawful before more → AllByRecursion (λ (k : Known). count_after 0 before ≤ k.id) (known_in more)
-known-above before [] h = tt
-known-above before (p ∷ more) h =
-    let count = h.0.count in
-    let grows = h.0.whole.counts.grows in
-    let last = count-last 0 before p in
-    all-append (λ (k : Known). count_after 0 before ≤ k.id) p.known (known_in more)
-    (own-above (count_after 0 before) p.before p.after p.known (omega (arith, count)) h.0.whole.known.within)
-    (lower (count_after 0 before) (count_after 0 (before ++ p ∷ [])) (known_in more) (omega (arith, count, grows, last)) (known-above (before ++ p ∷ []) more h.1))
 
 -- none of these is an id below
 none-below : (n id : ℕ) (ks : List Known) → AllByRecursion (λ (k : Known). n ≤ k.id) ks → id < n → is_in nat_eq id (map (λ (k : Known). k.id) ks) ≡ false

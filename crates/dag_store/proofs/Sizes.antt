@@ -1,20 +1,13 @@
 -- The steps that tell sizes, and the one that lets rows go.
-use Rattle.std.proofs.Common.{◌≡◌, ◌<◌, ℕ, inl, List, [], ◌∷◌, length, map, Option, Some, None, refl, ap, ◌∙◌, set}
-use Rattle.std.specs.List.{last_or}
-use Rattle.std.proofs.lemmas.List.{length-map}
+use Rattle.std.proofs.Common.{◌≡◌, ◌<◌, ℕ, inl, List, [], length, None, refl, ap, ◌∙◌, set}
 use Rattle.id_groups.specs.Name.{Name, same_name}
-use Rattle.commit_graph.specs.World.{Row, World, with_pending}
 use Rattle.commit_graph.specs.Ids.{parent_ids}
 use Rattle.segment_rules.specs.Flat.{flat_segments_of}
 use Rattle.segment_rules.specs.Levels.{level_counts}
-use Rattle.batch_codec.specs.Payload.{Payload}
 use Rattle.gated_log.specs.Held.{Held}
-use Rattle.name_map.specs.Added.{Placed, payloads_of}
 use Rattle.change_rules.specs.declared.Limits.{Limits}
-use Rattle.change_rules.specs.Tables.{newest, other_names_in}
-use Rattle.payload_tables.specs.Kept.{PlainTables, PlainOthers, AreOthersIn}
-use Rattle.payload_tables.specs.Pending.{HeldRow, PlainPending, HoldsRows}
-use Rattle.payload_tables.specs.Bases.{ArePending, held_row}
+use Rattle.payload_tables.specs.Kept.{PlainTables}
+use Rattle.payload_tables.specs.Pending.{PlainPending, HoldsRows}
 use Rattle.payload_tables.proofs.Lists.{names-length}
 use Rattle.step_rules.specs.State.{State, Stored, session, pending_of, base_of, with_pending_rows}
 use Rattle.step_rules.specs.Verb.{Verb, Add, Flush, Reload, Discard, Query, Count, IdOf, Status, Levels, Clone, Pull, Strip, CountMirrors, Drop}
@@ -22,30 +15,12 @@ use Rattle.step_rules.specs.Reply.{Reply, Sizes, LevelSizes, Discarded}
 use Rattle.step_rules.specs.Step.{CommandStep, IsTold}
 use Rattle.step_rules.proofs.Plain.{outside-same}
 use Rattle.step_rules.proofs.States.{alone}
-use Rattle.dag_store.specs.Kept.{PlainSession, PlainStore, IsKept, IsSessionOf, session_at, base_added, no_cache, sixteen}
+use Rattle.store_plans.specs.Sessions.{PlainSession, IsSessionOf, base_added}
+use Rattle.dag_store.specs.Kept.{PlainStore, IsKept, session_at, no_cache, sixteen}
 use Rattle.dag_store.specs.Stands.{Stands}
 use Rattle.dag_store.proofs.Sees.{base-holds}
 use Rattle.dag_store.proofs.Standing.{stands-with}
-
-abbrev payload-if : Option Placed → Option Payload
-payload-if None = None
-payload-if (Some a) = Some a.payload
-
-last-count : (others : PlainOthers) (o : Option Placed) (added : List Placed) → AreOthersIn others (last_or o added) → others.count ≡ length (other_names_in (last_or (payload-if o) (payloads_of added)))
-last-count others None [] h = h.count
-last-count others (Some a) [] h = h.count
-last-count others o (a ∷ added) h = last-count others (Some a) added h
-
--- how many other ids a base has
-pub others-many : (others : PlainOthers) (added : List Placed) → AreOthersIn others (last_or None added) → others.count ≡ length (other_names_in (newest (payloads_of added)))
-others-many others added h = last-count others None added h
-
--- so many rows are pending
-abbrev pub CountsRows : PlainPending → ℕ → Type 0
-CountsRows pending n = (rows : List HeldRow) → HoldsRows pending rows → n ≡ length rows
-
-pub pending-many : (w : World Name) (pending : PlainPending) (rows : List (Row Name)) (n : ℕ) → ArePending w pending rows → CountsRows pending n → n ≡ length rows
-pending-many w pending rows n p c = c (map (held_row (with_pending w rows)) rows) p.held ∙ length-map rows (held_row (with_pending w rows))
+use Rattle.store_plans.proofs.Counts.{others-many, CountsRows, pending-many}
 
 -- commands without tests
 abbrev IsBare : Verb → Type 0

@@ -7,8 +7,9 @@ use Rattle.change_rules.specs.declared.Limits.{Limits}
 use Rattle.payload_tables.specs.Kept.{PlainTables}
 use Rattle.step_rules.specs.State.{Stored, Session, IsSession, new_session, with_session}
 use Rattle.step_rules.proofs.States.{with_session-state}
-use Rattle.dag_store.specs.Kept.{PlainSession, PlainStore, IsKept, IsSessionOf, no_session, session_at, sixteen}
-use Rattle.dag_store.specs.Stands.{Stands, IsSessionFor}
+use Rattle.store_plans.specs.Sessions.{PlainSession, IsSessionOf, IsSessionFor}
+use Rattle.dag_store.specs.Kept.{PlainStore, IsKept, no_session, session_at, sixteen}
+use Rattle.dag_store.specs.Stands.{Stands}
 
 -- which element stands at a place doesn't hang on what is answered beyond the end
 same-at : {X : Type 0} (xs : List X) (i : ℕ) (d e : X) → i < length xs → get_or xs i d ≡ get_or xs i e

@@ -19,9 +19,8 @@ use Rattle.step_rules.specs.Reply.{Reply, Stripped}
 use Rattle.step_rules.specs.Tests.{has_pending, not_strippable, refuse_if, refused_first, tests}
 use Rattle.step_rules.proofs.Steps.{first-none-append, first-none-cons, not-refused, not-tested, stripped-world}
 use Rattle.step_rules.proofs.Held.{held-sizes}
-use Rattle.dag_store.specs.Kept.{PlainSession}
-use Rattle.dag_store.specs.Changes.{IsOn}
-use Rattle.dag_store.specs.Flushes.{strip_of}
+use Rattle.store_plans.specs.Sessions.{PlainSession}
+use Rattle.store_plans.specs.Changes.{IsOn, strip_of}
 use Rattle.dag_store.proofs.ChangeSteps.{MakesWorld}
 
 -- a filter leaves no more

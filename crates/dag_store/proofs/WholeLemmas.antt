@@ -21,13 +21,13 @@ use Rattle.payload_tables.specs.Pending.{PlainPending}
 use Rattle.payload_tables.specs.Bases.{IsBaseOf, flat_segments_in}
 use Rattle.payload_tables.proofs.Basing.{table-end}
 use Rattle.flush_rebuild.specs.Asked.{others_count}
-use Rattle.dag_store.specs.Looking.{Sees}
+use Rattle.store_plans.specs.Looking.{Sees}
 use Rattle.dag_store.specs.Whole.{IsWhole, IsWholeOf, AreSegments, master_flats}
 use Rattle.dag_store.specs.declared.whole.Whole.{Whole}
 use Rattle.dag_store.specs.declared.whole.Segments.{Segments}
-use Rattle.dag_store.proofs.HeadTests.{sees-none}
-use Rattle.dag_store.proofs.Sizes.{others-many}
-use Rattle.dag_store.proofs.StoredNames.{known-name, known-row}
+use Rattle.store_plans.proofs.HeadTests.{sees-none}
+use Rattle.store_plans.proofs.Counts.{others-many}
+use Rattle.store_plans.proofs.StoredNames.{known-name, known-row}
 
 -- what was found is the master of some world
 pub some-whole : (payloads : List Payload) (w : World Name) (o : Option Whole) → MatchOption o (has_lazy payloads w ≡ true) (λ whole. (has_lazy payloads w ≡ false) × IsWhole whole w) → IfSome o (λ whole. (x : World Name) × IsWhole whole x)

@@ -1,7 +1,6 @@
 -- What an add looks up, and what it leaves of a session.
 use Rattle.std.specs.Prelude.{◌≡◌, ◌<◌, ◌≤◌, ◌+◌, ℕ, false, true, List, [], ◌∷◌, ◌++◌, None, Result, Ok, Err, IfOk, length, map, if◌then◌else◌, ⊤}
 use Rattle.std.specs.List.{AllByRecursion}
-use Rattle.std.proofs.Common.{Vec, Global}
 use Rattle.id_groups.specs.Lists.{IsIn, AreDistinct}
 use Rattle.id_groups.specs.Name.{Name, same_name}
 use Rattle.id_groups.specs.Id.{other_id}
@@ -19,35 +18,13 @@ use Rattle.lazy_names.specs.Cache.{PlainCache}
 use Rattle.step_rules.specs.declared.Refusal.{Refusal}
 use Rattle.step_rules.specs.declared.Refusal.TheVariants as why
 use Rattle.step_rules.specs.Worlds.{has}
-use Rattle.step_rules.specs.Tests.{Test, plain, unknown, twice, differs, full}
+use Rattle.step_rules.specs.Tests.{Test, plain, twice, differs, full}
 use Rattle.dag_store.specs.declared.adding.Sought.{Sought}
 use Rattle.dag_store.specs.declared.adding.Sought.TheVariants as sought
 use Rattle.dag_store.specs.declared.replies.Added.{Added}
 use Rattle.dag_store.specs.declared.replies.Added.TheVariants.{New, Old}
-use Rattle.dag_store.specs.Kept.{PlainSession, base_added}
-use Rattle.dag_store.specs.Looking.{AreRight, IsViewId, Tried, refusal_in, test_in}
-
--- a vector as its list
-abbrev pub items_of : {X : Type 0} → Result (Vec X Global) Refusal → Result (List X) Refusal
-items_of (Ok v) = Ok v.items
-items_of (Err refusal) = Err refusal
-
--- the tests of names that are looked up in a view, and refused where they aren't there
-abbrev pub seen_tests : List Payload → World Name → List (Row Name) → List Name → List Test
-seen_tests payloads w rows names = map (test_in payloads w rows (unknown (with_pending w rows))) names
-
--- the id of a name in a view, or why it is refused
-pub record FindsOne (payloads : List Payload) (w : World Name) (rows : List (Row Name)) (name : Name) (old new : List Mirror) (before now : PlainCache) (result : Result ℕ Refusal) : Type 0 where
-  pub tried : Tried payloads w (seen_tests payloads w rows (name ∷ [])) old new before now (refusal_in result)
-  pub view : IfOk result (IsViewId w rows)
-  pub right : AreRight payloads w old → IfOk result (λ id. id ≡ id_in same_name (with_pending w rows) name)
-
--- the ids of names in a view, or why the first is that is refused
-pub record FindsAll (payloads : List Payload) (w : World Name) (rows : List (Row Name)) (names : List Name) (old new : List Mirror) (before now : PlainCache) (result : Result (List ℕ) Refusal) : Type 0 where
-  pub tried : Tried payloads w (seen_tests payloads w rows names) old new before now (refusal_in result)
-  pub view : IfOk result (AllByRecursion (IsViewId w rows))
-  pub count : IfOk result (λ ids. length ids ≡ length names)
-  pub right : AreRight payloads w old → IfOk result (λ ids. ids ≡ map (id_in same_name (with_pending w rows)) names)
+use Rattle.store_plans.specs.Sessions.{PlainSession, base_added}
+use Rattle.store_plans.specs.Looking.{AreRight, IsViewId, Tried, refusal_in, test_in, seen_tests}
 
 -- a parent that is given twice
 abbrev pub IsTwice : Refusal → Type 0

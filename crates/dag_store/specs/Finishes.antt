@@ -7,13 +7,13 @@ use Rattle.change_rules.specs.declared.Limits.{Limits}
 use Rattle.flush_rebuild.specs.declared.plan.Change.{Change}
 use Rattle.payload_tables.specs.Kept.{PlainTables}
 use Rattle.step_rules.specs.declared.Refusal.{Refusal}
-use Rattle.dag_store.specs.declared.changing.Next.{Next}
+use Rattle.store_plans.specs.declared.changing.Next.{Next}
 use Rattle.dag_store.specs.declared.replies.Counts.{Counts}
 use Rattle.dag_store.specs.declared.replies.Flushed.{Flushed}
 use Rattle.dag_store.specs.declared.replies.Flushed.TheVariants.{Done, Refused, Disk}
-use Rattle.dag_store.specs.Kept.{PlainSession, IsKept, sixteen}
-use Rattle.dag_store.specs.Changes.{IsPrepared}
-use Rattle.dag_store.specs.Flushes.{HasRoom}
+use Rattle.store_plans.specs.Sessions.{PlainSession}
+use Rattle.dag_store.specs.Kept.{IsKept, sixteen}
+use Rattle.store_plans.specs.Changes.{IsPrepared, HasRoom}
 
 -- the sizes of the new world, and no pending rows
 abbrev pub CountsOf : Change → Counts → Type 0

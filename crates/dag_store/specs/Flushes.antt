@@ -1,12 +1,10 @@
 -- How a flush and a strip end, for the state and for the disk.
 use Rattle.std.specs.Prelude.{◌≡◌, ◌≤◌, ◌+◌, ℕ, List, [], ◌∷◌, ◌++◌, Option, Some, None, ⊤, length}
-use Rattle.id_groups.specs.Name.{Name, same_name}
+use Rattle.id_groups.specs.Name.{Name}
 use Rattle.commit_graph.specs.World.{World}
 use Rattle.disk_trait.specs.Images.{Told, moment_of}
 use Rattle.batch_codec.specs.Payload.{Payload}
-use Rattle.gated_log.specs.Held.{Held}
 use Rattle.gated_log.specs.Holding.{HasPayloads, IsOnDisk, KeepsOldOrNew}
-use Rattle.change_rules.specs.Strip.{stripped}
 use Rattle.change_rules.specs.Change.{text_of, flush_change}
 use Rattle.remote_rules.specs.Mirror.{Mirror}
 use Rattle.step_rules.specs.declared.Refusal.{Refusal}
@@ -20,14 +18,11 @@ use Rattle.dag_store.specs.declared.replies.Flushed.TheVariants.{Done, Refused, 
 use Rattle.dag_store.specs.Kept.{PlainStore}
 use Rattle.dag_store.specs.Stands.{Stands}
 use Rattle.dag_store.specs.Steps.{ChangesOnly, Leads}
+use Rattle.store_plans.specs.Changes.{strip_of, HasRoom}
 
 -- the state after the flush
 abbrev pub flush_end : Stored → ℕ → List Name → Stored
 flush_end st s heads = after_flush st s (flush_of st s heads)
-
--- what a strip leaves of the stored world
-abbrev pub strip_of : Stored → List Name → World Name
-strip_of st names = stripped same_name st.stored names
 
 -- the change to the new world
 abbrev pub change_of : Stored → World Name → Payload
@@ -66,10 +61,6 @@ StripStep began old st s names = ChangeStep began old st s (Strip names) IsStrip
 abbrev pub refused_flush : Flushed → Option Refusal
 refused_flush (Refused same refusal) = Some refusal
 refused_flush _ = None
-
--- the same log, with some room
-abbrev pub HasRoom : Held → Held → Type 0
-HasRoom old new = new ≡ record old { room = new.room }
 
 -- what is sure once the payload is stored
 pub record HasStored (kept : PlainStore) (payload : List ℕ) (new : PlainStore) (clock : ℕ) (a b : Told) : Type 0 where

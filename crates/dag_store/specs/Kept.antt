@@ -1,25 +1,14 @@
 -- What contracts see of a store, and of which payloads its parts are.
-use Rattle.std.specs.Prelude.{◌≡◌, ◌<◌, ◌≤◌, ◌+◌, ℕ, List, [], length, map, take, slice_index_or}
+use Rattle.std.specs.Prelude.{◌≡◌, ◌<◌, ◌+◌, ℕ, List, [], length, map, slice_index_or}
 use Rattle.std.specs.List.{AllByRecursion}
-use Rattle.batch_codec.specs.Grammar.{count_after}
 use Rattle.gated_log.specs.Held.{Held, log_bytes}
 use Rattle.name_map.specs.Added.{Placed, payloads_of, AllStand}
 use Rattle.change_rules.specs.declared.Limits.{Limits}
 use Rattle.change_rules.specs.Standard.{AreLimits}
 use Rattle.change_rules.specs.Change.{text_of}
-use Rattle.payload_tables.specs.Kept.{PlainTables, PlainOthers, AreTablesOf, AreOthersIn, last_added}
-use Rattle.payload_tables.specs.Pending.{PlainPending}
-use Rattle.flush_rebuild.specs.Asked.{MayStore}
+use Rattle.payload_tables.specs.Kept.{PlainTables, AreTablesOf}
 use Rattle.lazy_names.specs.Cache.{PlainCache}
-
--- what is kept of a session
-pub record PlainSession : Type 0 where
-  -- how many payloads make its base, how many master ids these have, and the other ids of the last of them
-  pub payloads : ℕ
-  pub below : ℕ
-  pub others : PlainOthers
-  -- its rows that aren't stored
-  pub pending : PlainPending
+use Rattle.store_plans.specs.Sessions.{PlainSession, IsSessionOf}
 
 -- a session of nothing
 abbrev pub no_session : PlainSession
@@ -44,17 +33,6 @@ no_cache = record { entries = []; capacity = 0 }
 -- the session of that number
 abbrev pub session_at : List PlainSession → ℕ → PlainSession
 session_at sessions s = slice_index_or sessions s no_session
-
--- the first payloads that were added, which make a session's base
-abbrev pub base_added : List Placed → PlainSession → List Placed
-base_added added x = take x.payloads added
-
--- The session is on the first of the payloads that were added. Its rows may be stored behind these.
-pub record IsSessionOf (added : List Placed) (x : PlainSession) : Type 0 where
-  pub payloads : x.payloads ≤ length added
-  pub below : x.below ≡ count_after 0 (payloads_of (base_added added x))
-  pub others : AreOthersIn x.others (last_added (base_added added x))
-  pub pending : MayStore x.pending (base_added added x)
 
 -- how many sessions there are
 abbrev pub sixteen : ℕ

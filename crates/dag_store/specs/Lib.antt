@@ -1,6 +1,5 @@
 pub mod Kept
 pub mod Stands
-pub mod Looking
 pub mod Adding
 pub mod Names
 pub mod Querying
@@ -8,8 +7,6 @@ pub mod Bounds
 pub mod Steps
 pub mod Loading
 pub mod Flushes
-pub mod Changes
-pub mod Strips
 pub mod Clones
 pub mod Finishes
 pub mod Shown

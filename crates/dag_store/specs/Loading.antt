@@ -2,27 +2,19 @@
 use Rattle.std.specs.Prelude.{◌≡◌, ◌<◌, ◌≤◌, ◌+◌, ℕ, List, [], length, Result, Ok, Err, ⊤}
 use Rattle.id_groups.specs.Name.{Name}
 use Rattle.commit_graph.specs.World.{World}
-use Rattle.disk_trait.specs.Images.{Told, IsImage, moment_of}
-use Rattle.disk_trait.specs.Since.{SureSince}
+use Rattle.disk_trait.specs.Images.{Told, moment_of}
 use Rattle.gated_log.specs.Log.{IsDamaged}
 use Rattle.gated_log.specs.Holding.{IsLogWithin, HasPayloads, IsOnDisk}
 use Rattle.gated_log.specs.declared.LoadLog.{LoadLog}
 use Rattle.gated_log.specs.declared.LoadLog.TheVariants as logs
 use Rattle.batch_codec.specs.Payload.{Payload}
-use Rattle.name_map.specs.Added.{Placed}
-use Rattle.payload_tables.specs.Pending.{HoldsRows}
 use Rattle.change_rules.specs.declared.Limits.{Limits}
-use Rattle.change_rules.specs.Holding.{HoldBytes, HoldsNow}
 use Rattle.change_rules.specs.Unlawful.{IsFirstUnlawful}
 use Rattle.step_rules.specs.State.{start}
 use Rattle.dag_store.specs.declared.replies.LoadFault.{LoadFault}
 use Rattle.dag_store.specs.declared.replies.LoadFault.TheVariants.{Frame, TooLarge, Batch, Disk, Memory}
-use Rattle.dag_store.specs.Kept.{PlainSession, PlainStore, IsSessionOf}
+use Rattle.dag_store.specs.Kept.{PlainStore}
 use Rattle.dag_store.specs.Stands.{Stands}
-
--- the session is on all payloads that were added, and has no rows
-abbrev pub IsOnNewest : List Placed → PlainSession → Type 0
-IsOnNewest added x = IsSessionOf added x × (x.payloads ≡ length added) × HoldsRows x.pending []
 
 -- a log's fault as a store's
 abbrev pub fault_of : LoadLog → LoadFault

@@ -29,9 +29,8 @@ use Rattle.step_rules.specs.Tests.{Test, plain, refuse_if}
 use Rattle.step_rules.specs.Asking.{refusal_for}
 use Rattle.dag_store.specs.declared.query.Found.{Found}
 use Rattle.dag_store.specs.Steps.{known_name}
-use Rattle.dag_store.specs.Kept.{PlainSession}
-use Rattle.dag_store.specs.Adding.{seen_tests}
-use Rattle.dag_store.specs.Looking.{AreRight, AsksAlike, IsViewId, Tried, entries_of, refusal_in}
+use Rattle.store_plans.specs.Sessions.{PlainSession}
+use Rattle.store_plans.specs.Looking.{seen_tests, AreRight, AsksAlike, IsViewId, Tried, entries_of, refusal_in}
 
 -- The members by their ids, of names that were all found; or the first name that is refused, or no memory. Where the mirrors serve
 -- the world, they are its members.

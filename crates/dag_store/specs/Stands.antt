@@ -6,18 +6,12 @@ use Rattle.gated_log.specs.Held.{Held}
 use Rattle.change_rules.specs.Change.{text_of}
 use Rattle.change_rules.specs.Holding.{HoldPayloads}
 use Rattle.change_rules.specs.Lazy.{has_lazy}
-use Rattle.payload_tables.specs.Bases.{ArePending}
 use Rattle.remote_rules.specs.Mirror.{Mirror}
 use Rattle.lazy_names.specs.Cache.{PlainCache, cached_ids}
-use Rattle.step_rules.specs.State.{State, Stored, IsStore, IsOutside, Session, session, world_at}
+use Rattle.step_rules.specs.State.{State, Stored, IsStore, IsOutside, session, world_at}
 use Rattle.step_rules.specs.Served.{IsServed}
-use Rattle.dag_store.specs.Kept.{PlainSession, PlainStore, session_at, sixteen}
-
--- the session is kept as that of the state, of a run that began with so many payloads: it is on as many as its base was stored
--- with, and has its rows with their parents by ids
-pub record IsSessionFor (began : ℕ) (st : Stored) (x : PlainSession) (y : Session) : Type 0 where
-  pub payloads : x.payloads ≡ began + y.base
-  pub pending : ArePending (world_at st y.base) x.pending y.pending
+use Rattle.store_plans.specs.Sessions.{PlainSession, IsSessionFor}
+use Rattle.dag_store.specs.Kept.{PlainStore, session_at, sixteen}
 
 -- The log and the sessions stand for what is stored in a state of a run that began with so many payloads: the log has the
 -- state's payloads, those up to each stored world hold it, and each session is that of the state. With lazy names they stand for

@@ -19,7 +19,8 @@ use Rattle.step_rules.specs.Asked.{lazy_among}
 use Rattle.step_rules.specs.Step.{CommandStep}
 use Rattle.dag_store.specs.declared.replies.Added.{Added}
 use Rattle.dag_store.specs.declared.replies.Added.TheVariants.{New, Old}
-use Rattle.dag_store.specs.Kept.{PlainSession, PlainStore}
+use Rattle.store_plans.specs.Sessions.{PlainSession}
+use Rattle.dag_store.specs.Kept.{PlainStore}
 use Rattle.dag_store.specs.Stands.{StandsBeside}
 use Rattle.lazy_names.specs.declared.fetched.FetchedName.{FetchedName}
 use Rattle.dag_store.specs.declared.query.Found.{Found}

@@ -12,15 +12,13 @@ ghost use Rattle.payload_tables.specs.Pending.{HeldRow, HoldsRows, row_names};
 ghost use Rattle.step_rules.specs.State.{State, Stored, base_of, session};
 ghost use Rattle.step_rules.specs.Tests.{twice, tests};
 ghost use Rattle.step_rules.specs.Verb.{Add as ToAdd, IdOf};
-ghost use Rattle.dag_store.specs.Kept.{IsSessionOf, base_added};
-ghost use Rattle.dag_store.specs.Looking.{AreTablesBehind, Sees, AsksAlike, IsSoundCache, refusal_in};
-ghost use Rattle.dag_store.specs.Adding.{FindsOne, FindsAll, FindsParents, IsTwice, Seeks, MayBeParents, Appends, IsSeen, AddsRow, items_of};
+ghost use Rattle.store_plans.specs.Sessions.{IsSessionOf, base_added};
+ghost use Rattle.store_plans.specs.Looking.{AreTablesBehind, Sees, AsksAlike, IsSoundCache, refusal_in, FindsOne, FindsAll, items_of};
+ghost use Rattle.dag_store.specs.Adding.{FindsParents, IsTwice, Seeks, MayBeParents, Appends, IsSeen, AddsRow};
 ghost use Rattle.dag_store.specs.Stands.{IsAnswerable, Stands, StandsBeside};
 ghost use Rattle.dag_store.specs.Steps.{ChangesOnly, KeepsAll, Leads, add_reply, id_reply};
 
-use crate::lookup::{are_names, find, has_parents, has_unnamed};
 use crate::replies::Added;
-use crate::session::Session;
 use crate::store::Store;
 use flush_rebuild::{BaseRef, Limit, PendingRows, Tables};
 use id_groups::{Id, Name};
@@ -29,6 +27,7 @@ use mirror_set::Mirrors;
 use remote_trait::Remote;
 use std::alloc::Global;
 use step_rules::Refusal;
+use store_plans::{Session, are_names, find, find_seen, has_parents, has_unnamed};
 
 /// What an add comes to before it changes anything.
 #[derive(Drop)]
@@ -62,34 +61,6 @@ fn refuse_twice(parents: &[Name]) -> Result<(), Refusal>
         }
     }
     Ok(())
-}
-
-/// The id of a name in a session's view. `Unknown` where it isn't there.
-pub(crate) fn find_seen<R: Remote>(
-    alloc: Global,
-    bytes: &[u8],
-    tables: &Tables,
-    base: &BaseRef<'_>,
-    unnamed: bool,
-    pending: &PendingRows,
-    cache: &mut LazyNames,
-    mirrors: &mut Vec<R>,
-    name: &Name,
-) -> Result<Id, Refusal>
-    requires mirrors { length mirrors.old.items < 2 ^ 32 }
-    requires view { (added : List Placed) × IsBaseOf base.now added × MayView base.now added pending.now }
-    ensures finds { (added : List Placed) (w : World NameBytes) (rows : List (Row NameBytes)) → Sees base.now pending.now added w rows → AreTablesBehind tables.now bytes.now added
-        → unnamed ≡ has_lazy (payloads_of added) w
-        → FindsOne (payloads_of added) w rows name.now (map R.shown mirrors.old.items) (map R.shown mirrors.new.items) cache.old cache.new result }
-    ensures sound { IsSoundCache cache.old → IsSoundCache cache.new }
-    ensures len { length mirrors.new.items ≡ length mirrors.old.items }
-{
-    match find(
-        alloc, bytes, tables, base, unnamed, pending, cache, mirrors, name,
-    )? {
-        Some(id) => Ok(id),
-        None => Err(Refusal::Unknown(*name)),
-    }
 }
 
 /// The ids of names in a session's view, in order. They are looked up from left to right.

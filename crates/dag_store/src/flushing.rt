@@ -8,12 +8,11 @@ ghost use Rattle.step_rules.specs.State.{State, Stored};
 ghost use Rattle.step_rules.specs.Tests.{tests};
 ghost use Rattle.step_rules.specs.Verb.{Flush as ToFlush, Reload as ToReload};
 ghost use Rattle.dag_store.specs.Stands.{IsAnswerable, Stands, StandsBeside};
-ghost use Rattle.dag_store.specs.Looking.{AsksAlike, refusal_in};
+ghost use Rattle.store_plans.specs.Looking.{AsksAlike, refusal_in};
 ghost use Rattle.dag_store.specs.Steps.{ChangesOnly, KeepsAll, Leads, reload_reply};
 ghost use Rattle.dag_store.specs.Flushes.{FlushStep, FlushLeaves, IsQuiet, LeavesStore, refused_flush};
 
-use crate::changing::{finish, prepare, reloaded};
-use crate::lookup::are_names;
+use crate::finishing::finish;
 use crate::replies::Flushed;
 use crate::store::Store;
 use disk_trait::Disk;
@@ -21,6 +20,7 @@ use id_groups::Name;
 use mirror_set::Mirrors;
 use remote_trait::Remote;
 use step_rules::Refusal;
+use store_plans::{are_names, prepare, reloaded};
 
 impl Store {
     /// Puts a session on the newest world, with its rows that this doesn't have, and answers how many these are.

@@ -3,19 +3,15 @@
 //! Sixteen sessions over one log.
 
 mod adding;
-mod changing;
 mod cloning;
-mod finding;
+mod finishing;
 mod flushing;
 mod laws;
 mod loading;
-mod lookup;
 mod names;
-mod planning;
 mod pulling;
 mod query;
 mod replies;
-mod session;
 mod store;
 mod stripping;
 mod whole;

@@ -11,15 +11,15 @@ ghost use Rattle.payload_tables.specs.Build.{IsBuildOf};
 ghost use Rattle.payload_tables.specs.Kept.{AreTablesOf};
 ghost use Rattle.std.specs.List.{AllByRecursion};
 ghost use Rattle.dag_store.specs.Kept.{EndsWithin, session_at};
-ghost use Rattle.dag_store.specs.Loading.{IsOnNewest};
+ghost use Rattle.store_plans.specs.Sessions.{IsOnNewest};
 
 use crate::replies::LoadFault;
-use crate::session::Session;
 use batch_codec::BatchRef;
 use flush_rebuild::{TableFault, Tables};
 use gated_log::{LoadLog, Log};
 use payload_tables::TablesBuild;
 use std::alloc::{AllocError, AllocFailed, Global};
+use store_plans::Session;
 
 impl From<LoadLog> for LoadFault {
     ghost use Rattle.std.specs.Prelude.{◌≡◌};

@@ -15,19 +15,16 @@ ghost use Rattle.payload_tables.specs.Bases.{IsBaseOf, MayView};
 ghost use Rattle.step_rules.specs.State.{State, Stored, base_of, pending_of, session, view_of};
 ghost use Rattle.step_rules.specs.Tests.{tests};
 ghost use Rattle.step_rules.specs.Verb.{Query as ToQuery, Count as ToCount};
-ghost use Rattle.dag_store.specs.Kept.{IsSessionOf, base_added};
+ghost use Rattle.store_plans.specs.Sessions.{IsSessionOf, base_added};
 ghost use Rattle.dag_store.specs.Stands.{IsAnswerable, Stands, StandsBeside};
-ghost use Rattle.dag_store.specs.Looking.{AreTablesBehind, Sees, AreRight, AsksAlike, IsSoundCache, refusal_in};
-ghost use Rattle.dag_store.specs.Adding.{FindsAll, IsSeen, items_of};
+ghost use Rattle.store_plans.specs.Looking.{AreTablesBehind, Sees, AreRight, AsksAlike, IsSoundCache, refusal_in, FindsAll, items_of};
+ghost use Rattle.dag_store.specs.Adding.{IsSeen};
 ghost use Rattle.dag_store.specs.Bounds.{EndsWithoutParents, ancestors_of, most_looks};
 ghost use Rattle.dag_store.specs.Names.{names_left};
 ghost use Rattle.dag_store.specs.Querying.{AreViewIds, AsksQuery, Evaluates, Fetches, FindsMembers, IsTooLong};
 ghost use Rattle.dag_store.specs.Steps.{AreIdsOf, CountStep, KeepsAll, QueryStep, known_name};
 
-use crate::adding::find_seen;
-use crate::lookup::{has_unnamed, refusal_of};
 use crate::names::Names;
-use crate::session::Session;
 use crate::store::Store;
 use flush_rebuild::{BaseRef, PendingRows, Tables};
 use id_groups::Id;
@@ -38,6 +35,7 @@ use set_query::{Answer, Expr, eval};
 use span_set::IdSet;
 use std::alloc::Global;
 use step_rules::Refusal;
+use store_plans::{Session, find_seen, has_unnamed, refusal_of};
 
 /// The answer of a query, and the names of those of its ids that have no stored one.
 #[derive(Drop)]

@@ -23,7 +23,6 @@ ghost use Rattle.dag_store.specs.Loading.{LoadAnswers, Opens, IsLoadedStore, IsN
 
 use crate::loading::{boxed_tables, new_sessions};
 use crate::replies::{Counts, LoadFault};
-use crate::session::Session;
 use disk_trait::Disk;
 use flush_rebuild::{Limits, PendingRows, Tables};
 use gated_log::Log;
@@ -31,6 +30,7 @@ use high_segments::LevelCounts;
 use lazy_names::LazyNames;
 use std::alloc::Global;
 use std::marker::Model;
+use store_plans::Session;
 
 /// A log, its tables, sixteen sessions on it, and names that mirrors gave. Contracts see the log, what is kept of each session, the
 /// limits and these names. The tables stand behind a box, since a store is handed on by value with each line.

@@ -14,7 +14,6 @@ ghost use Rattle.dag_store.specs.Stands.{Stands};
 ghost use Rattle.payload_tables.specs.Pending.{PlainPending};
 ghost use Rattle.dag_store.specs.Whole.{IsWhole, IsWholeOf, AreSegments, master_flats};
 
-use crate::planning::lacks_names;
 use crate::store::Store;
 use flush_rebuild::{PendingRows, Tables};
 use gated_log::Log;
@@ -22,6 +21,7 @@ use high_segments::View;
 use id_groups::{Id, NameRef};
 use segment_codec::{SegmentRef, SegmentTable, Steps};
 use std::alloc::Global;
+use store_plans::lacks_names;
 
 /// The stored master of a store, each of whose commits has a stored name, lent. No call takes memory. The empty rows are what a view
 /// ends with: it lends them, so that whoever makes a view has to own some.

@@ -5,7 +5,8 @@ use Rattle.step_rules.specs.declared.Refusal.TheVariants as why
 use Rattle.step_rules.specs.Verb.{Pull}
 use Rattle.step_rules.specs.Reply.{Pulled, Refused}
 use Rattle.dag_store.specs.Clones.{beside}
-use Rattle.dag_store.specs.Pulls.{AllBeginWith, pull_end, pull_of}
+use Rattle.dag_store.specs.Pulls.{AllBeginWith, pull_end}
+use Rattle.store_plans.specs.PullPlans.{pull_of}
 use Rattle.dag_run.specs.Lines.{changes_with, CommandReplies, PutsFault}
 use Rattle.dag_run.specs.declared.stops.Stop.TheVariants as stops
 use Rattle.dag_run.proofs.Doing.{still-goes, flush-goes, refused-goes, short-goes, limit-of, memory-step, command-told, change-of, flush-changes}

@@ -1,14 +1,12 @@
-use Rattle.std.proofs.Common.{◌≡◌, Ok, Err, length, map, refl, sym, subst, arith}
+use Rattle.std.proofs.Common.{◌≡◌, Ok, length, map, refl, sym, subst, arith}
 use Rattle.name_map.specs.Added.{payloads_of}
 use Rattle.commit_graph.specs.World.{with_pending}
-use Rattle.payload_tables.specs.Bases.{IsBaseOf, held_row}
-use Rattle.dag_store.specs.Kept.{PlainSession, IsSessionOf, base_added}
-use Rattle.dag_store.specs.Looking.{IsViewId}
+use Rattle.payload_tables.specs.Bases.{held_row}
+use Rattle.store_plans.specs.Sessions.{base_added}
+use Rattle.store_plans.specs.Looking.{IsViewId}
 use Rattle.std.specs.List.{AllByRecursion}
-use Rattle.dag_store.specs.Adding.{IsSeen, Seeks, AddsRow, Appends}
+use Rattle.dag_store.specs.Adding.{Seeks, Appends}
 use Rattle.id_groups.specs.Lists.{AreDistinct}
-use Rattle.dag_store.specs.declared.replies.Added.TheVariants.{Old}
-use Rattle.dag_store.specs.contracts.session.Session.{the_view}
 use Rattle.dag_store.proofs.QueryWorld.{may-view}
 use Rattle.dag_store.proofs.Leading.{tables-behind}
 use Rattle.dag_store.proofs.AddingWorlds.{seen, seen-small, sees-of, may-be-parents, kept-more, not-own}
@@ -18,25 +16,23 @@ use Rattle.dag_store.proofs.adding.add_row.Goals as goal
 pub seek-requires-clause-view : goal.seek-requires-clause-view
 seek-requires-clause-view g c =
     let (added, t, stand, kept) = c.requires.session in
-    let of = subst (IsSessionOf added) (sym c.session.view_is) kept in
-    let x = the_view c.session.inside in
-    let b = subst (λ (q : PlainSession). IsBaseOf c.base-base.result (base_added added q)) (sym c.session.view_is) (c.base-base.ensures added kept t stand) in
-    (base_added added x, b, may-view c.args.tables.now added x t of c.base-base.result b)
+    let x = c.args.session.now in
+    let b = c.base-base.ensures added kept t stand in
+    (base_added added x, b, may-view c.args.tables.now added x t kept c.base-base.result b)
 
 pub append-requires-clause-parents : goal.append-requires-clause-parents
 append-requires-clause-parents g c =
     let (added, t, stand, kept) = c.requires.session in
-    let of = subst (IsSessionOf added) (sym c.session.view_is) kept in
-    let x = the_view c.session.inside in
-    let b = subst (λ (q : PlainSession). IsBaseOf c.base-base.result (base_added added q)) (sym c.session.view_is) (c.base-base.ensures added kept t stand) in
-    let world = seen added x t.lawful of in
+    let x = c.args.session.now in
+    let b = c.base-base.ensures added kept t stand in
+    let world = seen added x t.lawful kept in
     let w = world.0 in
     let rows = world.1 in
     let s = world.2 in
     let old = map g.R.Remote.shown c.args.mirrors.now.items in
     let new = map g.R.Remote.shown c.seek.new.mirrors.items in
     let got = subst (λ o. Seeks (payloads_of (base_added added x)) w rows c.args.name.now c.args.parents.now old new c.args.cache.now c.seek.new.cache (Ok o)) c.in-New.is
-    (c.in_ok-id.ensures.seeks (base_added added x) w rows (sees-of c.base-base.result added x w rows b s) (tables-behind c.args.tables.now c.args.bytes.now added x t stand) (c.has_unnamed-unnamed.ensures added x w t of refl s.stand)) in
+    (c.in_ok-id.ensures.seeks (base_added added x) w rows (sees-of c.base-base.result added x w rows b s) (tables-behind c.args.tables.now c.args.bytes.now added x t stand) (c.has_unnamed-unnamed.ensures added x w t kept refl s.stand)) in
     let are = subst (λ l. AllByRecursion (IsViewId w rows) l × AreDistinct l × (length l ≡ length c.args.parents.now)) (sym c.deref.ensures.value) got.parents_are in
     let few = c.requires.few in
     let count = are.2 in
@@ -44,59 +40,49 @@ append-requires-clause-parents g c =
 
 pub returns-in-New-clause-kept : goal.returns-in-New-clause-kept
 returns-in-New-clause-kept g c = λ added t stand kept.
-    let of = subst (IsSessionOf added) (sym c.session.view_is) kept in
-    let x = the_view c.session.inside in
-    let b = subst (λ (q : PlainSession). IsBaseOf c.base-base.result (base_added added q)) (sym c.session.view_is) (c.base-base.ensures added kept t stand) in
-    let world = seen added x t.lawful of in
+    let x = c.args.session.now in
+    let b = c.base-base.ensures added kept t stand in
+    let world = seen added x t.lawful kept in
     let w = world.0 in
     let rows = world.1 in
     let s = world.2 in
     let old = map g.R.Remote.shown c.args.mirrors.now.items in
     let new = map g.R.Remote.shown c.seek.new.mirrors.items in
     let got = subst (λ o. Seeks (payloads_of (base_added added x)) w rows c.args.name.now c.args.parents.now old new c.args.cache.now c.seek.new.cache (Ok o)) c.in-New.is
-    (c.in_ok-id.ensures.seeks (base_added added x) w rows (sees-of c.base-base.result added x w rows b s) (tables-behind c.args.tables.now c.args.bytes.now added x t stand) (c.has_unnamed-unnamed.ensures added x w t of refl s.stand)) in
+    (c.in_ok-id.ensures.seeks (base_added added x) w rows (sees-of c.base-base.result added x w rows b s) (tables-behind c.args.tables.now c.args.bytes.now added x t stand) (c.has_unnamed-unnamed.ensures added x w t kept refl s.stand)) in
     let view = subst (λ l. AllByRecursion (IsViewId w rows) l) (sym c.deref.ensures.value) got.parents_are.0 in
-    kept-more added x t.lawful of w rows s c.args.name.now c.deref.result.now view got.fresh.0 got.fresh.1 c.args.most c.append.result c.append.new.pending
-    (c.append.ensures.appends (map (held_row (with_pending w rows)) rows) s.pending_rows.held (not-own added x t.lawful of w rows s c.args.name.now c.deref.result.now view got.fresh.0 got.fresh.1)) c.append.ensures.unchanged
+    kept-more added x t.lawful kept w rows s c.args.name.now c.deref.result.now view got.fresh.0 got.fresh.1 c.args.most c.append.result c.append.new.pending
+    (c.append.ensures.appends (map (held_row (with_pending w rows)) rows) s.pending_rows.held (not-own added x t.lawful kept w rows s c.args.name.now c.deref.result.now view got.fresh.0 got.fresh.1)) c.append.ensures.unchanged
 
 pub returns-in-Old-clause-adds : goal.returns-in-Old-clause-adds
 returns-in-Old-clause-adds g c = λ added w rows t stand kept sees.
-    let of = subst (IsSessionOf added) (sym c.session.view_is) kept in
-    let x = the_view c.session.inside in
-    let b = subst (λ (q : PlainSession). IsBaseOf c.base-base.result (base_added added q)) (sym c.session.view_is) (c.base-base.ensures added kept t stand) in
-    let s = subst (λ (q : PlainSession). IsSeen added q w rows) (sym c.session.view_is) sees in
+    let x = c.args.session.now in
+    let b = c.base-base.ensures added kept t stand in
     let old = map g.R.Remote.shown c.args.mirrors.now.items in
     let new = map g.R.Remote.shown c.seek.new.mirrors.items in
-    let got = c.in_ok-id.ensures.seeks (base_added added x) w rows (sees-of c.base-base.result added x w rows b s) (tables-behind c.args.tables.now c.args.bytes.now added x t stand) (c.has_unnamed-unnamed.ensures added x w t of refl s.stand) in
+    let got = c.in_ok-id.ensures.seeks (base_added added x) w rows (sees-of c.base-base.result added x w rows b sees) (tables-behind c.args.tables.now c.args.bytes.now added x t stand) (c.has_unnamed-unnamed.ensures added x w t kept refl sees.stand) in
     let is = subst (λ o. Seeks (payloads_of (base_added added x)) w rows c.args.name.now c.args.parents.now old new c.args.cache.now c.seek.new.cache (Ok o)) c.in-Old.is got in
-    subst (λ (q : PlainSession). AddsRow c.args.most q (payloads_of (base_added added q)) w rows c.args.name.now c.args.parents.now old new c.args.cache.now c.seek.new.cache (Ok (Old c.in-Old.id)) q) c.session.view_is
-    (adds-old added x w rows s c.args.name.now c.args.parents.now c.requires.few c.args.most old new c.args.cache.now c.seek.new.cache c.in-Old.id is)
+    adds-old added x w rows sees c.args.name.now c.args.parents.now c.requires.few c.args.most old new c.args.cache.now c.seek.new.cache c.in-Old.id is
 
 pub returns-in_err-id-clause-adds : goal.returns-in_err-id-clause-adds
 returns-in_err-id-clause-adds g c = λ added w rows t stand kept sees.
-    let of = subst (IsSessionOf added) (sym c.session.view_is) kept in
-    let x = the_view c.session.inside in
-    let b = subst (λ (q : PlainSession). IsBaseOf c.base-base.result (base_added added q)) (sym c.session.view_is) (c.base-base.ensures added kept t stand) in
-    let s = subst (λ (q : PlainSession). IsSeen added q w rows) (sym c.session.view_is) sees in
+    let x = c.args.session.now in
+    let b = c.base-base.ensures added kept t stand in
     let old = map g.R.Remote.shown c.args.mirrors.now.items in
     let new = map g.R.Remote.shown c.seek.new.mirrors.items in
-    let got = c.in_err-id.ensures.seeks (base_added added x) w rows (sees-of c.base-base.result added x w rows b s) (tables-behind c.args.tables.now c.args.bytes.now added x t stand) (c.has_unnamed-unnamed.ensures added x w t of refl s.stand) in
+    let got = c.in_err-id.ensures.seeks (base_added added x) w rows (sees-of c.base-base.result added x w rows b sees) (tables-behind c.args.tables.now c.args.bytes.now added x t stand) (c.has_unnamed-unnamed.ensures added x w t kept refl sees.stand) in
     err-adds c.args.most c.args.session.now (payloads_of (base_added added c.args.session.now)) w rows c.args.name.now c.args.parents.now old new c.args.cache.now c.seek.new.cache c.args.session.now c.from_residual.result c.in_err-id.field-0.0 c.from_residual.ensures.1
-    (subst (λ (q : PlainSession). AddsRow c.args.most q (payloads_of (base_added added q)) w rows c.args.name.now c.args.parents.now old new c.args.cache.now c.seek.new.cache (Err c.in_err-id.field-0.0) q) c.session.view_is
-    (adds-refused added x w rows s c.args.name.now c.args.parents.now c.requires.few c.args.most old new c.args.cache.now c.seek.new.cache c.in_err-id.field-0.0 got))
+    (adds-refused added x w rows sees c.args.name.now c.args.parents.now c.requires.few c.args.most old new c.args.cache.now c.seek.new.cache c.in_err-id.field-0.0 got)
 
 pub returns-in-New-clause-adds : goal.returns-in-New-clause-adds
 returns-in-New-clause-adds g c = λ added w rows t stand kept sees.
-    let of = subst (IsSessionOf added) (sym c.session.view_is) kept in
-    let x = the_view c.session.inside in
-    let b = subst (λ (q : PlainSession). IsBaseOf c.base-base.result (base_added added q)) (sym c.session.view_is) (c.base-base.ensures added kept t stand) in
-    let s = subst (λ (q : PlainSession). IsSeen added q w rows) (sym c.session.view_is) sees in
+    let x = c.args.session.now in
+    let b = c.base-base.ensures added kept t stand in
     let old = map g.R.Remote.shown c.args.mirrors.now.items in
     let new = map g.R.Remote.shown c.seek.new.mirrors.items in
-    let got = c.in_ok-id.ensures.seeks (base_added added x) w rows (sees-of c.base-base.result added x w rows b s) (tables-behind c.args.tables.now c.args.bytes.now added x t stand) (c.has_unnamed-unnamed.ensures added x w t of refl s.stand) in
+    let got = c.in_ok-id.ensures.seeks (base_added added x) w rows (sees-of c.base-base.result added x w rows b sees) (tables-behind c.args.tables.now c.args.bytes.now added x t stand) (c.has_unnamed-unnamed.ensures added x w t kept refl sees.stand) in
     let is = subst (λ o. Seeks (payloads_of (base_added added x)) w rows c.args.name.now c.args.parents.now old new c.args.cache.now c.seek.new.cache (Ok o)) c.in-New.is got in
     let view = subst (λ l. AllByRecursion (IsViewId w rows) l) (sym c.deref.ensures.value) is.parents_are.0 in
-    let appends = c.append.ensures.appends (map (held_row (with_pending w rows)) rows) s.pending_rows.held (not-own added x t.lawful of w rows s c.args.name.now c.deref.result.now view is.fresh.0 is.fresh.1) in
-    subst (λ (q : PlainSession). AddsRow c.args.most q (payloads_of (base_added added q)) w rows c.args.name.now c.args.parents.now old new c.args.cache.now c.seek.new.cache c.append.result (record x { pending = c.append.new.pending })) c.session.view_is
-    (row-adds added x w rows s c.args.name.now c.args.parents.now c.requires.few c.args.most old new c.args.cache.now c.seek.new.cache c.in-New.ids is c.append.result c.append.new.pending
-    (subst (λ l. Appends c.args.most x.pending (map (held_row (with_pending w rows)) rows) c.args.name.now l c.append.result c.append.new.pending) c.deref.ensures.value appends) c.append.ensures.unchanged)
+    let appends = c.append.ensures.appends (map (held_row (with_pending w rows)) rows) sees.pending_rows.held (not-own added x t.lawful kept w rows sees c.args.name.now c.deref.result.now view is.fresh.0 is.fresh.1) in
+    row-adds added x w rows sees c.args.name.now c.args.parents.now c.requires.few c.args.most old new c.args.cache.now c.seek.new.cache c.in-New.ids is c.append.result c.append.new.pending
+    (subst (λ l. Appends c.args.most x.pending (map (held_row (with_pending w rows)) rows) c.args.name.now l c.append.result c.append.new.pending) c.deref.ensures.value appends) c.append.ensures.unchanged

@@ -1,6 +1,6 @@
 use Rattle.std.proofs.Common.{map, length, refl, ◌∙◌, arith, [], ◌∷◌, ap, ℕ, zero-le, length-append}
 use Rattle.name_map.specs.Added.{payloads_of}
-use Rattle.dag_store.proofs.Lines.{err-items, finds-memory, finds-more, finds-none, finds-refused, finds-unkept, finds-whole}
+use Rattle.store_plans.proofs.Lines.{err-items, finds-memory, finds-more, finds-none, finds-refused, finds-unkept, finds-whole}
 use Rattle.dag_store.proofs.adding.find_all.Goals as goal
 
 pub returns-in_default-clause-finds : goal.returns-in_default-clause-finds

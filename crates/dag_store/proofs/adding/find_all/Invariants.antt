@@ -3,8 +3,7 @@ use Rattle.id_groups.specs.Name.{Name}
 use Rattle.commit_graph.specs.World.{Row, World}
 use Rattle.name_map.specs.Added.{Placed, payloads_of}
 use Rattle.change_rules.specs.Lazy.{has_lazy}
-use Rattle.dag_store.specs.Looking.{AreTablesBehind, IsSoundCache, Sees}
-use Rattle.dag_store.specs.Adding.{FindsAll}
+use Rattle.store_plans.specs.Looking.{AreTablesBehind, IsSoundCache, Sees, FindsAll}
 use Rattle.dag_store.proofs.adding.find_all.Given as goal
 
 pub record Found (finds : Type 0) (sound : Type 0) (len : Type 0) (count : Type 0) : Type 0 where

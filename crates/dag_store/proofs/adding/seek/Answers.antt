@@ -1,7 +1,7 @@
 use Rattle.std.proofs.Common.{◌∙◌, ℕ, Option, Some, Ok, map, subst}
 use Rattle.high_segments.specs.Views.{flats_in}
 use Rattle.name_map.specs.Added.{payloads_of}
-use Rattle.dag_store.specs.Looking.{Looks}
+use Rattle.store_plans.specs.Looking.{Looks}
 use Rattle.dag_store.proofs.Seeking.{err-seeks, parents-there, same-parents, seek-differs, seek-new, seek-old, seek-parents, seek-unfound, seen-yes, serves}
 use Rattle.dag_store.proofs.adding.seek.Goals as goal
 

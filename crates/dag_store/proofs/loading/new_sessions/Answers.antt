@@ -1,7 +1,7 @@
 use Rattle.std.proofs.Common.{subst, sym, arith}
 use Rattle.dag_store.specs.Kept.{no_session}
-use Rattle.dag_store.specs.Loading.{IsOnNewest}
-use Rattle.dag_store.proofs.Newest.{AllOnNewest, count-more, one-at, session-more}
+use Rattle.store_plans.specs.Sessions.{IsOnNewest}
+use Rattle.store_plans.proofs.Newest.{AllOnNewest, count-more, one-at, session-more}
 use Rattle.dag_store.proofs.loading.new_sessions.Goals as goal
 
 pub sessions-preserved : goal.sessions-preserved

@@ -1,5 +1,5 @@
 use Rattle.std.proofs.Common.{◌≡◌, length}
-use Rattle.dag_store.proofs.Newest.{AllOnNewest}
+use Rattle.store_plans.proofs.Newest.{AllOnNewest}
 use Rattle.dag_store.proofs.loading.new_sessions.Given as goal
 
 abbrev pub invariant-sessions : goal.invariant-sessions

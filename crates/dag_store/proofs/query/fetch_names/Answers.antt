@@ -9,16 +9,15 @@ use Rattle.high_segments.specs.Views.{flats_in}
 use Rattle.name_map.specs.Added.{payloads_of}
 use Rattle.name_map.specs.Map.{IsMapOf}
 use Rattle.change_rules.specs.Tables.{cloned_count}
-use Rattle.payload_tables.specs.Bases.{ArePending, MayView, held_row}
+use Rattle.payload_tables.specs.Bases.{held_row}
 use Rattle.payload_tables.specs.Pending.{segments_from}
 use Rattle.payload_tables.proofs.Rows.{count-rows}
 use Rattle.std.proofs.lemmas.List.{length-map}
-use Rattle.dag_store.specs.Kept.{PlainSession, base_added}
-use Rattle.dag_store.specs.Looking.{Sees}
+use Rattle.store_plans.specs.Sessions.{base_added}
 use Rattle.dag_store.specs.Querying.{Fetches, lazy_ids}
 use Rattle.dag_store.proofs.QueryWorld.{some-seen, may-view, seen-by}
 use Rattle.dag_store.proofs.QueryAnswers.{view-held}
-use Rattle.dag_store.proofs.Asking.{covered}
+use Rattle.store_plans.proofs.Asking.{covered}
 use Rattle.dag_store.proofs.Fetching.{fetches-none, fetches-so, lazy-filtered, none-lazy, served-of, sized-view}
 use Rattle.dag_store.proofs.Leading.{tables-behind}
 use Rattle.dag_store.proofs.query.fetch_names.Goals as goal
@@ -27,7 +26,7 @@ pub returns-then-not-has_unnamed-clause-fetches : goal.returns-then-not-has_unna
 returns-then-not-has_unnamed-clause-fetches g c = λ added w rows t stand of h.
     let x = c.args.session.now in
     let payloads = payloads_of (base_added added x) in
-    let none = sym (c.has_unnamed.ensures added x w t of (ap (λ (q : PlainSession). q.below) c.session.view_is) h.stand) ∙ c.if-not-has_unnamed.true in
+    let none = sym (c.has_unnamed.ensures added x w t of refl h.stand) ∙ c.if-not-has_unnamed.true in
     fetches-none payloads w rows (ids_of c.args.set.now) _ _ c.args.cache.now c.args.cache.now none (none-lazy payloads w none (ids_of c.args.set.now)) refl refl (Ok c.none.result) (ap Ok c.none.ensures)
 
 pub view-view-requires : goal.view-view-requires
@@ -35,8 +34,7 @@ view-view-requires g c =
     let x = c.args.session.now in
     let (added, t, stand, of, view) = c.requires.session in
     let b = c.base-base.ensures added of t stand in
-    let pending = ap (λ (q : PlainSession). q.pending) c.session.view_is in
-    (base_added added x, b, subst (MayView c.base-base.result (base_added added x)) (sym pending) (may-view c.args.tables.now added x t of c.base-base.result b))
+    (base_added added x, b, may-view c.args.tables.now added x t of c.base-base.result b)
 
 pub fetch_among-fetched-requires-clause-held : goal.fetch_among-fetched-requires-clause-held
 fetch_among-fetched-requires-clause-held g c =
@@ -45,9 +43,8 @@ fetch_among-fetched-requires-clause-held g c =
     let (w, rows, h) = some-seen c.args.tables.now added x t of in
     let base = c.base-base.result in
     let b = c.base-base.ensures added of t stand in
-    let pending = ap (λ (q : PlainSession). q.pending) c.session.view_is in
     let seen = seen-by c.args.tables.now added x t of base b w rows h in
-    let segments = c.view-view.ensures.graph (base_added added x) w rows b h.stand (subst (λ p. ArePending w p rows) (sym pending) h.pending_rows) in
+    let segments = c.view-view.ensures.graph (base_added added x) w rows b h.stand h.pending_rows in
     let below = of.below in
     let count = h.stand.count in
     let first = h.pending_rows.first in
@@ -66,16 +63,15 @@ returns-in-Ok-clause-fetches g c = λ added w rows t stand of h.
     let payloads = payloads_of (base_added added x) in
     let base = c.base-base.result in
     let b = c.base-base.ensures added of t stand in
-    let pending = ap (λ (q : PlainSession). q.pending) c.session.view_is in
-    let sees = subst (λ p. Sees base p (base_added added x) w rows) (sym pending) (seen-by c.args.tables.now added x t of base b w rows h) in
-    let some = sym (c.has_unnamed.ensures added x w t of (ap (λ (q : PlainSession). q.below) c.session.view_is) h.stand) ∙ c.if-not-has_unnamed.false in
+    let sees = seen-by c.args.tables.now added x t of base b w rows h in
+    let some = sym (c.has_unnamed.ensures added x w t of refl h.stand) ∙ c.if-not-has_unnamed.false in
     let tables = c.args.tables.now in
     let bytes = c.args.bytes.now in
     let behind = tables-behind tables bytes added x t stand in
-    let own = c.session.inside.pending in
+    let own = c.args.session.now.pending in
     let flats = flats_in c.view-view.result in
-    let segs = c.view-view.ensures.graph front w rows b h.stand (subst (λ p. ArePending w p rows) (sym pending) h.pending_rows) in
-    let parts = c.view-view.ensures.flats front w rows b h.stand (subst (λ p. ArePending w p rows) (sym pending) h.pending_rows) in
+    let segs = c.view-view.ensures.graph front w rows b h.stand h.pending_rows in
+    let parts = c.view-view.ensures.flats front w rows b h.stand h.pending_rows in
     let first = flat_segments_of 0 (parent_ids same_name w w.master) in
     let second = flat_segments_of (other_id 0) (parent_ids same_name w w.others) in
     let third = segments_from (other_id (length w.others)) (map (held_row (with_pending w rows)) rows) in
@@ -98,16 +94,15 @@ returns-in-Err-clause-fetches g c = λ added w rows t stand of h.
     let payloads = payloads_of (base_added added x) in
     let base = c.base-base.result in
     let b = c.base-base.ensures added of t stand in
-    let pending = ap (λ (q : PlainSession). q.pending) c.session.view_is in
-    let sees = subst (λ p. Sees base p (base_added added x) w rows) (sym pending) (seen-by c.args.tables.now added x t of base b w rows h) in
-    let some = sym (c.has_unnamed.ensures added x w t of (ap (λ (q : PlainSession). q.below) c.session.view_is) h.stand) ∙ c.if-not-has_unnamed.false in
+    let sees = seen-by c.args.tables.now added x t of base b w rows h in
+    let some = sym (c.has_unnamed.ensures added x w t of refl h.stand) ∙ c.if-not-has_unnamed.false in
     let tables = c.args.tables.now in
     let bytes = c.args.bytes.now in
     let behind = tables-behind tables bytes added x t stand in
-    let own = c.session.inside.pending in
+    let own = c.args.session.now.pending in
     let flats = flats_in c.view-view.result in
-    let segs = c.view-view.ensures.graph front w rows b h.stand (subst (λ p. ArePending w p rows) (sym pending) h.pending_rows) in
-    let parts = c.view-view.ensures.flats front w rows b h.stand (subst (λ p. ArePending w p rows) (sym pending) h.pending_rows) in
+    let segs = c.view-view.ensures.graph front w rows b h.stand h.pending_rows in
+    let parts = c.view-view.ensures.flats front w rows b h.stand h.pending_rows in
     let first = flat_segments_of 0 (parent_ids same_name w w.master) in
     let second = flat_segments_of (other_id 0) (parent_ids same_name w w.others) in
     let third = segments_from (other_id (length w.others)) (map (held_row (with_pending w rows)) rows) in

@@ -3,7 +3,7 @@ use Rattle.std.proofs.lemmas.Option.{get_or_from_slice_get}
 use Rattle.set_expr.specs.Expr.{commits_in}
 use Rattle.set_expr.specs.Whole.{tree_of}
 use Rattle.name_map.specs.Added.{payloads_of}
-use Rattle.dag_store.proofs.Lines.{err-items, finds-more, finds-none, finds-refused, finds-unkept, finds-whole}
+use Rattle.store_plans.proofs.Lines.{err-items, finds-more, finds-none, finds-refused, finds-unkept, finds-whole}
 use Rattle.dag_store.proofs.query.find_names.Goals as goal
 
 pub names-init : goal.names-init

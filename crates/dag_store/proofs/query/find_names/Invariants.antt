@@ -5,8 +5,7 @@ use Rattle.name_map.specs.Added.{Placed, payloads_of}
 use Rattle.change_rules.specs.Lazy.{has_lazy}
 use Rattle.set_expr.specs.Expr.{commits_in}
 use Rattle.set_expr.specs.Whole.{tree_of}
-use Rattle.dag_store.specs.Looking.{AreTablesBehind, IsSoundCache, Sees}
-use Rattle.dag_store.specs.Adding.{FindsAll}
+use Rattle.store_plans.specs.Looking.{AreTablesBehind, IsSoundCache, Sees, FindsAll}
 use Rattle.dag_store.proofs.query.find_names.Given as goal
 
 pub record Found (finds : Type 0) (sound : Type 0) (len : Type 0) : Type 0 where

@@ -1,4 +1,4 @@
-use Rattle.std.proofs.Common.{ℕ, sym, ap, subst, ◌∙◌, ◌++◌, length, map}
+use Rattle.std.proofs.Common.{ℕ, ap, subst, ◌∙◌, ◌++◌, length, map}
 use Rattle.id_groups.specs.Lists.{IsIn}
 use Rattle.id_groups.specs.Id.{other_id}
 use Rattle.id_groups.specs.Name.{same_name}
@@ -12,14 +12,13 @@ use Rattle.span_set.proofs.Counts.{ids-descending}
 use Rattle.high_segments.specs.Views.{flats_in}
 use Rattle.high_segments.proofs.Viewing.{lawful_flats}
 use Rattle.name_map.specs.Added.{payloads_of}
-use Rattle.payload_tables.specs.Bases.{ArePending, MayView, held_row}
+use Rattle.payload_tables.specs.Bases.{held_row}
 use Rattle.payload_tables.specs.Pending.{segments_from}
-use Rattle.dag_store.specs.Kept.{PlainSession, base_added}
-use Rattle.dag_store.specs.Looking.{Sees}
+use Rattle.store_plans.specs.Sessions.{base_added}
 use Rattle.dag_store.proofs.QueryWorld.{some-seen, may-view, seen-by}
 use Rattle.dag_store.proofs.QueryAnswers.{err-evaluates, evaluated, found-held, held-view, unanswered}
 use Rattle.dag_store.proofs.Bounding.{few-looks, ends-whole}
-use Rattle.dag_store.proofs.Lines.{found-there}
+use Rattle.store_plans.proofs.Lines.{found-there}
 use Rattle.dag_store.proofs.Leading.{tables-behind}
 use Rattle.dag_store.proofs.query.members.Goals as goal
 
@@ -28,9 +27,8 @@ returns-in_err-ids-clause-answer g c = λ added w rows t stand of h.
     let x = c.args.session.now in
     let base = c.base-base.result in
     let b = c.base-base.ensures added of t stand in
-    let pending = ap (λ (q : PlainSession). q.pending) c.session.view_is in
-    let sees = subst (λ p. Sees base p (base_added added x) w rows) (sym pending) (seen-by c.args.tables.now added x t of base b w rows h) in
-    let unnamed = c.has_unnamed-unnamed.ensures added x w t of (ap (λ (q : PlainSession). q.below) c.session.view_is) h.stand in
+    let sees = seen-by c.args.tables.now added x t of base b w rows h in
+    let unnamed = c.has_unnamed-unnamed.ensures added x w t of refl h.stand in
     err-evaluates (payloads_of (base_added added x)) w rows (tree_of c.args.expr.now) _ _ c.args.cache.now c.find_names.new.cache c.from_residual.result c.in_err-ids.field-0.0 c.from_residual.ensures.1
     (c.in_err-ids.ensures.finds (base_added added x) w rows sees (tables-behind c.args.tables.now c.args.bytes.now added x t stand) unnamed)
 
@@ -39,16 +37,14 @@ find_names-requires-clause-view g c =
     let x = c.args.session.now in
     let (added, t, stand, of) = c.requires.session in
     let b = c.base-base.ensures added of t stand in
-    let pending = ap (λ (q : PlainSession). q.pending) c.session.view_is in
-    (base_added added x, b, subst (MayView c.base-base.result (base_added added x)) (sym pending) (may-view c.args.tables.now added x t of c.base-base.result b))
+    (base_added added x, b, may-view c.args.tables.now added x t of c.base-base.result b)
 
 pub view-requires : goal.view-requires
 view-requires g c =
     let x = c.args.session.now in
     let (added, t, stand, of) = c.requires.session in
     let b = c.base-base.ensures added of t stand in
-    let pending = ap (λ (q : PlainSession). q.pending) c.session.view_is in
-    (base_added added x, b, subst (MayView c.base-base.result (base_added added x)) (sym pending) (may-view c.args.tables.now added x t of c.base-base.result b))
+    (base_added added x, b, may-view c.args.tables.now added x t of c.base-base.result b)
 
 pub eval-requires-clause-count : goal.eval-requires-clause-count
 eval-requires-clause-count g c =
@@ -57,9 +53,8 @@ eval-requires-clause-count g c =
     let (w, rows, h) = some-seen c.args.tables.now added x t of in
     let base = c.base-base.result in
     let b = c.base-base.ensures added of t stand in
-    let pending = ap (λ (q : PlainSession). q.pending) c.session.view_is in
-    let sees = subst (λ p. Sees base p (base_added added x) w rows) (sym pending) (seen-by c.args.tables.now added x t of base b w rows h) in
-    let unnamed = c.has_unnamed-unnamed.ensures added x w t of (ap (λ (q : PlainSession). q.below) c.session.view_is) h.stand in
+    let sees = seen-by c.args.tables.now added x t of base b w rows h in
+    let unnamed = c.has_unnamed-unnamed.ensures added x w t of refl h.stand in
     let ids = c.in_ok-ids.ensures.finds (base_added added x) w rows sees (tables-behind c.args.tables.now c.args.bytes.now added x t stand) unnamed in
     ap (length {A = ℕ}) c.deref.ensures.value ∙ ids.count
 
@@ -70,12 +65,10 @@ eval-requires-clause-held g c =
     let (w, rows, h) = some-seen c.args.tables.now added x t of in
     let base = c.base-base.result in
     let b = c.base-base.ensures added of t stand in
-    let pending = ap (λ (q : PlainSession). q.pending) c.session.view_is in
     let seen = seen-by c.args.tables.now added x t of base b w rows h in
-    let sees = subst (λ p. Sees base p (base_added added x) w rows) (sym pending) seen in
-    let unnamed = c.has_unnamed-unnamed.ensures added x w t of (ap (λ (q : PlainSession). q.below) c.session.view_is) h.stand in
-    let ids = c.in_ok-ids.ensures.finds (base_added added x) w rows sees (tables-behind c.args.tables.now c.args.bytes.now added x t stand) unnamed in
-    let segments = c.view.ensures.graph (base_added added x) w rows b h.stand (subst (λ p. ArePending w p rows) (sym pending) h.pending_rows) in
+    let unnamed = c.has_unnamed-unnamed.ensures added x w t of refl h.stand in
+    let ids = c.in_ok-ids.ensures.finds (base_added added x) w rows seen (tables-behind c.args.tables.now c.args.bytes.now added x t stand) unnamed in
+    let segments = c.view.ensures.graph (base_added added x) w rows b h.stand h.pending_rows in
     λ y i. found-held base x.pending (base_added added x) w rows seen (flats_in c.view.result) segments c.in_ok-ids.ids.items ids.view y (subst (IsIn y) c.deref.ensures.value i)
 
 pub returns-in_default-clause-answer : goal.returns-in_default-clause-answer
@@ -83,9 +76,8 @@ returns-in_default-clause-answer g c = λ added w rows t stand of h.
     let x = c.args.session.now in
     let base = c.base-base.result in
     let b = c.base-base.ensures added of t stand in
-    let pending = ap (λ (q : PlainSession). q.pending) c.session.view_is in
-    let sees = subst (λ p. Sees base p (base_added added x) w rows) (sym pending) (seen-by c.args.tables.now added x t of base b w rows h) in
-    let unnamed = c.has_unnamed-unnamed.ensures added x w t of (ap (λ (q : PlainSession). q.below) c.session.view_is) h.stand in
+    let sees = seen-by c.args.tables.now added x t of base b w rows h in
+    let unnamed = c.has_unnamed-unnamed.ensures added x w t of refl h.stand in
     unanswered (payloads_of (base_added added x)) w rows (tree_of c.args.expr.now) _ _ c.args.cache.now c.find_names.new.cache c.in_ok-ids.ids.items
     (c.in_ok-ids.ensures.finds (base_added added x) w rows sees (tables-behind c.args.tables.now c.args.bytes.now added x t stand) unnamed)
 
@@ -96,12 +88,10 @@ returns-clause-answer g c = λ added w rows t stand of h.
     let base = c.base-base.result in
     let flats = flats_in c.view.result in
     let b = c.base-base.ensures added of t stand in
-    let pending = ap (λ (q : PlainSession). q.pending) c.session.view_is in
     let seen = seen-by c.args.tables.now added x t of base b w rows h in
-    let sees = subst (λ p. Sees base p (base_added added x) w rows) (sym pending) seen in
-    let unnamed = c.has_unnamed-unnamed.ensures added x w t of (ap (λ (q : PlainSession). q.below) c.session.view_is) h.stand in
-    let ids = c.in_ok-ids.ensures.finds (base_added added x) w rows sees (tables-behind c.args.tables.now c.args.bytes.now added x t stand) unnamed in
-    let segments = c.view.ensures.graph (base_added added x) w rows b h.stand (subst (λ p. ArePending w p rows) (sym pending) h.pending_rows) in
+    let unnamed = c.has_unnamed-unnamed.ensures added x w t of refl h.stand in
+    let ids = c.in_ok-ids.ensures.finds (base_added added x) w rows seen (tables-behind c.args.tables.now c.args.bytes.now added x t stand) unnamed in
+    let segments = c.view.ensures.graph (base_added added x) w rows b h.stand h.pending_rows in
     let same = c.set.ensures in
     record {
       tried = ids.tried;
@@ -117,10 +107,8 @@ returns-clause-answer g c = λ added w rows t stand of h.
 pub returns-clause-few : goal.returns-clause-few
 returns-clause-few g c = λ added w rows name t stand of h tree.
     let x = c.args.session.now in
-    let base = c.base-base.result in
     let b = c.base-base.ensures added of t stand in
-    let pending = ap (λ (q : PlainSession). q.pending) c.session.view_is in
-    let flats = c.view.ensures.flats (base_added added x) w rows b h.stand (subst (λ p. ArePending w p rows) (sym pending) h.pending_rows) in
+    let flats = c.view.ensures.flats (base_added added x) w rows b h.stand h.pending_rows in
     few-looks w rows h.pending_rows.view c.in-Ok.answer.set (flats_in c.view.result) flats c.in-Ok.answer.steps (c.in-Ok.ensures.few name tree)
 
 pub returns-clause-one : goal.returns-clause-one
@@ -128,12 +116,11 @@ returns-clause-one g c = λ added w rows name t stand of h tree ends serving.
     let x = c.args.session.now in
     let base = c.base-base.result in
     let b = c.base-base.ensures added of t stand in
-    let pending = ap (λ (q : PlainSession). q.pending) c.session.view_is in
     let v = with_pending w rows in
-    let sees = subst (λ p. Sees base p (base_added added x) w rows) (sym pending) (seen-by c.args.tables.now added x t of base b w rows h) in
-    let unnamed = c.has_unnamed-unnamed.ensures added x w t of (ap (λ (q : PlainSession). q.below) c.session.view_is) h.stand in
+    let sees = seen-by c.args.tables.now added x t of base b w rows h in
+    let unnamed = c.has_unnamed-unnamed.ensures added x w t of refl h.stand in
     let ids = c.in_ok-ids.ensures.finds (base_added added x) w rows sees (tables-behind c.args.tables.now c.args.bytes.now added x t stand) unnamed in
-    let flats = c.view.ensures.flats (base_added added x) w rows b h.stand (subst (λ p. ArePending w p rows) (sym pending) h.pending_rows) in
+    let flats = c.view.ensures.flats (base_added added x) w rows b h.stand h.pending_rows in
     c.in-Ok.ensures.one name (id_in same_name v name) tree (c.deref.ensures.value ∙ ids.right serving ∙ ap (λ e. map (id_in same_name v) (commits_in e)) tree)
     (ends-whole base (base_added added x) b w h.stand c.view.result (segments_from (other_id (length w.others)) (map (held_row v) rows)) flats
     (λ level id. c.view.ensures.endings (base_added added x) (base_added added x ++ b.behind) b b.tables_of b.stand level id)

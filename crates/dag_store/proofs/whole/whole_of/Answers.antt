@@ -1,5 +1,5 @@
 use Rattle.std.proofs.Common.{sym, ◌∙◌}
-use Rattle.dag_store.proofs.NewestBase.{none-few}
+use Rattle.store_plans.proofs.NewestBase.{none-few}
 use Rattle.dag_store.proofs.WholeLemmas.{none-first}
 use Rattle.dag_store.proofs.whole.whole_of.Goals as goal
 

@@ -2,7 +2,8 @@ use Rattle.std.proofs.Common.{◌≡◌, ◌<◌, ◌^◌, ◌∙◌, sym, ap, s
 use Rattle.name_map.specs.Added.{AllStand}
 use Rattle.commit_graph.proofs.Places.{name-of-bytes}
 use Rattle.id_groups.specs.Name.{IsName}
-use Rattle.dag_store.specs.Kept.{PlainStore, IsKept, IsSessionOf}
+use Rattle.dag_store.specs.Kept.{PlainStore, IsKept}
+use Rattle.store_plans.specs.Sessions.{IsSessionOf}
 use Rattle.dag_store.specs.Steps.{ChangesOnly, KeepsAll}
 use Rattle.dag_store.proofs.Standing.{session-there, kept-with}
 use Rattle.dag_store.proofs.AddLeading.{add-asks-at, add-leads-at, on-err-map, on-ok-any, set-back}

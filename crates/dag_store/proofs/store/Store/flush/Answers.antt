@@ -6,7 +6,8 @@ use Rattle.step_rules.specs.Reply.{Flushed as IsFlushed}
 use Rattle.step_rules.specs.State.{Stored}
 use Rattle.step_rules.specs.Verb.{Flush}
 use Rattle.step_rules.specs.Worlds.{flush_of}
-use Rattle.dag_store.specs.Kept.{PlainStore, IsKept, IsSessionOf}
+use Rattle.dag_store.specs.Kept.{PlainStore, IsKept}
+use Rattle.store_plans.specs.Sessions.{IsSessionOf}
 use Rattle.dag_store.specs.Flushes.{LeavesStore}
 use Rattle.dag_store.proofs.Standing.{session-there}
 use Rattle.dag_store.proofs.FlushStored.{over-of}

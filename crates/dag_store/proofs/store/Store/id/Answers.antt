@@ -1,6 +1,7 @@
 use Rattle.std.proofs.Common.{◌<◌, ◌^◌, sym, subst}
 use Rattle.name_map.specs.Added.{AllStand}
-use Rattle.dag_store.specs.Kept.{IsKept, IsSessionOf}
+use Rattle.dag_store.specs.Kept.{IsKept}
+use Rattle.store_plans.specs.Sessions.{IsSessionOf}
 use Rattle.dag_store.proofs.Standing.{session-there}
 use Rattle.dag_store.proofs.Leading.{id-asks-at, id-leads-at}
 use Rattle.dag_store.proofs.store.Store.id.Goals as goal

@@ -6,7 +6,8 @@ use Rattle.name_map.specs.Added.{AllStand}
 use Rattle.remote_rules.specs.CloneData.{KnownName}
 use Rattle.payload_tables.specs.Bases.{IsBaseOf}
 use Rattle.step_rules.specs.State.{Stored, base_of, pending_of}
-use Rattle.dag_store.specs.Kept.{PlainSession, PlainStore, IsSessionOf, session_at, base_added, IsKept}
+use Rattle.store_plans.specs.Sessions.{PlainSession, IsSessionOf, base_added}
+use Rattle.dag_store.specs.Kept.{PlainStore, session_at, IsKept}
 use Rattle.dag_store.specs.Stands.{Stands}
 use Rattle.dag_store.specs.Names.{fetched_name, named_front}
 use Rattle.dag_store.specs.Steps.{AreIdsOf, known_name}
@@ -37,7 +38,7 @@ returns c =
     let of = subst (IsSessionOf k.added) (sym x) (k.each s c.requires) in
     let base = c.base.result in
     let b = subst (λ (q : PlainSession). IsBaseOf base (base_added k.added q)) x (c.base.ensures k.added of k.tables_of stand) in
-    let pending = ap (λ (q : PlainSession). q.pending) (c.session.view_is ∙ x) in
+    let pending = ap (λ (q : PlainSession). q.pending) x in
     subst (λ (q : PlainStore). (began : ℕ) (st : Stored) (names : List Name) → Stands began q st → AreIdsOf st s (ids_of c.args.found.now.answer.set) (map known_name fetched) names → c.over.result ≡ names) c.self.view_is
     (λ began st names h are.
     let sees = session-sees i.log tables items i.limits k began st h s c.requires base b in

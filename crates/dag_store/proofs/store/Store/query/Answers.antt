@@ -2,7 +2,8 @@ use Rattle.std.proofs.Common.{◌<◌, ◌^◌, ◌∙◌, [], sym, subst}
 use Rattle.name_map.specs.Added.{AllStand}
 use Rattle.set_expr.specs.Whole.{tree_of}
 use Rattle.step_rules.specs.State.{base_of, pending_of}
-use Rattle.dag_store.specs.Kept.{IsKept, IsSessionOf}
+use Rattle.dag_store.specs.Kept.{IsKept}
+use Rattle.store_plans.specs.Sessions.{IsSessionOf}
 use Rattle.dag_store.proofs.Standing.{session-there}
 use Rattle.dag_store.proofs.QueryLeading.{asks-found-at, asks-refused-at, few-as, found-leads-at, refused-leads-at, right-at, seen-at, view-ids}
 use Rattle.dag_store.proofs.store.Store.query.Goals as goal

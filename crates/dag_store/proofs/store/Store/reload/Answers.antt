@@ -1,6 +1,6 @@
 use Rattle.std.proofs.Common.{◌<◌, ◌^◌, set, sym, subst}
-use Rattle.payload_tables.specs.Pending.{HoldsRows}
-use Rattle.dag_store.specs.Kept.{PlainSession, IsKept, IsSessionOf}
+use Rattle.store_plans.specs.Sessions.{IsSessionOf}
+use Rattle.dag_store.specs.Kept.{IsKept}
 use Rattle.dag_store.proofs.Standing.{session-there}
 use Rattle.dag_store.proofs.FlushStored.{newest-kept, over-of}
 use Rattle.dag_store.proofs.FlushLeading.{reload-asks-at, reload-asks-refused-at, reload-leads-at, reload-refused-at}
@@ -41,7 +41,7 @@ len-left-requires g c =
     let k = subst (λ t. IsKept i.log t i.sessions.items i.limits) (sym c.deref.ensures) c.self.invariant in
     let there = session-there items c.args.s c.from-at.result c.index.result.now _ c.requires k.count c.from-at.ensures c.index.ensures in
     let good = c.in_ok-next.ensures.session k.added (over-of i.log tables items i.limits k) (subst (IsSessionOf k.added) (sym there) (k.each c.args.s c.requires)) in
-    (good.0.pending.rows, subst (λ (y : PlainSession). HoldsRows y.pending good.0.pending.rows) (sym c.next.view_is) good.0.pending.held)
+    (good.0.pending.rows, good.0.pending.held)
 
 pub invariant_of-self-2 : goal.invariant_of-self-2
 invariant_of-self-2 g c =
@@ -65,7 +65,7 @@ returns-clause-step g c =
     let over = over-of i.log tables items i.limits k in
     let of = subst (IsSessionOf k.added) (sym there) (k.each c.args.s c.requires) in
     reload-leads-at i.log tables items i.limits k c.args.s c.requires i.names c.reloaded.new.cache _ _ c.args.self.now c.self.view_is c.index.result.now there c.reloaded.ensures.sound c.in_ok-next.next c.len-left.result c.from-at.result c.from-at.ensures
-    (c.in_ok-next.ensures.session k.added over of) (λ rows held. c.len-left.ensures.len rows (subst (λ (y : PlainSession). HoldsRows y.pending rows) (sym c.next.view_is) held))
+    (c.in_ok-next.ensures.session k.added over of) (λ rows held. c.len-left.ensures.len rows held)
     (λ began st o. c.in_ok-next.ensures.step began c.args.s k.added st i.limits over of o)
 
 pub returns-clause-asks : goal.returns-clause-asks

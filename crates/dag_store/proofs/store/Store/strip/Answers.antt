@@ -6,7 +6,8 @@ use Rattle.step_rules.specs.Reply.{Stripped as IsStripped}
 use Rattle.step_rules.specs.State.{Stored}
 use Rattle.step_rules.specs.Verb.{Strip}
 use Rattle.dag_store.specs.Kept.{PlainStore, IsKept}
-use Rattle.dag_store.specs.Flushes.{LeavesStore, strip_of}
+use Rattle.dag_store.specs.Flushes.{LeavesStore}
+use Rattle.store_plans.specs.Changes.{strip_of}
 use Rattle.dag_store.proofs.Standing.{session-there}
 use Rattle.dag_store.proofs.FlushStored.{over-of}
 use Rattle.dag_store.proofs.ChangeSteps.{ends-refused}

@@ -2,9 +2,10 @@ use Rattle.std.proofs.Common.{◌<◌, ◌^◌, sym, subst, IfSome}
 use Rattle.gated_log.specs.Held.{Held}
 use Rattle.gated_log.specs.Holding.{IsOnDisk}
 use Rattle.payload_tables.specs.Kept.{PlainTables}
-use Rattle.dag_store.specs.Kept.{PlainSession, PlainStore, IsKept, IsSessionOf}
+use Rattle.store_plans.specs.Sessions.{PlainSession, IsSessionOf}
+use Rattle.dag_store.specs.Kept.{PlainStore, IsKept}
 use Rattle.dag_store.specs.Flushes.{LeavesStore}
-use Rattle.dag_store.specs.Changes.{IsOn}
+use Rattle.store_plans.specs.Changes.{IsOn}
 use Rattle.dag_store.proofs.Standing.{session-there}
 use Rattle.dag_store.proofs.FlushStored.{over-of, on-of}
 use Rattle.dag_store.proofs.FlushDisk.{leaves-ends, leaves-room, made-of}

@@ -5,7 +5,7 @@ use Rattle.dag_store.specs.Kept.{PlainStore, IsKept}
 use Rattle.dag_store.specs.Stands.{Stands}
 use Rattle.dag_store.specs.Whole.{IsWhole}
 use Rattle.name_map.specs.Added.{payloads_of}
-use Rattle.dag_store.proofs.HeadTests.{world-of}
+use Rattle.store_plans.proofs.HeadTests.{world-of}
 use Rattle.dag_store.proofs.Sees.{added-are, all-hold}
 use Rattle.dag_store.proofs.WholeLemmas.{some-whole}
 use Rattle.dag_store.proofs.store.Store.whole.Goals as goal

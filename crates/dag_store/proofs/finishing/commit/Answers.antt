@@ -1,0 +1,25 @@
+use Rattle.std.proofs.Common.{List, ℕ, [], ◌∷◌, ◌++◌, ◌+◌, length, refl, ap, subst, ◌∙◌}
+use Rattle.disk_trait.specs.Calls.{Goes}
+use Rattle.gated_log.specs.Held.{log_bytes}
+use Rattle.gated_log.specs.Holding.{KeepsOldOrNew}
+use Rattle.gated_log.specs.Log.{StandsFrom}
+use Rattle.dag_store.proofs.FlushDisk.{leaves-stored}
+use Rattle.dag_store.proofs.finishing.commit.Goals as goal
+
+pub invariant_of-store-in-Done : goal.invariant_of-store-in-Done
+invariant_of-store-in-Done g c =
+    let a = c.in-Done.ensures.answers in
+    let sent = c.bytes.ensures in
+    c.requires.stored c.in-Done.log c.if-change.false (record {
+      payloads = a.1 ∙ ap (λ (p : List ℕ). c.args.log.payloads ++ p ∷ []) sent;
+      limit = a.3;
+      place = subst (λ (p : List ℕ). StandsFrom (length (log_bytes c.args.log) + 8) p (log_bytes c.in-Done.log)) sent (c.in-Done.ensures.place c.in-Done.log c.in-Done.clock refl);
+    })
+
+pub returns-in-Done-clause-leaves : goal.returns-in-Done-clause-leaves
+returns-in-Done-clause-leaves g c =
+    let a = c.in-Done.ensures.answers in
+    let sent = c.bytes.ensures in
+    leaves-stored (record { log = c.args.log; sessions = c.args.sessions.items; limits = c.args.limits; cache = c.args.names }) (record { log = c.in-Done.log; sessions = c.args.sessions.items; limits = c.args.limits; cache = c.args.names }) c.args.change.payload c.in-Done.clock
+    (g.D.Disk.told c.args.disk.now) (g.D.Disk.told c.commit.new.disk) c.requires.limit (a.1 ∙ ap (λ (p : List ℕ). c.args.log.payloads ++ p ∷ []) sent) a.3
+    (subst (λ (p : List ℕ). Goes (KeepsOldOrNew c.args.log p) (g.D.Disk.told c.args.disk.now) (g.D.Disk.told c.commit.new.disk)) sent c.in-Done.ensures.moments) (c.in-Done.ensures.done c.in-Done.log c.in-Done.clock refl)

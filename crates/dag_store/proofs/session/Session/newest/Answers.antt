@@ -1,5 +1,0 @@
-use Rattle.std.proofs.Common.{◌∙◌}
-use Rattle.dag_store.proofs.session.Session.newest.Goals as goal
-
-pub with_others-requires-clause-others : goal.with_others-requires-clause-others
-with_others-requires-clause-others c = c.in_ok-others.ensures ∙ c.others.ensures

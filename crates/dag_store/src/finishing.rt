@@ -1,0 +1,118 @@
+//! What was prepared for a session, stored.
+
+ghost use Rattle.std.specs.Prelude.{◌≡◌, ◌<◌, ◌≤◌, true, false, Ok, IfSome};
+ghost use Rattle.outside.specs.Counts.{Rose};
+ghost use Rattle.disk_trait.specs.Calls.{Goes};
+ghost use Rattle.gated_log.specs.Held.{Held, longer};
+ghost use Rattle.gated_log.specs.Holding.{IsOnDisk};
+ghost use Rattle.payload_tables.specs.Kept.{PlainTables};
+ghost use Rattle.dag_store.specs.Kept.{IsKept};
+ghost use Rattle.dag_store.specs.Flushes.{FlushLeaves, IsQuiet};
+ghost use Rattle.dag_store.specs.Finishes.{FinishesAs, Finishes, IsBehind, IsToFinish, payload_in};
+
+use crate::replies::{Counts, Flushed};
+use crate::store::Store;
+use disk_trait::Disk;
+use flush_rebuild::{Change, Limits, Tables};
+use gated_log::{Committed, Log};
+use lazy_names::LazyNames;
+use std::alloc::Global;
+use step_rules::Refusal;
+use store_plans::{Next, Session};
+
+/// Stores what was prepared, where something changes, for sessions as they are then.
+fn commit<D: Disk>(
+    disk: &mut D,
+    alloc: Global,
+    log: Log,
+    tables: Box<Tables>,
+    sessions: Vec<Session>,
+    limits: Limits,
+    names: LazyNames,
+    change: Change,
+) -> Flushed
+    requires begins { IfSome (D.told disk.old) (IsOnDisk log) }
+    requires limit { log.limit ≡ limits.log }
+    requires same { change.same ≡ true → IsKept log tables.value sessions.items limits }
+    requires room { change.same ≡ false → (longer log change.payload ≤ log.limit) × (longer log change.payload ≤ log.room) }
+    requires stored { (new : Held) → change.same ≡ false → IsBehind log change.payload new → IsKept new tables.value sessions.items limits }
+    ensures finishes { Finishes log sessions.items limits names change result }
+    ensures leaves { Goes (FlushLeaves (record { log = log; sessions = sessions.items; limits = limits; cache = names }) change.payload result) (D.told disk.old) (D.told disk.new) }
+    ensures quiet { change.same ≡ true → disk.new ≡ disk.old }
+    ensures later { D.faults disk.old ≤ D.faults disk.new }
+    ensures cause { (fault : _) → result ≡ Flushed.Disk fault → Rose (D.faults disk.old) (D.faults disk.new) }
+{
+    let counts = Counts {
+        master: change.master,
+        others: change.others,
+        pending: 0,
+    };
+    if change.same {
+        let store = Store {
+            alloc,
+            log,
+            tables,
+            sessions,
+            limits,
+            names,
+        };
+        return Flushed::Done(store, counts, None);
+    }
+    match log.commit(disk, change.payload.bytes()) {
+        Committed::Done(log, clock) => {
+            let store = Store {
+                alloc,
+                log,
+                tables,
+                sessions,
+                limits,
+                names,
+            };
+            Flushed::Done(store, counts, Some(clock))
+        }
+        Committed::Disk(fault) => Flushed::Disk(fault),
+        Committed::Full(_log, _limit) => unreachable!(),
+        Committed::Memory(_log) => unreachable!(),
+    }
+}
+
+/// Stores what was prepared for the session in this place, where something changes; or hands the store back with the refusal.
+pub(crate) fn finish<D: Disk>(
+    disk: &mut D,
+    alloc: Global,
+    log: Log,
+    tables: Box<Tables>,
+    sessions: Vec<Session>,
+    limits: Limits,
+    names: LazyNames,
+    at: usize,
+    next: Result<Next, Refusal>,
+) -> Flushed
+    requires begins { IfSome (D.told disk.old) (IsOnDisk log) }
+    requires made { (old : Held) × (before : PlainTables) × IsToFinish old log before tables.value sessions.items limits at next }
+    ensures ends { FinishesAs log sessions.items limits names at next result }
+    ensures leaves { Goes (FlushLeaves (record { log = log; sessions = sessions.items; limits = limits; cache = names }) (payload_in next) result) (D.told disk.old) (D.told disk.new) }
+    ensures quiet { IsQuiet result → disk.new ≡ disk.old }
+    ensures later { D.faults disk.old ≤ D.faults disk.new }
+    ensures cause { (fault : _) → result ≡ Flushed.Disk fault → Rose (D.faults disk.old) (D.faults disk.new) }
+{
+    let mut sessions = sessions;
+    match next {
+        Ok(ready) => {
+            let Next { change, session } = ready;
+            sessions[at] = session;
+            commit(disk, alloc, log, tables, sessions, limits, names, change)
+        }
+        Err(refusal) => {
+            let store = Store {
+                alloc,
+                log,
+                tables,
+                sessions,
+                limits,
+                names,
+            };
+            Flushed::Refused(store, refusal)
+        }
+    }
+}

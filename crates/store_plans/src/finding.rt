@@ -1,0 +1,162 @@
+//! Looking up in the newest base what a flush and a reload name.
+
+ghost use Rattle.std.specs.Prelude.{◌≡◌, ◌<◌, ◌^◌, ℕ, List, [], None, IfOk, length, map, slice_index_or};
+ghost use Rattle.name_map.specs.Added.{Placed, payloads_of};
+ghost use Rattle.id_groups.specs.Name.{Name as NameBytes};
+ghost use Rattle.commit_graph.specs.World.{Row, World, names_of};
+ghost use Rattle.change_rules.specs.Lazy.{has_lazy};
+ghost use Rattle.payload_tables.specs.Bases.{IsBaseOf, MayView};
+ghost use Rattle.payload_tables.specs.Pending.{HeldRow, HoldsRows};
+ghost use Rattle.store_plans.specs.Sessions.{IsSessionOf};
+ghost use Rattle.store_plans.specs.Looking.{AreTablesBehind, IsSoundCache, Sees, items_of};
+ghost use Rattle.store_plans.specs.Changes.{HaveNames, FindsHead, FindsHeads, FindsRows, IsRowOf, IsTaken};
+
+use crate::lookup::{find, find_seen};
+use crate::session::Session;
+use flush_rebuild::{BaseRef, PendingRows, Tables};
+use id_groups::{Id, Name};
+use lazy_names::LazyNames;
+use remote_trait::Remote;
+use std::alloc::Global;
+use step_rules::Refusal;
+
+/// The id of a head in the newest base, where `unnamed` says whether that has an id without a stored name; none where it is pending
+/// and not stored. `none` are no rows behind that base. A head that is neither stored nor pending is asked of a mirror there, and
+/// `Unknown` where it is nowhere.
+fn find_head<R: Remote>(
+    alloc: Global,
+    bytes: &[u8],
+    tables: &Tables,
+    newest: &BaseRef<'_>,
+    unnamed: bool,
+    none: &PendingRows,
+    session: &Session,
+    cache: &mut LazyNames,
+    mirrors: &mut Vec<R>,
+    head: &Name,
+) -> Result<Option<Id>, Refusal>
+    requires mirrors { length mirrors.old.items < 2 ^ 32 }
+    requires base { (added : List Placed) × IsBaseOf newest.now added × IsSessionOf added session.now × MayView newest.now added none.now }
+    ensures finds { (added : List Placed) (w : World NameBytes) (rows : List (Row NameBytes)) → Sees newest.now none.now added w [] → AreTablesBehind tables.now bytes.now added
+        → HaveNames session.now.pending (names_of rows) → unnamed ≡ has_lazy (payloads_of added) w
+        → FindsHead added w rows head.now (map R.shown mirrors.old.items) (map R.shown mirrors.new.items) cache.old cache.new result }
+    ensures sound { IsSoundCache cache.old → IsSoundCache cache.new }
+    ensures len { length mirrors.new.items ≡ length mirrors.old.items }
+{
+    if session.pending.find(head.lend()).is_some() {
+        return Ok(newest.id(head.lend()));
+    }
+    let id = find_seen(
+        alloc, bytes, tables, newest, unnamed, none, cache, mirrors, head,
+    )?;
+    Ok(Some(id))
+}
+
+/// The ids of these heads in the newest base. The first that is refused is.
+pub(crate) fn look_up_heads<R: Remote>(
+    alloc: Global,
+    bytes: &[u8],
+    tables: &Tables,
+    newest: &BaseRef<'_>,
+    unnamed: bool,
+    none: &PendingRows,
+    session: &Session,
+    cache: &mut LazyNames,
+    mirrors: &mut Vec<R>,
+    heads: &[Name],
+) -> Result<Vec<Option<Id>>, Refusal>
+    requires mirrors { length mirrors.old.items < 2 ^ 32 }
+    requires base { (added : List Placed) × IsBaseOf newest.now added × IsSessionOf added session.now × MayView newest.now added none.now }
+    ensures finds { (added : List Placed) (w : World NameBytes) (rows : List (Row NameBytes)) → Sees newest.now none.now added w [] → AreTablesBehind tables.now bytes.now added
+        → HaveNames session.now.pending (names_of rows) → unnamed ≡ has_lazy (payloads_of added) w
+        → FindsHeads added w rows heads.now (map R.shown mirrors.old.items) (map R.shown mirrors.new.items) cache.old cache.new (items_of result) }
+    ensures sound { IsSoundCache cache.old → IsSoundCache cache.new }
+    ensures len { length mirrors.new.items ≡ length mirrors.old.items }
+{
+    let mut found = Vec::new(alloc);
+    'heads: for head in heads {
+        let id = find_head(
+            alloc, bytes, tables, newest, unnamed, none, session, cache, mirrors, head,
+        )?;
+        let Ok(()) = found.push(id) else {
+            return Err(Refusal::Memory);
+        };
+    }
+    Ok(found)
+}
+
+/// The ids in the newest base of the names of a session's rows. One that isn't stored is asked of a mirror, where `unnamed` says that
+/// the base has an id without a stored name.
+pub(crate) fn look_up_rows<R: Remote>(
+    alloc: Global,
+    bytes: &[u8],
+    tables: &Tables,
+    newest: &BaseRef<'_>,
+    unnamed: bool,
+    none: &PendingRows,
+    session: &Session,
+    cache: &mut LazyNames,
+    mirrors: &mut Vec<R>,
+) -> Result<Vec<Option<Id>>, Refusal>
+    requires mirrors { length mirrors.old.items < 2 ^ 32 }
+    requires base { (added : List Placed) × IsBaseOf newest.now added × IsSessionOf added session.now × MayView newest.now added none.now }
+    ensures finds { (added : List Placed) (w : World NameBytes) (names : List NameBytes) → Sees newest.now none.now added w [] → AreTablesBehind tables.now bytes.now added
+        → HaveNames session.now.pending names → unnamed ≡ has_lazy (payloads_of added) w
+        → FindsRows added w names (map R.shown mirrors.old.items) (map R.shown mirrors.new.items) cache.old cache.new (items_of result) }
+    ensures count { (rows : List HeldRow) → HoldsRows session.now.pending rows → IfOk result (λ found. length found.items ≡ length rows) }
+    ensures sound { IsSoundCache cache.old → IsSoundCache cache.new }
+    ensures len { length mirrors.new.items ≡ length mirrors.old.items }
+{
+    let pending = &session.pending;
+    let mut found = Vec::new(alloc);
+    'rows: for i in 0..pending.len() {
+        let name = pending.name(i).to_name();
+        let id = find(
+            alloc, bytes, tables, newest, unnamed, none, cache, mirrors, &name,
+        )?;
+        let Ok(()) = found.push(id) else {
+            return Err(Refusal::Memory);
+        };
+    }
+    Ok(found)
+}
+
+/// Takes over for a head that was found nowhere, but is pending, what was found of that row.
+pub(crate) fn take_rows(
+    pending: &PendingRows,
+    heads: &[Name],
+    rows: &[Option<Id>],
+    found: &mut [Option<Id>],
+)
+    requires heads { length found.old ≡ length heads.now }
+    requires rows { (held : List HeldRow) × HoldsRows pending.now held × (length rows.now ≡ length held) }
+    ensures taken { (names : List NameBytes) → HaveNames pending.now names → (i : ℕ) → i < length heads.now
+        → IsTaken names rows.now (slice_index_or heads.now i []) (slice_index_or found.old i None) (slice_index_or found.new i None) }
+    ensures len { length found.new ≡ length found.old }
+{
+    'heads: for i in 0..heads.len() {
+        found[i] = taken(pending, rows, &heads[i], found[i]);
+    }
+}
+
+/// What was found of a head; or, where it was found nowhere, of the pending row with its name.
+fn taken(pending: &PendingRows, rows: &[Option<Id>], head: &Name, found: Option<Id>) -> Option<Id>
+    requires { (held : List HeldRow) × HoldsRows pending.now held × (length rows.now ≡ length held) }
+    ensures { (names : List NameBytes) → HaveNames pending.now names → IsTaken names rows.now head.now found result }
+{
+    match found {
+        Some(id) => Some(id),
+        None => found_row(pending, rows, head),
+    }
+}
+
+/// What was found of the pending row with the name; none where none has it.
+fn found_row(pending: &PendingRows, rows: &[Option<Id>], name: &Name) -> Option<Id>
+    requires { (held : List HeldRow) × HoldsRows pending.now held × (length rows.now ≡ length held) }
+    ensures { (names : List NameBytes) → HaveNames pending.now names → IsRowOf names rows.now name.now result }
+{
+    match pending.find(name.lend()) {
+        Some(k) => rows[k as usize],
+        None => None,
+    }
+}

@@ -1,0 +1,187 @@
+//! What a session's change is.
+
+ghost use Rattle.std.specs.Prelude.{◌≡◌, ◌<◌, ◌^◌, ℕ, List, length, map, IfErr, IfOk, MatchResult};
+ghost use Rattle.std.specs.List.{AllZip};
+ghost use Rattle.gated_log.specs.Held.{log_bytes};
+ghost use Rattle.id_groups.specs.Name.{Name as NameBytes};
+ghost use Rattle.commit_graph.specs.World.{World, names_of};
+ghost use Rattle.name_map.specs.Added.{Placed, payloads_of};
+ghost use Rattle.change_rules.specs.Lazy.{has_lazy};
+ghost use Rattle.change_rules.specs.Standard.{AreLimits};
+ghost use Rattle.change_rules.specs.Tables.{StandFor};
+ghost use Rattle.payload_tables.specs.Kept.{AreTablesOf};
+ghost use Rattle.flush_rebuild.specs.Asked.{IsFoundIn, MayStore};
+ghost use Rattle.flush_rebuild.specs.Plans.{MayBeStored, stored_id};
+ghost use Rattle.step_rules.specs.State.{Stored, pending_of};
+ghost use Rattle.step_rules.specs.declared.Refusal.TheVariants as why;
+ghost use Rattle.store_plans.specs.Sessions.{IsSessionOf};
+ghost use Rattle.store_plans.specs.Looking.{IsSoundCache, items_of};
+ghost use Rattle.store_plans.specs.Changes.{AreOver, FindsHeads, IsOn, IsOfPlan, Rebases, RebasesAnew, PlansFlush, RowsFound, refusal_of};
+
+use crate::finding::{look_up_heads, look_up_rows, take_rows};
+use crate::session::Session;
+use flush_rebuild::{Change, Limits, PendingRows, PlanFault, Tables, plan_change, rebase};
+use gated_log::Log;
+use id_groups::{Id, Name};
+use lazy_names::LazyNames;
+use remote_trait::Remote;
+use std::alloc::{AllocError, Global};
+use step_rules::Refusal;
+
+/// A plan's fault, as a command is refused for it.
+pub(crate) fn refusal_of(fault: PlanFault) -> Refusal
+    ensures { result ≡ refusal_of fault }
+{
+    match fault {
+        PlanFault::Unknown(name) => Refusal::Unknown(name),
+        PlanFault::Conflict(name) => Refusal::Conflict(name),
+        PlanFault::Lost(name) => Refusal::Lost(name),
+        PlanFault::Emptied(count) => Refusal::Emptied(count),
+        PlanFault::Full(what, limit) => Refusal::Full(what, limit),
+        PlanFault::BadClone(at) => Refusal::MismatchClone(at),
+        PlanFault::BadRow(id) => Refusal::MismatchRow(id),
+        PlanFault::Memory => Refusal::Memory,
+    }
+}
+
+/// Whether some master id has no stored name.
+pub fn lacks_names(tables: &Tables) -> bool
+    ensures { (added : List Placed) (w : World NameBytes) → AreTablesOf tables.now added → StandFor (payloads_of added) w → result ≡ has_lazy (payloads_of added) w }
+{
+    let count = tables.master_count();
+    tables.names().known_below(count) < count
+}
+
+/// The rows once more.
+fn copied(alloc: Global, pending: &PendingRows) -> Result<PendingRows, Refusal>
+    ensures { MatchResult result (λ copy. copy ≡ pending.now) (λ refusal. refusal ≡ why.Memory) }
+{
+    match pending.copy(alloc) {
+        Ok(copy) => Ok(copy),
+        Err(AllocError) => Err(Refusal::Memory),
+    }
+}
+
+/// The rows of a session that the newest world doesn't have, with their parents by their ids in it, where these were found of their
+/// names.
+fn rebased_anew(
+    alloc: Global,
+    log: &Log,
+    tables: &Tables,
+    session: &Session,
+    found: &[Option<Id>],
+) -> Result<PendingRows, Refusal>
+    requires { (added : List Placed) × AreOver log.now tables.now added × IsSessionOf added session.now × RowsFound added session.now.pending found.now }
+    ensures left { (added : List Placed) → AreOver log.now tables.now added → IsSessionOf added session.now → RowsFound added session.now.pending found.now → IfOk result (λ left. MayStore left added) }
+    ensures step { (began s : ℕ) (added : List Placed) (st : Stored) → AreOver log.now tables.now added → IsSessionOf added session.now
+        → IsOn began added session.now st s → found.now ≡ map (stored_id st.stored) (names_of (pending_of st s)) → RebasesAnew st s result }
+    ensures planned { IfErr result IsOfPlan }
+{
+    let bytes = log.bytes();
+    let base = session.base(bytes, tables);
+    match rebase(alloc, tables, bytes, base, &session.pending, found) {
+        Ok(left) => Ok(left),
+        Err(fault) => Err(refusal_of(fault)),
+    }
+}
+
+/// The rows of a session that the newest world doesn't have, with their parents by their ids in it. Those of a session that is on the
+/// newest world stay as they are. Of heads that were found nowhere else, what was found of the rows with their names is found.
+pub(crate) fn rebased<R: Remote>(
+    alloc: Global,
+    log: &Log,
+    tables: &Tables,
+    session: &Session,
+    cache: &mut LazyNames,
+    mirrors: &mut Vec<R>,
+    heads: &[Name],
+    found: &mut [Option<Id>],
+) -> Result<PendingRows, Refusal>
+    requires mirrors { length mirrors.old.items < 2 ^ 32 }
+    requires heads { length found.old ≡ length heads.now }
+    requires over { (added : List Placed) × AreOver log.now tables.now added × IsSessionOf added session.now }
+    ensures left { (added : List Placed) → AreOver log.now tables.now added → IsSessionOf added session.now → IfOk result (λ left. MayStore left added) }
+    ensures found { (added : List Placed) → AreOver log.now tables.now added → IsSessionOf added session.now
+        → AllZip (IsFoundIn added) heads.now found.old → IfOk result (λ left. AllZip (IsFoundIn added) heads.now found.new) }
+    ensures step { (began s : ℕ) (added : List Placed) (st : Stored) (limits : _) → AreOver log.now tables.now added → IsSessionOf added session.now
+        → IsOn began added session.now st s
+        → Rebases limits st s heads.now (map R.shown mirrors.old.items) (map R.shown mirrors.new.items) cache.old cache.new found.old found.new result }
+    ensures size { length found.new ≡ length found.old }
+    ensures sound { IsSoundCache cache.old → IsSoundCache cache.new }
+    ensures len { length mirrors.new.items ≡ length mirrors.old.items }
+{
+    if session.payloads == log.batch_count() {
+        return copied(alloc, &session.pending);
+    }
+    let unnamed = lacks_names(tables);
+    let bytes = log.bytes();
+    let newest = tables.newest(bytes);
+    let none = PendingRows::empty(alloc, u64::from(tables.others().count()));
+    let rows = look_up_rows(
+        alloc, bytes, tables, &newest, unnamed, &none, session, cache, mirrors,
+    )?;
+    take_rows(&session.pending, heads, &rows, found);
+    rebased_anew(alloc, log, tables, session, &rows)
+}
+
+/// What a flush of these heads changes. The tables are asked for the levels that come with it, and stay as they are.
+pub(crate) fn plan<R: Remote>(
+    alloc: Global,
+    log: &Log,
+    tables: &mut Tables,
+    session: &Session,
+    cache: &mut LazyNames,
+    mirrors: &mut Vec<R>,
+    heads: &[Name],
+    limits: Limits,
+) -> Result<Change, Refusal>
+    requires mirrors { length mirrors.old.items < 2 ^ 32 }
+    requires limits { AreLimits limits }
+    requires limit { log.now.limit ≡ limits.log }
+    requires kept { (added : List Placed) × AreOver log.now tables.old added × IsSessionOf added session.now }
+    ensures stored { (added : List Placed) → AreOver log.now tables.old added → IsSessionOf added session.now
+        → IfOk result (MayBeStored 1 limits (length (log_bytes log.now)) added) }
+    ensures unchanged { tables.new ≡ tables.old }
+    ensures step { (began s : ℕ) (added : List Placed) (st : Stored) → AreOver log.now tables.old added → IsSessionOf added session.now
+        → IsOn began added session.now st s
+        → PlansFlush limits st s heads.now (map R.shown mirrors.old.items) (map R.shown mirrors.new.items) cache.old cache.new result }
+    ensures sound { IsSoundCache cache.old → IsSoundCache cache.new }
+    ensures len { length mirrors.new.items ≡ length mirrors.old.items }
+{
+    let mut found = heads_found(alloc, log, tables, session, cache, mirrors, heads)?;
+    let left = rebased(
+        alloc, log, tables, session, cache, mirrors, heads, &mut found,
+    )?;
+    match plan_change(alloc, tables, log.bytes(), &left, heads, &found, limits) {
+        Ok(change) => Ok(change),
+        Err(fault) => Err(refusal_of(fault)),
+    }
+}
+
+/// The ids of these heads in the newest base. The first that is refused is.
+fn heads_found<R: Remote>(
+    alloc: Global,
+    log: &Log,
+    tables: &Tables,
+    session: &Session,
+    cache: &mut LazyNames,
+    mirrors: &mut Vec<R>,
+    heads: &[Name],
+) -> Result<Vec<Option<Id>>, Refusal>
+    requires mirrors { length mirrors.old.items < 2 ^ 32 }
+    requires over { (added : List Placed) × AreOver log.now tables.now added × IsSessionOf added session.now }
+    ensures found { (added : List Placed) → AreOver log.now tables.now added → IsSessionOf added session.now → IfOk result (λ found. AllZip (IsFoundIn added) heads.now found.items) }
+    ensures step { (began s : ℕ) (added : List Placed) (st : Stored) → AreOver log.now tables.now added → IsSessionOf added session.now
+        → IsOn began added session.now st s
+        → FindsHeads added st.stored (pending_of st s) heads.now (map R.shown mirrors.old.items) (map R.shown mirrors.new.items) cache.old cache.new (items_of result) }
+    ensures sound { IsSoundCache cache.old → IsSoundCache cache.new }
+    ensures len { length mirrors.new.items ≡ length mirrors.old.items }
+{
+    let unnamed = lacks_names(tables);
+    let bytes = log.bytes();
+    let newest = tables.newest(bytes);
+    let none = PendingRows::empty(alloc, u64::from(tables.others().count()));
+    look_up_heads(
+        alloc, bytes, tables, &newest, unnamed, &none, session, cache, mirrors, heads,
+    )
+}
