@@ -6,6 +6,7 @@ use Rattle.std.specs.Int.{w64}
 use Rattle.id_groups.specs.Lists.{is_in}
 use Rattle.id_groups.specs.Name.{Name, same_name}
 use Rattle.commit_graph.specs.World.{Row}
+use Rattle.segment_codec.specs.Reading.{◌>>=◌}
 use Rattle.segment_rules.specs.Flat.{parents_listed}
 use Rattle.segment_rules.specs.NewLevels.{same_segment}
 use Rattle.batch_codec.specs.Payload.{Payload, known_names}
