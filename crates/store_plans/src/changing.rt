@@ -107,9 +107,7 @@ fn add_payload(
     ensures added { (added : List Placed) (last : Payload) → AreOver log.now tables.old added → MayFollow (payloads_of added) last → payload.now ≡ payload_bytes last
         → IfOk result (λ x. AreTablesOf tables.new (added_behind log.now added last) × IsOnNewest (added_behind log.now added last) x) }
 {
-    let Some(batch) = BatchRef::read(payload) else {
-        unreachable!()
-    };
+    let batch = BatchRef::over(payload);
     let bytes = log.bytes();
     let at = bytes.len() as u64 + 8;
     let payloads = log.batch_count() + 1;
