@@ -1,13 +1,11 @@
 -- From what was planned of a pull, and how it ended, to the step of a state and to what the mirrors told.
-use Rattle.std.proofs.Common.{◌≡◌, ◌<◌, ◌≤◌, inl, inr, ℕ, zero, suc, Bool, true, false, not, List, [], ◌∷◌, ◌++◌, length, take, drop, filter, set, Option, Some, None, Ok, Err, MatchOption, refl, sym, ap, ap₂, subst, ◌∙◌, arith, length-append, le_trans, true≢false, is_some, if◌then◌else◌}
+use Rattle.std.proofs.Common.{◌≡◌, ◌<◌, ◌≤◌, inl, inr, ℕ, zero, suc, Bool, true, false, not, List, [], ◌∷◌, ◌++◌, length, take, drop, set, Option, Some, None, Ok, Err, MatchOption, refl, sym, ap, ap₂, subst, ◌∙◌, arith, length-append, le_trans, true≢false, is_some, if◌then◌else◌}
 use Rattle.std.specs.Prelude.{Result, MatchResult, ⊤}
 use Rattle.std.specs.Option.{option_map}
-use Rattle.std.specs.List.{AllByRecursion}
-use Rattle.std.proofs.lemmas.Bool.{lt-ltb}
 use Rattle.std.proofs.lemmas.List.Sums.{count_by-le-length, length-filter}
 use Rattle.id_groups.specs.Lists.{is_in}
 use Rattle.id_groups.specs.Name.{Name, same_name}
-use Rattle.commit_graph.specs.World.{Row, World, IsNamedWorld, GrowsMaster, rows_of, names_of}
+use Rattle.commit_graph.specs.World.{Row, World, rows_of, names_of}
 use Rattle.disk_trait.specs.Images.{Told}
 use Rattle.disk_trait.specs.Calls.{Goes}
 use Rattle.gated_log.specs.Held.{Held}
@@ -16,7 +14,6 @@ use Rattle.remote_rules.specs.Clones.{IsCloneOf}
 use Rattle.remote_rules.specs.Known.{master_world}
 use Rattle.remote_rules.specs.Mirror.{Mirror}
 use Rattle.remote_rules.specs.Calls.{IsPulled}
-use Rattle.remote_rules.specs.Serving.{BeginsWith}
 use Rattle.remote_rules.specs.declared.MirrorFault.TheVariants as ask
 use Rattle.remote_trait.specs.Calls.{AreMaster}
 use Rattle.mirror_set.specs.Fresh.{AsksFresh, GaveBroken, GaveFew, IsItsFresh, PlainFresh}
@@ -64,7 +61,7 @@ use Rattle.store_plans.specs.PullPlans.{PlansPull, RefusesFresh, RefusesPull, Re
 use Rattle.store_plans.proofs.ChangeSizes.{worlds-decided}
 use Rattle.dag_store.proofs.FlushStored.{on-of, stands-room}
 use Rattle.dag_store.proofs.Changed.{stands-as-before, stands-changed}
-use Rattle.dag_store.proofs.PullTold.{TellsOn, gives-clone, gives-names, never-gave-broken, never-gave-few, next-tells}
+use Rattle.dag_store.proofs.PullTold.{gives-clone, gives-names, never-gave-broken, never-gave-few, next-tells}
 
 -- ---- the new world
 

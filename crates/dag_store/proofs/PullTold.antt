@@ -1,5 +1,5 @@
 -- What an honest mirror tells who pulls, whose master begins with the cloned commits.
-use Rattle.std.proofs.Common.{◌≡◌, ◌≤◌, inl, inr, ℕ, List, [], ◌∷◌, ◌++◌, length, take, drop, Option, Some, None, Ok, Err, MatchOption, refl, sym, ap, subst, ◌∙◌, true≢false, is_some, append_assoc}
+use Rattle.std.proofs.Common.{◌≡◌, inl, ℕ, List, [], ◌++◌, take, drop, Option, Some, None, MatchOption, refl, sym, ap, subst, ◌∙◌, true≢false, is_some, append_assoc}
 use Rattle.std.specs.Prelude.{IfSome, ⊤}
 use Rattle.std.specs.List.{AllByRecursion}
 use Rattle.id_groups.specs.Lists.{IsIn}
@@ -13,7 +13,7 @@ use Rattle.remote_rules.specs.Honest.{IsHonest, IsSoundMirror, clone_data_of}
 use Rattle.remote_rules.specs.Known.{master_world}
 use Rattle.remote_rules.specs.Mirror.{Mirror}
 use Rattle.remote_rules.specs.Serving.{BeginsWith}
-use Rattle.remote_trait.specs.Calls.{AreGrown, AreMaster, Refreshes, ToldSo}
+use Rattle.remote_trait.specs.Calls.{AreGrown, AreMaster, ToldSo}
 use Rattle.mirror_set.specs.Asking.{Answered, IsItsClone}
 use Rattle.mirror_set.specs.Fresh.{GaveBroken, GaveFew, IsItsFresh, IsPulledFrom, PlainFresh}
 use Rattle.change_rules.proofs.Honest.{never-broken}

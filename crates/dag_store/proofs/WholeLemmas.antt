@@ -7,11 +7,10 @@ use Rattle.id_groups.specs.Name.{Name, same_name}
 use Rattle.id_groups.specs.declared.name.NameRef.{NameRef}
 use Rattle.commit_graph.specs.World.{World, names_of}
 use Rattle.commit_graph.specs.Ids.{parent_ids}
-use Rattle.segment_codec.specs.Record.{Segment}
 use Rattle.segment_rules.specs.Flat.{flat_segments_of}
 use Rattle.gated_log.specs.Held.{Held}
 use Rattle.batch_codec.specs.Payload.{Known, Payload}
-use Rattle.name_map.specs.Added.{Placed, payloads_of, known_of}
+use Rattle.name_map.specs.Added.{Placed, known_of}
 use Rattle.name_map.specs.Map.{NamesAs}
 use Rattle.high_segments.specs.Views.{flats_in}
 use Rattle.payload_tables.specs.declared.base.BaseRef.{BaseRef}
@@ -22,7 +21,7 @@ use Rattle.payload_tables.specs.Bases.{IsBaseOf, flat_segments_in}
 use Rattle.payload_tables.proofs.Basing.{table-end}
 use Rattle.flush_rebuild.specs.Asked.{others_count}
 use Rattle.store_plans.specs.Looking.{Sees}
-use Rattle.dag_store.specs.Whole.{IsWhole, IsWholeOf, AreSegments, master_flats}
+use Rattle.dag_store.specs.Whole.{IsWhole, IsWholeOf, AreSegments}
 use Rattle.dag_store.specs.declared.whole.Whole.{Whole}
 use Rattle.dag_store.specs.declared.whole.Segments.{Segments}
 use Rattle.store_plans.proofs.HeadTests.{sees-none}

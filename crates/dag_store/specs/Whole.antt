@@ -1,5 +1,5 @@
 -- A stored master of which each commit has a stored name, as it is lent.
-use Rattle.std.specs.Prelude.{◌≡◌, false, ℕ, List, [], ◌++◌}
+use Rattle.std.specs.Prelude.{◌≡◌, false, List, [], ◌++◌}
 use Rattle.id_groups.specs.Name.{Name, same_name}
 use Rattle.commit_graph.specs.World.{World, IsNamedWorld}
 use Rattle.commit_graph.specs.Ids.{parent_ids}

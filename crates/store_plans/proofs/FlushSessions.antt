@@ -1,17 +1,11 @@
 -- Sessions on the newest payloads.
-use Rattle.std.proofs.Common.{◌≡◌, ◌≤◌, ◌+◌, ℕ, List, [], ◌∷◌, ◌++◌, length, take, flat_map, Option, Some, None, sym, ap, subst, ◌∙◌, arith, length-append}
-use Rattle.std.specs.List.{last_or}
-use Rattle.std.proofs.lemmas.List.{take_all, take-append-le, map-append}
-use Rattle.id_groups.specs.Lists.{AreDistinct}
-use Rattle.batch_codec.specs.Payload.{Payload, known_names}
+use Rattle.std.proofs.Common.{◌≡◌, ◌+◌, ℕ, List, [], ◌∷◌, ◌++◌, length, take, sym, ap, subst, ◌∙◌, arith, length-append}
+use Rattle.std.proofs.lemmas.List.{take_all, take-append-le}
+use Rattle.batch_codec.specs.Payload.{Payload}
 use Rattle.batch_codec.specs.Grammar.{count_after}
-use Rattle.change_rules.specs.Lawful.{MayFollow}
 use Rattle.name_map.specs.Added.{Placed, payloads_of}
-use Rattle.change_rules.specs.Tables.{other_names_in}
-use Rattle.payload_tables.specs.Kept.{PlainOthers, AreOthersIn, AreOthersOf, last_added}
-use Rattle.payload_tables.specs.Pending.{HoldsRows}
-use Rattle.payload_tables.proofs.Lists.{count-last, last-of, distinct-parts}
-use Rattle.flush_rebuild.specs.Asked.{MayStore, others_count}
+use Rattle.payload_tables.specs.Kept.{AreOthersIn, last_added}
+use Rattle.flush_rebuild.specs.Asked.{MayStore}
 use Rattle.store_plans.specs.Sessions.{PlainSession, IsSessionOf, base_added}
 
 -- a session on all payloads

@@ -4,11 +4,10 @@ use Rattle.std.specs.Prelude.{Result, MatchResult}
 use Rattle.std.specs.Option.{option_map}
 use Rattle.std.proofs.lemmas.Bool.{lt-ltb}
 use Rattle.id_groups.specs.Name.{Name, same_name}
-use Rattle.commit_graph.specs.World.{Row, World}
+use Rattle.commit_graph.specs.World.{Row}
 use Rattle.gated_log.specs.Held.{Held, log_bytes}
 use Rattle.gated_log.specs.Log.{log_length}
 use Rattle.name_map.specs.Added.{Placed, payloads_of, AllStand}
-use Rattle.batch_codec.specs.Payload.{Payload}
 use Rattle.remote_rules.specs.CloneData.{first_broken}
 use Rattle.remote_rules.specs.Known.{master_world}
 use Rattle.remote_rules.specs.Mirror.{Mirror}
@@ -34,7 +33,7 @@ use Rattle.step_rules.specs.Worlds.{log_after}
 use Rattle.step_rules.specs.Tests.{first_some, full, refuse_if, refused_first, tests}
 use Rattle.step_rules.specs.Step.{pull_tests}
 use Rattle.store_plans.specs.Sessions.{PlainSession}
-use Rattle.store_plans.specs.Changes.{AreOver, IsOn, IsPlanTo, refusal_of}
+use Rattle.store_plans.specs.Changes.{AreOver, IsOn, refusal_of}
 use Rattle.store_plans.specs.PullPlans.{PlansPull, PlansTold, RefusesFresh, RefusesPull, RefusesTold, mismatch_of, pull_of, rows_told}
 use Rattle.store_plans.proofs.ChangeSizes.{change-to, log-test, mapped-first, only-first, over-full, payload_to}
 use Rattle.store_plans.proofs.RebaseTests.{plan-memory}

@@ -3,7 +3,6 @@ use Rattle.name_map.specs.Added.{payloads_of}
 use Rattle.payload_tables.specs.Pending.{PlainPending}
 use Rattle.flush_rebuild.specs.Asked.{IsFoundIn}
 use Rattle.store_plans.specs.Changes.{HaveNames, IsRowFound, row_test}
-use Rattle.store_plans.specs.Sessions.{PlainSession}
 use Rattle.store_plans.specs.Looking.{Looks}
 use Rattle.store_plans.proofs.HeadTests.{row-finds}
 use Rattle.store_plans.proofs.FindLists.{each-more, each-none, each-refused, each-unkept, each-whole, err-each, name-there, names-over}

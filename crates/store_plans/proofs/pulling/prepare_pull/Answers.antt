@@ -1,6 +1,4 @@
-use Rattle.std.proofs.Common.{◌≡◌, ◌∙◌, Err, Ok, Some, List, ap, refl, sym, subst, map, length}
-use Rattle.name_map.specs.Added.{Placed, payloads_of}
-use Rattle.remote_rules.specs.Mirror.{Mirror}
+use Rattle.std.proofs.Common.{◌∙◌, Err, Ok, Some, ap, refl, sym, subst, map}
 use Rattle.mirror_set.specs.Fresh.{AsksFresh, PlainFresh, count_from}
 use Rattle.change_rules.specs.Tables.{cloned_count}
 use Rattle.step_rules.specs.State.{base_of, pending_of}

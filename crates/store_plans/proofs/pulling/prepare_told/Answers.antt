@@ -1,4 +1,4 @@
-use Rattle.std.proofs.Common.{Err, subst, sym}
+use Rattle.std.proofs.Common.{subst, sym}
 use Rattle.store_plans.specs.Changes.{AreOver, IsPrepared}
 use Rattle.store_plans.specs.PullPlans.{RefusesTold}
 use Rattle.store_plans.proofs.ClonePlans.{err-kept}
