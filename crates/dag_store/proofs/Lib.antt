@@ -27,7 +27,7 @@ pub mod Changed
 pub mod CloneSteps
 pub mod FlushStored
 pub mod FlushDisk
-pub mod Finishing
+pub mod FinishLemmas
 pub mod ChangeSteps
 pub mod FlushSteps
 pub mod StripSteps

@@ -1,4 +1,4 @@
-use Rattle.dag_store.proofs.Finishing.{finish-leaves, finish-limit, finish-refused, finish-room, finish-same, finish-stored}
+use Rattle.dag_store.proofs.FinishLemmas.{finish-leaves, finish-limit, finish-refused, finish-room, finish-same, finish-stored}
 use Rattle.dag_store.proofs.finishing.finish.Goals as goal
 
 pub commit-requires-clause-limit : goal.commit-requires-clause-limit
