@@ -1,5 +1,5 @@
 -- Names that are looked up in the newest base, from left to right.
-use Rattle.std.proofs.Common.{◌≡◌, ◌<◌, ◌≤◌, ◌+◌, ℕ, zero, suc, List, [], ◌∷◌, ◌++◌, length, map, take, drop, get_or, Some, None, Result, Ok, Err, refl, sym, ap, subst, ◌∙◌, arith}
+use Rattle.std.proofs.Common.{◌≡◌, ◌<◌, ◌≤◌, ◌+◌, ℕ, zero, suc, List, [], ◌∷◌, ◌++◌, length, map, take, drop, get_or, Option, Some, None, Result, Ok, Err, refl, sym, ap, subst, ◌∙◌, arith}
 use Rattle.std.specs.Prelude.{IfOk, IsErrAnd, slice_get}
 use Rattle.std.specs.List.{AllZip}
 use Rattle.std.proofs.Common.{Vec, Global}
@@ -14,7 +14,7 @@ use Rattle.step_rules.specs.declared.Refusal.{Refusal}
 use Rattle.step_rules.specs.declared.Refusal.TheVariants as why
 use Rattle.step_rules.specs.Tests.{Test}
 use Rattle.store_plans.specs.Looking.{Tried, items_of}
-use Rattle.store_plans.specs.Changes.{FindsEach, FindsIt, HaveNames}
+use Rattle.store_plans.specs.Changes.{FindsEach, FindsIt, FindsRows, HaveNames, RowsFound}
 use Rattle.store_plans.proofs.Lines.{one-more}
 use Rattle.store_plans.proofs.Trials.{tried-memory, tried-none, tried-serves, tried-stop, tried-then}
 
@@ -109,6 +109,12 @@ pub each-found : {X : Type 0} (added : List Placed) (w : World Name) (test : Nam
     → FindsEach added w test May Is names old new a b (items_of r) → IfOk r (λ found. AllZip May names found.items)
 each-found added w test May Is names old new a b (Ok v) h = h.found
 each-found added w test May Is names old new a b (Err f) h = tt
+
+-- what was found of the names of pending rows
+pub rows-found : (added : List Placed) (w : World Name) (pending : PlainPending) (old new : List Mirror) (a b : PlainCache) (r : Result (Vec (Option ℕ) Global) Refusal)
+    → ((names : List Name) → HaveNames pending names → FindsRows added w names old new a b (items_of r)) → IfOk r (λ found. RowsFound added pending found.items)
+rows-found added w pending old new a b (Ok v) h = λ names n. (h names n).found
+rows-found added w pending old new a b (Err f) h = tt
 
 pub zip-length : {A B : Type 0} (R : A → B → Type 0) (xs : List A) (ys : List B) → AllZip R xs ys → length ys ≡ length xs
 zip-length R [] [] z = refl

@@ -1,22 +1,25 @@
 //! What a session's change is.
 
-ghost use Rattle.std.specs.Prelude.{◌≡◌, ◌<◌, ◌^◌, ℕ, List, length, map, IfErr, IfOk, MatchResult};
+ghost use Rattle.std.specs.Prelude.{◌≡◌, ◌<◌, ◌^◌, ℕ, List, Ok, length, map, IfErr, IfOk, MatchResult};
 ghost use Rattle.std.specs.List.{AllZip};
 ghost use Rattle.gated_log.specs.Held.{log_bytes};
 ghost use Rattle.id_groups.specs.Name.{Name as NameBytes};
-ghost use Rattle.commit_graph.specs.World.{World, names_of};
+ghost use Rattle.commit_graph.specs.World.{World, IsNamedWorld, names_of};
 ghost use Rattle.name_map.specs.Added.{Placed, payloads_of};
 ghost use Rattle.change_rules.specs.Lazy.{has_lazy};
 ghost use Rattle.change_rules.specs.Standard.{AreLimits};
 ghost use Rattle.change_rules.specs.Tables.{StandFor};
 ghost use Rattle.payload_tables.specs.Kept.{AreTablesOf};
+ghost use Rattle.payload_tables.specs.Pending.{HeldRow, HoldsRows};
+ghost use Rattle.remote_rules.specs.Mirror.{Mirror};
+ghost use Rattle.lazy_names.specs.Cache.{PlainCache};
 ghost use Rattle.flush_rebuild.specs.Asked.{IsFoundIn, MayStore};
 ghost use Rattle.flush_rebuild.specs.Plans.{MayBeStored, stored_id};
 ghost use Rattle.step_rules.specs.State.{Stored, pending_of};
 ghost use Rattle.step_rules.specs.declared.Refusal.TheVariants as why;
 ghost use Rattle.store_plans.specs.Sessions.{IsSessionOf};
 ghost use Rattle.store_plans.specs.Looking.{IsSoundCache, items_of};
-ghost use Rattle.store_plans.specs.Changes.{AreOver, FindsHeads, IsOn, IsOfPlan, Rebases, RebasesAnew, PlansFlush, RowsFound, refusal_of};
+ghost use Rattle.store_plans.specs.Changes.{AreOver, FindsHeads, FindsRows, HaveNames, IsOn, IsOfPlan, Rebases, RebasesAnew, PlansFlush, RowsFound, refusal_of};
 
 use crate::finding::{look_up_heads, look_up_rows, take_rows};
 use crate::session::Session;
@@ -85,6 +88,34 @@ fn rebased_anew(
     }
 }
 
+/// What the names of a session's rows are found to be in the newest base, in the order of the rows. The first that is refused is.
+fn rows_found<R: Remote>(
+    alloc: Global,
+    log: &Log,
+    tables: &Tables,
+    session: &Session,
+    cache: &mut LazyNames,
+    mirrors: &mut Vec<R>,
+) -> Result<Vec<Option<Id>>, Refusal>
+    requires mirrors { length mirrors.old.items < 2 ^ 32 }
+    requires over { (added : List Placed) × AreOver log.now tables.now added × IsSessionOf added session.now }
+    ensures found { (added : List Placed) → AreOver log.now tables.now added → IsSessionOf added session.now → IfOk result (λ found. RowsFound added session.now.pending found.items) }
+    ensures finds { (added : List Placed) (w : World NameBytes) (names : List NameBytes) → AreOver log.now tables.now added → IsSessionOf added session.now
+        → StandFor (payloads_of added) w → IsNamedWorld w → HaveNames session.now.pending names
+        → FindsRows added w names (map R.shown mirrors.old.items) (map R.shown mirrors.new.items) cache.old cache.new (items_of result) }
+    ensures count { (rows : List HeldRow) → HoldsRows session.now.pending rows → IfOk result (λ found. length found.items ≡ length rows) }
+    ensures sound { IsSoundCache cache.old → IsSoundCache cache.new }
+    ensures len { length mirrors.new.items ≡ length mirrors.old.items }
+{
+    let unnamed = lacks_names(tables);
+    let bytes = log.bytes();
+    let newest = tables.newest(bytes);
+    let none = PendingRows::empty(alloc, u64::from(tables.others().count()));
+    look_up_rows(
+        alloc, bytes, tables, &newest, unnamed, &none, session, cache, mirrors,
+    )
+}
+
 /// The rows of a session that the newest world doesn't have, with their parents by their ids in it. Those of a session that is on the
 /// newest world stay as they are. Of heads that were found nowhere else, what was found of the rows with their names is found.
 pub(crate) fn rebased<R: Remote>(
@@ -113,13 +144,7 @@ pub(crate) fn rebased<R: Remote>(
     if session.payloads == log.batch_count() {
         return copied(alloc, &session.pending);
     }
-    let unnamed = lacks_names(tables);
-    let bytes = log.bytes();
-    let newest = tables.newest(bytes);
-    let none = PendingRows::empty(alloc, u64::from(tables.others().count()));
-    let rows = look_up_rows(
-        alloc, bytes, tables, &newest, unnamed, &none, session, cache, mirrors,
-    )?;
+    let rows = rows_found(alloc, log, tables, session, cache, mirrors)?;
     take_rows(&session.pending, heads, &rows, found);
     rebased_anew(alloc, log, tables, session, &rows)
 }
@@ -149,10 +174,39 @@ pub(crate) fn plan<R: Remote>(
     ensures len { length mirrors.new.items ≡ length mirrors.old.items }
 {
     let mut found = heads_found(alloc, log, tables, session, cache, mirrors, heads)?;
-    let left = rebased(
-        alloc, log, tables, session, cache, mirrors, heads, &mut found,
-    )?;
-    match plan_change(alloc, tables, log.bytes(), &left, heads, &found, limits) {
+    plan_found(
+        alloc, log, tables, session, cache, mirrors, heads, &mut found, limits,
+    )
+}
+
+/// What a flush of these heads changes, of which these ids were found in the newest base, or none.
+fn plan_found<R: Remote>(
+    alloc: Global,
+    log: &Log,
+    tables: &mut Tables,
+    session: &Session,
+    cache: &mut LazyNames,
+    mirrors: &mut Vec<R>,
+    heads: &[Name],
+    found: &mut [Option<Id>],
+    limits: Limits,
+) -> Result<Change, Refusal>
+    requires mirrors { length mirrors.old.items < 2 ^ 32 }
+    requires limits { AreLimits limits }
+    requires limit { log.now.limit ≡ limits.log }
+    requires kept { (added : List Placed) × AreOver log.now tables.old added × IsSessionOf added session.now × AllZip (IsFoundIn added) heads.now found.old }
+    ensures stored { (added : List Placed) → AreOver log.now tables.old added → IsSessionOf added session.now → AllZip (IsFoundIn added) heads.now found.old
+        → IfOk result (MayBeStored 1 limits (length (log_bytes log.now)) added) }
+    ensures unchanged { tables.new ≡ tables.old }
+    ensures step { (began s : ℕ) (added : List Placed) (st : Stored) (first : List Mirror) (before : PlainCache) → AreOver log.now tables.old added → IsSessionOf added session.now
+        → IsOn began added session.now st s
+        → FindsHeads added st.stored (pending_of st s) heads.now first (map R.shown mirrors.old.items) before cache.old (Ok found.old)
+        → PlansFlush limits st s heads.now first (map R.shown mirrors.new.items) before cache.new result }
+    ensures sound { IsSoundCache cache.old → IsSoundCache cache.new }
+    ensures len { length mirrors.new.items ≡ length mirrors.old.items }
+{
+    let left = rebased(alloc, log, tables, session, cache, mirrors, heads, found)?;
+    match plan_change(alloc, tables, log.bytes(), &left, heads, found, limits) {
         Ok(change) => Ok(change),
         Err(fault) => Err(refusal_of(fault)),
     }

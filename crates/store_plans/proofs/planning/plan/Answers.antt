@@ -1,18 +1,12 @@
-use Rattle.std.proofs.Common.{◌≡◌, ◌∙◌, ◌≤◌, ◌^◌, ℕ, List, Option, Ok, Err, map, length, sym, ap, subst, arith, lit≤}
+use Rattle.std.proofs.Common.{Ok, map, sym, subst}
 use Rattle.std.specs.List.{AllZip}
-use Rattle.id_groups.specs.Name.{same_name}
-use Rattle.change_rules.specs.Rebase.{left_of}
 use Rattle.flush_rebuild.specs.Asked.{IsFoundIn}
-use Rattle.flush_rebuild.specs.Plans.{MayBeStored}
 use Rattle.step_rules.specs.State.{pending_of}
 use Rattle.step_rules.specs.Verb.{Flush}
 use Rattle.step_rules.specs.Worlds.{flush_of}
-use Rattle.store_plans.specs.Changes.{FindsHeads, PlansFlush}
-use Rattle.store_plans.proofs.FindLists.{written, zip-length}
-use Rattle.store_plans.proofs.FlushParts.{all-stand, log-size, may-flush}
-use Rattle.store_plans.proofs.ChangeSizes.{change-to, payload_to}
+use Rattle.store_plans.specs.Changes.{FindsHeads}
 use Rattle.store_plans.proofs.ChangeTests.{err-plans}
-use Rattle.store_plans.proofs.FlushTests.{plans-change, plans-fault, plans-unfound, plans-unmoved}
+use Rattle.store_plans.proofs.FlushTests.{plans-unfound}
 use Rattle.store_plans.proofs.planning.plan.Goals as goal
 
 pub returns-in_err-found-clause-step : goal.returns-in_err-found-clause-step
@@ -22,86 +16,18 @@ returns-in_err-found-clause-step g c = λ began s added st v x o.
     err-plans c.args.limits st s (Flush c.args.heads.now) (flush_of st s c.args.heads.now) old new c.args.cache.now c.heads_found.new.cache c.from_residual.result c.in_err-found.field-0.0 c.from_residual.ensures.1
     (plans-unfound c.args.limits st s c.args.heads.now began added c.args.session.now o old new c.args.cache.now c.heads_found.new.cache c.in_err-found.field-0.0 (c.in_err-found.ensures.step began s added st v x o))
 
-pub rebased-requires-clause-heads : goal.rebased-requires-clause-heads
-rebased-requires-clause-heads g c =
+pub plan_found-requires-clause-kept : goal.plan_found-requires-clause-kept
+plan_found-requires-clause-kept g c =
     let r = c.requires.kept in
-    subst (λ (l : List (Option ℕ)). length l ≡ length c.args.heads.now) (sym c.deref_mut.ensures.value) (zip-length (IsFoundIn r.0) c.args.heads.now c.in_ok-found.found.items (c.in_ok-found.ensures.found r.0 r.1 r.2))
+    (r.0, r.1, r.2, subst (λ l. AllZip (IsFoundIn r.0) c.args.heads.now l) (sym c.deref_mut.ensures.value) (c.in_ok-found.ensures.found r.0 r.1 r.2))
 
-pub returns-in_err-left-clause-step : goal.returns-in_err-left-clause-step
-returns-in_err-left-clause-step g c = λ began s added st v x o.
-    let old = map g.R.Remote.shown c.args.mirrors.now.items in
-    let mid = map g.R.Remote.shown c.heads_found.new.mirrors.items in
-    let new = map g.R.Remote.shown c.rebased.new.mirrors.items in
-    err-plans c.args.limits st s (Flush c.args.heads.now) (flush_of st s c.args.heads.now) old new c.args.cache.now c.rebased.new.cache c.from_residual-in_err-left.result c.in_err-left.field-0.0 c.from_residual-in_err-left.ensures.1
-    (plans-unmoved c.args.limits st s c.args.heads.now began added c.args.session.now o old mid new c.args.cache.now c.heads_found.new.cache c.rebased.new.cache c.deref_mut.result.now c.rebased.new.found
-    (subst (λ l. FindsHeads added st.stored (pending_of st s) c.args.heads.now old mid c.args.cache.now c.heads_found.new.cache (Ok l)) (sym c.deref_mut.ensures.value) (c.in_ok-found.ensures.step began s added st v x o))
-    c.in_err-left.field-0.0 (c.in_err-left.ensures.step began s added st c.args.limits v x o))
-
-pub plan_change-requires-clause-log : goal.plan_change-requires-clause-log
-plan_change-requires-clause-log g c =
-    let a = c.bytes.ensures.log.0 in
-    let b = c.requires.limit in
-    let d = c.requires.limits.log.1 in
-    let l : 2 ^ 30 ≤ 4294967296 = lit≤ tt in
-    omega (arith, a, b, d, l)
-
-pub plan_change-requires-clause-tables : goal.plan_change-requires-clause-tables
-plan_change-requires-clause-tables g c =
-    let r = c.requires.kept in
-    let now : c.deref.result.now ≡ c.rebased.new.found = c.deref.ensures.value ∙ written c.in_ok-found.found.len c.deref_mut.result.now c.rebased.new.found _ (c.in_ok-found.found.ok.0 ∙ ap (length {A = Option ℕ}) (sym c.deref_mut.ensures.value)) c.rebased.ensures.size in (
-      r.0,
-      record {
-        tables_of = r.1.tables_of;
-        stand = all-stand c.args.log.now c.args.tables.now r.0 r.1 c.args.session.now r.2 c.bytes.result.now c.bytes.ensures.bytes;
-        pending_rows = c.in_ok-left.ensures.left r.0 r.1 r.2;
-        found_are = subst (λ l. AllZip (IsFoundIn r.0) c.args.heads.now l) (sym now)
-            (c.in_ok-left.ensures.found r.0 r.1 r.2 (subst (λ l. AllZip (IsFoundIn r.0) c.args.heads.now l) (sym c.deref_mut.ensures.value) (c.in_ok-found.ensures.found r.0 r.1 r.2)));
-      },
-    )
-
-pub returns-in-Ok-clause-stored : goal.returns-in-Ok-clause-stored
-returns-in-Ok-clause-stored g c = λ added v x.
-    let now : c.deref.result.now ≡ c.rebased.new.found = c.deref.ensures.value ∙ written c.in_ok-found.found.len c.deref_mut.result.now c.rebased.new.found _ (c.in_ok-found.found.ok.0 ∙ ap (length {A = Option ℕ}) (sym c.deref_mut.ensures.value)) c.rebased.ensures.size in
-    subst (λ (l : List ℕ). MayBeStored 1 c.args.limits (length l) added c.in-Ok.change) c.bytes.ensures.bytes
-    (c.in-Ok.ensures.stored added (record {
-      tables_of = v.tables_of;
-      stand = all-stand c.args.log.now c.args.tables.now added v c.args.session.now x c.bytes.result.now c.bytes.ensures.bytes;
-      pending_rows = c.in_ok-left.ensures.left added v x;
-      found_are = subst (λ l. AllZip (IsFoundIn added) c.args.heads.now l) (sym now)
-          (c.in_ok-left.ensures.found added v x (subst (λ l. AllZip (IsFoundIn added) c.args.heads.now l) (sym c.deref_mut.ensures.value) (c.in_ok-found.ensures.found added v x)));
-    }))
-
-pub returns-in-Ok-clause-step : goal.returns-in-Ok-clause-step
-returns-in-Ok-clause-step g c = λ began s added st v x o.
-    let old = map g.R.Remote.shown c.args.mirrors.now.items in
-    let mid = map g.R.Remote.shown c.heads_found.new.mirrors.items in
-    let new = map g.R.Remote.shown c.rebased.new.mirrors.items in
-    let bytes = c.bytes.result.now in
-    let are = c.bytes.ensures.bytes in
-    let now : c.deref.result.now ≡ c.rebased.new.found = c.deref.ensures.value ∙ written c.in_ok-found.found.len c.deref_mut.result.now c.rebased.new.found _ (c.in_ok-found.found.ok.0 ∙ ap (length {A = Option ℕ}) (sym c.deref_mut.ensures.value)) c.rebased.ensures.size in
-    let size = log-size c.args.log.now c.args.tables.now added v c.args.session.now x bytes are began s st o c.bytes.ensures.size in
-    let fits : length bytes ≤ c.args.limits.log = let a = c.bytes.ensures.log.0 in let b = c.requires.limit in omega (arith, a, b) in
-    plans-change c.args.limits st s c.args.heads.now began added c.args.session.now o old mid new c.args.cache.now c.heads_found.new.cache c.rebased.new.cache c.deref_mut.result.now c.rebased.new.found
-    (subst (λ l. FindsHeads added st.stored (pending_of st s) c.args.heads.now old mid c.args.cache.now c.heads_found.new.cache (Ok l)) (sym c.deref_mut.ensures.value) (c.in_ok-found.ensures.step began s added st v x o))
-    c.in_ok-left.left (c.in_ok-left.ensures.step began s added st c.args.limits v x o) (length bytes) size fits c.in-Ok.change
-    (λ left later. c.in-Ok.ensures.worlds st.stored (left_of same_name st.stored (pending_of st s)) (payload_to st (flush_of st s c.args.heads.now))
-    (may-flush c.args.log.now c.args.tables.now added v c.args.session.now x bytes are began s st o c.in_ok-left.left left c.args.heads.now c.deref.result.now (now ∙ later))
-    (change-to st (flush_of st s c.args.heads.now)))
+pub returns-clause-stored : goal.returns-clause-stored
+returns-clause-stored g c = λ added v x.
+    c.plan_found.ensures.stored added v x (subst (λ l. AllZip (IsFoundIn added) c.args.heads.now l) (sym c.deref_mut.ensures.value) (c.in_ok-found.ensures.found added v x))
 
 pub returns-clause-step : goal.returns-clause-step
 returns-clause-step g c = λ began s added st v x o.
     let old = map g.R.Remote.shown c.args.mirrors.now.items in
     let mid = map g.R.Remote.shown c.heads_found.new.mirrors.items in
-    let new = map g.R.Remote.shown c.rebased.new.mirrors.items in
-    let bytes = c.bytes.result.now in
-    let are = c.bytes.ensures.bytes in
-    let now : c.deref.result.now ≡ c.rebased.new.found = c.deref.ensures.value ∙ written c.in_ok-found.found.len c.deref_mut.result.now c.rebased.new.found _ (c.in_ok-found.found.ok.0 ∙ ap (length {A = Option ℕ}) (sym c.deref_mut.ensures.value)) c.rebased.ensures.size in
-    let size = log-size c.args.log.now c.args.tables.now added v c.args.session.now x bytes are began s st o c.bytes.ensures.size in
-    let fits : length bytes ≤ c.args.limits.log = let a = c.bytes.ensures.log.0 in let b = c.requires.limit in omega (arith, a, b) in
-    subst (λ r. PlansFlush c.args.limits st s c.args.heads.now old new c.args.cache.now c.rebased.new.cache (Err r)) (sym c.refusal_of.ensures)
-    (plans-fault c.args.limits st s c.args.heads.now began added c.args.session.now o old mid new c.args.cache.now c.heads_found.new.cache c.rebased.new.cache c.deref_mut.result.now c.rebased.new.found
+    c.plan_found.ensures.step began s added st old c.args.cache.now v x o
     (subst (λ l. FindsHeads added st.stored (pending_of st s) c.args.heads.now old mid c.args.cache.now c.heads_found.new.cache (Ok l)) (sym c.deref_mut.ensures.value) (c.in_ok-found.ensures.step began s added st v x o))
-    c.in_ok-left.left (c.in_ok-left.ensures.step began s added st c.args.limits v x o) (length bytes) size fits c.in-Err.fault
-    (λ left later. c.in-Err.ensures.worlds st.stored (left_of same_name st.stored (pending_of st s)) (payload_to st (flush_of st s c.args.heads.now))
-    (may-flush c.args.log.now c.args.tables.now added v c.args.session.now x bytes are began s st o c.in_ok-left.left left c.args.heads.now c.deref.result.now (now ∙ later))
-    (change-to st (flush_of st s c.args.heads.now))))

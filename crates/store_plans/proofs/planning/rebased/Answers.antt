@@ -2,11 +2,12 @@ use Rattle.std.proofs.Common.{◌∙◌, map, get_or, None, [], refl, sym, subst
 use Rattle.std.specs.List.{AllZip}
 use Rattle.commit_graph.specs.World.{names_of}
 use Rattle.payload_tables.specs.Pending.{row_names}
+use Rattle.change_rules.specs.Tables.{StandFor}
 use Rattle.flush_rebuild.specs.Asked.{IsFoundIn}
 use Rattle.step_rules.specs.State.{pending_of}
 use Rattle.store_plans.specs.Changes.{HaveNames, IsTaken}
-use Rattle.store_plans.proofs.FlushParts.{all-stand, is-newest, isnt-newest}
-use Rattle.store_plans.proofs.NewestBase.{none-behind, none-few, none-view, session-names, some-newest, state-newest}
+use Rattle.store_plans.proofs.FlushParts.{is-newest, isnt-newest}
+use Rattle.store_plans.proofs.NewestBase.{session-names}
 use Rattle.store_plans.proofs.RebaseTests.{err-rebases, rows-moved, rows-refused, stays-newest}
 use Rattle.store_plans.proofs.TakenHeads.{ok-any, taken-found}
 use Rattle.store_plans.proofs.planning.rebased.Goals as goal
@@ -17,78 +18,46 @@ returns-then-session-batch_count-clause-step g c = λ began s added st limits v 
     stays-newest began s added c.args.session.now st o (is-newest c.args.log.now c.args.tables.now added v c.args.session.now x _ refl began s st o newest)
     limits c.args.heads.now _ c.args.cache.now c.args.found.now c.args.session.now.pending c.copied.result refl c.copied.ensures
 
-pub empty-none-requires : goal.empty-none-requires
-empty-none-requires g c = none-few c.args.tables.now c.requires.over.0 c.requires.over.1.tables_of c.others.result.now c.others.ensures c.count.result c.from.result c.count.ensures c.from.ensures
-
-pub look_up_rows-requires-clause-base : goal.look_up_rows-requires-clause-base
-look_up_rows-requires-clause-base g c =
-    let r = c.requires.over in
-    let b = c.newest-newest.ensures r.0 r.1.tables_of (all-stand c.args.log.now c.args.tables.now r.0 r.1 c.args.session.now r.2 c.bytes-bytes.result.now c.bytes-bytes.ensures.bytes) in
-    (r.0, b, r.2, none-view c.args.tables.now r.0 r.1.tables_of c.others.result.now c.others.ensures c.count.result c.from.result c.count.ensures c.from.ensures c.empty-none.result c.empty-none.ensures.rows c.empty-none.ensures.first c.newest-newest.result b)
-
 pub returns-in_err-rows-clause-step : goal.returns-in_err-rows-clause-step
 returns-in_err-rows-clause-step g c = λ began s added st limits v x o.
     let old = map g.R.Remote.shown c.args.mirrors.now.items in
-    let new = map g.R.Remote.shown c.look_up_rows.new.mirrors.items in
-    let all = all-stand c.args.log.now c.args.tables.now added v c.args.session.now x c.bytes-bytes.result.now c.bytes-bytes.ensures.bytes in
-    let b = c.newest-newest.ensures added v.tables_of all in
-    let w = state-newest c.args.tables.now added v.tables_of c.others.result.now c.others.ensures c.count.result c.from.result c.count.ensures c.from.ensures c.empty-none.result c.empty-none.ensures.rows c.empty-none.ensures.first c.newest-newest.result b
-    began s c.args.session.now st o in
-    let older = isnt-newest c.args.log.now c.args.tables.now added v c.args.session.now x c.bytes-bytes.result.now c.bytes-bytes.ensures.bytes began s st o
+    let new = map g.R.Remote.shown c.rows_found.new.mirrors.items in
+    let stand = subst (λ l. StandFor l st.stored) (sym o.payloads) o.hold.stand in
+    let older = isnt-newest c.args.log.now c.args.tables.now added v c.args.session.now x _ refl began s st o
     (λ e. c.if-session-batch_count.false (e ∙ sym c.batch_count.ensures)) in
-    err-rebases limits st s c.args.heads.now old new c.args.cache.now c.look_up_rows.new.cache c.args.found.now c.args.found.now c.from_residual.result c.in_err-rows.field-0.0 c.from_residual.ensures.1
-    (rows-refused began s added c.args.session.now st o older limits c.args.heads.now old new c.args.cache.now c.look_up_rows.new.cache c.args.found.now c.args.found.now c.in_err-rows.field-0.0
-    (c.in_err-rows.ensures.finds added st.stored (names_of (pending_of st s)) w.1 (none-behind c.args.tables.now c.bytes-bytes.result.now added v.tables_of all) (session-names began s added c.args.session.now st o)
-    (c.lacks_names-unnamed.ensures added st.stored v.tables_of w.0)))
+    err-rebases limits st s c.args.heads.now old new c.args.cache.now c.rows_found.new.cache c.args.found.now c.args.found.now c.from_residual.result c.in_err-rows.field-0.0 c.from_residual.ensures.1
+    (rows-refused began s added c.args.session.now st o older limits c.args.heads.now old new c.args.cache.now c.rows_found.new.cache c.args.found.now c.args.found.now c.in_err-rows.field-0.0
+    (c.in_err-rows.ensures.finds added st.stored (names_of (pending_of st s)) v x stand o.hold.world (session-names began s added c.args.session.now st o)))
 
 pub rebased_anew-requires : goal.rebased_anew-requires
 rebased_anew-requires g c =
     let r = c.requires.over in
-    let all = all-stand c.args.log.now c.args.tables.now r.0 r.1 c.args.session.now r.2 c.bytes-bytes.result.now c.bytes-bytes.ensures.bytes in
-    let b = c.newest-newest.ensures r.0 r.1.tables_of all in
-    let s = some-newest c.args.tables.now r.0 r.1.tables_of c.others.result.now c.others.ensures c.count.result c.from.result c.count.ensures c.from.ensures c.empty-none.result c.empty-none.ensures.rows c.empty-none.ensures.first c.newest-newest.result b in (
-      r.0,
-      r.1,
-      r.2,
-      λ names n. subst (λ l. AllZip (IsFoundIn r.0) names l) (sym c.deref-2.ensures.value)
-          (c.in_ok-rows.ensures.finds r.0 s.0 names s.2 (none-behind c.args.tables.now c.bytes-bytes.result.now r.0 r.1.tables_of all) n (c.lacks_names-unnamed.ensures r.0 s.0 r.1.tables_of s.1)).found,
-    )
+    (r.0, r.1, r.2, λ names n. subst (λ l. AllZip (IsFoundIn r.0) names l) (sym c.deref-2.ensures.value) (c.in_ok-rows.ensures.found r.0 r.1 r.2 names n))
 
 pub returns-clause-left : goal.returns-clause-left
 returns-clause-left g c = λ added v x.
-    let all = all-stand c.args.log.now c.args.tables.now added v c.args.session.now x c.bytes-bytes.result.now c.bytes-bytes.ensures.bytes in
-    let b = c.newest-newest.ensures added v.tables_of all in
-    let s = some-newest c.args.tables.now added v.tables_of c.others.result.now c.others.ensures c.count.result c.from.result c.count.ensures c.from.ensures c.empty-none.result c.empty-none.ensures.rows c.empty-none.ensures.first c.newest-newest.result b in
-    c.rebased_anew.ensures.left added v x (λ names n. subst (λ l. AllZip (IsFoundIn added) names l) (sym c.deref-2.ensures.value)
-    (c.in_ok-rows.ensures.finds added s.0 names s.2 (none-behind c.args.tables.now c.bytes-bytes.result.now added v.tables_of all) n (c.lacks_names-unnamed.ensures added s.0 v.tables_of s.1)).found)
+    c.rebased_anew.ensures.left added v x (λ names n. subst (λ l. AllZip (IsFoundIn added) names l) (sym c.deref-2.ensures.value) (c.in_ok-rows.ensures.found added v x names n))
 
 pub returns-clause-found : goal.returns-clause-found
 returns-clause-found g c = λ added v x z.
     let names = row_names x.pending.rows in
     let n : HaveNames c.args.session.now.pending names = (x.pending.rows, x.pending.held, refl) in
-    let all = all-stand c.args.log.now c.args.tables.now added v c.args.session.now x c.bytes-bytes.result.now c.bytes-bytes.ensures.bytes in
-    let b = c.newest-newest.ensures added v.tables_of all in
-    let s = some-newest c.args.tables.now added v.tables_of c.others.result.now c.others.ensures c.count.result c.from.result c.count.ensures c.from.ensures c.empty-none.result c.empty-none.ensures.rows c.empty-none.ensures.first c.newest-newest.result b in
     ok-any c.rebased_anew.result _
-    (taken-found added names c.in_ok-rows.rows.items
-    (c.in_ok-rows.ensures.finds added s.0 names s.2 (none-behind c.args.tables.now c.bytes-bytes.result.now added v.tables_of all) n (c.lacks_names-unnamed.ensures added s.0 v.tables_of s.1)).found
+    (taken-found added names c.in_ok-rows.rows.items (c.in_ok-rows.ensures.found added v x names n)
     c.args.heads.now c.args.found.now c.take_rows.new.found c.take_rows.ensures.len z
     (λ i lt. subst (λ l. IsTaken names l (get_or c.args.heads.now i []) (get_or c.args.found.now i None) (get_or c.take_rows.new.found i None)) c.deref.ensures.value (c.take_rows.ensures.taken names n i lt)))
 
 pub returns-clause-step : goal.returns-clause-step
 returns-clause-step g c = λ began s added st limits v x o.
     let old = map g.R.Remote.shown c.args.mirrors.now.items in
-    let new = map g.R.Remote.shown c.look_up_rows.new.mirrors.items in
+    let new = map g.R.Remote.shown c.rows_found.new.mirrors.items in
     let names = names_of (pending_of st s) in
     let n = session-names began s added c.args.session.now st o in
-    let all = all-stand c.args.log.now c.args.tables.now added v c.args.session.now x c.bytes-bytes.result.now c.bytes-bytes.ensures.bytes in
-    let b = c.newest-newest.ensures added v.tables_of all in
-    let w = state-newest c.args.tables.now added v.tables_of c.others.result.now c.others.ensures c.count.result c.from.result c.count.ensures c.from.ensures c.empty-none.result c.empty-none.ensures.rows c.empty-none.ensures.first c.newest-newest.result b
-    began s c.args.session.now st o in
-    let older = isnt-newest c.args.log.now c.args.tables.now added v c.args.session.now x c.bytes-bytes.result.now c.bytes-bytes.ensures.bytes began s st o
+    let stand = subst (λ l. StandFor l st.stored) (sym o.payloads) o.hold.stand in
+    let older = isnt-newest c.args.log.now c.args.tables.now added v c.args.session.now x _ refl began s st o
     (λ e. c.if-session-batch_count.false (e ∙ sym c.batch_count.ensures)) in
-    rows-moved began s added c.args.session.now st o older limits c.args.heads.now old new c.args.cache.now c.look_up_rows.new.cache c.args.found.now c.in_ok-rows.rows.items
-    (c.in_ok-rows.ensures.finds added st.stored names w.1 (none-behind c.args.tables.now c.bytes-bytes.result.now added v.tables_of all) n (c.lacks_names-unnamed.ensures added st.stored v.tables_of w.0))
+    rows-moved began s added c.args.session.now st o older limits c.args.heads.now old new c.args.cache.now c.rows_found.new.cache c.args.found.now c.in_ok-rows.rows.items
+    (c.in_ok-rows.ensures.finds added st.stored names v x stand o.hold.world n)
     c.take_rows.new.found c.take_rows.ensures.len
     (λ i lt. subst (λ l. IsTaken names l (get_or c.args.heads.now i []) (get_or c.args.found.now i None) (get_or c.take_rows.new.found i None)) c.deref.ensures.value (c.take_rows.ensures.taken names n i lt))
     c.rebased_anew.result c.rebased_anew.ensures.planned (λ e. c.rebased_anew.ensures.step began s added st v x o (c.deref-2.ensures.value ∙ e))
