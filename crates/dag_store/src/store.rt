@@ -8,6 +8,8 @@ ghost use Rattle.commit_graph.specs.World.{World};
 ghost use Rattle.disk_trait.specs.Calls.{Goes};
 ghost use Rattle.gated_log.specs.Load.{IsSureOf, IsSureBehind};
 ghost use Rattle.batch_codec.specs.Payload.{Payload};
+ghost use Rattle.name_map.specs.Added.{Placed, payloads_of};
+ghost use Rattle.payload_tables.specs.Kept.{AreTablesOf};
 ghost use Rattle.change_rules.specs.Standard.{AreLimits};
 ghost use Rattle.change_rules.specs.Change.{text_of};
 ghost use Rattle.change_rules.specs.Holding.{HoldAs, KeepsHolding};
@@ -20,6 +22,8 @@ ghost use Rattle.step_rules.specs.Step.{CommandStep};
 ghost use Rattle.dag_store.specs.Stands.{Stands};
 ghost use Rattle.dag_store.specs.Steps.{ChangesOnly};
 ghost use Rattle.dag_store.specs.Loading.{LoadAnswers, Opens, IsLoadedStore, IsNoLogFault};
+ghost use Rattle.store_plans.specs.Sessions.{IsOnNewest};
+ghost use Rattle.dag_store.specs.Kept.{session_at};
 
 use crate::loading::{boxed_tables, new_sessions};
 use crate::replies::{Counts, LoadFault};
@@ -54,6 +58,26 @@ impl Model for Store {
     ghost invariant = { λ s. IsKept s.log s.tables.value s.sessions.items s.limits };
 }
 
+/// What a store has beside its log and its tables: sixteen sessions without rows on all payloads of the log, and room for so many names.
+fn new_parts(
+    alloc: Global,
+    log: &Log,
+    tables: &Tables,
+    cache: u32,
+) -> Result<(Vec<Session>, LazyNames), LoadFault>
+    requires tables { (added : List Placed) × AreTablesOf tables.now added × (log.now.payloads ≡ map text_of (payloads_of added)) }
+    requires cache { 0 < cache }
+    ensures count { IfOk result (λ parts. length parts.0.items ≡ 16) }
+    ensures each { (added : List Placed) (s : ℕ) → AreTablesOf tables.now added → log.now.payloads ≡ map text_of (payloads_of added) → s < 16
+        → IfOk result (λ parts. IsOnNewest added (session_at parts.0.items s)) }
+    ensures cache { IfOk result (λ parts. parts.1 ≡ record { entries = []; capacity = cache }) }
+    ensures err { IfErr result (λ fault. fault ≡ LoadFault.Memory) }
+{
+    let sessions = new_sessions(alloc, log, tables)?;
+    let names = LazyNames::new(alloc, cache)?;
+    Ok((sessions, names))
+}
+
 impl Store {
     /// The store of a log: sixteen sessions on its newest world, and room for so many names of mirrors. While it is loaded, a crash
     /// leaves what holds that world.
@@ -83,8 +107,8 @@ impl Store {
     {
         let log = Log::load(alloc, disk, limits.log)?;
         let tables = boxed_tables(alloc, &log)?;
-        let sessions = new_sessions(alloc, &log, &tables)?;
-        let names = LazyNames::new(alloc, cache)?;
+        let parts = new_parts(alloc, &log, &tables, cache)?;
+        let (sessions, names) = parts;
         Ok(Store {
             alloc,
             log,

@@ -1,3 +1,4 @@
+use Rattle.std.proofs.Common.{refl}
 use Rattle.store_plans.specs.Sessions.{base_added}
 use Rattle.dag_store.proofs.QueryWorld.{may-view, seen-by}
 use Rattle.dag_store.proofs.Leading.{tables-behind}

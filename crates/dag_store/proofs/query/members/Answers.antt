@@ -1,4 +1,4 @@
-use Rattle.std.proofs.Common.{ℕ, ap, subst, ◌∙◌, ◌++◌, length, map}
+use Rattle.std.proofs.Common.{ℕ, ap, subst, ◌∙◌, ◌++◌, length, map, refl}
 use Rattle.id_groups.specs.Lists.{IsIn}
 use Rattle.id_groups.specs.Id.{other_id}
 use Rattle.id_groups.specs.Name.{same_name}

@@ -18,11 +18,8 @@ returns-in_err-log-clause-images g c = λ w. load-keeps c.args.limits w (g.D.Dis
 pub returns-in_err-tables-clause-images : goal.returns-in_err-tables-clause-images
 returns-in_err-tables-clause-images g c = λ w. load-keeps c.args.limits w (g.D.Disk.told c.args.disk.now) (g.D.Disk.told c.load.new.disk) c.requires.limits (g.met.D.Disk.sound c.args.disk.now) c.in_ok-log.ensures.fresh
 
-pub returns-in_err-sessions-clause-images : goal.returns-in_err-sessions-clause-images
-returns-in_err-sessions-clause-images g c = λ w. load-keeps c.args.limits w (g.D.Disk.told c.args.disk.now) (g.D.Disk.told c.load.new.disk) c.requires.limits (g.met.D.Disk.sound c.args.disk.now) c.in_ok-log.ensures.fresh
-
-pub returns-in_err-names-clause-images : goal.returns-in_err-names-clause-images
-returns-in_err-names-clause-images g c = λ w. load-keeps c.args.limits w (g.D.Disk.told c.args.disk.now) (g.D.Disk.told c.load.new.disk) c.requires.limits (g.met.D.Disk.sound c.args.disk.now) c.in_ok-log.ensures.fresh
+pub returns-in_err-parts-clause-images : goal.returns-in_err-parts-clause-images
+returns-in_err-parts-clause-images g c = λ w. load-keeps c.args.limits w (g.D.Disk.told c.args.disk.now) (g.D.Disk.told c.load.new.disk) c.requires.limits (g.met.D.Disk.sound c.args.disk.now) c.in_ok-log.ensures.fresh
 
 pub returns-clause-images : goal.returns-clause-images
 returns-clause-images g c = λ w. load-keeps c.args.limits w (g.D.Disk.told c.args.disk.now) (g.D.Disk.told c.load.new.disk) c.requires.limits (g.met.D.Disk.sound c.args.disk.now) c.in_ok-log.ensures.fresh
@@ -45,20 +42,20 @@ pub invariant_of-result : goal.invariant_of-result
 invariant_of-result g c =
     let read = c.in_ok-tables.ensures.ok in
     let lent = subst (λ t. AreTablesOf t read.0) (sym c.deref.ensures) read.1 in
-    loaded-kept c.in_ok-log.log c.in_ok-tables.tables.value c.in_ok-sessions.sessions.items c.args.limits read.0 read.1 read.2 read.3 read.4 c.in_ok-sessions.ensures.count
-    (λ s small. c.in_ok-sessions.ensures.each read.0 s lent read.3 small) c.requires.limits c.in_ok-log.ensures.limit
+    loaded-kept c.in_ok-log.log c.in_ok-tables.tables.value c.in_ok-parts.parts.0.items c.args.limits read.0 read.1 read.2 read.3 read.4 c.in_ok-parts.ensures.count
+    (λ s small. c.in_ok-parts.ensures.each read.0 s lent read.3 small) c.requires.limits c.in_ok-log.ensures.limit
 
 pub returns-clause-opens : goal.returns-clause-opens
 returns-clause-opens g c = λ payloads w.
-    let store : PlainStore = record { log = c.in_ok-log.log; sessions = c.in_ok-sessions.sessions.items; limits = c.args.limits; cache = c.in_ok-names.names } in
+    let store : PlainStore = record { log = c.in_ok-log.log; sessions = c.in_ok-parts.parts.0.items; limits = c.args.limits; cache = c.in_ok-parts.parts.1 } in
     let read = c.in_ok-tables.ensures.ok in
     let lent = subst (λ t. AreTablesOf t read.0) (sym c.deref.ensures) read.1 in
     if-some (λ bytes. IsLogOf c.args.limits.log bytes c.in_ok-log.log) (λ bytes. HoldAs c.args.limits.log bytes payloads w → Opens c.args.limits payloads w (Ok store)) (g.D.Disk.bytes c.args.disk.now)
-    (λ bytes log hold. opened c.args.limits store c.in_ok-tables.tables.value read.0 payloads w bytes log read.1 read.3 (λ s small. c.in_ok-sessions.ensures.each read.0 s lent read.3 small) hold) c.in_ok-log.ensures.answers
+    (λ bytes log hold. opened c.args.limits store c.in_ok-tables.tables.value read.0 payloads w bytes log read.1 read.3 (λ s small. c.in_ok-parts.ensures.each read.0 s lent read.3 small) hold) c.in_ok-log.ensures.answers
 
 pub returns-clause-done : goal.returns-clause-done
 returns-clause-done g c =
-    load-done c.args.limits (record { log = c.in_ok-log.log; sessions = c.in_ok-sessions.sessions.items; limits = c.args.limits; cache = c.in_ok-names.names }) (g.D.Disk.told c.args.disk.now) (g.D.Disk.told c.load.new.disk) refl c.in_ok-log.ensures.limit c.in_ok-log.ensures.done
+    load-done c.args.limits (record { log = c.in_ok-log.log; sessions = c.in_ok-parts.parts.0.items; limits = c.args.limits; cache = c.in_ok-parts.parts.1 }) (g.D.Disk.told c.args.disk.now) (g.D.Disk.told c.load.new.disk) refl c.in_ok-log.ensures.limit c.in_ok-log.ensures.done
 
 pub returns-in_err-log-clause-unwritten : goal.returns-in_err-log-clause-unwritten
 returns-in_err-log-clause-unwritten g c =
