@@ -176,7 +176,18 @@ fn write_log(
     Ok((sample, ends))
 }
 
-/// The levels of these commits, which come in pieces of so many at most. Each change is made, taken back, and made again.
+/// The levels of a log that came in pieces, which end there. Each change is made, taken back, and made again.
+fn grow_over(alloc: Global, log: &[u8], ends: &[usize]) -> Result<LevelSample, FlatFault> {
+    let mut sample = LevelSample::over(alloc, Vec::from_slice(alloc, log)?, true);
+    let mut at = 0usize;
+    for end in ends {
+        sample = sample.add(end.saturating_sub(at))?;
+        at = *end;
+    }
+    Ok(sample)
+}
+
+/// The levels of these commits, which come in pieces of so many at most.
 pub fn grow(
     alloc: Global,
     rows: &[Parents],
@@ -184,13 +195,5 @@ pub fn grow(
     seed: u64,
 ) -> Result<LevelSample, FlatFault> {
     let (written, ends) = write_log(alloc, rows, most, seed)?;
-    let mut log = Vec::new(alloc);
-    log.extend_from_slice(written.bytes())?;
-    let mut sample = LevelSample::over(alloc, log, true);
-    let mut at = 0usize;
-    for end in &ends {
-        sample = sample.add(end.saturating_sub(at))?;
-        at = *end;
-    }
-    Ok(sample)
+    grow_over(alloc, written.bytes(), &ends)
 }
