@@ -167,6 +167,20 @@ fn time_asked<T: SegmentTable>(
     time_children(rt, table, ids, what, commits)
 }
 
+/// Times a question about so many pairs of commits, which are near within so many ids.
+fn time_question<T: SegmentTable>(
+    rt: &HostRuntime,
+    table: &T,
+    ids: u64,
+    question: Question,
+    reach: u64,
+    count: u64,
+) -> io::Result<()> {
+    let start = Instant::now(rt)?;
+    let sum = ask_pairs(rt.alloc(), table, question, ids, reach, count)?;
+    told(rt, "together", start, sum)
+}
+
 /// Times questions about so many pairs of commits, far and near.
 fn time_pairs<T: SegmentTable>(
     rt: &HostRuntime,
@@ -183,9 +197,7 @@ fn time_pairs<T: SegmentTable>(
         ("gca, near", Question::Gca, NEAR),
     ] {
         headed_times(rt, name, what, count)?;
-        let start = Instant::now(rt)?;
-        let sum = ask_pairs(rt.alloc(), table, question, ids, reach, count)?;
-        told(rt, "together", start, sum)?;
+        time_question(rt, table, ids, question, reach, count)?;
     }
     Ok(())
 }

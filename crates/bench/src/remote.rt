@@ -78,19 +78,34 @@ fn time_paths(rt: &HostRuntime, store: &mut Store, commits: u64, heads: &[Name])
     told(rt, "2,000 paths, sum of their lengths", start, sum)
 }
 
-/// Times all calls.
-fn time_calls(rt: &HostRuntime, store: &mut Store, commits: u64) -> io::Result<()> {
+/// Times names.
+fn time_names(rt: &HostRuntime, store: &mut Store, commits: u64) -> io::Result<()> {
     let start = Instant::now(rt)?;
-    let read = store.refresh(rt.alloc()).is_ok();
-    told(rt, "the log read", start, u64::from(read))?;
+    let sum = ask_names(rt.alloc(), store, commits).unwrap_or(0);
+    told(rt, "2,000 times a hundred names", start, sum)
+}
+
+/// Times paths from these heads and from the newest commit, and names.
+fn time_asks(rt: &HostRuntime, store: &mut Store, commits: u64, heads: &[Name]) -> io::Result<()> {
+    time_paths(rt, store, commits, heads)?;
+    time_paths(rt, store, commits, &[name_of(commits.saturating_sub(1))])?;
+    time_names(rt, store, commits)
+}
+
+/// Times the clone data, and what is asked behind them.
+fn time_data(rt: &HostRuntime, store: &mut Store, commits: u64) -> io::Result<()> {
     let start = Instant::now(rt)?;
     let Ok(heads) = heads_of(rt.alloc(), store) else {
         return println!(rt; "no clone data");
     };
     told(rt, "clone data, heads", start, heads.len() as u64)?;
-    time_paths(rt, store, commits, &heads)?;
-    time_paths(rt, store, commits, &[name_of(commits.saturating_sub(1))])?;
+    time_asks(rt, store, commits, &heads)
+}
+
+/// Times all calls.
+fn time_calls(rt: &HostRuntime, store: &mut Store, commits: u64) -> io::Result<()> {
     let start = Instant::now(rt)?;
-    let sum = ask_names(rt.alloc(), store, commits).unwrap_or(0);
-    told(rt, "2,000 times a hundred names", start, sum)
+    let read = store.refresh(rt.alloc()).is_ok();
+    told(rt, "the log read", start, u64::from(read))?;
+    time_data(rt, store, commits)
 }

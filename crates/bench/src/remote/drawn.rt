@@ -78,18 +78,34 @@ struct Open {
     count: u32,
 }
 
+/// How many parents there are.
+fn count_of(parents: Two) -> u64 {
+    match (parents.first, parents.second) {
+        (None, None) => 0,
+        (Some(_), Some(_)) => 2,
+        _ => 1,
+    }
+}
+
+/// Puts the count of the parents, and the parents.
+fn put_parents(out: &mut Vec<u8>, parents: Two) -> Result<(), AllocError> {
+    put_number(out, count_of(parents))?;
+    if let Some(first) = parents.first {
+        put_number(out, first)?;
+    }
+    if let Some(second) = parents.second {
+        put_number(out, second)?;
+    }
+    Ok(())
+}
+
 /// Puts the record of the open segment, which ends with this id.
 fn put_record(out: &mut Vec<u8>, open: Open, high: u64) -> Result<(), AllocError> {
     let flags = if open.parents.first.is_none() { 1 } else { 0 };
     out.extend_from_slice(&[flags, 0])?;
     out.extend_from_slice(&high.to_be_bytes())?;
     put_number(out, high.saturating_sub(open.low))?;
-    let parents = [open.parents.first, open.parents.second];
-    put_number(out, parents.iter().flatten().count() as u64)?;
-    for parent in parents.iter().flatten() {
-        put_number(out, *parent)?;
-    }
-    Ok(())
+    put_parents(out, open.parents)
 }
 
 /// Whether the commit goes on from the one before alone.
@@ -134,8 +150,15 @@ fn put_names(out: &mut Vec<u8>, commits: u64) -> Result<(), AllocError> {
     Ok(())
 }
 
-/// Puts the payload of a flush of so many commits.
-fn put_payload(
+/// Puts what stands before the records of a flush of so many commits: how many records there are comes last.
+fn put_front(out: &mut Vec<u8>, commits: u64, count: u32) -> Result<(), AllocError> {
+    out.extend_from_slice(&[1, 1, 0, 0, 0, 0, 0, 0, 0, 0])?;
+    out.extend_from_slice(&commits.to_be_bytes())?;
+    out.extend_from_slice(&count.to_be_bytes())
+}
+
+/// Puts the same, and the records.
+fn put_counted(
     alloc: Global,
     out: &mut Vec<u8>,
     commits: u64,
@@ -143,10 +166,18 @@ fn put_payload(
 ) -> Result<(), AllocError> {
     let mut records = Vec::new(alloc);
     let count = put_records(&mut records, commits, start)?;
-    out.extend_from_slice(&[1, 1, 0, 0, 0, 0, 0, 0, 0, 0])?;
-    out.extend_from_slice(&commits.to_be_bytes())?;
-    out.extend_from_slice(&count.to_be_bytes())?;
-    out.extend_from_slice(&records)?;
+    put_front(out, commits, count)?;
+    out.extend_from_slice(&records)
+}
+
+/// Puts the payload of a flush of so many commits.
+fn put_payload(
+    alloc: Global,
+    out: &mut Vec<u8>,
+    commits: u64,
+    start: u64,
+) -> Result<(), AllocError> {
+    put_counted(alloc, out, commits, start)?;
     put_names(out, commits)?;
     out.extend_from_slice(&[0; 10])
 }
