@@ -104,19 +104,21 @@ fn numbered(number: u32) -> Name {
     Name::from_bytes(bytes)
 }
 
+/// Puts a commit without parents, which is a head.
+fn push_apart(told: &mut CloneData, id: u32) -> Result<(), AllocError> {
+    if told.segments.len() > 1 << 20 || told.names.len() > 1 << 20 || told.heads.len() > 1 << 20 {
+        return Err(AllocError);
+    }
+    told.push_segment(u64::from(id), u64::from(id), &[])?;
+    told.push_name(u64::from(id), numbered(id))?;
+    told.push_head(numbered(id))
+}
+
 /// So many commits without parents.
 fn apart(alloc: Global, count: u32) -> Result<CloneData, AllocError> {
     let mut told = CloneData::empty(alloc);
     for id in 0..count {
-        if told.segments.len() > 1 << 20
-            || told.names.len() > 1 << 20
-            || told.heads.len() > 1 << 20
-        {
-            return Err(AllocError);
-        }
-        told.push_segment(u64::from(id), u64::from(id), &[])?;
-        told.push_name(u64::from(id), numbered(id))?;
-        told.push_head(numbered(id))?;
+        push_apart(&mut told, id)?;
     }
     Ok(told)
 }

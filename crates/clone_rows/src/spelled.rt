@@ -58,16 +58,26 @@ fn put_heads(bytes: &mut Vec<u8>, told: &CloneData) -> Result<(), AllocError> {
     Ok(())
 }
 
+/// Puts the version and the kind, the master counts before and after, and how many ids are cloned.
+fn put_front(bytes: &mut Vec<u8>, commits: u64) -> Result<(), AllocError> {
+    bytes.extend_from_slice(&[2, 2, 0, 0, 0, 0, 0, 0, 0, 0])?;
+    bytes.extend_from_slice(&commits.to_be_bytes())?;
+    bytes.extend_from_slice(&commits.to_be_bytes())
+}
+
+/// Puts the sections, of which those of levels and of others are empty.
+fn put_sections(bytes: &mut Vec<u8>, told: &CloneData) -> Result<(), AllocError> {
+    put_segments(bytes, told)?;
+    bytes.extend_from_slice(&[0; 4])?;
+    put_names(bytes, told)?;
+    put_heads(bytes, told)?;
+    bytes.extend_from_slice(&[0; 8])
+}
+
 /// The payload of a clone of so many commits, few enough that no segments make one of a level, which a remote told so.
 pub fn payload_of(alloc: Global, told: &CloneData, commits: u64) -> Result<Vec<u8>, AllocError> {
     let mut bytes = Vec::new(alloc);
-    bytes.extend_from_slice(&[2, 2, 0, 0, 0, 0, 0, 0, 0, 0])?;
-    bytes.extend_from_slice(&commits.to_be_bytes())?;
-    bytes.extend_from_slice(&commits.to_be_bytes())?;
-    put_segments(&mut bytes, told)?;
-    bytes.extend_from_slice(&[0; 4])?;
-    put_names(&mut bytes, told)?;
-    put_heads(&mut bytes, told)?;
-    bytes.extend_from_slice(&[0; 8])?;
+    put_front(&mut bytes, commits)?;
+    put_sections(&mut bytes, told)?;
     Ok(bytes)
 }

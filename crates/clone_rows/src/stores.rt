@@ -112,6 +112,17 @@ fn run_beside(
     run(alloc, disk, &mut mirrors, lines, output)
 }
 
+/// The same, of which nobody reads the replies.
+fn run_unheard(
+    alloc: Global,
+    disk: &mut MemoryDisk,
+    list: Vec<Box<dyn Remote>>,
+    lines: &str,
+) -> Result<Report, AllocError> {
+    let mut unheard = MemorySink::new(alloc, &[])?;
+    run_beside(alloc, disk, list, lines, &mut unheard)
+}
+
 /// Lines, what they are answered over an empty log, and how many bytes the log has then.
 type Answered = (&'static str, &'static str, usize);
 
@@ -146,7 +157,10 @@ const TWICE: &str = "3 clone
 ";
 
 /// How many calls each mirror fails at first, and what comes of two clones.
-const TWO_CLONES: [(&[u32], Answered); 6] = [
+type Clones = (&'static [u32], Answered);
+
+/// No mirror; one, two and three of them.
+const TWO_CLONES: [Clones; 6] = [
     (&[], (TWICE, "err no-remote\nerr no-remote\nok 0 0 0\n", 1)),
     (
         &[0],
@@ -167,15 +181,25 @@ const TWO_CLONES: [(&[u32], Answered); 6] = [
     ),
 ];
 
-/// The first case of two clones that ends otherwise, if there is one.
-fn wrong_clones(alloc: Global) -> Result<Option<usize>, AllocError> {
-    for place in 0..TWO_CLONES.len() {
-        let (fails, wanted) = &TWO_CLONES[place];
-        if !are_answered(alloc, chain_list(alloc, fails)?, wanted)? {
+/// Whether two clones end so.
+fn are_cloned_so(alloc: Global, case: &Clones) -> Result<bool, AllocError> {
+    let (fails, wanted) = case;
+    are_answered(alloc, chain_list(alloc, fails)?, wanted)
+}
+
+/// The place of the first of these that ends otherwise, if there is one.
+fn first_wrong_clones(alloc: Global, rows: &[Clones]) -> Result<Option<usize>, AllocError> {
+    for place in 0..rows.len() {
+        if !are_cloned_so(alloc, &rows[place])? {
             return Ok(Some(place));
         }
     }
     Ok(None)
+}
+
+/// The place of the first of all that does.
+fn wrong_clones(alloc: Global) -> Result<Option<usize>, AllocError> {
+    first_wrong_clones(alloc, &TWO_CLONES)
 }
 
 #[test]
@@ -306,6 +330,29 @@ fn what_is_told_is_stored_or_refused(rt: HostRuntime) -> Result<(), AllocError> 
     Ok(())
 }
 
+/// Clones a drawn world over the disk.
+fn clone_drawn(
+    alloc: Global,
+    disk: &mut MemoryDisk,
+    start: u64,
+    commits: u64,
+) -> Result<(), AllocError> {
+    let list = drawn_list(alloc, start, commits)?;
+    let _report = run_unheard(alloc, disk, list, "15 clone\n")?;
+    Ok(())
+}
+
+/// Answers the lines over the disk without mirrors. Whether all were.
+fn answer_alone(
+    alloc: Global,
+    disk: &mut MemoryDisk,
+    lines: &str,
+    output: &mut MemorySink,
+) -> Result<bool, AllocError> {
+    let report = run_beside(alloc, disk, Vec::new(alloc), lines, output)?;
+    Ok(report.status == 0)
+}
+
 /// What the lines are answered over the log of a clone of a drawn world, without mirrors.
 fn answered_again(
     alloc: Global,
@@ -315,11 +362,8 @@ fn answered_again(
     output: &mut MemorySink,
 ) -> Result<bool, AllocError> {
     let mut disk = MemoryDisk::new(alloc, &[], &[], None)?;
-    let mut unheard = MemorySink::new(alloc, &[])?;
-    let list = drawn_list(alloc, start, commits)?;
-    let _first = run_beside(alloc, &mut disk, list, "15 clone\n", &mut unheard)?;
-    let report = run_beside(alloc, &mut disk, Vec::new(alloc), lines, output)?;
-    Ok(report.status == 0)
+    clone_drawn(alloc, &mut disk, start, commits)?;
+    answer_alone(alloc, &mut disk, lines, output)
 }
 
 /// Whether a store that is loaded again sees so many commits.
@@ -346,18 +390,27 @@ fn clones_are_loaded(rt: HostRuntime) -> Result<(), AllocError> {
     Ok(())
 }
 
-/// The status and the moment of the change of a clone over a fresh file, whose calls with these numbers fail; 0 where there is none.
-fn ended(alloc: Global, fails: &[u64]) -> Result<(u8, u64), AllocError> {
-    let mut disk = MemoryDisk::new(alloc, &[], fails, None)?;
-    let mut unheard = MemorySink::new(alloc, &[])?;
-    let list = chain_list(alloc, &[0])?;
-    let report = run_beside(alloc, &mut disk, list, "0 clone\n", &mut unheard)?;
+/// The status and the moment of the change; 0 where there is none.
+fn end_of(report: &Report) -> (u8, u64) {
     let moment = if report.changes.len() > 0 {
         report.changes.at(0)
     } else {
         0
     };
-    Ok((report.status, moment))
+    (report.status, moment)
+}
+
+/// Those of a clone of the chain over the disk.
+fn ended_over(alloc: Global, disk: &mut MemoryDisk) -> Result<(u8, u64), AllocError> {
+    let list = chain_list(alloc, &[0])?;
+    let report = run_unheard(alloc, disk, list, "0 clone\n")?;
+    Ok(end_of(&report))
+}
+
+/// Those of a clone over a fresh file, whose calls with these numbers fail.
+fn ended(alloc: Global, fails: &[u64]) -> Result<(u8, u64), AllocError> {
+    let mut disk = MemoryDisk::new(alloc, &[], fails, None)?;
+    ended_over(alloc, &mut disk)
 }
 
 /// The calls that fail, the status, and the moment.
