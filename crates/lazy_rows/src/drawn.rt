@@ -70,7 +70,23 @@ fn mirrors_of(
     Ok(Mirrors::new(list))
 }
 
-/// Runs lines over a disk beside mirrors, with room for so many names, and answers the replies.
+/// Runs lines over a disk beside mirrors, with room for so many names. Whether all were answered.
+fn run(
+    alloc: Global,
+    cache: u32,
+    disk: &mut MemoryDisk,
+    mirrors: &mut Mirrors,
+    lines: &str,
+    output: &mut MemorySink,
+) -> Result<bool, AllocError> {
+    let mut input = MemorySource::new(alloc, lines.as_bytes(), 4096, &[])?;
+    let limits = Limits::standard();
+    let room = cache.max(1);
+    let report = run_lines(alloc, limits, room, disk, mirrors, &mut input, output);
+    Ok(report.status == 0)
+}
+
+/// The same, and answers the replies.
 fn replies(
     alloc: Global,
     cache: u32,
@@ -78,17 +94,11 @@ fn replies(
     mirrors: &mut Mirrors,
     lines: &str,
 ) -> Result<Vec<u8>, AllocError> {
-    let mut input = MemorySource::new(alloc, lines.as_bytes(), 4096, &[])?;
     let mut output = MemorySink::new(alloc, &[])?;
-    let limits = Limits::standard();
-    let room = cache.max(1);
-    let report = run_lines(alloc, limits, room, disk, mirrors, &mut input, &mut output);
-    if report.status != 0 {
+    if !run(alloc, cache, disk, mirrors, lines, &mut output)? {
         return Err(AllocError);
     }
-    let mut said = Vec::new(alloc);
-    said.extend_from_slice(output.bytes())?;
-    Ok(said)
+    Vec::from_slice(alloc, output.bytes())
 }
 
 /// The bytes of a disk.

@@ -39,17 +39,23 @@ fn add_name(alloc: Global, text: &mut String, number: u64) -> Result<(), AllocEr
     text.push_str(name(alloc, number)?.as_str())
 }
 
-/// Adds the line by which a session adds a commit with these parents, each once.
-fn add_commit(
+/// Adds the front of a session's line: its number and this.
+fn add_front(
     alloc: Global,
     text: &mut String,
     session: u64,
-    number: u64,
+    words: &str,
+) -> Result<(), AllocError> {
+    let front = format!(in alloc; "{session} {words}")?;
+    text.push_str(front.as_str())
+}
+
+/// Adds the names of these parents, each once.
+fn add_parents(
+    alloc: Global,
+    text: &mut String,
     parents: [Option<u64>; 2],
 ) -> Result<(), AllocError> {
-    let verb = format!(in alloc; "{session} add")?;
-    text.push_str(verb.as_str())?;
-    add_name(alloc, text, number)?;
     let [first, second] = parents;
     if let Some(parent) = first {
         add_name(alloc, text, parent)?;
@@ -59,6 +65,20 @@ fn add_commit(
             add_name(alloc, text, parent)?;
         }
     }
+    Ok(())
+}
+
+/// Adds the line by which a session adds a commit with these parents.
+fn add_commit(
+    alloc: Global,
+    text: &mut String,
+    session: u64,
+    number: u64,
+    parents: [Option<u64>; 2],
+) -> Result<(), AllocError> {
+    add_front(alloc, text, session, "add")?;
+    add_name(alloc, text, number)?;
+    add_parents(alloc, text, parents)?;
     text.push('\n')
 }
 
@@ -156,6 +176,60 @@ fn add_read(
     add_about(alloc, text, session, front, number, back)
 }
 
+/// Adds a line that names no commit.
+fn add_plain(
+    alloc: Global,
+    text: &mut String,
+    draws: &mut Draws,
+    session: u64,
+) -> Result<(), AllocError> {
+    let words = PLAIN[draws.below(8) as usize % PLAIN.len()];
+    add_front(alloc, text, session, words)?;
+    text.push('\n')
+}
+
+/// Adds the line by which a session adds the next commit, on two of so many before it.
+fn add_next(
+    alloc: Global,
+    text: &mut String,
+    draws: &mut Draws,
+    session: u64,
+    known: u64,
+) -> Result<(), AllocError> {
+    let parents = [Some(draws.below(known)), Some(draws.below(known))];
+    add_commit(alloc, text, session, known, parents)
+}
+
+/// Adds the line by which a session adds one of so many commits again, with other parents maybe.
+fn add_again(
+    alloc: Global,
+    text: &mut String,
+    draws: &mut Draws,
+    session: u64,
+    known: u64,
+) -> Result<(), AllocError> {
+    let again = draws.below(known);
+    let parents = draw_parents(draws, again);
+    add_commit(alloc, text, session, again, parents)
+}
+
+/// Adds a drawn line of a session that adds no commit for the first time.
+fn add_other(
+    alloc: Global,
+    text: &mut String,
+    draws: &mut Draws,
+    session: u64,
+    kind: u64,
+    known: u64,
+) -> Result<(), AllocError> {
+    match kind {
+        3 => add_again(alloc, text, draws, session, known),
+        4 => add_about(alloc, text, session, "flush ", draws.below(known), ""),
+        5 | 6 => add_plain(alloc, text, draws, session),
+        _ => add_read(alloc, text, draws, session, known),
+    }
+}
+
 /// Adds a drawn line of a session, and answers how many commits there were lines to add.
 fn add_line(
     alloc: Global,
@@ -164,25 +238,12 @@ fn add_line(
     known: u64,
 ) -> Result<u64, AllocError> {
     let session = draws.below(16);
-    match draws.below(10) {
-        0 | 1 | 2 => {
-            let parents = [Some(draws.below(known)), Some(draws.below(known))];
-            add_commit(alloc, text, session, known, parents)?;
-            return Ok(known.saturating_add(1));
-        }
-        3 => {
-            let again = draws.below(known);
-            let parents = draw_parents(draws, again);
-            add_commit(alloc, text, session, again, parents)?;
-        }
-        4 => add_about(alloc, text, session, "flush ", draws.below(known), "")?,
-        5 | 6 => {
-            let word = PLAIN[draws.below(8) as usize % PLAIN.len()];
-            let line = format!(in alloc; "{session} {word}\n")?;
-            text.push_str(line.as_str())?;
-        }
-        _ => add_read(alloc, text, draws, session, known)?,
+    let kind = draws.below(10);
+    if kind < 3 {
+        add_next(alloc, text, draws, session, known)?;
+        return Ok(known.saturating_add(1));
     }
+    add_other(alloc, text, draws, session, kind, known)?;
     Ok(known)
 }
 
