@@ -20,8 +20,8 @@ use Rattle.segment_levels.proofs.Coming.{new-all}
 use Rattle.segment_rules.proofs.Flats.{flat-keeps}
 use Rattle.batch_codec.specs.Payload.{Known, known_ids, known_names}
 use Rattle.batch_codec.specs.Reading.{ids_ascend}
-use Rattle.batch_codec.specs.Grammar.{AscendByLevel, IsOfLevel, IsPayload, IsClone, head_names}
-use Rattle.change_rules.specs.Lawful.{MayFollow, AreLawful}
+use Rattle.batch_codec.specs.Grammar.{AscendByLevel, IsOfLevel, IsPayload, head_names}
+use Rattle.change_rules.specs.Lawful.{MayFollow}
 use Rattle.batch_codec.specs.Grammar as grammar
 use Rattle.batch_codec.proofs.Ascending.{ascend-increasing}
 use Rattle.remote_rules.specs.CloneData as clones

@@ -1,5 +1,5 @@
 -- Jumps of a visit of two sets.
-use Rattle.std.proofs.Common.{◌≡◌, ℕ, ◌<◌, ◌≤◌, ◌^◌, inl, inr, List, Some, sym, subst, arith, ⊎_elim}
+use Rattle.std.proofs.Common.{◌≡◌, ℕ, ◌<◌, ◌≤◌, ◌^◌, inl, inr, List, Some, subst, arith, ⊎_elim}
 use Rattle.segment_codec.specs.Record.{Segment}
 use Rattle.segment_codec.specs.Table.{segment_at, IsLawful, IsEnding}
 use Rattle.segment_codec.proofs.Tables.{segment-in}

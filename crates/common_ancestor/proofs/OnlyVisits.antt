@@ -1,7 +1,6 @@
 -- A visit of what one set reaches and another doesn't.
 use Rattle.std.proofs.Common.{◌≡◌, ℕ, suc, ◌<◌, ◌≤◌, ◌^◌, ◌⊎◌, inl, inr, ◌↔◌, List, [], Option, Some, None, max, sym, subst, arith, ⊎_elim}
 use Rattle.std.specs.Prelude.{MatchOption, ⊤}
-use Rattle.id_groups.specs.Lists.{IsIn}
 use Rattle.id_groups.specs.declared.span.IdSpan.{IdSpan}
 use Rattle.commit_graph.specs.Sets as sets
 use Rattle.segment_codec.specs.Record.{Segment}

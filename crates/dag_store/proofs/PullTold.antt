@@ -1,5 +1,5 @@
 -- What an honest mirror tells who pulls, whose master begins with the cloned commits.
-use Rattle.std.proofs.Common.{◌≡◌, inl, ℕ, List, [], ◌++◌, take, drop, Option, Some, None, MatchOption, refl, sym, ap, subst, ◌∙◌, true≢false, is_some, append_assoc}
+use Rattle.std.proofs.Common.{◌≡◌, inl, ℕ, List, ◌++◌, take, drop, Option, Some, None, MatchOption, refl, sym, ap, subst, ◌∙◌, true≢false, is_some, append_assoc}
 use Rattle.std.specs.Prelude.{IfSome, ⊤}
 use Rattle.std.specs.List.{AllByRecursion}
 use Rattle.id_groups.specs.Lists.{IsIn}

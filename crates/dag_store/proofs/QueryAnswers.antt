@@ -1,5 +1,5 @@
 -- The members of an expression in a session's view.
-use Rattle.std.proofs.Common.{◌≡◌, ◌≤◌, ◌^◌, ℕ, List, [], ◌++◌, length, map, Result, Ok, Err, inl, inr, sym, subst, ⊎_elim, arith, lit≤, zero-le, le_refl, length-append}
+use Rattle.std.proofs.Common.{◌≡◌, ◌≤◌, ◌^◌, ℕ, List, ◌++◌, length, map, Result, Ok, Err, inl, inr, sym, subst, ⊎_elim, arith, lit≤, zero-le, le_refl, length-append}
 use Rattle.std.specs.Prelude.{◌↔◌, IsErrAnd}
 use Rattle.std.specs.List.{AllByRecursion}
 use Rattle.std.proofs.lemmas.List.{take_all}

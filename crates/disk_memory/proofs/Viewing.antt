@@ -1,5 +1,5 @@
 -- The scene that the code keeps, and the list that it fills.
-use Rattle.std.proofs.Common.{◌≡◌, ◌⊎◌, inl, inr, ⊎_elim, ℕ, suc, ◌≤◌, ◌<◌, ◌+◌, ◌-◌, max, min, Bool, true, false, List, [], ◌∷◌, ◌++◌, length, get_or, map, slice_index, refl, sym, ◌∙◌, ap, subst, arith, nat_lt, nat_le, true≢false}
+use Rattle.std.proofs.Common.{◌≡◌, ◌⊎◌, inl, inr, ⊎_elim, ℕ, suc, ◌≤◌, ◌<◌, ◌+◌, ◌-◌, max, min, Bool, true, false, List, [], ◌∷◌, length, get_or, map, slice_index, refl, sym, ◌∙◌, ap, subst, arith, nat_lt, nat_le, true≢false}
 use Rattle.std.specs.Prelude.{◌&&◌, ◌||◌, not, if◌then◌else◌}
 use Rattle.std.specs.List.{list_any}
 use Rattle.std.proofs.lemmas.Bool.Decides.{leb_tells}

@@ -1,5 +1,5 @@
 -- The rows of a remote beside a world, as a pull goes over them from the cloned ones on.
-use Rattle.std.specs.Prelude.{◌≡◌, ◌≤◌, ◌+◌, ◌-◌, ◌⊎◌, ◌++◌, ◌∷◌, [], true, false, ℕ, List, Option, Some, None, length, map, take, drop, slice_get, slice_index, nat_eq, nat_lt, if◌then◌else◌}
+use Rattle.std.specs.Prelude.{◌≡◌, ◌≤◌, ◌+◌, ◌-◌, ◌⊎◌, ◌++◌, ◌∷◌, true, false, ℕ, List, Option, Some, None, length, map, take, drop, slice_get, slice_index, nat_eq, nat_lt, if◌then◌else◌}
 use Rattle.std.specs.Cmp.Lexicographic.{pointwise}
 use Rattle.std.specs.List.{AllZip}
 use Rattle.id_groups.specs.Lists.{IsIn}

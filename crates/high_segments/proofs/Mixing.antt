@@ -13,7 +13,7 @@ use Rattle.segment_levels.proofs.Grouping.{count-most}
 use Rattle.segment_levels.proofs.Leveled.{level-high, next-begin}
 use Rattle.high_segments.specs.Growing.{AddsGroups, AllFront, AreBelow, AreMixed, HasFrom, IsLeft, IsRowFrom, KeepsRun, MayBecome, MayGrow, next_end_of}
 use Rattle.high_segments.proofs.Growth.{sound, begins, counted, are-below, keeps-first, longer, few-more, level-now, left-now}
-use Rattle.high_segments.proofs.Holding.{OldAt, old-at, held-mixed, mixed-readable, grows-self}
+use Rattle.high_segments.proofs.Holding.{old-at, held-mixed, mixed-readable, grows-self}
 use Rattle.high_segments.proofs.Keeping.{front-self, front-then}
 
 -- ---- a level put in place of another

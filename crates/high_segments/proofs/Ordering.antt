@@ -1,6 +1,6 @@
 -- A list that was sorted, and in which each number stands once.
 use Rattle.std.proofs.Common.{◌≡◌, ℕ, zero, suc, ◌<◌, inl, inr, eqb, List, [], ◌∷◌, length, get_or, sym, subst, arith, le_of_suc-le-suc, suc-le-suc}
-use Rattle.std.specs.List.{Contains, dedup}
+use Rattle.std.specs.List.{Contains}
 use Rattle.std.specs.List.Retain.{IsFiltered, DiffersFromLast}
 use Rattle.std.specs.List.Sorted.{IsPermutation, IsSorted}
 use Rattle.std.specs.Ordering.{nat_cmp}

@@ -1,5 +1,5 @@
 -- The records of the segments that came since levels had less.
-use Rattle.std.proofs.Common.{◌≡◌, ℕ, zero, suc, ◌+◌, ◌-◌, ◌*◌, ◌<◌, ◌≤◌, ◌^◌, inl, inr, List, [], ◌∷◌, ◌++◌, length, take, drop, get_or, Some, None, Option, refl, sym, subst, ap, ◌∙◌, arith, lit≤, le_of_suc-le-suc, append_assoc}
+use Rattle.std.proofs.Common.{◌≡◌, ℕ, zero, suc, ◌+◌, ◌-◌, ◌<◌, ◌≤◌, ◌^◌, List, [], ◌∷◌, ◌++◌, length, take, drop, get_or, Some, None, refl, sym, subst, ap, ◌∙◌, arith, lit≤, le_of_suc-le-suc, append_assoc}
 use Rattle.std.specs.Prelude.{slice_get, flat_map}
 use Rattle.std.specs.List.{AllByRecursion, range_with_len}
 use Rattle.std.proofs.lemmas.Grind.{flat_map-append}
@@ -8,7 +8,6 @@ use Rattle.id_groups.specs.Lists.{IsIn}
 use Rattle.segment_codec.specs.Record.{Segment, IsSegment, segment_bytes}
 use Rattle.segment_codec.specs.Table.{Follow, segment_at}
 use Rattle.segment_codec.proofs.Numbers.{some_is}
-use Rattle.segment_codec.proofs.Tables.{follow-ends}
 use Rattle.flat_segments.specs.Maximal.{begin_of}
 use Rattle.flat_segments.proofs.Rising.{follow-begin}
 use Rattle.segment_rules.specs.Levels.{level_segments, top_level}
@@ -20,7 +19,7 @@ use Rattle.segment_levels.proofs.Ascending.{all-from-in}
 use Rattle.segment_levels.proofs.Coming.{new-behind}
 use Rattle.segment_levels.proofs.Heading.{follow-drop, in-drop}
 use Rattle.segment_levels.proofs.Leveled.{level-grows, level-high, high-segment, leveled, one-end}
-use Rattle.high_segments.specs.Growing.{AreMarks, HasFrom, IsRowFrom, IsMarkOf, MayBecome}
+use Rattle.high_segments.specs.Growing.{AreMarks, IsRowFrom, IsMarkOf}
 use Rattle.high_segments.specs.Storing.{HasNewAt, CameSince}
 use Rattle.high_segments.specs.declared.kept.Mark.{Mark}
 use Rattle.high_segments.proofs.Holding.{become-self, held-mixed, mixed-readable, whole-mixed}

@@ -1,13 +1,10 @@
 -- Where the names of a payload's other ids stand in the log.
-use Rattle.std.proofs.Common.{◌≡◌, ◌<◌, ◌≤◌, ◌+◌, ◌*◌, ℕ, zero, suc, List, [], ◌∷◌, ◌++◌, length, get_or, take, drop, flat_map, refl, sym, ap, ◌∙◌, subst, arith, append_assoc, append-nil}
+use Rattle.std.proofs.Common.{◌≡◌, ◌<◌, ◌≤◌, ◌+◌, ◌*◌, ℕ, zero, suc, List, [], ◌∷◌, ◌++◌, length, get_or, take, drop, sym, ap, ◌∙◌, subst, arith}
 use Rattle.std.specs.List.{AllByRecursion}
-use Rattle.std.specs.Int.{w16, w32, w64, to_be_bytes}
 use Rattle.std.proofs.lemmas.List.{length-append, length-take, length-drop}
-use Rattle.segment_codec.specs.Record.{segment_bytes}
 use Rattle.id_groups.specs.Name.{Name, IsName}
-use Rattle.batch_codec.specs.Payload.{Payload, payload_bytes, known_bytes, names_bytes, names_start}
+use Rattle.batch_codec.specs.Payload.{Payload, payload_bytes, names_bytes, names_start}
 use Rattle.batch_codec.specs.Grammar.{IsPayload}
-use Rattle.batch_codec.proofs.Entries.{knowns-size, names-size}
 use Rattle.name_index.specs.Index.{NamedPlace, NameStandsAt, NamesStand}
 use Rattle.name_map.specs.declared.build.OtherNames.{OtherNames}
 use Rattle.name_map.specs.Added.{Placed, StandsAt, names_from}

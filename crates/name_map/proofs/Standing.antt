@@ -1,14 +1,13 @@
 -- What stands in the log where payloads stand.
 use Rattle.std.proofs.Common.{◌≡◌, ◌<◌, ◌≤◌, ◌+◌, ◌-◌, ◌*◌, ◌^◌, ℕ, zero, suc, List, [], ◌∷◌, ◌++◌, map, length, get_or, take, drop, refl, sym, ap, ◌∙◌, subst, inl, inr, ⊎_elim, arith, le_of_suc-le-suc}
 use Rattle.std.specs.List.{AllByRecursion, flat_map}
-use Rattle.std.specs.Int.{w16, w32, w64, to_be_bytes, from_be_bytes}
-use Rattle.std.proofs.lemmas.List.{length-append, length-take, length-drop, append_assoc, take-take, take_at, drop_at, drop-take, drop-drop, map-append}
+use Rattle.std.specs.Int.{w64, to_be_bytes, from_be_bytes}
+use Rattle.std.proofs.lemmas.List.{length-append, length-take, length-drop, take-take, take_at, drop_at, drop-take, drop-drop, map-append}
 use Rattle.std.proofs.lemmas.List.Concat.{flat_map-append}
 use Rattle.std.proofs.lemmas.Nat.{from_be_bytes-to_be_bytes_8}
 use Rattle.id_groups.specs.Lists.{IsIn}
 use Rattle.id_groups.specs.Name.{Name, IsName}
-use Rattle.segment_codec.specs.Record.{segment_bytes}
-use Rattle.batch_codec.specs.Payload.{Known, Payload, payload_bytes, known_bytes, names_bytes, known_start}
+use Rattle.batch_codec.specs.Payload.{Known, Payload, payload_bytes, known_bytes, known_start}
 use Rattle.batch_codec.specs.Grammar.{IsPayload}
 use Rattle.batch_codec.proofs.Entries.{FitsKnown}
 use Rattle.batch_codec.proofs.Places.{Stands, known-stands}

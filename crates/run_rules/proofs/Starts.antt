@@ -1,5 +1,5 @@
 -- What holds at the start of a run.
-use Rattle.std.proofs.Common.{◌≡◌, ◌≤◌, ◌+◌, ℕ, List, [], ◌∷◌, ◌++◌, length, map, sym, subst, refl, ap, ap₂, ◌∙◌, ◌==◌, Bool, true, false, if◌then◌else◌, zero-le, ⊎_elim, arith, length-append, MatchOption, inl, inr, le_refl}
+use Rattle.std.proofs.Common.{◌≡◌, ◌≤◌, ◌+◌, ℕ, List, [], ◌∷◌, ◌++◌, length, map, sym, subst, refl, ap, ap₂, ◌∙◌, zero-le, ⊎_elim, arith, length-append, MatchOption, inl, inr, le_refl}
 use Rattle.std.specs.Int.{w64, to_be_bytes}
 use Rattle.std.specs.List.{AllByRecursion, AllZip}
 use Rattle.id_groups.specs.Name.{Name}

@@ -1,5 +1,5 @@
 -- What is built so far. A command of any other verb or session is refused as one that isn't spelled right.
-use Rattle.std.specs.Prelude.{ℕ, Bool, true, false, IsTrue, ◌<◌}
+use Rattle.std.specs.Prelude.{ℕ, Bool, true, IsTrue, ◌<◌}
 use Rattle.step_rules.specs.Verb.{Verb, Add, Flush, Reload, Discard, Query, Count, IdOf, Status, Levels, Clone, Pull, Strip, CountMirrors, Drop}
 
 -- how many sessions are served

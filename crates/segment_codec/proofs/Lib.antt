@@ -1,11 +1,13 @@
 pub mod Fronts
 pub mod Numbers
+pub mod PastNumbers
 pub mod Nine
 pub mod Groups
 pub mod Lists
 pub mod Lengths
 pub mod Orders
 pub mod Records
+pub mod Known
 pub mod Short
 pub mod Tables
 pub mod Turns

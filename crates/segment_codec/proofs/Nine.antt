@@ -1,4 +1,4 @@
--- The spelling of a number of nine groups.
+-- The spellings of numbers of two, three and four groups, and of nine.
 use Rattle.std.proofs.Common.{◌≡◌, ℕ, ◌+◌, ◌*◌, ◌/◌, ◌%◌, ◌^◌, ◌<◌, ◌≤◌, List, [], ◌∷◌, sym, ap, ◌∙◌, arith, lit≤}
 use Rattle.segment_codec.specs.Number.{number_bytes}
 use Rattle.segment_codec.proofs.Numbers.{number_next, number_last}
@@ -14,6 +14,25 @@ record Within (low end n : ℕ) : Type 0 where
 
 behind : (least end n a : ℕ) → Within (128 * least) (128 * end) n → a ≡ n / 128 → Within least end a
 behind least end n a w is = let le = w.least in let lt = w.below in record { least = omega (arith, le, is); below = omega (arith, lt, is) }
+
+pub two-groups : (n a : ℕ) → 2 ^ 7 ≤ n → n < 2 ^ 14 → a ≡ n / 128 → number_bytes n ≡ (n % 128 + 128) ∷ a ∷ []
+two-groups n a le lt ia =
+    let k : 2 ^ 14 ≤ 2 ^ 64 = lit≤ tt in
+    let small : a < 128 = omega (arith, lt, ia) in
+    more-group n a (a ∷ []) (omega (arith, le)) (omega (arith, k, lt)) ia (number_last a small)
+
+pub three-groups : (n a b : ℕ) → 2 ^ 14 ≤ n → n < 2 ^ 21 → a ≡ n / 128 → b ≡ a / 128 → number_bytes n ≡ (n % 128 + 128) ∷ (a % 128 + 128) ∷ b ∷ []
+three-groups n a b le lt ia ib =
+    let k : 2 ^ 21 ≤ 2 ^ 64 = lit≤ tt in
+    let wa = behind (2 ^ 7) (2 ^ 14) n a (record { least = let k : 128 * 2 ^ 7 ≤ 2 ^ 14 = lit≤ tt in omega (arith, k, le); below = let k : 2 ^ 21 ≤ 128 * 2 ^ 14 = lit≤ tt in omega (arith, k, lt) }) ia in
+    more-group n a ((a % 128 + 128) ∷ b ∷ []) (let k : 128 ≤ 2 ^ 14 = lit≤ tt in omega (arith, k, le)) (omega (arith, k, lt)) ia (two-groups a b wa.least wa.below ib)
+
+pub four-groups : (n a b d : ℕ) → 2 ^ 21 ≤ n → n < 2 ^ 28 → a ≡ n / 128 → b ≡ a / 128 → d ≡ b / 128
+    → number_bytes n ≡ (n % 128 + 128) ∷ (a % 128 + 128) ∷ (b % 128 + 128) ∷ d ∷ []
+four-groups n a b d le lt ia ib id =
+    let k : 2 ^ 28 ≤ 2 ^ 64 = lit≤ tt in
+    let wa = behind (2 ^ 14) (2 ^ 21) n a (record { least = let k : 128 * 2 ^ 14 ≤ 2 ^ 21 = lit≤ tt in omega (arith, k, le); below = let k : 2 ^ 28 ≤ 128 * 2 ^ 21 = lit≤ tt in omega (arith, k, lt) }) ia in
+    more-group n a ((a % 128 + 128) ∷ (b % 128 + 128) ∷ d ∷ []) (let k : 128 ≤ 2 ^ 21 = lit≤ tt in omega (arith, k, le)) (omega (arith, k, lt)) ia (three-groups a b d wa.least wa.below ib id)
 
 pub nine-groups : (n a b c d e f g h : ℕ) → 2 ^ 56 ≤ n → n < 2 ^ 63 → a ≡ n / 128 → b ≡ a / 128 → c ≡ b / 128 → d ≡ c / 128 → e ≡ d / 128 → f ≡ e / 128 → g ≡ f / 128 → h ≡ g / 128
     → number_bytes n ≡ (n % 128 + 128) ∷ (a % 128 + 128) ∷ (b % 128 + 128) ∷ (c % 128 + 128) ∷ (d % 128 + 128) ∷ (e % 128 + 128) ∷ (f % 128 + 128) ∷ (g % 128 + 128) ∷ h ∷ []

@@ -192,9 +192,10 @@ pub few-parents : (level : ℕ) (parents : List ℕ) → HasLevelsParents level 
 few-parents zero parents h = h
 few-parents (suc k) parents h = subst (λ (n : ℕ). length parents ≤ n) (sym (above-flat k 8 16777216)) h.0
 
-pub record_again : (s : Segment) (rest : List ℕ) → IsSegment s → record_at (segment_bytes s ++ rest) ≡ Some (s, rest)
-unfolding record_at
-record_again s rest h =
+-- what stands before the parents of a record is read
+pub head-of-record : (s : Segment) (rest : List ℕ) → IsSegment s
+    → head_at (segment_bytes s ++ rest) ≡ Some (record { low = s.low; high = s.high; level = s.level; count = length s.parents }, flat_map number_bytes s.parents ++ rest)
+head-of-record s rest h =
     let k : id_end ≤ 2 ^ 64 = lit≤ tt in
     let up = h.ascending in let valid = h.valid in
     let low : s.high - (s.high - s.low) ≡ s.low = omega (arith, up) in
@@ -211,7 +212,14 @@ record_again s rest h =
     let test = head-decided (flags_of s.parents) s.level s.high (s.high - s.low) (length s.parents) facts in
     let head = head_again (flags_of s.parents) s.level s.high (s.high - s.low) (length s.parents) (flat_map number_bytes s.parents ++ rest)
     (omega (arith, k, valid)) (omega (arith, k, valid)) (omega (arith, many)) test in
-    ap record_at (segment-spelled s rest) ∙ rw (head, low, numbers_again s.low s.parents rest (omega (arith, k, up, valid)) h.below, order-decided s.level s.parents h.distinct h.level_parents) refl
+    ap head_at (segment-spelled s rest) ∙ rw (head, low) refl
+
+pub record_again : (s : Segment) (rest : List ℕ) → IsSegment s → record_at (segment_bytes s ++ rest) ≡ Some (s, rest)
+unfolding record_at
+record_again s rest h =
+    let k : id_end ≤ 2 ^ 64 = lit≤ tt in
+    let up = h.ascending in let valid = h.valid in
+    rw (head-of-record s rest h, numbers_again s.low s.parents rest (omega (arith, k, up, valid)) h.below, order-decided s.level s.parents h.distinct h.level_parents) refl
 
 pub one-record : (s t : Segment) (x y : List ℕ) → IsSegment s → IsSegment t → segment_bytes s ++ x ≡ segment_bytes t ++ y → (s ≡ t) × (x ≡ y)
 one-record s t x y hs ht e =

@@ -9,6 +9,7 @@ mod laws;
 mod lent;
 mod level;
 mod number;
+mod passing;
 mod reading;
 mod segment;
 mod steps;
@@ -19,6 +20,7 @@ pub use laws::{numbers_are_spelled, records_are_spelled, segments_go_on, tables_
 pub use lent::{Parents, SegmentRef};
 pub use level::write_numbers;
 pub use number::number_len;
+pub use passing::pass_segment;
 pub use reading::read_segment;
 pub use steps::Steps;
 pub use table::{Bounds, SegmentTable};

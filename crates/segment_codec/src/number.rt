@@ -13,6 +13,9 @@ const MORE: u8 = 128;
 /// How many values two groups of seven bits have.
 const TWO_GROUPS: u64 = 1 << 14;
 
+/// How many values three groups of seven bits have.
+const THREE_GROUPS: u64 = 1 << 21;
+
 /// How many values four groups of seven bits have.
 const FOUR_GROUPS: u64 = 1 << 28;
 
@@ -191,11 +194,77 @@ fn nine_bytes(number: u64) -> [u8; 9]
     ]
 }
 
-/// Appends the number. A refusal may leave a part of it at the end. A number of nine bytes, as an id of others is, takes no loop.
+/// The spelling of a number of one group.
+#[inline(always)]
+fn one_byte(number: u64) -> [u8; 1]
+    requires { number < 128 }
+    ensures { result ≡ number_bytes number }
+{
+    [number as u8]
+}
+
+/// The spelling of a number of two groups.
+#[inline(always)]
+fn two_bytes(number: u64) -> [u8; 2]
+    requires { (2 ^ 7 ≤ number) × (number < 2 ^ 14) }
+    ensures { result ≡ number_bytes number }
+{
+    [with_more(number), (number / 128) as u8]
+}
+
+/// The spelling of a number of three groups.
+#[inline(always)]
+fn three_bytes(number: u64) -> [u8; 3]
+    requires { (2 ^ 14 ≤ number) × (number < 2 ^ 21) }
+    ensures { result ≡ number_bytes number }
+{
+    let second = number / 128;
+    [with_more(number), with_more(second), (second / 128) as u8]
+}
+
+/// The spelling of a number of four groups.
+#[inline(always)]
+fn four_bytes(number: u64) -> [u8; 4]
+    requires { (2 ^ 21 ≤ number) × (number < 2 ^ 28) }
+    ensures { result ≡ number_bytes number }
+{
+    let second = number / 128;
+    let third = second / 128;
+    [
+        with_more(number),
+        with_more(second),
+        with_more(third),
+        (third / 128) as u8,
+    ]
+}
+
+/// Appends a number of at most four bytes. A refusal leaves what was there.
+#[inline(always)]
+fn write_short(out: &mut Vec<u8>, number: u64) -> Result<(), AllocError>
+    requires { number < 2 ^ 28 }
+    ensures ok { OnOk result (out.new.items ≡ out.old.items ++ number_bytes number) }
+    ensures err { OnErr result (HasFront out.old.items out.new.items) }
+{
+    if number < 128 {
+        out.extend_from_slice(&one_byte(number))
+    } else if number < TWO_GROUPS {
+        out.extend_from_slice(&two_bytes(number))
+    } else if number < THREE_GROUPS {
+        out.extend_from_slice(&three_bytes(number))
+    } else {
+        out.extend_from_slice(&four_bytes(number))
+    }
+}
+
+/// Appends the number. A refusal may leave a part of it at the end. A number of at most four bytes, and one of nine, as an id
+/// of others is, takes no loop.
 pub fn write_number(out: &mut Vec<u8>, number: u64) -> Result<(), AllocError>
     ensures ok { OnOk result (out.new.items ≡ out.old.items ++ number_bytes number) }
     ensures err { OnErr result (HasFront out.old.items out.new.items) }
 {
+    if number < FOUR_GROUPS {
+        return write_short(out, number);
+    }
     if EIGHT_GROUPS <= number && number < NINE_GROUPS {
         return out.extend_from_slice(&nine_bytes(number));
     }

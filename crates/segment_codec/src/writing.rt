@@ -1,6 +1,7 @@
 //! Records, written at the end of bytes.
 
-ghost use Rattle.std.specs.Prelude.{◌≡◌, ◌++◌, flat_map, OnOk, OnErr};
+ghost use Rattle.std.specs.Prelude.{◌≡◌, ◌<◌, ◌++◌, ◌∷◌, flat_map, OnOk, OnErr};
+ghost use Rattle.std.specs.Int.{w64, to_be_bytes};
 ghost use Rattle.segment_codec.specs.Number.{number_bytes};
 ghost use Rattle.segment_codec.specs.Record.{IsSegment, flags_of, segment_bytes, HasFront};
 
@@ -29,6 +30,59 @@ fn append_numbers(out: &mut Vec<u8>, ids: &[Id]) -> Result<(), AllocError>
     Ok(())
 }
 
+/// What stands before the parents of a record whose span of ids and whose count of parents take a byte each.
+#[inline(always)]
+fn short_head(flags: u8, level: u8, high: u64, span: u64, count: u64) -> [u8; 12]
+    requires { (span < 128) × (count < 128) }
+    ensures { result ≡ flags ∷ level ∷ to_be_bytes w64 high ++ (number_bytes span ++ number_bytes count) }
+{
+    let high = high.to_be_bytes();
+    let (span, count) = (span as u8, count as u8);
+    [
+        flags, level, high[0], high[1], high[2], high[3], high[4], high[5], high[6], high[7], span,
+        count,
+    ]
+}
+
+/// Appends what stands before the parents of a record, field by field. A refusal may leave a part of it at the end.
+fn append_fields(
+    out: &mut Vec<u8>,
+    flags: u8,
+    level: u8,
+    high: u64,
+    span: u64,
+    count: u64,
+) -> Result<(), AllocError>
+    ensures ok { OnOk result (out.new.items ≡ out.old.items ++ (flags ∷ level ∷ to_be_bytes w64 high ++ (number_bytes span ++ number_bytes count))) }
+    ensures err { OnErr result (HasFront out.old.items out.new.items) }
+{
+    out.push(flags)?;
+    out.push(level)?;
+    out.extend_from_slice(&high.to_be_bytes())?;
+    write_number(out, span)?;
+    write_number(out, count)
+}
+
+/// Appends what stands before the parents of a record, at once where its last two fields take a byte each. A refusal may leave
+/// a part of it at the end.
+#[inline(always)]
+fn append_head(
+    out: &mut Vec<u8>,
+    flags: u8,
+    level: u8,
+    high: u64,
+    span: u64,
+    count: u64,
+) -> Result<(), AllocError>
+    ensures ok { OnOk result (out.new.items ≡ out.old.items ++ (flags ∷ level ∷ to_be_bytes w64 high ++ (number_bytes span ++ number_bytes count))) }
+    ensures err { OnErr result (HasFront out.old.items out.new.items) }
+{
+    if span < 128 && count < 128 {
+        return out.extend_from_slice(&short_head(flags, level, high, span, count));
+    }
+    append_fields(out, flags, level, high, span, count)
+}
+
 /// Appends the record. A refusal may leave a part of it at the end.
 fn append_segment(
     out: &mut Vec<u8>,
@@ -42,11 +96,9 @@ fn append_segment(
         ++ segment_bytes (record { low = low; high = high; level = level; parents = parents.now })) }
     ensures err { OnErr result (HasFront out.old.items out.new.items) }
 {
-    out.push(flags(parents))?;
-    out.push(level)?;
-    out.extend_from_slice(&high.number().to_be_bytes())?;
-    write_number(out, high.number() - low.number())?;
-    write_number(out, parents.len() as u64)?;
+    let span = high.number() - low.number();
+    let count = parents.len() as u64;
+    append_head(out, flags(parents), level, high.number(), span, count)?;
     append_numbers(out, parents)
 }
 

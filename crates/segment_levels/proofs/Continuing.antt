@@ -1,5 +1,5 @@
 -- Flat segments of ids to which more are added: what is complete stays.
-use Rattle.std.proofs.Common.{◌≡◌, ℕ, zero, suc, ◌+◌, ◌-◌, length, take, arith, Bool, true, false, cond, List, [], ◌∷◌, ◌++◌, refl, sym, subst, ap, ap₂, ◌∙◌}
+use Rattle.std.proofs.Common.{◌≡◌, ℕ, suc, ◌+◌, ◌-◌, length, take, arith, Bool, true, false, cond, List, [], ◌∷◌, ◌++◌, refl, sym, subst, ap, ap₂, ◌∙◌}
 use Rattle.segment_codec.specs.Record.{Segment}
 use Rattle.segment_codec.specs.Turns.{is_only}
 use Rattle.segment_rules.specs.Flat.{single, with_id, flat_segments_of}

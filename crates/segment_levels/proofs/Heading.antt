@@ -1,7 +1,7 @@
 -- What a level's segments are in the graph: each has one head and the parents of its ids that lie outside.
 use Rattle.std.proofs.Common.{◌≡◌, ℕ, zero, suc, ◌+◌, ◌-◌, ◌<◌, ◌≤◌, inl, inr, Bool, true, false, cond, List, [], ◌∷◌, length, take, drop, refl, sym, subst, ap, ◌∙◌, arith, ⊎_elim, le_of_suc-le-suc}
-use Rattle.std.specs.Prelude.{nat_lt, nat_eq, filter, flat_map}
-use Rattle.std.specs.List.{list_any, AllByRecursion}
+use Rattle.std.specs.Prelude.{nat_lt, nat_eq, flat_map}
+use Rattle.std.specs.List.{list_any}
 use Rattle.std.proofs.lemmas.Bool.{ltb-true, lt-ltb, leb-true, eqb-true, eq-eqb}
 use Rattle.id_groups.specs.Lists.{IsIn, is_in}
 use Rattle.id_groups.proofs.Listing.{any-in, found}

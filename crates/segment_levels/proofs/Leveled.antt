@@ -1,7 +1,6 @@
 -- What the segments of a level are, and how they follow one another.
 use Rattle.std.proofs.Common.{◌≡◌, ℕ, zero, suc, ◌+◌, ◌-◌, ◌<◌, ◌≤◌, ◌^◌, inl, inr, List, [], ◌∷◌, ◌++◌, length, take, drop, refl, sym, subst, ap, ◌∙◌, arith, lit≤, ⊎_elim, le_of_suc-le-suc}
 use Rattle.std.specs.Prelude.{nat_lt, nat_le, ◌||◌}
-use Rattle.std.specs.List.{AllByRecursion}
 use Rattle.std.proofs.lemmas.Bool.{lt-ltb}
 use Rattle.std.proofs.lemmas.List.{take-append-le, drop-append-le, length-append}
 use Rattle.id_groups.specs.Lists.{IsIn}

@@ -1,6 +1,6 @@
 -- Brackets and commas cut a text into words: none stands in a name, a number or a word.
 use Rattle.std.proofs.Common.{◌≡◌, ◌==◌, ◌<◌, ◌^◌, ℕ, Bool, true, false, ◌⊎◌, inl, inr, List, [], ◌∷◌, ◌++◌, get_or, refl, sym, ap, ◌∙◌, subst, arith}
-use Rattle.std.specs.Prelude.{⊤, ◌&&◌, not, decimal, codes}
+use Rattle.std.specs.Prelude.{◌&&◌, not, decimal, codes}
 use Rattle.std.specs.List.{AllPass}
 use Rattle.std.specs.Char.{digit_value}
 use Rattle.std.specs.Str.Parse.{AllDigits}

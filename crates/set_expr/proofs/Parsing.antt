@@ -1,11 +1,10 @@
 -- What a text spells whose first word is cut off.
-use Rattle.std.proofs.Common.{◌≡◌, ◌==◌, ◌≢◌, ◌<◌, ◌≤◌, ◌+◌, ◌-◌, ℕ, suc, Bool, true, false, ◌⊎◌, inl, inr, List, [], ◌∷◌, ◌++◌, Some, None, Ok, Err, take, length, get_or, refl, sym, ◌∙◌, ap, subst, arith, append_assoc, append-nil, ⊎_elim, add-one}
-use Rattle.std.specs.Prelude.{⊤, IsTrue, nat_eq, ◌↔◌, codes, IfOk}
+use Rattle.std.proofs.Common.{◌≡◌, ◌≢◌, ◌<◌, ◌≤◌, ◌+◌, ◌-◌, ℕ, true, false, ◌⊎◌, inl, inr, List, [], ◌∷◌, ◌++◌, None, Ok, Err, take, length, get_or, refl, sym, ◌∙◌, ap, subst, arith, append_assoc, append-nil}
+use Rattle.std.specs.Prelude.{nat_eq, codes, IfOk}
 use Rattle.std.specs.declared.result.Result.{Result}
 use Rattle.std.specs.Cmp.Lexicographic.{pointwise, bytes_decides}
 use Rattle.std.proofs.lemmas.Bool.{true≢false, eqb-false, ne_eqb}
-use Rattle.std.proofs.lemmas.List.{length-append, take_more, take_all}
-use Rattle.outside.specs.Parts.{HasNone}
+use Rattle.std.proofs.lemmas.List.{length-append, take_more}
 use Rattle.outside.proofs.PartsLemmas.{none-append}
 use Rattle.id_groups.specs.Name.{Name, SpellsName, name_of}
 use Rattle.id_groups.proofs.Names.{name_of-spelled}
@@ -18,7 +17,7 @@ use Rattle.set_expr.specs.Expr.{Expr, One, Named, Of, OfTwo, Up, Top, node_count
 use Rattle.set_expr.specs.Spelling.{word_text, call_text, pair_text, SpellsNumber, SpellsTree, SpellsExpr, one_argument, two_arguments}
 use Rattle.set_expr.specs.Fronts.{head_text, Unmarked, Ends, Breaks, IsFront, IsLeaf, IsLast, IsUp}
 use Rattle.set_expr.proofs.Marks.{unmarked-number, unmarked-name, unmarked-word, part-same, word-same, word-apart}
-use Rattle.set_expr.proofs.OneSpelling.{Heads, Stands, form_of, form-head, one-head, unmarked-head, Form, ACall, heads-same, heads-stand, stands-same, head-of, head-two, head-up, head-top, stand-one, stand-named, numbers-same, names-same, one-tree}
+use Rattle.set_expr.proofs.OneSpelling.{Heads, Stands, one-head, ACall, heads-stand, head-of, head-two, head-up, head-top, one-tree}
 
 -- another text than the word
 pub not-same : (text word : List ℕ) → false ≡ pointwise nat_eq text word → text ≡ word → ⊥

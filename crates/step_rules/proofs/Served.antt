@@ -1,5 +1,5 @@
 -- Mirrors serve what is stored through each command.
-use Rattle.std.proofs.Common.{◌≡◌, ◌==◌, ◌≤◌, ◌⊎◌, ℕ, zero, suc, Bool, true, false, inl, inr, List, [], ◌∷◌, ◌++◌, length, take, nat_lt, Option, Some, None, refl, sym, ap, subst, ◌∙◌, ⊎_elim, MatchOption, arith, length-append, append-nil, le_refl, if◌then◌else◌, suc-le-suc, le_trans}
+use Rattle.std.proofs.Common.{◌≡◌, ◌≤◌, ◌⊎◌, ℕ, zero, suc, Bool, true, false, inl, inr, List, [], ◌∷◌, ◌++◌, length, take, nat_lt, Option, Some, None, refl, sym, ap, subst, ◌∙◌, ⊎_elim, MatchOption, arith, length-append, append-nil, le_refl, if◌then◌else◌, suc-le-suc, le_trans}
 use Rattle.std.specs.Bool.{MatchBool}
 use Rattle.id_groups.specs.Lists.{IsIn}
 use Rattle.id_groups.specs.Name.{Name, same_name}

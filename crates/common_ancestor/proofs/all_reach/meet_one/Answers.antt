@@ -1,4 +1,4 @@
-use Rattle.std.proofs.Common.{ℕ, sym, subst}
+use Rattle.std.proofs.Common.{sym, subst}
 use Rattle.segment_codec.specs.Table.{IsHeld}
 use Rattle.span_set.specs.Members.{IsMember}
 use Rattle.common_ancestor.proofs.Folds.{anc-one}

@@ -1,4 +1,4 @@
-use Rattle.std.proofs.Common.{◌≡◌, ◌≤◌, ◌∙◌, ◌++◌, suc, flat_map, length, get_or, ap, arith, refl}
+use Rattle.std.proofs.Common.{◌∙◌, ◌++◌, suc, flat_map, length, get_or, ap, arith}
 use Rattle.std.proofs.lemmas.List.{get_or_default}
 use Rattle.segment_codec.specs.Record.{segment_bytes}
 use Rattle.segment_rules.specs.Levels.{level_segments}

@@ -1,4 +1,4 @@
-use Rattle.std.proofs.Common.{◌∙◌, arith}
+use Rattle.std.proofs.Common.{arith}
 use Rattle.segment_codec.specs.Record.{IsSegment}
 use Rattle.segment_codec.specs.Lent.{segment_of}
 use Rattle.segment_levels.specs.Kept.{segments_in}

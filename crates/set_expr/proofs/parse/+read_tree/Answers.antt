@@ -1,11 +1,10 @@
-use Rattle.std.proofs.Common.{◌≡◌, ◌<◌, ◌+◌, [], ◌∷◌, Some, None, sym, ap, subst, ◌∙◌, arith, rules}
+use Rattle.std.proofs.Common.{[], ◌∷◌, Some, None, ap, ◌∙◌, arith, rules}
 use Rattle.std.proofs.lemmas.Bool.Decides.{Decides-eqb}
 use Rattle.std.proofs.lemmas.Slice.Eq.{strip_prefix_is}
-use Rattle.set_expr.specs.declared.words.Head.{Head}
 use Rattle.set_expr.specs.declared.words.Head.TheVariants as heads
-use Rattle.set_expr.specs.Fronts.{head_text, IsFront}
+use Rattle.set_expr.specs.Fronts.{head_text}
 use Rattle.set_expr.specs.Tree.{tree_in}
-use Rattle.set_expr.proofs.Parsing.{none-flat, none-bare, only-leaf, leaf-front, no-head, fail-set, fail-first, fail-most, fail-up, up-front, fail-close, call-front, fail-last, top-front, fail-comma, fail-second, fail-pair, pair-front, on-ok}
+use Rattle.set_expr.proofs.Parsing.{none-flat, none-bare, only-leaf, no-head, fail-set, fail-first, fail-most, fail-up, up-front, fail-close, call-front, fail-last, top-front, fail-comma, fail-second, fail-pair, pair-front, on-ok}
 use Rattle.set_expr.proofs.parse.+read_tree.Goals as goal
 
 pub returns-then-levels-eq0-clause-syntax : goal.returns-then-levels-eq0-clause-syntax

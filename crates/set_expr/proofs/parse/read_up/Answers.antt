@@ -1,4 +1,3 @@
-use Rattle.std.proofs.Common.{sym}
 use Rattle.id_groups.proofs.Names.{name_of-spelled}
 use Rattle.set_expr.proofs.Parsing.{up-cut}
 use Rattle.set_expr.proofs.parse.read_up.Goals as goal

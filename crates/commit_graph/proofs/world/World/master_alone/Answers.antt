@@ -1,4 +1,4 @@
-use Rattle.std.proofs.Common.{◌≡◌, ◌≤◌, ◌^◌, List, [], length, sym, subst, ap, arith}
+use Rattle.std.proofs.Common.{◌≡◌, List, [], length, sym, subst, ap, arith}
 use Rattle.id_groups.specs.Name.{Name}
 use Rattle.commit_graph.specs.World.{Row, IsNamedWorld}
 use Rattle.commit_graph.proofs.Naming.{named-alone}

@@ -1,4 +1,4 @@
-use Rattle.std.proofs.Common.{◌≡◌, ◌+◌, ℕ, suc, List, [], inl, refl, sym, ap, arith, subst, ◌∙◌}
+use Rattle.std.proofs.Common.{◌≡◌, ℕ, suc, List, [], refl, sym, ap, arith, subst}
 use Rattle.id_groups.specs.Lists.{IsIn}
 use Rattle.segment_codec.specs.Record.{Segment}
 use Rattle.segment_rules.specs.Levels.{level_segments, count_grouped, groups}

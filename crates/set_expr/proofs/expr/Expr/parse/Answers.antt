@@ -1,7 +1,7 @@
 use Rattle.std.proofs.Common.{arith, rules, [], ◌≡◌, length, ap}
 use Rattle.set_expr.specs.Expr.{commits_in}
 use Rattle.set_expr.specs.Tree.{tree_in}
-use Rattle.set_expr.proofs.Parsing.{whole-front, front-whole, no-more, few-names}
+use Rattle.set_expr.proofs.Parsing.{whole-front, no-more, few-names}
 use Rattle.set_expr.proofs.expr.Expr.parse.Goals as goal
 
 pub returns-in_err-front-clause-syntax : goal.returns-in_err-front-clause-syntax
