@@ -25,6 +25,7 @@ pub struct Head {
 }
 
 /// A number of eight bytes, and the rest.
+#[inline(always)]
 #[tactic(auto, unfolding(crate::specs::Reading::fixed_at))]
 fn read_fixed(bytes: &[u8]) -> Option<(u64, &[u8])>
     ensures { Gives (λ r. (r.0, r.1.now)) result (fixed_at bytes.now) }
@@ -39,6 +40,7 @@ fn read_fixed(bytes: &[u8]) -> Option<(u64, &[u8])>
     Some((number, rest))
 }
 
+#[inline(always)]
 fn most_parents_of(level: u8) -> u64
     ensures { result ≡ most_parents level }
 {
@@ -49,6 +51,7 @@ fn most_parents_of(level: u8) -> u64
     }
 }
 
+#[inline(always)]
 fn is_valid_head(flags: u8, level: u8, high: u64, span: u64, count: u64) -> bool
     ensures { result ≡ is_head flags level high span count }
 {
@@ -61,6 +64,7 @@ fn is_valid_head(flags: u8, level: u8, high: u64, span: u64, count: u64) -> bool
 }
 
 /// What stands before the parents, and the rest.
+#[inline(always)]
 #[tactic(auto, unfolding(crate::specs::Reading::head_at))]
 pub fn read_head(bytes: &[u8]) -> Option<(Head, &[u8])>
     ensures exact { Gives (λ r. (r.0, r.1.now)) result (head_at bytes.now) }
