@@ -19,15 +19,6 @@ front-is front xs h = ap (take (length front)) h.1 ∙ take_at front h.0 (length
 pub written-more : (out : List ℕ) (byte : ℕ) (more : List ℕ) → (out ++ byte ∷ []) ++ more ≡ out ++ byte ∷ more
 written-more out byte more = append_assoc out (byte ∷ []) more
 
--- what stands before a record's parents, written field by field
-pub written-head : (out o1 o2 o3 o4 o5 high span count : List ℕ) (flags level : ℕ)
-    → o1 ≡ out ++ flags ∷ [] → o2 ≡ o1 ++ level ∷ [] → o3 ≡ o2 ++ high → o4 ≡ o3 ++ span → o5 ≡ o4 ++ count
-    → o5 ≡ out ++ (flags ∷ level ∷ high ++ (span ++ count))
-written-head out o1 o2 o3 o4 o5 high span count flags level e1 e2 e3 e4 e5 =
-    let all : o5 ≡ (((((out ++ flags ∷ []) ++ level ∷ []) ++ high) ++ span) ++ count) =
-    e5 ∙ ap (λ (z : List ℕ). z ++ count) (e4 ∙ ap (λ (z : List ℕ). z ++ span) (e3 ∙ ap (λ (z : List ℕ). z ++ high) (e2 ∙ ap (λ (z : List ℕ). z ++ level ∷ []) e1))) in
-    all ∙ simp append_assoc
-
 -- the parents, written behind it
 pub written-parents : (out o1 o2 high span count parents : List ℕ) (flags level : ℕ)
     → o1 ≡ out ++ (flags ∷ level ∷ high ++ (span ++ count)) → o2 ≡ o1 ++ parents → o2 ≡ out ++ (flags ∷ level ∷ high ++ (span ++ (count ++ parents)))

@@ -44,9 +44,6 @@ pub record Left (count k : ℕ) (bytes rest : List ℕ) : Type 0 where
 abbrev pub PassSoFar : ℕ → ℕ → List ℕ → List ℕ → Type 0
 PassSoFar count k bytes now = (ns rest : List ℕ) → AllByRecursion HasNumber ns → length ns ≡ count → bytes ≡ flat_map number_bytes ns ++ rest → Left count k now rest
 
-pub pass-none : (count : ℕ) (bytes : List ℕ) → PassSoFar count 0 bytes bytes
-pass-none count bytes = λ ns rest numbers many whole. record { left = ns; numbers = numbers; many = omega (arith, many); whole = whole }
-
 pass-left : (count k : ℕ) (now next rest : List ℕ) → k < count → ((n : ℕ) (behind : List ℕ) → HasNumber n → now ≡ number_bytes n ++ behind → next ≡ behind)
     → (left : List ℕ) → AllByRecursion HasNumber left → k + length left ≡ count → now ≡ flat_map number_bytes left ++ rest → Left count (k + 1) next rest
 pass-left count k now next rest lt step [] numbers many whole = absurd (omega (arith, lt, many))
@@ -62,14 +59,3 @@ pub pass-next : (count k : ℕ) (bytes now next : List ℕ) → k < count → ((
 pass-next count k bytes now next lt step h = λ ns rest numbers many whole.
     let l = h ns rest numbers many whole in
     pass-left count k now next rest lt step l.left l.numbers l.many l.whole
-
-none-left : (left now rest : List ℕ) → length left ≡ 0 → now ≡ flat_map number_bytes left ++ rest → now ≡ rest
-none-left [] now rest none whole = whole
-none-left (n ∷ ns) now rest none whole = absurd (omega (arith, none))
-
-pub pass-all : (count k : ℕ) (bytes now : List ℕ) → count ≤ k → PassSoFar count k bytes now
-    → (ns rest : List ℕ) → AllByRecursion HasNumber ns → length ns ≡ count → bytes ≡ flat_map number_bytes ns ++ rest → now ≡ rest
-pass-all count k bytes now le h ns rest numbers many whole =
-    let l = h ns rest numbers many whole in
-    let sum = l.many in
-    none-left l.left now rest (omega (arith, le, sum)) l.whole

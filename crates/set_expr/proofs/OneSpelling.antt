@@ -76,12 +76,6 @@ form-head heads.Top = refl
 pub one-head : (h k : Head) → head_text h ≡ head_text k → h ≡ k
 one-head h k e = let same : Some (ACall h) ≡ Some (ACall k) = sym (form-head h) ∙ ap form_of e ∙ form-head k in cc
 
-pub unmarked-head : (head : Head) → Unmarked (head_text head)
-unmarked-head (heads.Of call) = unmarked-call call
-unmarked-head (heads.OfTwo call) = unmarked-pair call
-unmarked-head heads.Up = unmarked-up
-unmarked-head heads.Top = unmarked-top
-
 -- the text is a word, an opening bracket and what is behind it
 pub record Heads (text : List ℕ) (form : Form) (behind : List ℕ) : Type 0 where
   pub word : List ℕ

@@ -112,14 +112,6 @@ module _ (text word behind : List ℕ) (whole : text ≡ word ++ behind) (plain 
   stands : Stands text word behind
   stands = record { plain = plain; ends = breaks-ends behind breaks shut; whole = whole }
 
-  pub leaf-front : (levels nodes : ℕ) (e : Expr Name) → IsLeaf word e → 0 < levels → 0 < nodes → IsFront text levels nodes e behind
-  leaf-front levels nodes (One x) h deep many = record { front = word; whole = whole; spells = h; ends = breaks-ends behind breaks shut; deep = omega arith; many = omega arith }
-  leaf-front levels nodes (Named w) h deep many = record { front = word; whole = whole; spells = h; ends = breaks-ends behind breaks shut; deep = omega arith; many = omega arith }
-  leaf-front levels nodes (Of call s) h deep many = absurd h
-  leaf-front levels nodes (OfTwo call a b) h deep many = absurd h
-  leaf-front levels nodes (Up x n) h deep many = absurd h
-  leaf-front levels nodes (Top s n) h deep many = absurd h
-
   pub only-leaf : (levels nodes : ℕ) (e : Expr Name) (rest : List ℕ) → IsFront text levels nodes e rest → IsLeaf word e
   only-leaf levels nodes (One x) rest f =
       subst (λ (t : List ℕ). SpellsName t x) (word-same f.front rest word behind (unmarked-name f.front x f.spells) plain f.ends (breaks-ends behind breaks shut) (sym f.whole ∙ whole)).0 f.spells
