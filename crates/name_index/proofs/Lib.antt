@@ -7,3 +7,4 @@ mod Inserting
 mod Searching
 mod OneName
 mod Filters
+mod Taken

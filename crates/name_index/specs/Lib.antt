@@ -2,3 +2,4 @@ pub mod Named
 pub mod Runs
 pub mod Index
 pub mod Filter
+pub mod Taking
