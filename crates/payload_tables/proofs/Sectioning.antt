@@ -6,10 +6,11 @@ use Rattle.segment_codec.specs.Flat.{IsFlat}
 use Rattle.segment_codec.specs.Table.{Follow}
 use Rattle.flat_segments.specs.Placed.{placed_segments}
 use Rattle.flat_segments.specs.Kept.{KeptFlats, IsSectionOf, MayPush}
-use Rattle.flat_segments.proofs.Batches.{left-first, none-left}
+use Rattle.flat_segments.proofs.Batches.{left-first, none-left, shorter}
 use Rattle.flat_segments.proofs.Sections.{follow-middle}
 use Rattle.segment_codec.proofs.Tables.{follow-ends}
 use Rattle.std.proofs.lemmas.Grind.{flat_map-append}
+use Rattle.std.proofs.lemmas.List.Concat.{flat_map-cons}
 use Rattle.payload_tables.specs.Sections.{AreOthers}
 use Rattle.payload_tables.proofs.Joined.{follow-once}
 use Rattle.payload_tables.proofs.Standing.{placed-segments, other-names-in}
@@ -88,6 +89,23 @@ pub all-done : (at : ℕ) (bytes : List ℕ) (section : KeptFlats) (rest : List 
     → ((s : Segment) (after : List ℕ) → IsSegment s → rest ≡ segment_bytes s ++ after → ⊥) → IsSectionOf section (placed_segments at segments)
 all-done at bytes section rest segments f none =
     subst (λ l. IsSectionOf section (placed_segments at l)) (sym (f.parts ∙ ap (λ l. f.done ++ l) (none-left f.left rest f.each f.rest_is none) ∙ append-nil f.done)) f.is
+
+-- what is left begins with a record
+pub some-left : (left : List Segment) (rest : List ℕ) → AllByRecursion IsSegment left → rest ≡ flat_map segment_bytes left → (length rest ≡ 0 → ⊥)
+    → (s : Segment) × (after : List ℕ) × IsSegment s × (rest ≡ segment_bytes s ++ after)
+some-left [] rest each rest_is some = absurd (some (ap (length {A = ℕ}) rest_is))
+some-left (s ∷ more) rest each rest_is some = (s, flat_map segment_bytes more, each.0, rest_is ∙ flat_map-cons segment_bytes s more)
+
+pub passed-first : (left : List Segment) (rest after : List ℕ) (t : Segment) → AllByRecursion IsSegment left → rest ≡ flat_map segment_bytes left → (length rest ≡ 0 → ⊥)
+    → ((s : Segment) (behind : List ℕ) → IsSegment s → rest ≡ segment_bytes s ++ behind → (t ≡ s) × (after ≡ behind))
+    → IsSegment t × (rest ≡ segment_bytes t ++ after)
+passed-first left rest after t each rest_is some passed =
+    let f = some-left left rest each rest_is some in
+    let p = passed f.0 f.1 f.2 f.3 in
+    (subst IsSegment (sym p.0) f.2, f.3 ∙ ap (λ (z : Segment). segment_bytes z ++ f.1) (sym p.0) ∙ ap (λ (z : List ℕ). segment_bytes t ++ z) (sym p.1))
+
+pub no-record : (s : Segment) (rest after : List ℕ) → length rest ≡ 0 → rest ≡ segment_bytes s ++ after → ⊥
+no-record s rest after none whole = let less = shorter s rest after whole in omega (arith, none, less)
 
 -- ---- a payload's other ids
 

@@ -16,7 +16,7 @@ ghost use Rattle.payload_tables.specs.Kept.{AreOthersOf, AreNoOthers};
 use batch_codec::{BatchRef, NameSlice};
 use flat_segments::Section;
 use name_index::NameIndex;
-use segment_codec::read_segment;
+use segment_codec::pass_segment;
 use std::alloc::{AllocError, Global};
 use std::marker::Model;
 use std::rc::Rc;
@@ -188,7 +188,7 @@ fn index_of(alloc: Global, names: &NameSlice<'_>, at: u64) -> Result<NameIndex, 
     Ok(index)
 }
 
-/// The section of records that stand, or will stand, at a place.
+/// The section of records that stand, or will stand, at a place. They are known to be records, so none is looked at twice.
 fn section_of(alloc: Global, records: &[u8], at: u64) -> Result<Section, AllocError>
     requires records { (segments : List Segment) × AreOthers segments records.now }
     requires place { at + length records.now < 2 ^ 63 }
@@ -196,7 +196,8 @@ fn section_of(alloc: Global, records: &[u8], at: u64) -> Result<Section, AllocEr
 {
     let mut section = Section::empty(alloc);
     let mut rest = records;
-    'records: while let Some((segment, after)) = read_segment(rest) {
+    'records: while !rest.is_empty() {
+        let (segment, after) = pass_segment(rest);
         section.push(segment, at + (records.len() - rest.len()) as u64)?;
         rest = after;
     }
