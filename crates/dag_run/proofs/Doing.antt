@@ -423,3 +423,11 @@ kept-leaves old payload (Err s) a kept stop = subst (λ t. LineLeaves old payloa
 
 pub kept-goes : (old : PlainStore) (payload : List ℕ) (r : Result PlainStore Stop) (d : Option Disk) → IfOk r (KeepsAll old) → IfErr r (λ stop. stop ≡ stops.Sink) → Goes (LineLeaves old payload None r) d d
 kept-goes old payload r d kept stop = goes-same (LineLeaves old payload None r) d (λ t. kept-leaves old payload r t kept stop)
+
+-- no disk was called, and the log kept what it had
+room-leaves : (old : PlainStore) (payload : List ℕ) (r : Result PlainStore Stop) (a : Disk) → IfOk r (λ next. HasRoom old.log next.log) → IfErr r (λ stop. stop ≡ stops.Sink) → LineLeaves old payload None r a a
+room-leaves old payload (Ok next) a room stop = (refl, room)
+room-leaves old payload (Err s) a room stop = subst (λ t. LineLeaves old payload None (Err t) a a) (sym stop) refl
+
+pub room-goes : (old : PlainStore) (payload : List ℕ) (r : Result PlainStore Stop) (d : Option Disk) → IfOk r (λ next. HasRoom old.log next.log) → IfErr r (λ stop. stop ≡ stops.Sink) → Goes (LineLeaves old payload None r) d d
+room-goes old payload r d room stop = goes-same (LineLeaves old payload None r) d (λ t. room-leaves old payload r t room stop)

@@ -1,7 +1,7 @@
 //! What one line does.
 
-ghost use Rattle.std.specs.Prelude.{◌≡◌, ◌≢◌, ◌<◌, ◌≤◌, [], ℕ, List, Option, Err, length, IfErr, IfOk, IfSome, MatchResult, false, map, vec_capacity};
-ghost use Rattle.outside.specs.Counts.{Rose};
+ghost use Rattle.std.specs.Prelude.{◌≡◌, ◌≢◌, ◌<◌, ◌≤◌, [], ℕ, List, None, Option, Err, length, IfErr, IfOk, IfSome, MatchResult, false, map, vec_capacity};
+ghost use Rattle.outside.specs.Counts.{HasCause, Rose};
 ghost use Rattle.outside.specs.Told.{WhereTold};
 ghost use Rattle.disk_trait.specs.Calls.{Goes};
 ghost use Rattle.gated_log.specs.Holding.{IsOnDisk};
@@ -247,6 +247,29 @@ fn reply_of(store: &mut Store, mirrors: &mut Mirrors, s: u8, verb: &Verb) -> Rep
     }
 }
 
+/// Does what a command asks for that neither stores nor lists, and puts the reply.
+fn tell_brief<O: Sink>(
+    store: Store,
+    mirrors: &mut Mirrors,
+    s: u8,
+    verb: &Verb,
+    output: &mut O,
+) -> Result<Store, Stop>
+    requires session { s < 16 }
+    requires counted { HasRightCount (meant verb.now) }
+    requires brief { IsBrief (meant verb.now) }
+    ensures told { let first = map (λ b. (⟦<dyn Remote as Remote>⟧ b.vtable).shown b.value) mirrors.old.list.items in let left = map (λ b. (⟦<dyn Remote as Remote>⟧ b.vtable).shown b.value) mirrors.new.list.items in
+        WhereTold (O.taken output.old) (O.taken output.new) (CommandReplies first left (Rose (O.faults output.old) (O.faults output.new)) store s (meant verb.now) [] None result) }
+    ensures room { IfOk result (λ next. HasRoom store.log next.log) }
+    ensures limits { IfOk result (λ next. next.limits ≡ store.limits) }
+    ensures stop { IfErr result (λ stop. stop ≡ Stop.Sink) }
+    ensures cause { HasCause (O.faults output.old) (O.faults output.new) result }
+{
+    let mut store = store;
+    let reply = reply_of(&mut store, mirrors, s, verb);
+    tell(store, &reply, output)
+}
+
 /// Executes a command and puts its reply.
 fn execute_command<D: Disk, O: Sink>(
     store: Store,
@@ -271,17 +294,13 @@ fn execute_command<D: Disk, O: Sink>(
     ensures sink_later { O.faults output.old ≤ O.faults output.new }
 {
     let s = command.session;
-    let mut store = store;
     match &command.verb {
         Verb::Flush(heads) => flush(store, log, mirrors, changes, s, heads.names(), output),
         Verb::Strip(names) => strip(store, log, mirrors, changes, s, names.names(), output),
         Verb::Clone => take_clone(store, log, mirrors, changes, s, output),
         Verb::Pull => take_pull(store, log, mirrors, changes, s, output),
         Verb::Query(expr) => list(store, mirrors, s, expr, output),
-        verb => {
-            let reply = reply_of(&mut store, mirrors, s, verb);
-            tell(store, &reply, output)
-        }
+        verb => tell_brief(store, mirrors, s, verb, output),
     }
 }
 

@@ -20,12 +20,6 @@ known-more front first name numbers i id x lt e f =
     ∙ sym (ap (λ l. known_from first (map name l)) (take_more numbers i 0 lt) ∙ ap (known_from first) (map-append name (take i numbers) (get_or numbers i 0 ∷ []))
     ∙ known-last first (map name (take i numbers)) (name (get_or numbers i 0))))
 
-pub name-more : (front : List Name) (name : ℕ → Name) (numbers : List ℕ) (i : ℕ) (x : Name) → i < length numbers → x ≡ name (get_or numbers i 0)
-    → (front ++ map name (take i numbers)) ++ x ∷ [] ≡ front ++ map name (take (i + 1) numbers)
-name-more front name numbers i x lt f =
-    append_assoc front (map name (take i numbers)) (x ∷ [])
-    ∙ ap (λ l. front ++ l) (ap (λ z. map name (take i numbers) ++ z ∷ []) f ∙ sym (ap (map name) (take_more numbers i 0 lt) ∙ map-append name (take i numbers) (get_or numbers i 0 ∷ [])))
-
 drop-front : {X : Type 0} (xs ys : List X) (n : ℕ) → drop (length xs + n) (xs ++ ys) ≡ drop n ys
 drop-front [] ys n = ap (λ k. drop k ys) (let z : 0 + n ≡ n = omega arith in z)
 drop-front (x ∷ xs) ys n = ap (λ k. drop k (x ∷ (xs ++ ys))) (let z : length (x ∷ xs) + n ≡ suc (length xs + n) = omega arith in z) ∙ drop-front xs ys n

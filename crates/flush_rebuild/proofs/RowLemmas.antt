@@ -12,7 +12,7 @@ use Rattle.name_map.specs.Part.{upward}
 use Rattle.payload_tables.proofs.Lists.{all-append}
 use Rattle.flush_rebuild.specs.declared.graph.Place.{Place}
 use Rattle.flush_rebuild.specs.Moves.{node_of, nodes_in}
-use Rattle.flush_rebuild.specs.Rows.{table_rows, row_at, IsPlaceIn, AreSmall, AreRows, AreRowsBelow}
+use Rattle.flush_rebuild.specs.Rows.{table_rows, row_at, node_row_at, IsPlaceIn, AreSmall, AreRows, AreRowsBelow}
 use Rattle.flush_rebuild.proofs.Marking.{upward-next, small-parents}
 use Rattle.flush_rebuild.proofs.Growing.{below-parents}
 use Rattle.flush_rebuild.proofs.Moving.{map-map, map-below}
@@ -165,14 +165,13 @@ map-piece (x ∷ ids) zero zero = refl
 map-piece (x ∷ ids) zero (suc n) = ap (λ l. node_of x ∷ l) (map-piece ids 0 n)
 map-piece (x ∷ ids) (suc i) n = map-piece ids i n
 
-node-row : (rows : List (List ℕ)) (k : ℕ) → map node_of (get_or rows k []) ≡ get_or (map (map node_of) rows) k []
-node-row [] k = refl
-node-row (r ∷ rows) zero = refl
-node-row (r ∷ rows) (suc k) = node-row rows k
+-- the rows of the nodes of a list are the nodes of its rows
+pub node-rows : (places : List Place) (ids : List ℕ) → map (node_row_at (map node_of ids)) places ≡ map (map node_of) (map (row_at ids) places)
+node-rows [] ids = refl
+node-rows (p ∷ places) ids = ap₂ (λ a b. a ∷ b) (map-piece ids p.from (p.to - p.from)) (node-rows places ids)
 
-pub nodes-at : (places : List Place) (ids : List ℕ) (nodes : List Node) (k : ℕ) (p : Place) → nodes ≡ map node_of ids → p ≡ get_or places k (record { from = 0; to = 0 })
-    → take (p.to - p.from) (drop p.from nodes) ≡ get_or (map (map node_of) (map (row_at ids) places)) k []
-nodes-at places ids nodes k p e i =
-    ap₂ {C = List Node} (λ (q : Place) l. take (q.to - q.from) (drop q.from l)) i e
-    ∙ map-piece ids (get_or places k (record { from = 0; to = 0 })).from ((get_or places k (record { from = 0; to = 0 })).to - (get_or places k (record { from = 0; to = 0 })).from)
-    ∙ ap (map node_of) (row-at places ids k) ∙ node-row (map (row_at ids) places) k
+-- a row of nodes by its place
+pub node-row-at : (places : List Place) (nodes : List Node) (k : ℕ) → node_row_at nodes (get_or places k (record { from = 0; to = 0 })) ≡ get_or (map (node_row_at nodes) places) k []
+node-row-at [] nodes k = refl
+node-row-at (p ∷ places) nodes zero = refl
+node-row-at (p ∷ places) nodes (suc k) = node-row-at places nodes k

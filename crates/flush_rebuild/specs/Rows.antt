@@ -4,6 +4,7 @@ use Rattle.std.specs.List.{AllByRecursion}
 use Rattle.id_groups.specs.Id.{other_id}
 use Rattle.segment_codec.specs.Record.{Segment}
 use Rattle.segment_codec.specs.Table.{parents_at}
+use Rattle.assign_ids.specs.declared.graph.Node.{Node}
 use Rattle.name_map.specs.Part.{upward}
 use Rattle.flush_rebuild.specs.declared.graph.Place.{Place}
 
@@ -14,6 +15,10 @@ table_rows flats n = map (λ k. parents_at flats (other_id k)) (upward 0 n)
 -- what stands at a place of the list
 abbrev pub row_at : List ℕ → Place → List ℕ
 row_at ids p = take (p.to - p.from) (drop p.from ids)
+
+-- the same of a list of nodes
+abbrev pub node_row_at : List Node → Place → List Node
+node_row_at nodes p = take (p.to - p.from) (drop p.from nodes)
 
 -- a place in a list of so many
 abbrev pub IsPlaceIn : ℕ → Place → Type 0

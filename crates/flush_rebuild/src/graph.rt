@@ -201,46 +201,60 @@ fn nodes(alloc: Global, ids: &[Id]) -> Result<Vec<Node>, AllocError>
 pub(crate) struct Graph {
     places: Vec<Place>,
     ids: Vec<Id>,
-    /// The same parents, as placing wants them.
-    nodes: Vec<Node>,
 }
 
 impl Model for Graph {
-    ghost use Rattle.std.specs.Prelude.{◌≡◌, ℕ, List, map, length};
+    ghost use Rattle.std.specs.Prelude.{ℕ, List, map, length};
     ghost use Rattle.std.specs.List.{AllByRecursion};
-    ghost use Rattle.flush_rebuild.specs.Moves.{node_of};
-    ghost use Rattle.flush_rebuild.specs.Rows.{row_at, IsPlaceIn};
+    ghost use Rattle.flush_rebuild.specs.Rows.{row_at, AreSmall, IsPlaceIn};
 
     ghost Value = { List (List ℕ) };
 
     ghost view = { λ g. map (row_at g.ids.items) g.places.items };
 
-    ghost invariant = { λ g. AllByRecursion (IsPlaceIn (length g.ids.items)) g.places.items × (g.nodes.items ≡ map node_of g.ids.items) };
+    ghost invariant = { λ g. AllByRecursion (IsPlaceIn (length g.ids.items)) g.places.items × AreSmall g.ids.items };
 }
 
-impl ParentsOf for Graph {
-    ghost use Rattle.std.specs.Prelude.{[], map, slice_index_or};
-    ghost use Rattle.flush_rebuild.specs.Moves.{node_of};
+/// The same parents, as placing wants them.
+#[derive(Drop)]
+pub(crate) struct GraphNodes<'a> {
+    places: &'a [Place],
+    nodes: Vec<Node>,
+}
 
-    ghost parents = { λ g k. slice_index_or (map (map node_of) g) k [] };
+impl<'a> Model for GraphNodes<'a> {
+    ghost use Rattle.std.specs.Prelude.{List, map, length};
+    ghost use Rattle.std.specs.List.{AllByRecursion};
+    ghost use Rattle.assign_ids.specs.declared.graph.Node.{Node};
+    ghost use Rattle.flush_rebuild.specs.Rows.{node_row_at, IsPlaceIn};
+
+    ghost Value = { List (List Node) };
+
+    ghost view = { λ g. map (node_row_at g.nodes.items) g.places.now };
+
+    ghost invariant = { λ g. AllByRecursion (IsPlaceIn (length g.nodes.items)) g.places.now };
+}
+
+impl<'a> ParentsOf for GraphNodes<'a> {
+    ghost use Rattle.std.specs.Prelude.{[], slice_index_or};
+
+    ghost parents = { λ g k. slice_index_or g k [] };
 
     fn parents_of(&self, k: u32) -> &[Node] {
-        piece(&self.nodes, place_at(&self.places, k))
+        piece(&self.nodes, place_at(self.places, k))
     }
 }
 
 impl Graph {
     /// These rows.
-    fn over(alloc: Global, rows: Rows) -> Result<Graph, AllocError>
+    fn over(rows: Rows) -> Graph
         requires { (list : List (List ℕ)) × AreRows rows.places.items rows.ids.items list }
-        ensures { (list : List (List ℕ)) → AreRows rows.places.items rows.ids.items list → IfOk result (λ graph. graph ≡ list) }
+        ensures { (list : List (List ℕ)) → AreRows rows.places.items rows.ids.items list → result ≡ list }
     {
-        let nodes = nodes(alloc, &rows.ids)?;
-        Ok(Graph {
+        Graph {
             places: rows.places,
             ids: rows.ids,
-            nodes,
-        })
+        }
     }
 
     /// The parents of the number k, in order; none of a number that it doesn't have.
@@ -248,6 +262,17 @@ impl Graph {
         ensures { result.now ≡ slice_index_or self.now k [] }
     {
         piece(&self.ids, place_at(&self.places, k))
+    }
+
+    /// The same graph, as placing wants it.
+    pub(crate) fn nodes<'a>(&'a self, alloc: Global) -> Result<GraphNodes<'a>, AllocError>
+        ensures { IfOk result (λ g. g ≡ map (map node_of) self.now) }
+    {
+        let nodes = nodes(alloc, &self.ids)?;
+        Ok(GraphNodes {
+            places: &self.places,
+            nodes,
+        })
     }
 }
 
@@ -264,5 +289,5 @@ pub(crate) fn graph_of<T: SegmentTable>(
         ids: Vec::with_capacity(alloc, n as usize)?,
     };
     read_rows(table, &mut rows, n)?;
-    Graph::over(alloc, rows)
+    Ok(Graph::over(rows))
 }

@@ -132,7 +132,8 @@ fn moves_of(alloc: Global, graph: &Graph, n: u32, numbers: &[u32]) -> Result<Mov
     ensures order { IfOk result (λ moves. moves.order.items ≡ order_of (λ k. slice_index_or (map (map node_of) graph.now) k []) n numbers.now) }
     ensures rest { IfOk result (λ moves. moves.rest.items ≡ rest_of n moves.order.items) }
 {
-    let order = place(alloc, graph, numbers)?;
+    let nodes = graph.nodes(alloc)?;
+    let order = place(alloc, &nodes, numbers)?;
     let rest = rest(alloc, n, &order)?;
     Ok(Moves { order, rest })
 }

@@ -4,8 +4,7 @@ use Rattle.outside.specs.Counts.{Rose}
 use Rattle.set_expr.specs.Whole.{tree_of}
 use Rattle.step_rules.specs.Verb.{Clone, Flush, Pull, Query, Strip}
 use Rattle.command_lines.specs.Meant.{meant, HasRightCount}
-use Rattle.command_lines.specs.Told.{told}
-use Rattle.dag_run.proofs.Doing.{kept-goes, still-goes, told-as, brief-told}
+use Rattle.dag_run.proofs.Doing.{kept-goes, room-goes, told-as}
 use Rattle.dag_run.proofs.execute.execute_command.Goals as goal
 
 pub returns-in-Flush-clause-step : goal.returns-in-Flush-clause-step
@@ -63,14 +62,10 @@ returns-in-Query-clause-step g c =
     )
 
 pub returns-in_default-clause-step : goal.returns-in_default-clause-step
-returns-in_default-clause-step g c =
-    let old = c.args.store in
-    let new = c.reply_of-reply.new.store in
-    let r = c.tell.result in (
-      [],
-      None,
-      refl,
-      still-goes old new [] r (g.D.Disk.told c.args.log.now) c.tell.ensures.same c.tell.ensures.stop c.reply_of-reply.ensures.room,
-      brief-told _ _ (Rose (g.O.Sink.faults c.args.output.now) (g.O.Sink.faults c.tell.new.output)) old new c.args.command.now.session (meant c.args.command.now.verb) r (told c.reply_of-reply.result) (g.O.Sink.taken c.args.output.now) (g.O.Sink.taken c.tell.new.output)
-          c.reply_of-reply.ensures.does c.tell.ensures.bytes,
-    )
+returns-in_default-clause-step g c = (
+  [],
+  None,
+  refl,
+  room-goes c.args.store [] c.tell_brief.result (g.D.Disk.told c.args.log.now) c.tell_brief.ensures.room c.tell_brief.ensures.stop,
+  c.tell_brief.ensures.told,
+)

@@ -1,12 +1,13 @@
-use Rattle.std.proofs.Common.{◌∙◌, [], ℕ, List, map, get_or, ap}
+use Rattle.std.proofs.Common.{◌∙◌, [], List, get_or, ap, ap₂}
+use Rattle.assign_ids.specs.declared.graph.Node.{Node}
 use Rattle.flush_rebuild.specs.declared.graph.Place.{Place}
-use Rattle.flush_rebuild.specs.Moves.{node_of}
-use Rattle.flush_rebuild.proofs.RowLemmas.{nodes-at}
-use Rattle.flush_rebuild.proofs.graph.GraphParentsOf.parents_of.Goals as goal
+use Rattle.flush_rebuild.specs.Rows.{node_row_at}
+use Rattle.flush_rebuild.proofs.RowLemmas.{node-row-at}
+use Rattle.flush_rebuild.proofs.graph.GraphNodesParentsOf.parents_of.Goals as goal
 
 pub returns : goal.returns
 returns c =
     c.piece.ensures
-    ∙ nodes-at c.self.inside.places.items c.self.inside.ids.items c.deref.result.now c.args.k c.place_at.result (c.deref.ensures.value ∙ c.self.invariant.1)
-    (c.place_at.ensures ∙ ap (λ (l : List Place). get_or l c.args.k (record { from = 0; to = 0 })) c.deref-2.ensures.value)
-    ∙ ap (λ (rows : List (List ℕ)). get_or (map (map node_of) rows) c.args.k []) c.self.view_is
+    ∙ ap₂ {C = List Node} (λ (q : Place) l. node_row_at l q) c.place_at.ensures c.deref.ensures.value
+    ∙ node-row-at c.self.inside.places.now c.self.inside.nodes.items c.args.k
+    ∙ ap (λ (rows : List (List Node)). get_or rows c.args.k []) c.self.view_is
