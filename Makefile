@@ -12,7 +12,7 @@ run:
 try:
 	cd crates/segdag && $(RT) try -- log -- run < stdin
 
-# The gate: each proof, each must-fail edit, each test and each program; hours from nothing (docs/PROVING.md, "Times"). Behind it
+# The gate: each proof, each must-fail edit, each test and each program; hours from nothing (docs/PROVING.md, "What a check costs"). Behind it
 # what no contract can say of the compiler, of the built program and of the documents, in some five minutes: each script says so
 # and goes on where what it tries isn't there. The first failure ends it.
 test:
