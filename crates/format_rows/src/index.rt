@@ -75,6 +75,49 @@ fn holds_close(alloc: Global, bytes: &[u8]) -> Result<bool, AllocError> {
     Ok(taken && has_close(&index, bytes))
 }
 
+/// Names that come in place of the close ones: some of them in their order, in another order, and with one more.
+const NEXT: [&[(u8, u64)]; 6] = [
+    &[(7, 5), (7, 3), (7, 2), (7, 1)],
+    &[(7, 4)],
+    &[],
+    &[(7, 2), (7, 3)],
+    &[(7, 5), (7, 6), (7, 1)],
+    &[(7, 5), (7, 4), (7, 3), (7, 2), (7, 1), (7, 0)],
+];
+
+/// Whether the index has these names one behind another from the place on, and not that of a number that none has.
+fn has_names(index: &NameIndex, bytes: &[u8], named: &[(u8, u64)], at: u64) -> bool {
+    let mut place = at;
+    for (filler, number) in named {
+        if index.find(bytes, NameRef::over(&name_of(*filler, *number))) != Some(place) {
+            return false;
+        }
+        place = place.wrapping_add(20);
+    }
+    index.find(bytes, NameRef::over(&name_of(7, 9))).is_none()
+}
+
+/// Whether the index of the close names gives one of these names, which stand behind them.
+fn moves_to(alloc: Global, named: &[(u8, u64)]) -> Result<bool, AllocError> {
+    let mut bytes = names_of(alloc, &CLOSE)?;
+    let names = names_of(alloc, named)?;
+    if bytes.len() > 100 || names.len() > 200 {
+        return Ok(false);
+    }
+    let index = NameIndex::of_names(alloc, 0, &bytes)?;
+    let next = index.moved(0, &bytes, 100, &names)?;
+    bytes.extend_from_slice(&names)?;
+    Ok(has_names(&index, &bytes, &CLOSE, 0) && has_names(&next, &bytes, named, 100))
+}
+
+#[test]
+fn names_are_found_where_they_stand_now(rt: HostRuntime) -> Result<(), Fail> {
+    for named in &NEXT {
+        assert!(rt; moves_to(rt.alloc(), named)?);
+    }
+    Ok(())
+}
+
 #[test]
 fn close_names_are_told_apart(rt: HostRuntime) -> Result<(), Fail> {
     let bytes = names_of(rt.alloc(), &CLOSE)?;

@@ -8,3 +8,4 @@ mod Searching
 mod OneName
 mod Filters
 mod Taken
+mod Thinning

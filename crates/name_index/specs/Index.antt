@@ -3,7 +3,7 @@ use Rattle.std.specs.Prelude.{ℕ, List, Option, Some, None}
 use Rattle.std.specs.List.Sorted.{IsPermutation}
 use Rattle.id_groups.specs.Lists.{IsIn, AreDistinct}
 use Rattle.id_groups.specs.Name.{Name}
-pub use Rattle.name_index.specs.Named.{NamedPlace, names_in, places_in, NameStandsAt, NamesStand, StandsFrom, StandFrom}
+pub use Rattle.name_index.specs.Named.{NamedPlace, names_in, places_in, named_in, NameStandsAt, NamesStand, StandsFrom, StandFrom}
 use Rattle.name_index.specs.Runs.{AreRuns, joined}
 use Rattle.name_index.specs.declared.entry.Entry.{Entry}
 

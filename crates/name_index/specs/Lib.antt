@@ -3,3 +3,4 @@ pub mod Runs
 pub mod Index
 pub mod Filter
 pub mod Taking
+pub mod Moved

@@ -1,5 +1,5 @@
 -- Named places, and names that stand in bytes.
-use Rattle.std.specs.Prelude.{◌≡◌, ◌≤◌, ◌-◌, ℕ, List, map, length, take, drop}
+use Rattle.std.specs.Prelude.{◌≡◌, ◌≤◌, ◌+◌, ◌-◌, ℕ, zero, suc, List, [], ◌∷◌, map, length, take, drop}
 use Rattle.std.specs.List.{AllByRecursion}
 use Rattle.id_groups.specs.Name.{Name}
 
@@ -34,3 +34,8 @@ pub record StandsFrom (at : ℕ) (bytes : List ℕ) (named : NamedPlace) : Type 
 -- each name stands in bytes that stand, or will stand, at `at`
 abbrev pub StandFrom : ℕ → List ℕ → List NamedPlace → Type 0
 StandFrom at bytes named = AllByRecursion (StandsFrom at bytes) named
+
+-- so many names of 20 bytes that stand one behind another in bytes, which stand, or will stand, at a place
+abbrev pub named_in : ℕ → ℕ → List ℕ → List NamedPlace
+named_in zero place bytes = []
+named_in (suc n) place bytes = record { place = place; name = take 20 bytes } ∷ named_in n (place + 20) (drop 20 bytes)

@@ -8,7 +8,7 @@ ghost use Rattle.name_index.specs.Runs.{front_of, leading, mixed, name_in, key_i
 use std::cmp::Ordering;
 
 /// How many bytes a name has.
-const NAME_BYTES: usize = 20;
+pub(crate) const NAME_BYTES: usize = 20;
 
 /// What a number is multiplied by before the next is added. It is odd, so no two numbers become one, and its digits have no
 /// pattern, so numbers that are near come to lie far from one another.

@@ -1,14 +1,15 @@
 //! The index: its runs, look-ups and inserts.
 
-ghost use Rattle.std.specs.Prelude.{◌≡◌, ◌≤◌, ◌+◌, ◌↔◌, ◌++◌, List, [], ◌∷◌, length, take, drop, map, IfOk, IfSome, OnOk, OnErr, Err, IsTrue, true, false};
+ghost use Rattle.std.specs.Prelude.{◌≡◌, ◌<◌, ◌≤◌, ◌+◌, ◌*◌, ◌^◌, ◌↔◌, ◌++◌, ℕ, List, [], ◌∷◌, length, take, drop, map, IfOk, IfSome, OnOk, OnErr, Err, IsTrue, true, false};
 ghost use Rattle.std.specs.List.{AllByRecursion};
 ghost use Rattle.id_groups.specs.Lists.{AreDistinct, IsIn};
 ghost use Rattle.name_index.specs.Index.{IsIndexOf, Finds};
 ghost use Rattle.name_index.specs.Runs.{AreRuns, Holds, HaveCommon, entry_of, front_of, joined};
 ghost use Rattle.name_index.specs.declared.index.IndexFault.{IndexFault as Fault};
-ghost use Rattle.name_index.specs.Named.{NamedPlace, NamesStand, StandFrom, names_in, places_in};
+ghost use Rattle.name_index.specs.Named.{NamedPlace, NamesStand, StandFrom, named_in, names_in, places_in};
 
-use crate::entry::{Entry, Stretch, front_of_name, name_at};
+use crate::entry::{Entry, NAME_BYTES, Stretch, front_of_name, name_at};
+use crate::moved::moves_of;
 use crate::run::Run;
 use id_groups::NameRef;
 use std::alloc::{AllocError, AllocFailed, Global};
@@ -213,6 +214,16 @@ fn run_of_new(
     Ok(run)
 }
 
+/// The run, where there is one alone.
+fn only_run(runs: &[Run]) -> Option<&Run>
+    ensures { IfSome result (λ run. runs.now ≡ run.now ∷ []) }
+{
+    match runs {
+        [only] => Some(only),
+        _ => None,
+    }
+}
+
 impl NameIndex {
     /// The index of no names. It takes no memory yet, and keeps the allocator.
     pub fn empty(alloc: Global) -> NameIndex
@@ -275,7 +286,7 @@ impl NameIndex {
         ensures { IfOk result (λ index. index ≡ run ∷ []) }
     {
         let mut runs = Vec::new(alloc);
-        runs.push(run.with_filter(alloc))?;
+        runs.push(run)?;
         Ok(NameIndex { alloc, runs })
     }
 
@@ -290,8 +301,58 @@ impl NameIndex {
         if run.has_double(&stretch) {
             return Err(IndexFault::Double);
         }
-        let index = NameIndex::of_run(alloc, run)?;
+        let index = NameIndex::of_run(alloc, run.with_filter(alloc))?;
         Ok(index)
+    }
+
+    /// The index of the names that stand, or will stand, one behind another from the place `at` on.
+    pub fn of_names(alloc: Global, at: u64, names: &[u8]) -> Result<NameIndex, AllocError>
+        requires { at + length names.now < 2 ^ 64 }
+        ensures { IfOk result (λ index. (n : ℕ) → length names.now ≡ 20 * n → AreDistinct (names_in (named_in n at names.now)) → IsIndexOf index (named_in n at names.now)) }
+    {
+        let run = Run::of_names(alloc, &Stretch { bytes: names, at })?;
+        let index = NameIndex::of_run(alloc, run.with_filter(alloc))?;
+        Ok(index)
+    }
+
+    /// The index of those of its names that stand elsewhere now, one behind another from the place `to` on, in the order in which
+    /// they stood one behind another from the place `from` on; `None` where the index has several runs, or where
+    /// some new name isn't found among the old ones in this order.
+    fn thinned(
+        &self,
+        from: u64,
+        old: &[u8],
+        to: u64,
+        new: &[u8],
+    ) -> Result<Option<NameIndex>, AllocError>
+        requires { to < 2 ^ 63 }
+        ensures { IfOk result (λ found. IfSome found (λ index. (all : List NamedPlace) (n : ℕ) → IsIndexOf self.now all → StandFrom from old.now all → length new.now ≡ 20 * n
+            → IsIndexOf index (named_in n to new.now))) }
+    {
+        let Some(only) = only_run(&self.runs) else {
+            return Ok(None);
+        };
+        let moves = moves_of(self.alloc, old, new)?;
+        let run = only.moved(self.alloc, from, &moves, to)?;
+        if run.len() != new.len() / NAME_BYTES {
+            return Ok(None);
+        }
+        let index = NameIndex::of_run(self.alloc, run)?;
+        Ok(Some(index))
+    }
+
+    /// The index of the names that stand, or will stand, one behind another from the place `to` on, where many of them are those of this
+    /// index, which stand in `old` one behind another from the place `from` on. Where all of them are some of these in their
+    /// order, as behind a strip, one walk over both finds each, and nothing is sorted.
+    pub fn moved(&self, from: u64, old: &[u8], to: u64, new: &[u8]) -> Result<NameIndex, AllocError>
+        requires { to + length new.now < 2 ^ 63 }
+        ensures { IfOk result (λ index. (all : List NamedPlace) (n : ℕ) → IsIndexOf self.now all → StandFrom from old.now all → length new.now ≡ 20 * n
+            → AreDistinct (names_in (named_in n to new.now)) → IsIndexOf index (named_in n to new.now)) }
+    {
+        match self.thinned(from, old, to, new)? {
+            Some(index) => Ok(index),
+            None => NameIndex::of_names(self.alloc, to, new),
+        }
     }
 
     /// Puts an entry into the last run, the one behind the first `before`. Want of memory changes nothing.

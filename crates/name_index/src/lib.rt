@@ -12,6 +12,7 @@ mod filter;
 mod index;
 mod laws;
 mod merge;
+mod moved;
 mod order;
 mod run;
 mod search;
