@@ -62,7 +62,7 @@ all-weaker : {X : Type 0} (P Q : X → Type 0) → ((x : X) → P x → Q x) →
 all-weaker P Q f [] h = tt
 all-weaker P Q f (x ∷ xs) h = (f x h.0, all-weaker P Q f xs h.1)
 
-facts-of : (bytes : List ℕ) (others : PlainOthers) (a : Placed) → IsPayload a.payload → StandsAt bytes a → AreOthersIn others (Some a) → OthersFacts bytes others a.payload.after (Some a.payload)
+pub facts-of : (bytes : List ℕ) (others : PlainOthers) (a : Placed) → IsPayload a.payload → StandsAt bytes a → AreOthersIn others (Some a) → OthersFacts bytes others a.payload.after (Some a.payload)
 facts-of bytes others a h stand are =
     let same = placed-segments (a.at + _) a.payload.others in
     record {
@@ -82,7 +82,7 @@ facts-of bytes others a h stand are =
       again = made-again (2 ^ 56) (2 ^ 56 + length a.payload.other_names) a.payload.others h.cover.others (all-weaker _ _ (λ s k. k.1) a.payload.others h.cover.flat_others) h.maximal.others;
     }
 
-no-facts : (bytes : List ℕ) (others : PlainOthers) → AreOthersIn others None → OthersFacts bytes others 0 None
+pub no-facts : (bytes : List ℕ) (others : PlainOthers) → AreOthersIn others None → OthersFacts bytes others 0 None
 no-facts bytes others are = record { records = []; section = are.section; stand = tt; segments = refl; ids = refl; parents = tt; few = zero-le; small = zero-le; count = are.count; room = (let x = are.names in let y = are.count in omega (arith, x, y)); names = ap (λ n. take (20 * n) (drop others.names bytes)) are.count; whole = tt; again = refl }
 
 abbrev payload_of : Option Placed → Option Payload

@@ -15,3 +15,4 @@ pub mod Stored
 pub mod Building
 pub mod LevelLists
 pub mod Placing
+pub mod OldNames

@@ -1,8 +1,8 @@
 -- What is kept of the payloads that were added, and which payloads it is that of.
-use Rattle.std.specs.Prelude.{◌≡◌, ℕ, ◌+◌, List, [], Option, Some, None, length, flat_map, ◌==◌, if◌then◌else◌}
-use Rattle.std.specs.List.{last_or}
-use Rattle.batch_codec.specs.Payload.{Payload, master_start, others_start, names_start}
-use Rattle.id_groups.specs.Name.{Name}
+use Rattle.std.specs.Prelude.{◌≡◌, ◌≤◌, ℕ, ◌+◌, ◌*◌, List, [], Option, Some, None, length, take, drop, flat_map, ◌==◌, if◌then◌else◌}
+use Rattle.std.specs.List.{AllByRecursion, last_or}
+use Rattle.batch_codec.specs.Payload.{Payload, master_start, others_start, names_start, names_bytes}
+use Rattle.id_groups.specs.Name.{Name, IsName}
 use Rattle.change_rules.specs.Lawful.{AreLawful}
 use Rattle.change_rules.specs.Tables.{remote_heads, cloned_count}
 use Rattle.name_index.specs.Index.{NamedPlace, IsIndexOf}
@@ -64,6 +64,15 @@ pub record AreNoOthers (others : PlainOthers) : Type 0 where
 abbrev pub AreOthersIn : PlainOthers → Option Placed → Type 0
 AreOthersIn others None = AreNoOthers others
 AreOthersIn others (Some a) = AreOthersOf others a
+
+-- names stand in the bytes as those of these other ids, and the index is that of them
+pub record AreNamed (bytes : List ℕ) (others : PlainOthers) : Type 0 where
+  pub names : List Name
+  pub each : AllByRecursion IsName names
+  pub room : others.names + 20 * others.count ≤ length bytes
+  pub stand : take (20 * others.count) (drop others.names bytes) ≡ names_bytes names
+  pub count : others.count ≡ length names
+  pub index : IsIndexOf others.index (names_from others.names names)
 
 -- the payload that was added last
 abbrev pub last_added : List Placed → Option Placed

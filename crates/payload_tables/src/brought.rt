@@ -5,7 +5,7 @@ ghost use Rattle.id_groups.specs.Lists.{AreDistinct};
 ghost use Rattle.batch_codec.specs.Lent.{payload_of};
 ghost use Rattle.batch_codec.specs.Payload.{payload_bytes};
 ghost use Rattle.name_map.specs.Adding.{placed};
-ghost use Rattle.payload_tables.specs.Kept.{AreOthersOf, by_kind};
+ghost use Rattle.payload_tables.specs.Kept.{AreNamed, AreOthersOf, by_kind};
 
 use crate::heads::{FLUSH, heads_of};
 use crate::others::OthersTable;
@@ -28,6 +28,24 @@ impl Brought {
         ensures heads { IfOk result (λ brought. brought.heads.items ≡ (payload_of batch.now).heads) }
     {
         let others = OthersTable::read(alloc, batch, at)?;
+        let heads = heads_of(alloc, batch)?;
+        Ok(Brought { others, heads })
+    }
+
+    /// What the payload brings, as `read` gives it, where these are the other ids of the payload before it, whose names stand in the bytes.
+    pub(crate) fn behind(
+        alloc: Global,
+        old: &OthersTable,
+        bytes: &[u8],
+        batch: &BatchRef<'_>,
+        at: u64,
+    ) -> Result<Brought, AllocError>
+        requires room { at + length (payload_bytes (payload_of batch.now)) < 2 ^ 63 }
+        requires named { AreNamed bytes.now old.now }
+        ensures others { IfOk result (λ brought. AreDistinct (payload_of batch.now).other_names → AreOthersOf brought.others (placed at batch.now)) }
+        ensures heads { IfOk result (λ brought. brought.heads.items ≡ (payload_of batch.now).heads) }
+    {
+        let others = old.next(alloc, bytes, batch, at)?;
         let heads = heads_of(alloc, batch)?;
         Ok(Brought { others, heads })
     }

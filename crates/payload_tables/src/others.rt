@@ -1,17 +1,17 @@
 //! The other ids of one payload.
 
-ghost use Rattle.std.specs.Prelude.{◌≡◌, ◌<◌, ◌≤◌, ◌+◌, ◌*◌, ◌^◌, ℕ, List, [], length, take, drop, IfOk};
+ghost use Rattle.std.specs.Prelude.{◌≡◌, ◌<◌, ◌≤◌, ◌+◌, ◌*◌, ◌^◌, List, [], length, take, drop, IfOk};
 ghost use Rattle.segment_codec.specs.Record.{Segment};
 ghost use Rattle.flat_segments.specs.Placed.{placed_segments};
 ghost use Rattle.payload_tables.specs.Sections.{AreOthers};
 ghost use Rattle.flat_segments.specs.Kept.{IsSectionOf};
-ghost use Rattle.name_map.specs.Added.{every, names_from};
+ghost use Rattle.name_map.specs.Added.{names_from};
 ghost use Rattle.name_index.specs.Index.{IsIndexOf};
 ghost use Rattle.id_groups.specs.Lists.{AreDistinct};
 ghost use Rattle.batch_codec.specs.Lent.{payload_of, lent_names};
 ghost use Rattle.name_map.specs.Adding.{placed};
-ghost use Rattle.batch_codec.specs.Payload.{payload_bytes};
-ghost use Rattle.payload_tables.specs.Kept.{AreOthersOf, AreNoOthers};
+ghost use Rattle.batch_codec.specs.Payload.{names_start, payload_bytes};
+ghost use Rattle.payload_tables.specs.Kept.{AreNamed, AreOthersOf, AreNoOthers};
 
 use batch_codec::{BatchRef, NameSlice};
 use flat_segments::Section;
@@ -100,18 +100,22 @@ impl OthersTable {
         }
     }
 
-    /// The other ids of a payload that stands, or will stand, at the place `at` in the log. Where two of its names are the
-    /// same, it tells nothing of names.
-    pub fn read(alloc: Global, batch: &BatchRef<'_>, at: u64) -> Result<OthersTable, AllocError>
+    /// The other ids of a payload, by the index of its names.
+    fn with_index(
+        alloc: Global,
+        batch: &BatchRef<'_>,
+        at: u64,
+        index: NameIndex,
+    ) -> Result<OthersTable, AllocError>
         requires { at + length (payload_bytes (payload_of batch.now)) < 2 ^ 63 }
-        ensures { IfOk result (λ others. AreDistinct (payload_of batch.now).other_names → AreOthersOf others (placed at batch.now)) }
+        ensures { IfOk result (λ others. IsIndexOf index (names_from (at + names_start (payload_of batch.now)) (payload_of batch.now).other_names)
+            → AreOthersOf others (placed at batch.now)) }
     {
         batch.is_payload();
         let segments = batch.other_segments();
         let section = section_of(alloc, segments.bytes(), at + segments.start())?;
         let names = batch.other_names();
         let start = at + names.start();
-        let index = index_of(alloc, &names, start)?;
         let parts = Rc::new(alloc, Parts { section, index })?;
         Ok(OthersTable {
             own: Parts::empty(alloc),
@@ -119,6 +123,39 @@ impl OthersTable {
             names: start,
             count: names.len(),
         })
+    }
+
+    /// The other ids of a payload that stands, or will stand, at the place `at` in the log. Where two of its names are the
+    /// same, it tells nothing of names.
+    pub fn read(alloc: Global, batch: &BatchRef<'_>, at: u64) -> Result<OthersTable, AllocError>
+        requires { at + length (payload_bytes (payload_of batch.now)) < 2 ^ 63 }
+        ensures { IfOk result (λ others. AreDistinct (payload_of batch.now).other_names → AreOthersOf others (placed at batch.now)) }
+    {
+        batch.is_payload();
+        let names = batch.other_names();
+        let index = index_of(alloc, &names, at + names.start())?;
+        let others = OthersTable::with_index(alloc, batch, at, index)?;
+        Ok(others)
+    }
+
+    /// The other ids of a payload, as `read` gives them, where these are those of the payload before it, whose names stand in the bytes.
+    /// Names that stood there are not sorted anew.
+    pub fn next(
+        &self,
+        alloc: Global,
+        bytes: &[u8],
+        batch: &BatchRef<'_>,
+        at: u64,
+    ) -> Result<OthersTable, AllocError>
+        requires room { at + length (payload_bytes (payload_of batch.now)) < 2 ^ 63 }
+        requires named { AreNamed bytes.now self.now }
+        ensures { IfOk result (λ others. AreDistinct (payload_of batch.now).other_names → AreOthersOf others (placed at batch.now)) }
+    {
+        batch.is_payload();
+        let names = batch.other_names();
+        let index = index_behind(self, bytes, &names, at + names.start())?;
+        let others = OthersTable::with_index(alloc, batch, at, index)?;
+        Ok(others)
     }
 
     /// The same table once more. What was read of a payload is shared and not copied.
@@ -182,9 +219,23 @@ fn index_of(alloc: Global, names: &NameSlice<'_>, at: u64) -> Result<NameIndex, 
     requires { at + 20 * length (lent_names names.now) < 2 ^ 64 }
     ensures { IfOk result (λ index. AreDistinct (lent_names names.now) → IsIndexOf index (names_from at (lent_names names.now))) }
 {
-    let places = places_every(alloc, at, names.len())?;
-    let mut index = NameIndex::empty(alloc);
-    index.insert_new(&[], at, names.bytes(), places)?;
+    let index = NameIndex::of_names(alloc, at, names.bytes())?;
+    Ok(index)
+}
+
+/// The same, where many of the names stand in the bytes as those of these other ids: `index_of` by what is known of them.
+fn index_behind(
+    old: &OthersTable,
+    bytes: &[u8],
+    names: &NameSlice<'_>,
+    at: u64,
+) -> Result<NameIndex, AllocError>
+    requires room { at + 20 * length (lent_names names.now) < 2 ^ 63 }
+    requires named { AreNamed bytes.now old.now }
+    ensures { IfOk result (λ index. AreDistinct (lent_names names.now) → IsIndexOf index (names_from at (lent_names names.now))) }
+{
+    let stored = old.names(bytes);
+    let index = old.index().moved(old.names, stored, at, names.bytes())?;
     Ok(index)
 }
 
@@ -202,16 +253,4 @@ fn section_of(alloc: Global, records: &[u8], at: u64) -> Result<Section, AllocEr
         rest = after;
     }
     Ok(section)
-}
-
-/// The places of so many names from the first on.
-fn places_every(alloc: Global, first: u64, count: u32) -> Result<Vec<u64>, AllocError>
-    requires { first + 20 * count < 2 ^ 64 }
-    ensures { IfOk result (λ places. places.items ≡ every first 20 count) }
-{
-    let mut places = Vec::with_capacity(alloc, count as usize)?;
-    'places: for i in 0..count {
-        places.push(first + 20 * u64::from(i))?;
-    }
-    Ok(places)
 }

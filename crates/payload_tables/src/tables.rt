@@ -103,7 +103,7 @@ impl Tables {
             is_none,
         };
         check_place(self.alloc, batch, before)?;
-        let brought = Brought::read(self.alloc, batch, at)?;
+        let brought = Brought::behind(self.alloc, &self.others, bytes, batch, at)?;
         extend_masters(
             self.alloc,
             &mut self.flat,
@@ -134,7 +134,7 @@ impl Tables {
         ensures unchanged { OnErr result (self.new ≡ self.old) }
     {
         batch.is_payload();
-        let brought = Brought::read(self.alloc, batch, at)?;
+        let brought = Brought::behind(self.alloc, &self.others, bytes, batch, at)?;
         let others = brought.share(self.alloc)?;
         extend_lawful(
             &mut self.flat,

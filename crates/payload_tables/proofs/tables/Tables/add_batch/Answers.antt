@@ -2,11 +2,17 @@ use Rattle.std.proofs.Common.{◌∙◌, ◌≤◌, Err, ap, sym, subst}
 use Rattle.batch_codec.specs.Lent.{payload_of}
 use Rattle.name_map.specs.Added.{payloads_of}
 use Rattle.name_map.specs.Adding.{placed}
-use Rattle.payload_tables.specs.Kept.{PlainTables, PlainOthers, AreMastersOf, AreOthersOf, by_kind}
+use Rattle.payload_tables.specs.Kept.{PlainTables, PlainOthers, AreMastersOf, AreNamed, AreOthersOf, by_kind}
 use Rattle.payload_tables.proofs.Following.{tables-more, none-placed}
 use Rattle.payload_tables.proofs.Placing.{place-of}
 use Rattle.payload_tables.proofs.Building.{fault-same}
+use Rattle.payload_tables.proofs.OldNames.{tables-named}
 use Rattle.payload_tables.proofs.tables.Tables.add_batch.Goals as goal
+
+pub behind-requires-clause-named : goal.behind-requires-clause-named
+behind-requires-clause-named c =
+    let r = c.requires.tables in
+    subst (λ (z : PlainTables). AreNamed c.args.bytes.now z.others) (sym c.self.view_is) (tables-named c.args.bytes.now c.args.self.now r.0 r.1 r.2)
 
 pub returns-in_err-check_place-clause-unlawful : goal.returns-in_err-check_place-clause-unlawful
 returns-in_err-check_place-clause-unlawful c = λ added t stand e may.

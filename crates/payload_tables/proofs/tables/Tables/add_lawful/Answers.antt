@@ -1,11 +1,17 @@
 use Rattle.std.proofs.Common.{◌∙◌, ap, sym, subst}
 use Rattle.batch_codec.specs.Lent.{payload_of}
 use Rattle.name_map.specs.Adding.{placed}
-use Rattle.payload_tables.specs.Kept.{PlainTables, PlainOthers, AreMastersOf, AreOthersOf, by_kind}
+use Rattle.payload_tables.specs.Kept.{PlainTables, PlainOthers, AreMastersOf, AreNamed, AreOthersOf, by_kind}
 use Rattle.name_map.specs.Added.{payloads_of}
 use Rattle.payload_tables.proofs.Following.{tables-more}
 use Rattle.payload_tables.proofs.Placing.{place-of}
+use Rattle.payload_tables.proofs.OldNames.{tables-named}
 use Rattle.payload_tables.proofs.tables.Tables.add_lawful.Goals as goal
+
+pub behind-requires-clause-named : goal.behind-requires-clause-named
+behind-requires-clause-named c =
+    let r = c.requires.lawful in
+    subst (λ (z : PlainTables). AreNamed c.args.bytes.now z.others) (sym c.self.view_is) (tables-named c.args.bytes.now c.args.self.now r.0 r.1 r.2)
 
 pub extend_lawful-requires-clause-follows : goal.extend_lawful-requires-clause-follows
 extend_lawful-requires-clause-follows c =
