@@ -75,6 +75,14 @@ IsBrief (Strip names) = ⊥
 IsBrief (Query e) = ⊥
 IsBrief _ = ⊤
 
+-- a command that may store
+abbrev pub MayStore : Verb → Type 0
+MayStore (Flush heads) = ⊤
+MayStore Clone = ⊤
+MayStore Pull = ⊤
+MayStore (Strip names) = ⊤
+MayStore _ = ⊥
+
 -- its reply comes with a state that the store stands for afterwards, beside the mirrors that are left
 abbrev pub DoesBeside : List Mirror → List Mirror → PlainStore → PlainStore → ℕ → Verb → Reply → Type 0
 DoesBeside first left old new s verb reply =

@@ -14,7 +14,7 @@ ghost use Rattle.command_lines.specs.Meant.{meant, HasRightCount};
 ghost use Rattle.dag_run.specs.Stops.{IsLineStop};
 ghost use Rattle.command_lines.specs.Told.{told};
 ghost use Rattle.dag_run.specs.Replies.{IsUnreadFor};
-ghost use Rattle.dag_run.specs.Lines.{changes_with, CommandReplies, DoesBeside, DropsAt, IsBrief, LineReplies, LineLeaves};
+ghost use Rattle.dag_run.specs.Lines.{changes_with, CommandReplies, DoesBeside, DropsAt, IsBrief, LineReplies, LineLeaves, MayStore};
 
 use crate::replies::{
     list, reply_of_add, reply_of_count, reply_of_id, reply_of_reload, tell, tell_fault, tell_unread,
@@ -270,6 +270,40 @@ fn tell_brief<O: Sink>(
     tell(store, &reply, output)
 }
 
+/// Does what a command asks for that may store, and puts the reply.
+fn tell_change<D: Disk, O: Sink>(
+    store: Store,
+    log: &mut D,
+    mirrors: &mut Mirrors,
+    changes: &mut Vec<u64>,
+    s: u8,
+    verb: &Verb,
+    output: &mut O,
+) -> Result<Store, Stop>
+    requires session { s < 16 }
+    requires counted { HasRightCount (meant verb.now) }
+    requires stores { MayStore (meant verb.now) }
+    requires begins { IfSome (D.told log.old) (IsOnDisk store.log) }
+    ensures step { let first = map (λ b. (⟦<dyn Remote as Remote>⟧ b.vtable).shown b.value) mirrors.old.list.items in let left = map (λ b. (⟦<dyn Remote as Remote>⟧ b.vtable).shown b.value) mirrors.new.list.items in
+        (payload : List ℕ) × (clock : Option ℕ) × (changes.new.items ≡ changes_with changes.old.items clock)
+        × Goes (LineLeaves store payload clock result) (D.told log.old) (D.told log.new)
+        × WhereTold (O.taken output.old) (O.taken output.new) (CommandReplies first left (Rose (O.faults output.old) (O.faults output.new)) store s (meant verb.now) payload clock result) }
+    ensures limits { IfOk result (λ next. next.limits ≡ store.limits) }
+    ensures stop { IfErr result IsLineStop }
+    ensures disk { result ≡ Err Stop.NotStored → Rose (D.faults log.old) (D.faults log.new) }
+    ensures disk_later { D.faults log.old ≤ D.faults log.new }
+    ensures sink { result ≡ Err Stop.Sink → Rose (O.faults output.old) (O.faults output.new) }
+    ensures sink_later { O.faults output.old ≤ O.faults output.new }
+{
+    match verb {
+        Verb::Flush(heads) => flush(store, log, mirrors, changes, s, heads.names(), output),
+        Verb::Strip(names) => strip(store, log, mirrors, changes, s, names.names(), output),
+        Verb::Clone => take_clone(store, log, mirrors, changes, s, output),
+        Verb::Pull => take_pull(store, log, mirrors, changes, s, output),
+        _ => unreachable!(),
+    }
+}
+
 /// Executes a command and puts its reply.
 fn execute_command<D: Disk, O: Sink>(
     store: Store,
@@ -295,11 +329,10 @@ fn execute_command<D: Disk, O: Sink>(
 {
     let s = command.session;
     match &command.verb {
-        Verb::Flush(heads) => flush(store, log, mirrors, changes, s, heads.names(), output),
-        Verb::Strip(names) => strip(store, log, mirrors, changes, s, names.names(), output),
-        Verb::Clone => take_clone(store, log, mirrors, changes, s, output),
-        Verb::Pull => take_pull(store, log, mirrors, changes, s, output),
         Verb::Query(expr) => list(store, mirrors, s, expr, output),
+        Verb::Flush(_) | Verb::Strip(_) | Verb::Clone | Verb::Pull => {
+            tell_change(store, log, mirrors, changes, s, &command.verb, output)
+        }
         verb => tell_brief(store, mirrors, s, verb, output),
     }
 }
