@@ -2,10 +2,13 @@
 """Times the built program over a drawn history in a log on disk. Usage: bench/store.py [COMMITS], behind `make run`.
 
 Each work is a run of the program of its own, so its time holds a load of the log; the load alone is told too, to be taken off.
+Strips are timed line by line, each from the line to its reply, so no load is in their times.
 """
 import os
+import subprocess
 import sys
 import tempfile
+import time
 from pathlib import Path
 
 import spawn
@@ -24,6 +27,22 @@ def run(log, text):
     if status != 0:
         sys.exit(f"store: the program ended with {status}")
     return taken, memory, replies[-1].decode() if replies else ""
+
+
+def replies(log, asked):
+    """The milliseconds from each line to its reply, in ascending order, behind a load of the log."""
+    with subprocess.Popen([PROGRAM, log, "--", "run"], stdin=subprocess.PIPE, stdout=subprocess.PIPE) as ran:
+        taken = []
+        for line in ["0 status", *asked]:
+            start = time.perf_counter()
+            ran.stdin.write(line.encode() + b"\n")
+            ran.stdin.flush()
+            reply = ran.stdout.readline()
+            taken.append(1000 * (time.perf_counter() - start))
+            if not reply.startswith(b"ok "):
+                sys.exit(f"store: {line[:20]} was answered {reply!r}")
+        ran.stdin.close()
+    return sorted(taken[1:])
 
 
 def told(what, answer):
@@ -51,7 +70,9 @@ def main():
         adds = [f"0 add {other} {tip}" for other in others]
         told("10000 others on the tip, and a flush", run(log, ("\n".join([*adds, "0 flush"]) + "\n").encode()))
         told("a load with them, and a status", run(log, b"0 status\n"))
-        told("100 strips of one each", run(log, "".join(f"0 strip {other}\n" for other in others[:100]).encode()))
+        taken = replies(log, [f"0 strip {other}" for other in others[:200]])
+        middle, mean = taken[len(taken) // 2], sum(taken) / len(taken)
+        print(f"200 strips of one each: {mean:.2f} ms each, {taken[0]:.2f} to {taken[-1]:.2f}, half of them below {middle:.2f}", flush=True)
 
 
 if __name__ == "__main__":
