@@ -3,8 +3,8 @@ RT ?= rt
 
 .PHONY: run try test
 
-# Proves the program and the crates below it, builds it and runs it on the sample, over a new log: about an hour of processor
-# time the first time. Later only what changed is proved.
+# Proves the program and the crates below it, builds it and runs it on the sample, over a new log: one to two hours of
+# processor time the first time. Later only what changed is proved.
 run:
 	cd crates/segdag && rm -f out/log && $(RT) run -- out/log -- run < stdin
 
@@ -12,7 +12,7 @@ run:
 try:
 	cd crates/segdag && $(RT) try -- log -- run < stdin
 
-# The gate: each proof, each must-fail edit, each test and each program; hours from nothing (docs/PROVING.md, "What a check costs"). Behind it
+# The gate: each proof, each must-fail edit, each test and each program; hours from nothing (docs/PROVING.md, "Gates and kits"). Behind it
 # what no contract can say of the compiler, of the built program and of the documents, in some five minutes: each script says so
 # and goes on where what it tries isn't there. The first failure ends it.
 test:
