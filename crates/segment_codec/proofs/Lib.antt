@@ -9,6 +9,7 @@ pub mod Orders
 pub mod Records
 pub mod Known
 pub mod Short
+pub mod Spelled
 pub mod Tables
 pub mod Turns
 pub mod Flats

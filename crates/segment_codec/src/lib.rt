@@ -24,7 +24,7 @@ pub use passing::pass_segment;
 pub use reading::read_segment;
 pub use steps::Steps;
 pub use table::{Bounds, SegmentTable};
-pub use writing::write_segment;
+pub use writing::{write_lent, write_segment};
 
 #[cfg(test)]
 mod tests;

@@ -1,6 +1,7 @@
 //! What a lent record says.
 
-ghost use Rattle.std.specs.Prelude.{◌≡◌, ◌≤◌, ◌<◌};
+ghost use Rattle.std.specs.Prelude.{◌≡◌, ◌≤◌, ◌<◌, ◌^◌, IsTrue};
+ghost use Rattle.std.specs.List.{AllByRecursion};
 ghost use Rattle.std.specs.Iterator.{YieldsFirst, item_count};
 ghost use Rattle.id_groups.specs.Id.{is_master_id};
 ghost use Rattle.segment_codec.specs.Record.{IsSegment};
@@ -10,6 +11,9 @@ ghost use Rattle.segment_codec.specs.Turns.{is_only, goes_on};
 use crate::lent::{Parents, SegmentRef};
 use crate::number::{read_long, read_short};
 use id_groups::Id;
+
+/// How many bytes an id of the others takes.
+const OTHER_BYTES: usize = 9;
 
 /// Whether there is one parent, and it has this number.
 fn is_only_parent(parents: Parents<'_>, number: u64) -> bool
@@ -77,6 +81,16 @@ impl<'a> SegmentRef<'a> {
             level,
             parents,
         }
+    }
+}
+
+impl<'a> Parents<'a> {
+    /// Whether they take fewer bytes than an id of the others: then each of them is one of master. No number is read.
+    #[inline(always)]
+    pub fn are_masters(&self) -> bool
+        ensures { IsTrue result → AllByRecursion (λ p. p < 2 ^ 56) (parents_left self.now) }
+    {
+        self.rest.len() < OTHER_BYTES
     }
 }
 
