@@ -3,6 +3,7 @@
 ghost use Rattle.std.specs.Prelude.{◌≡◌, ◌<◌, ◌≤◌, ◌+◌, ◌/◌, ◌^◌, ◌++◌, Ok, ◌∷◌, List, flat_map, length, OnOk, OnErr, IfOk};
 ghost use Rattle.std.specs.Int.{w16, w32, w64, to_be_bytes};
 ghost use Rattle.id_groups.specs.Name.{Name as NameBytes};
+ghost use Rattle.segment_codec.specs.Lent.{parents_left};
 ghost use Rattle.segment_codec.specs.Record.{Segment, IsSegment, HasFront, segment_bytes};
 ghost use Rattle.batch_codec.specs.Payload.{Payload, known_bytes, names_bytes, payload_bytes};
 ghost use Rattle.batch_codec.specs.Grammar.{IsPayload};
@@ -10,7 +11,7 @@ ghost use Rattle.batch_codec.specs.Building.{IsBuilt, empty_payload, with_segmen
 
 use crate::counts::VERSION;
 use id_groups::{Id, Name};
-use segment_codec::write_segment;
+use segment_codec::{Parents, write_lent, write_segment};
 use std::alloc::{AllocError, Global};
 use std::marker::Model;
 
@@ -119,6 +120,26 @@ fn append_record(
     ensures err { OnErr result ((out.new.items ≡ out.old.items) × (count.new ≡ count.old)) }
 {
     write_segment(out, low, high, level, parents)?;
+    *count += 1;
+    Ok(())
+}
+
+/// Appends a flat record with its parents as they are spelled, and counts it. Want of memory leaves both as they were.
+fn append_lent(
+    out: &mut Vec<u8>,
+    count: &mut usize,
+    low: Id,
+    high: Id,
+    parents: Parents<'_>,
+) -> Result<(), AllocError>
+    requires counted { count.old ≤ length out.old.items }
+    requires segment { IsSegment (record { low = low; high = high; level = 0; parents = parents_left parents }) }
+    ensures ok { OnOk result (out.new.items ≡ out.old.items ++ segment_bytes (record { low = low; high = high; level = 0; parents = parents_left parents.entry })) }
+    ensures count { OnOk result (count.new ≡ count.old + 1) }
+    ensures counted { count.new ≤ length out.new.items }
+    ensures err { OnErr result ((out.new.items ≡ out.old.items) × (count.new ≡ count.old)) }
+{
+    write_lent(out, low, high, parents)?;
     *count += 1;
     Ok(())
 }
@@ -256,6 +277,16 @@ impl BatchBuild {
         )
     }
 
+    /// Adds a flat record of other ids, whose parents are copied as they are spelled.
+    pub fn other_lent(&mut self, low: Id, high: Id, parents: Parents<'_>) -> Result<(), AllocError>
+        requires { IsSegment (record { low = low; high = high; level = 0; parents = parents_left parents }) }
+        ensures ok { OnOk result ((p : Payload) → IsBuilt self.old p → IsBuilt self.new (with_other_segment p (record { low = low; high = high; level = 0; parents = parents_left parents.entry }))) }
+        ensures count { self.new.other_count ≡ self.old.other_count }
+        ensures err { OnErr result (self.new ≡ self.old) }
+    {
+        append_lent(&mut self.others, &mut self.others_count, low, high, parents)
+    }
+
     /// Adds the name of the next other id.
     pub fn other_name(&mut self, name: &Name) -> Result<(), AllocError>
         ensures ok { OnOk result ((p : Payload) → IsBuilt self.old p → IsBuilt self.new (with_other_name p name.now)) }
@@ -306,12 +337,21 @@ impl BatchBuild {
         requires { self.old.others_count < 2 ^ 32 }
         ensures { OnOk result (self.new ≡ with_front self.old (others_behind self.old self.old.front)) }
     {
+        make_room(&mut self.front, &self.others, &self.other_names)?;
         self.front
             .extend_from_slice(&self.other_count.to_be_bytes())?;
         append_counted(&mut self.front, self.others_count as u32, &self.others)?;
         self.front.extend_from_slice(&self.other_names)?;
         Ok(())
     }
+}
+
+/// Takes the memory for the sections of other ids at once, as far as their size is known: nothing is moved twice.
+fn make_room(front: &mut Vec<u8>, records: &[u8], names: &[u8]) -> Result<(), AllocError>
+    ensures { front.new.items ≡ front.old.items }
+{
+    let more = records.len().saturating_add(names.len());
+    front.reserve(more.saturating_add(8))
 }
 
 /// Appends a count of four bytes, and the items.
