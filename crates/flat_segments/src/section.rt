@@ -39,6 +39,16 @@ impl Section {
         }
     }
 
+    /// The section without ids, with room for so many segments.
+    pub fn with_room(alloc: Global, len: usize) -> Result<Section, AllocError>
+        ensures { IfOk result (λ section. IsSectionOf section []) }
+    {
+        Ok(Section {
+            entries: Vec::with_capacity(alloc, len)?,
+            end: FIRST_OTHER,
+        })
+    }
+
     /// Adds a flat segment of the other group, which begins where the section ended, and whose record stands, or will
     /// stand, at the place `at`. The first one begins anywhere. Want of memory leaves the section as it was.
     pub fn push(&mut self, segment: SegmentRef<'_>, at: u64) -> Result<(), AllocError>

@@ -113,7 +113,8 @@ impl OthersTable {
     {
         batch.is_payload();
         let segments = batch.other_segments();
-        let section = section_of(alloc, segments.bytes(), at + segments.start())?;
+        let count = segments.len();
+        let section = section_of(alloc, count, segments.bytes(), at + segments.start())?;
         let names = batch.other_names();
         let start = at + names.start();
         let parts = Rc::new(alloc, Parts { section, index })?;
@@ -239,13 +240,13 @@ fn index_behind(
     Ok(index)
 }
 
-/// The section of records that stand, or will stand, at a place. They are known to be records, so none is looked at twice.
-fn section_of(alloc: Global, records: &[u8], at: u64) -> Result<Section, AllocError>
+/// The section of so many records that stand, or will stand, at a place. They are known to be records, so none is looked at twice.
+fn section_of(alloc: Global, count: u32, records: &[u8], at: u64) -> Result<Section, AllocError>
     requires records { (segments : List Segment) × AreOthers segments records.now }
     requires place { at + length records.now < 2 ^ 63 }
     ensures { IfOk result (λ section. (segments : List Segment) → AreOthers segments records.now → IsSectionOf section (placed_segments at segments)) }
 {
-    let mut section = Section::empty(alloc);
+    let mut section = Section::with_room(alloc, count as usize)?;
     let mut rest = records;
     'records: while !rest.is_empty() {
         let (segment, after) = pass_segment(rest);
