@@ -1,7 +1,8 @@
 -- Numbers that are passed over: each ends with its first byte below 128.
-use Rattle.std.proofs.Common.{◌≡◌, ℕ, zero, suc, ◌+◌, ◌/◌, ◌%◌, ◌^◌, ◌<◌, ◌≤◌, Bool, true, false, cond, ltb, List, [], ◌∷◌, ◌++◌, length, refl, ap, ◌∙◌, append_assoc, arith, lit≤}
+use Rattle.std.proofs.Common.{◌≡◌, ℕ, zero, suc, ◌+◌, ◌-◌, ◌/◌, ◌%◌, ◌^◌, ◌<◌, ◌≤◌, Bool, true, false, cond, ltb, List, [], ◌∷◌, ◌++◌, length, take, drop, get_or, refl, sym, ap, ◌∙◌, append_assoc, arith, lit≤}
 use Rattle.std.specs.List.{flat_map, AllByRecursion}
 use Rattle.std.proofs.lemmas.Bool.{ltb-false, le-ltb, lt-ltb}
+use Rattle.std.proofs.lemmas.List.{drop_more, take_rest}
 use Rattle.std.proofs.lemmas.List.Concat.{flat_map-cons}
 use Rattle.segment_codec.specs.Number.{groups_of, number_bytes, HasNumber}
 use Rattle.segment_codec.proofs.Numbers.{groups_end, long_group}
@@ -33,6 +34,18 @@ past-groups (suc k) n rest lt = past-case (suc k) n rest (ltb n 128) refl lt (λ
 pub past-number : (n : ℕ) (rest : List ℕ) → n < 2 ^ 64 → past (number_bytes n ++ rest) ≡ rest
 unfolding number_bytes
 past-number n rest lt = let k : 2 ^ 64 ≤ groups_end 10 = lit≤ tt in past-groups 9 n rest (omega (arith, k, lt))
+
+-- a byte at a place, which is a number's last one or isn't
+pub past-last-at : (bytes : List ℕ) (i : ℕ) → i < length bytes → get_or bytes i 0 < 128 → past (drop i bytes) ≡ drop (i + 1) bytes
+past-last-at bytes i in-bytes small = ap past (drop_more bytes i 0 in-bytes) ∙ past-last (get_or bytes i 0) (drop (i + 1) bytes) small
+
+pub past-more-at : (bytes : List ℕ) (i : ℕ) → i < length bytes → 128 ≤ get_or bytes i 0 → past (drop i bytes) ≡ past (drop (i + 1) bytes)
+past-more-at bytes i in-bytes large = ap past (drop_more bytes i 0 in-bytes) ∙ past-more (get_or bytes i 0) (drop (i + 1) bytes) large
+
+-- the number in front takes k bytes
+pub behind-so : (bytes : List ℕ) (k : ℕ) → past bytes ≡ drop k bytes
+    → (n : ℕ) (rest : List ℕ) → HasNumber n → bytes ≡ number_bytes n ++ rest → take (length bytes - k) (drop k bytes) ≡ rest
+behind-so bytes k ends n rest fits whole = take_rest bytes k ∙ sym ends ∙ ap past whole ∙ past-number n rest fits
 
 -- so many numbers stand in front of the rest, k of which are passed
 pub record Left (count k : ℕ) (bytes rest : List ℕ) : Type 0 where

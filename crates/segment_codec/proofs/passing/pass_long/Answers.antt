@@ -2,7 +2,7 @@ use Rattle.std.proofs.Common.{sym, ap, ◌∙◌}
 use Rattle.segment_codec.specs.Reading.{head_at}
 use Rattle.segment_codec.proofs.Records.{head-of-record}
 use Rattle.segment_codec.proofs.Known.{passed, lent-numbers, lent-whole}
-use Rattle.segment_codec.proofs.passing.pass_segment.Goals as goal
+use Rattle.segment_codec.proofs.passing.pass_long.Goals as goal
 
 pub unreachable-requires : goal.unreachable-requires
 unreachable-requires c =
