@@ -29,6 +29,7 @@ pub mod LevelRecords
 pub mod ToldPlans
 pub mod Stripped
 pub mod Spreading
+pub mod Lending
 pub mod StripFacts
 pub mod StripMeans
 pub mod ToldRows

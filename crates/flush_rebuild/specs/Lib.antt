@@ -5,6 +5,7 @@ pub mod Asked
 pub mod Rebasing
 pub mod Following
 pub mod Rows
+pub mod LentRows
 pub mod Facts
 pub mod Cloning
 pub mod Sections

@@ -20,6 +20,8 @@ ghost use Rattle.payload_tables.specs.Places.{BringsMasters};
 ghost use Rattle.flush_rebuild.specs.Rows.{table_rows, AreRowsBelow};
 
 use crate::graph::Graph;
+use crate::lent::LentGraph;
+use crate::lent_runs::{LentRun, add_lent_runs};
 use crate::numbers::ids_of;
 use crate::runs::{Run, add_runs};
 use batch_codec::BatchBuild;
@@ -208,6 +210,34 @@ fn add_others_section(
     ensures count { OnOk result (build.new.other_count ≡ length rest.now) }
 {
     add_runs(build, Group::Others, graph, ids, rest, FIRST_OTHER, run)?;
+    add_other_names(build, names, rest)?;
+    build.other_count(rest.len() as u32)?;
+    Ok(())
+}
+
+/// Adds the records and the names of these numbers, which are all that stay of the others, and counts them, where parents are
+/// lent. `ids` has the new id of each number.
+pub(crate) fn add_lent_section<'a>(
+    alloc: Global,
+    build: &mut BatchBuild,
+    graph: &LentGraph<'a>,
+    names: &Names<'_>,
+    ids: &[Id],
+    rest: &[u32],
+) -> Result<(), AllocError>
+    requires rows { AreRowsBelow (length ids.now) graph.now }
+    requires names { AreBelow (names.now.count + names.now.more) rest.now }
+    requires few { length rest.now < 2 ^ 32 }
+    requires records { AllByRecursion (λ s. IsSegment (flat_record s)) (flat_segments (2 ^ 56) (map (λ k. map (new_id ids.now) (slice_index_or graph.now k [])) rest.now)) }
+    ensures built { OnOk result ((p : PlainPayload) → IsBuilt build.old p → IsBuilt build.new (record p {
+      others = p.others ++ map flat_record (flat_segments (2 ^ 56) (map (λ k. map (new_id ids.now) (slice_index_or graph.now k [])) rest.now));
+      other_names = p.other_names ++ map (name_at (names.now.stored.now ++ names.now.pending.now)) rest.now;
+    })) }
+    ensures count { OnOk result (build.new.other_count ≡ length rest.now) }
+{
+    let mut run = LentRun::blank(alloc);
+    let mut new = Vec::new(alloc);
+    add_lent_runs(build, graph, ids, rest, &mut run, &mut new)?;
     add_other_names(build, names, rest)?;
     build.other_count(rest.len() as u32)?;
     Ok(())

@@ -115,7 +115,7 @@ fn add_first(rows: &mut Rows, segment: SegmentRef<'_>, id: Id) -> Result<(), All
 }
 
 /// The number behind that of the id, or n where that is less.
-fn end_of(high: Id, n: u32) -> u32
+pub(crate) fn end_of(high: Id, n: u32) -> u32
     requires { 2 ^ 56 ≤ high }
     ensures above { (k : ℕ) → 2 ^ 56 + k ≤ high → k < n → k < result }
     ensures below { (result ≤ n) × (2 ^ 56 + result ≤ high + 1) }

@@ -9,6 +9,8 @@ mod fault;
 mod flush;
 mod graph;
 mod laws;
+mod lent;
+mod lent_runs;
 mod numbers;
 mod plan;
 mod pull;

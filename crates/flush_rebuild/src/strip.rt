@@ -9,6 +9,8 @@ ghost use Rattle.assign_ids.specs.Numbers.{AreBelow};
 ghost use Rattle.change_rules.specs.Strip.{stripped};
 ghost use Rattle.change_rules.specs.Standard.{AreLimits};
 ghost use Rattle.name_map.specs.Added.{Placed};
+ghost use Rattle.segment_codec.specs.Lent.{parents_left};
+ghost use Rattle.flush_rebuild.specs.LentRows.{lent_row};
 ghost use Rattle.payload_tables.specs.Pending.{HoldsRows};
 ghost use Rattle.flush_rebuild.specs.declared.fault.PlanFault.TheVariants.{Memory};
 ghost use Rattle.flush_rebuild.specs.Plans.{IsPlanOf, IsChangeOf, MayComeNext};
@@ -18,16 +20,17 @@ ghost use Rattle.batch_codec.specs.Grammar.{IsPayload};
 ghost use Rattle.flush_rebuild.specs.Rows.{AreRowsBelow};
 ghost use Rattle.flush_rebuild.specs.Stripping.{is_marked, places_of, AreSpread, AreKept, AreKeptIds, strip_payload, IsStrip, MayStripOn, MayStrip, strip_refusal};
 
-use crate::building::{FLUSH, Names, add_sections};
+use crate::building::{FLUSH, Names, add_lent_section};
 use crate::fault::PlanFault;
 use crate::flush::{Plan, plan_of, tables_after};
-use crate::graph::{Graph, graph_of};
+use crate::lent::{LentGraph, Row, before, lent_graph};
 use crate::numbers::{blank, marks_of, numbered, unmarked};
 use crate::plan::{Change, Payload, check, names_of};
 use batch_codec::BatchBuild;
 use change_rules::{Limit, Limits};
 use id_groups::{FIRST_OTHER, Group, Id};
 use payload_tables::{PendingRows, Tables};
+use segment_codec::Parents;
 use std::alloc::{AllocError, Global};
 
 /// The number of an other id.
@@ -51,13 +54,39 @@ fn places(alloc: Global, ids: &[Id]) -> Result<Vec<u32>, AllocError>
 }
 
 /// Whether one of these parents is marked.
-fn has_marked(parents: &[Id], marks: &[bool]) -> bool
-    requires { AllByRecursion (λ p. p < 2 ^ 56 + length marks.now) parents.now }
-    ensures { result ≡ list_any (is_marked marks.now) parents.now }
+fn has_marked(parents: Parents<'_>, marks: &[bool]) -> bool
+    requires { AllByRecursion (λ p. p < 2 ^ 56 + length marks.now) (parents_left parents) }
+    ensures { result ≡ list_any (is_marked marks.now) (parents_left parents.entry) }
 {
-    match parents {
-        [] => false,
-        [first, others @ ..] => is_marked(*first, marks) || has_marked(others, marks),
+    let mut rest = parents;
+    'parents: while let Some(parent) = rest.next() {
+        if is_marked(parent, marks) {
+            return true;
+        }
+    }
+    false
+}
+
+/// Whether one of these parents is marked. Where all are of master none is read.
+fn has_marked_other(parents: Parents<'_>, marks: &[bool]) -> bool
+    requires { AllByRecursion (λ p. p < 2 ^ 56 + length marks.now) (parents_left parents) }
+    ensures { result ≡ list_any (is_marked marks.now) (parents_left parents.entry) }
+{
+    if parents.are_masters() {
+        return false;
+    }
+    has_marked(parents, marks)
+}
+
+/// Whether a parent of the number k is marked.
+fn is_led(row: Row<'_>, k: u32, marks: &[bool]) -> bool
+    requires { AllByRecursion (λ p. p < 2 ^ 56 + length marks.now) (lent_row k row) }
+    ensures { result ≡ list_any (is_marked marks.now) (lent_row k row.entry) }
+{
+    match row {
+        Row::Root => false,
+        Row::Follows => is_marked(before(k), marks),
+        Row::Begins(parents) => has_marked_other(parents, marks),
     }
 }
 
@@ -73,16 +102,16 @@ fn is_marked(id: Id, marks: &[bool]) -> bool
 }
 
 /// Whether the number is marked, or one of its parents is.
-fn goes(graph: &Graph, marks: &[bool], k: u32) -> bool
+fn goes(graph: &LentGraph<'_>, marks: &[bool], k: u32) -> bool
     requires place { k < length marks.now }
     requires parents { AllByRecursion (λ p. p < 2 ^ 56 + length marks.now) (slice_index_or graph.now k []) }
     ensures { result ≡ (slice_index_or marks.now k false || list_any (is_marked marks.now) (slice_index_or graph.now k [])) }
 {
-    marks[k as usize] || has_marked(graph.parents(k), marks)
+    marks[k as usize] || is_led(graph.row(k), k, marks)
 }
 
 /// Marks the numbers below n with a marked parent too. A parent's number is lower, so one walk from the lowest on does.
-fn spread(graph: &Graph, marks: Vec<bool>, n: u32) -> Vec<bool>
+fn spread(graph: &LentGraph<'_>, marks: Vec<bool>, n: u32) -> Vec<bool>
     requires long { length marks.items ≡ n }
     requires rows { (k : ℕ) → k < n → AllByRecursion (λ p. p < other_id k) (slice_index_or graph.now k []) }
     ensures { AreSpread graph.now marks.items result.items }
@@ -96,7 +125,7 @@ fn spread(graph: &Graph, marks: Vec<bool>, n: u32) -> Vec<bool>
 }
 
 /// The numbers below n that stay where these ids go with all that reach them.
-fn kept_of(alloc: Global, graph: &Graph, n: u32, ids: &[Id]) -> Result<Vec<u32>, AllocError>
+fn kept_of(alloc: Global, graph: &LentGraph<'_>, n: u32, ids: &[Id]) -> Result<Vec<u32>, AllocError>
     requires ids { AllByRecursion (λ id. (2 ^ 56 ≤ id) × (id < other_id n)) ids.now }
     requires rows { (k : ℕ) → k < n → AllByRecursion (λ p. p < other_id k) (slice_index_or graph.now k []) }
     ensures { IfOk result (λ kept. AreKept graph.now n ids.now kept.items) }
@@ -120,7 +149,7 @@ fn kept_ids(alloc: Global, n: u32, kept: &[u32]) -> Result<Vec<Id>, AllocError>
 /// levels come with it.
 fn stripped_payload(
     alloc: Global,
-    graph: &Graph,
+    graph: &LentGraph<'_>,
     names: &Names<'_>,
     before: u64,
     kept: &[u32],
@@ -134,14 +163,14 @@ fn stripped_payload(
 {
     let ids = kept_ids(alloc, names.count + names.more, kept)?;
     let mut build = BatchBuild::new(alloc, FLUSH, before, before, 0)?;
-    add_sections(alloc, &mut build, graph, names, &ids, before, &[], kept)?;
+    add_lent_section(alloc, &mut build, graph, names, &ids, kept)?;
     build.finish()
 }
 
 /// The change in which these numbers stay, of a world with so many master ids, with a log of so many bytes.
 fn stripped_change(
     alloc: Global,
-    graph: &Graph,
+    graph: &LentGraph<'_>,
     names: &Names<'_>,
     before: u64,
     kept: &[u32],
@@ -208,7 +237,7 @@ fn strip_beside(
     let view = base.view(none);
     let names = names_of(bytes, tables.others(), none);
     let n = names.count + names.more;
-    let graph = graph_of(alloc, &view, n)?;
+    let graph = lent_graph(alloc, &view, n)?;
     let kept = kept_of(alloc, &graph, n, ids)?;
     let before = tables.master_count();
     let log = bytes.len() as u64;
