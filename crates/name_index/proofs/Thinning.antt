@@ -1,17 +1,17 @@
 -- Names of which some went, the others in their order at other places.
-use Rattle.std.proofs.Common.{◌≡◌, ◌∙◌, refl, sym, ap, ap₂, subst, ℕ, zero, suc, ◌<◌, ◌≤◌, ◌+◌, ◌-◌, ◌*◌, length, get_or, List, [], ◌∷◌, ◌++◌, map, take, drop, Option, Some, None, inl, inr, ⊎_elim, append_assoc, append-nil, length-append, true, false, arith}
+use Rattle.std.proofs.Common.{◌≡◌, ◌∙◌, refl, sym, ap, ap₂, subst, ℕ, zero, suc, ◌<◌, ◌≤◌, ◌+◌, ◌-◌, ◌*◌, length, get_or, List, [], ◌∷◌, ◌++◌, map, take, drop, replicate, Option, Some, None, inl, inr, ⊎_elim, append_assoc, append-nil, length-append, true, false, arith}
 use Rattle.std.specs.Prelude.{IfSome}
 use Rattle.std.specs.List.{AllByRecursion}
 use Rattle.std.specs.Option.{option_to_list}
 use Rattle.std.specs.List.Sorted.{IsPermutation}
 use Rattle.std.proofs.Math.Seq.{drop-append_seam, take-append_seam}
-use Rattle.std.proofs.lemmas.List.{drop-drop, length-drop, length-map, length-take}
+use Rattle.std.proofs.lemmas.List.{drop-drop, length-drop, length-map, length-take, take-append-drop}
 use Rattle.std.proofs.lemmas.List.Sorted.{IsPermutation-refl, IsPermutation-trans, IsPermutation-sym, IsPermutation-cons, IsPermutation-middle, IsPermutation-map, length_permutation}
 use Rattle.id_groups.specs.Lists.{IsIn, AreDistinct}
 use Rattle.id_groups.specs.Name.{Name}
 use Rattle.name_index.specs.declared.entry.Entry.{Entry}
 use Rattle.name_index.specs.Filter.{PassAll, lets_pass}
-use Rattle.name_index.specs.Moved.{IsMove, AreMoves, AreThinned, StandsAmong}
+use Rattle.name_index.specs.Moved.{IsMove, AreMoves, AreNumbers, AppendsNumbers, AreThinned, StandsAmong}
 use Rattle.name_index.specs.Named.{NamedPlace, StandFrom, StandsFrom, names_in, named_in}
 use Rattle.name_index.specs.Runs.{entry_of, front_of, keys_of, sort_key, joined, AreRuns, IsAscending, IsRun}
 use Rattle.name_index.proofs.Keys.{less, each-of}
@@ -80,6 +80,46 @@ module _ (old new : List ℕ) where
         left_is = sym left ∙ ap (drop 20) m.left_is ∙ drop-drop 20 (20 * number) new ∙ ap (λ k. drop k new) (omega arith);
         fits = omega (arith, size, fits, len);
       }
+
+  -- so are the names that both begin with
+  numbers-found : (told moves : List (Option ℕ)) (rest left names others behind : List ℕ) (number : ℕ) → rest ≡ names ++ others → left ≡ names ++ behind → length names ≡ 20 * length told
+      → AreNumbers number told → Moving moves rest left number → Moving (moves ++ told) others behind (number + length told)
+  numbers-found [] moves rest left [] others behind number first second len are m =
+      let e : number ≡ number + 0 = omega arith in
+      subst (λ ms. Moving ms others behind (number + 0)) (sym (append-nil moves)) (subst (Moving moves others behind) e (subst (λ b. Moving moves others b number) second (subst (λ r. Moving moves r left number) first m)))
+  numbers-found [] moves rest left (x ∷ names) others behind number first second len are m = absurd (omega (arith, len))
+  numbers-found (n ∷ told) moves rest left names others behind number first second len are m =
+      let name = take 20 names in
+      let names' = drop 20 names in
+      let cut : names ≡ name ++ names' = sym (take-append-drop 20 names) in
+      let size : length name ≡ 20 = length-take 20 names ∙ omega (arith, len) in
+      let size' = length-drop 20 names in
+      let rest-is : rest ≡ name ++ (names' ++ others) = first ∙ ap (λ l. l ++ others) cut ∙ append_assoc name names' others in
+      let left-is : left ≡ name ++ (names' ++ behind) = second ∙ ap (λ l. l ++ behind) cut ∙ append_assoc name names' behind in
+      let front = ap (take 20) rest-is ∙ ap (λ k. take k (name ++ (names' ++ others))) (sym size) ∙ take-append_seam name (names' ++ others) in
+      let after = ap (drop 20) rest-is ∙ ap (λ k. drop k (name ++ (names' ++ others))) (sym size) ∙ drop-append_seam name (names' ++ others) in
+      let next : number + 1 + length told ≡ number + length (n ∷ told) = omega arith in
+      subst (λ ms. Moving ms others behind (number + length (n ∷ told))) (append_assoc moves (n ∷ []) told)
+      (subst (Moving ((moves ++ n ∷ []) ++ told) others behind) next
+      (numbers-found told (moves ++ n ∷ []) (names' ++ others) (names' ++ behind) names' others behind (number + 1) refl refl (omega (arith, len, size')) are.1
+      (moving-found moves rest name (names' ++ others) left (names' ++ behind) number n (sym front) size (sym after) left-is are.0 m)))
+
+  pub moving-same : (moves now : List (Option ℕ)) (rest left names others behind : List ℕ) (number count : ℕ) → rest ≡ names ++ others → left ≡ names ++ behind → length names ≡ 20 * count
+      → AppendsNumbers number count moves now → Moving moves rest left number → Moving now others behind (number + count)
+  moving-same moves now rest left names others behind number count first second len a m =
+      let size = a.count_is in
+      subst (λ ms. Moving ms others behind (number + count)) (sym a.appended) (subst (λ k. Moving (moves ++ a.numbers) others behind (number + k)) size
+      (numbers-found a.numbers moves rest left names others behind number first second (omega (arith, len, size)) a.are m))
+
+-- numbers that go up by one, and the next
+
+pub all-numbers : (first n : ℕ) (numbers : List (Option ℕ)) (told : Option ℕ) → AreNumbers first numbers → first + length numbers ≡ n → IfSome told (λ m. m ≡ n) → AreNumbers first (numbers ++ told ∷ [])
+all-numbers first n [] told are e is = (subst (λ k. IfSome told (λ m. m ≡ k)) (let z : n ≡ first = omega (arith, e) in z) is, tt)
+all-numbers first n (x ∷ numbers) told are e is = (are.0, all-numbers (first + 1) n numbers told are.1 (omega (arith, e)) is)
+
+pub none-told : (n first : ℕ) → AreNumbers first (replicate n None)
+none-told zero first = tt
+none-told (suc n) first = (tt, none-told n (first + 1))
 
 -- fewer names of the same, in the same order
 

@@ -1,5 +1,5 @@
 -- Names that stood elsewhere before: which of them is which, and what becomes of their entries.
-use Rattle.std.specs.Prelude.{◌≡◌, ◌≤◌, ◌+◌, ◌*◌, ◌⊎◌, ⊤, ℕ, List, [], ◌∷◌, Option, Some, None, length, take, drop}
+use Rattle.std.specs.Prelude.{◌≡◌, ◌≤◌, ◌+◌, ◌*◌, ◌⊎◌, ◌++◌, ⊤, ℕ, List, [], ◌∷◌, Option, Some, None, IfSome, length, take, drop}
 use Rattle.name_index.specs.Named.{NamedPlace}
 
 -- where a number is told, the new name of that number is the old name of the number k
@@ -11,6 +11,18 @@ IsMove old new k (Some m) = (20 * m + 20 ≤ length new) × (take 20 (drop (20 *
 abbrev pub AreMoves : List ℕ → List ℕ → ℕ → List (Option ℕ) → Type 0
 AreMoves old new k [] = ⊤
 AreMoves old new k (move ∷ moves) = IsMove old new k move × AreMoves old new (k + 1) moves
+
+-- where numbers are told, they go up by one from `first` on
+abbrev pub AreNumbers : ℕ → List (Option ℕ) → Type 0
+AreNumbers first [] = ⊤
+AreNumbers first (told ∷ numbers) = IfSome told (λ m. m ≡ first) × AreNumbers (first + 1) numbers
+
+-- so many of them were put behind the old ones
+pub record AppendsNumbers (first count : ℕ) (old new : List (Option ℕ)) : Type 0 where
+  pub numbers : List (Option ℕ)
+  pub count_is : length numbers ≡ count
+  pub appended : new ≡ old ++ numbers
+  pub are : AreNumbers first numbers
 
 -- the second names are some of the first, in their order, at other places
 abbrev pub AreThinned : List NamedPlace → List NamedPlace → Type 0

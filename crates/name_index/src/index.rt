@@ -317,7 +317,7 @@ impl NameIndex {
 
     /// The index of those of its names that stand elsewhere now, one behind another from the place `to` on, in the order in which
     /// they stood one behind another from the place `from` on; `None` where the index has several runs, or where
-    /// some new name isn't found among the old ones in this order.
+    /// some new name isn't found among the old ones in this order, as where there are more of them.
     fn thinned(
         &self,
         from: u64,
@@ -332,6 +332,9 @@ impl NameIndex {
         let Some(only) = only_run(&self.runs) else {
             return Ok(None);
         };
+        if new.len() > old.len() {
+            return Ok(None);
+        }
         let moves = moves_of(self.alloc, old, new)?;
         let run = only.moved(self.alloc, from, &moves, to)?;
         if run.len() != new.len() / NAME_BYTES {
