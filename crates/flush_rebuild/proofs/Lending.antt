@@ -1,5 +1,5 @@
 -- Rows that are lent, one number after another.
-use Rattle.std.proofs.Common.{◌≡◌, ◌<◌, ◌≤◌, ℕ, zero, suc, ◌+◌, ◌-◌, ◌^◌, Bool, true, false, ◌&&◌, List, [], ◌∷◌, ◌++◌, length, map, get_or, nat_eq, refl, sym, ap, ap₂, subst, Some, None, ◌∙◌, append_assoc, length-append, arith}
+use Rattle.std.proofs.Common.{◌≡◌, ◌<◌, ◌≤◌, ℕ, zero, suc, ◌+◌, ◌^◌, Bool, true, false, ◌&&◌, List, [], ◌∷◌, ◌++◌, length, map, get_or, nat_eq, refl, sym, ap, ap₂, subst, Some, None, ◌∙◌, append_assoc, length-append, arith}
 use Rattle.std.specs.Cmp.Lexicographic.{pointwise}
 use Rattle.std.specs.List.{AllByRecursion, list_any}
 use Rattle.std.proofs.lemmas.Bool.{ne_eqb}
@@ -12,7 +12,6 @@ use Rattle.batch_codec.specs.Payload.{Payload}
 use Rattle.batch_codec.specs.Building.{Building, IsBuilt, with_other_segment}
 use Rattle.flush_rebuild.specs.declared.lent.Row.{Row}
 use Rattle.flush_rebuild.specs.declared.lent.Row.TheVariants.{Root, Follows}
-use Rattle.flush_rebuild.specs.Rows.{table_rows}
 use Rattle.flush_rebuild.specs.LentRows.{lent_row, lent_rows, AreLent}
 use Rattle.id_groups.specs.declared.id.Group.TheVariants.{Others}
 use Rattle.flush_rebuild.specs.Flat.{Span}

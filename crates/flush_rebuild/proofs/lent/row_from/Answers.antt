@@ -1,4 +1,4 @@
-use Rattle.std.proofs.Common.{◌∙◌, ◌+◌, ap, arith}
+use Rattle.std.proofs.Common.{◌∙◌, ap, arith}
 use Rattle.id_groups.specs.Id.{other_id}
 use Rattle.segment_codec.specs.Lent.{segment_of}
 use Rattle.flush_rebuild.proofs.RowLemmas.{high-other}

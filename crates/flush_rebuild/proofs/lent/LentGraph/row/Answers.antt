@@ -1,4 +1,4 @@
-use Rattle.std.proofs.Common.{◌∙◌, ◌+◌, ◌≡◌, [], List, ℕ, get_or, ap, arith}
+use Rattle.std.proofs.Common.{◌∙◌, [], List, ℕ, get_or, ap, arith}
 use Rattle.flush_rebuild.specs.declared.lent.Row.{Row}
 use Rattle.flush_rebuild.specs.declared.lent.Row.TheVariants.{Root}
 use Rattle.flush_rebuild.specs.LentRows.{lent_row}
