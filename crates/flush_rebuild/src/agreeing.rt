@@ -1,6 +1,6 @@
 //! Whether what was taken from a remote agrees with what is stored of the cloned commits.
 
-ghost use Rattle.std.specs.Prelude.{◌≡◌, ◌<◌, ◌≤◌, ◌+◌, ◌^◌, ◌∷◌, ◌++◌, ◌&&◌, ◌⊎◌, ◌↔◌, not, true, List, [], None, Some, ℕ, length, nat_eq, slice_get, IsTrue, IfOk, MatchOption, MatchResult};
+ghost use Rattle.std.specs.Prelude.{◌≡◌, ◌<◌, ◌≤◌, ◌+◌, ◌^◌, ◌∷◌, ◌++◌, ◌&&◌, ◌⊎◌, ◌↔◌, not, true, List, [], None, Some, length, nat_eq, slice_get, IsTrue, IfOk, MatchOption, MatchResult};
 ghost use Rattle.std.specs.Cmp.Lexicographic.{pointwise};
 ghost use Rattle.flush_rebuild.specs.Cloning.{clone_fault};
 ghost use Rattle.id_groups.specs.Lists.{is_in};

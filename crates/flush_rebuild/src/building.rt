@@ -4,7 +4,6 @@ ghost use Rattle.std.specs.Prelude.{◌≡◌, ◌<◌, ◌≤◌, ◌+◌, ◌*
 ghost use Rattle.std.specs.List.{AllByRecursion};
 ghost use Rattle.segment_codec.specs.Record.{Segment, IsSegment};
 ghost use Rattle.batch_codec.specs.Payload.{Payload as PlainPayload, payload_bytes};
-ghost use Rattle.batch_codec.specs.Grammar.{IsPayload};
 ghost use Rattle.batch_codec.specs.Building.{IsBuilt, empty_payload};
 ghost use Rattle.assign_ids.specs.Numbers.{AreBelow};
 ghost use Rattle.flush_rebuild.specs.Moves.{flat_record};

@@ -17,8 +17,7 @@ ghost use Rattle.payload_tables.specs.Pending.{HeldRow, HoldsRows};
 ghost use Rattle.change_rules.specs.Standard.{AreLimits};
 ghost use Rattle.flush_rebuild.specs.Plans.{MayLook, MayFind, stored_id, unknown_fault, first_unknown, MayFlush, MayMove, flush_refusal, size_refusal, over, IsPlanOf, IsChangeOf, MayBeStored};
 ghost use Rattle.flush_rebuild.specs.Asked.{MayPlan};
-ghost use Rattle.name_map.specs.Added.{Placed, AllStand, payloads_of};
-ghost use Rattle.payload_tables.specs.Kept.{AreTablesOf};
+ghost use Rattle.name_map.specs.Added.{Placed, payloads_of};
 ghost use Rattle.id_groups.specs.Id.{other_id};
 
 use crate::building::{Names, payload_of};

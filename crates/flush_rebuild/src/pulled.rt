@@ -1,25 +1,23 @@
 //! The rows of a remote from the cloned ones on, beside the newest world: their ids there, and those of them that it doesn't have.
 
-ghost use Rattle.std.specs.Prelude.{◌≡◌, ◌<◌, ◌≤◌, ◌+◌, ◌^◌, ◌⊎◌, ◌++◌, ◌∷◌, [], List, None, Some, ℕ, length, map, take, drop, max, slice_get, nat_eq, if◌then◌else◌, IfOk, OnOk, MatchResult};
+ghost use Rattle.std.specs.Prelude.{◌≡◌, ◌<◌, ◌≤◌, ◌+◌, ◌^◌, ◌⊎◌, ◌++◌, ◌∷◌, [], List, None, Some, length, map, take, max, nat_eq, if◌then◌else◌, IfOk, MatchResult};
 ghost use Rattle.std.specs.List.{AllByRecursion};
 ghost use Rattle.id_groups.specs.Lists.{IsIn, AreDistinct};
 ghost use Rattle.id_groups.specs.Name.{Name as NameBytes, same_name};
 ghost use Rattle.id_groups.specs.Id.{other_id};
-ghost use Rattle.commit_graph.specs.World.{Row, World, names_of, with_pending};
-ghost use Rattle.commit_graph.specs.Ids.{id_in};
+ghost use Rattle.commit_graph.specs.World.{Row, World};
 ghost use Rattle.segment_codec.specs.Record.{Segment};
 ghost use Rattle.high_segments.specs.Views.{flats_in};
 ghost use Rattle.name_map.specs.Added.{Placed, payloads_of};
-ghost use Rattle.change_rules.specs.Rebase.{first_conflict, left_of};
+ghost use Rattle.change_rules.specs.Rebase.{first_conflict};
 ghost use Rattle.change_rules.specs.Tables.{cloned_count};
-ghost use Rattle.mirror_set.specs.Fresh.{PlainFresh};
-ghost use Rattle.payload_tables.specs.Bases.{IsBaseOf, ArePending};
+ghost use Rattle.payload_tables.specs.Bases.{IsBaseOf};
 ghost use Rattle.payload_tables.specs.Pending.{HeldRow, HoldsRows, row_names};
 ghost use Rattle.flush_rebuild.specs.declared.fault.PlanFault.TheVariants.{Memory};
 ghost use Rattle.flush_rebuild.specs.Plans.{conflict_fault};
 ghost use Rattle.flush_rebuild.specs.Rebasing.{IsKept};
 ghost use Rattle.flush_rebuild.specs.Pulling.{MayPullOn, mismatch};
-ghost use Rattle.flush_rebuild.specs.Taken.{beside, IsBeside, IsOther, AreTaken, Beside, MayAdd, MayWalk, MayTake};
+ghost use Rattle.flush_rebuild.specs.Taken.{beside, IsBeside, IsOther, AreTaken, MayAdd, MayWalk, MayTake};
 
 use crate::agreeing::check_fresh;
 use crate::fault::PlanFault;
