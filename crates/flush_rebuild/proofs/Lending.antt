@@ -49,9 +49,6 @@ first-lent flats k id s row e found is = is ∙ ap (λ o. parents_in o id) (sym 
 pub next-lent : (flats : List Segment) → IsLawful flats → (k id : ℕ) (s : Segment) (j : ℕ) → id ≡ other_id k → segment_at flats id ≡ Some s → k < j → other_id j ≤ s.high → lent_row j Follows ≡ parents_at flats (other_id j)
 next-lent flats lawful k id s j e found lt le = sym (follows flats lawful k j s (ap (segment_at flats) (sym e) ∙ found) lt le)
 
-pub none-lent : (flats : List Segment) (rows : List Row) → rows ≡ [] → AreLent flats rows 0
-none-lent flats rows e = subst (λ r. AreLent flats r 0) (sym e) (record { long = refl; rows_are = refl })
-
 -- ---- parents that are all of master
 
 master-id : (p : ℕ) → p < 2 ^ 56 → is_master_id p ≡ true
