@@ -1,5 +1,5 @@
 // The calls of a disk.
-ghost use Rattle.std.specs.Prelude.{◌≡◌, ◌≤◌, ◌<◌, ◌+◌, ◌-◌, ◌/◌, ◌%◌, ◌↔◌, ◌++◌, length, min, take, drop, refl, Some, IfOk, OnOk, OnErr, IsErr, IsTrue};
+ghost use Rattle.std.specs.Prelude.{◌≡◌, ◌≤◌, ◌<◌, ◌+◌, ◌-◌, ◌/◌, ◌%◌, ◌↔◌, ◌++◌, length, min, take, drop, refl, Some, None, IfOk, OnOk, OnErr, IsErr, IsTrue};
 ghost use Rattle.outside.specs.Counts.{HasCause};
 ghost use Rattle.disk_trait.specs.Images.{moment_of, last_moment};
 ghost use Rattle.disk_trait.specs.Calls.{Passes, Writes, FailsToWrite, Syncs, Succeeds, OrRefuses};
@@ -41,6 +41,8 @@ impl Disk for MemoryDisk {
     ghost bytes = { λ d. Some (tells d).bytes };
 
     ghost told = { λ d. Some (tells d) };
+
+    ghost meanwhile = { λ d. None };
 
     ghost faults = { λ d. d.faults };
 

@@ -5,7 +5,9 @@
 
 ghost use Rattle.std.specs.Prelude.{◌≡◌, ◌<◌, ◌≤◌, ◌++◌, ◌+◌, ◌-◌, ◌%◌, ℕ, List, [], ◌∷◌, Option, Some, IfOk, IfSome, OnOk, OnErr, length, min, take, drop, slice_index};
 ghost use Rattle.outside.specs.Counts.{HasCause};
+ghost use Rattle.outside.specs.Told.{WhereTold};
 ghost use Rattle.disk_trait.specs.Images.{Told, IsImage, surely, IsSound, LeftAt, moment_of, last_moment, fresh_disk};
+ghost use Rattle.disk_trait.specs.Meanwhile.{Meanwhile, Lasts, Measures, Reads};
 ghost use Rattle.disk_trait.specs.Calls.{Passes, with_range, Writes, FailsToWrite, Syncs, OrRefuses, Succeeds, Goes};
 
 /// A call of the disk failed.
@@ -24,12 +26,17 @@ pub trait Disk {
     /// What it tells, where it is honest.
     ghost told: { Self → Option Told };
 
+    /// What it has at each moment, where it tells that of a disk which another process writes meanwhile.
+    ghost meanwhile: { Self → Option Meanwhile };
+
     /// A count of faults. It never falls, and rises at each call that fails, up to the last value of a counter.
     ghost faults: { Self → ℕ };
 
     /// How many bytes it has.
     fn size(&mut self) -> Result<u64, DiskFault>
         ensures size { IfOk result (λ n. IfSome (bytes self.old) (λ b. n ≡ length b)) }
+        ensures measured { IfOk result (λ n. WhereTold (meanwhile self.old) (meanwhile self.new) (Measures n)) }
+        ensures lasts { WhereTold (meanwhile self.old) (meanwhile self.new) Lasts }
         ensures still { bytes self.new ≡ bytes self.old }
         ensures ok { OnOk result (Goes (Succeeds Passes) (told self.old) (told self.new)) }
         ensures err { OnErr result (Goes (OrRefuses Passes) (told self.old) (told self.new)) }
@@ -40,6 +47,8 @@ pub trait Disk {
         ensures bound { IfOk result (λ n. n ≤ length out.old) }
         ensures count { IfOk result (λ n. IfSome (bytes self.old) (λ b. n ≡ min (length out.old) (length b - at))) }
         ensures bytes { IfOk result (λ n. IfSome (bytes self.old) (λ b. out.new ≡ take n (drop at b) ++ drop n out.old)) }
+        ensures read { IfOk result (λ n. WhereTold (meanwhile self.old) (meanwhile self.new) (Reads at n out.new)) }
+        ensures lasts { WhereTold (meanwhile self.old) (meanwhile self.new) Lasts }
         ensures still { bytes self.new ≡ bytes self.old }
         ensures ok { OnOk result (Goes (Succeeds Passes) (told self.old) (told self.new)) }
         ensures err { OnErr result (Goes (OrRefuses Passes) (told self.old) (told self.new)) }
@@ -55,6 +64,7 @@ pub trait Disk {
     /// Makes sure of all that was written.
     fn sync(&mut self) -> Result<(), DiskFault>
         ensures still { bytes self.new ≡ bytes self.old }
+        ensures lasts { WhereTold (meanwhile self.old) (meanwhile self.new) Lasts }
         ensures ok { OnOk result (Goes (Succeeds Syncs) (told self.old) (told self.new)) }
         ensures err { OnErr result (Goes (OrRefuses Passes) (told self.old) (told self.new)) }
         ensures cause { HasCause (faults self.old) (faults self.new) result };

@@ -44,7 +44,7 @@ same-damage (p ∷ ps) (q ∷ qs) x y ok ok' e past past' =
 pub one-place : (bytes : List ℕ) (a b : ℕ) → IsDamaged bytes a → IsDamaged bytes b → a ≡ b
 one-place bytes a b h k = h.5 ∙ ap (λ ps. length (batches ps)) (same-damage h.1 k.1 h.2 k.2 h.3 k.3 (sym h.4 ∙ k.4) h.6 k.6) ∙ sym k.5
 
-below-or-not : (a b : ℕ) → (a < b) ⊎ (b ≤ a)
+pub below-or-not : (a b : ℕ) → (a < b) ⊎ (b ≤ a)
 below-or-not a b = by_test (nat_lt a b) refl
   where
     by_test : (t : Bool) → nat_lt a b ≡ t → (a < b) ⊎ (b ≤ a)

@@ -11,3 +11,7 @@ pub mod Rooms
 pub mod Counted
 pub mod Fresh
 pub mod Sureness
+pub mod Growth
+pub mod Turning
+pub mod Turns
+pub mod AllReads

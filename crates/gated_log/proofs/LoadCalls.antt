@@ -1,8 +1,8 @@
 -- The calls of loading, and what a crash leaves at each moment of them.
-use Rattle.std.proofs.Common.{◌≡◌, ◌⊎◌, inl, inr, ⊎_elim, ℕ, suc, ◌≤◌, ◌+◌, ◌-◌, min, List, [], ◌∷◌, ◌++◌, length, take, drop, Option, Some, None, IfSome, IfOk, OnOk, Result, Ok, Err, refl, sym, ◌∙◌, ap, subst, arith, append_assoc, take_at}
-use Rattle.std.proofs.lemmas.List.{append-nil, drop_all, take_all}
+use Rattle.std.proofs.Common.{◌≡◌, inl, ℕ, suc, ◌≤◌, ◌+◌, ◌*◌, zero, List, [], ◌∷◌, ◌++◌, length, Option, Some, None, IfSome, IfOk, OnOk, Result, Ok, Err, refl, sym, ◌∙◌, ap, subst, arith, append_assoc, replicate}
+use Rattle.std.proofs.lemmas.List.{append-nil, drop_all, replicate-append-replicate}
 use Rattle.disk_trait.specs.Images.{Unsynced, IsImage, IsSound, Told, moment_of, LeftAt, surely}
-use Rattle.disk_trait.specs.Calls.{after_call, Passes, Writes, FailsToWrite, Syncs, Succeeds, OrRefuses, Goes, with_range, overwritten}
+use Rattle.disk_trait.specs.Calls.{Passes, Writes, FailsToWrite, Syncs, Succeeds, OrRefuses, Goes, with_range, overwritten}
 use Rattle.disk_trait.specs.Since.{SureSince}
 use Rattle.disk_trait.proofs.Loss.{image-stable, last-append}
 use Rattle.disk_trait.proofs.Moments.{SureFrom, left-now, moment-call, started, goes_on, fails_past, fails_to_write, joined, weakened}
@@ -95,15 +95,26 @@ size_fails a b c i w x = goes-then IsSynced (OrRefuses Passes) Kept a b c (λ x 
 pub sized_keeps : (a c : Option Told) → Goes IsSized a c → Goes Kept a c
 sized_keeps a c s = goes-map IsSized Kept a c (λ x y r. r.kept) s
 
-abbrev pub ReadsOnce : Told → Told → Type 0
-ReadsOnce old new = (new ≡ old) ⊎ Passes old new
+-- reads behind other reads
+pub reads-join : (k m : ℕ) (a b c : Told) → b ≡ after_reads k a → c ≡ after_reads m b → c ≡ after_reads (k + m) a
+reads-join k m a b c e f =
+    let make : List Unsynced → Told = λ past. record { bytes = a.bytes; past = past; now = a.now } in
+    f ∙ ap (after_reads m) e
+    ∙ ap make (append_assoc a.past (replicate (2 * k) a.now) (replicate (2 * m) a.now)
+    ∙ ap (λ l. a.past ++ l) (replicate-append-replicate (2 * k) (2 * m) a.now ∙ ap (λ n. replicate n a.now) (let n : 2 * k + 2 * m ≡ 2 * (k + m) = omega arith in n)))
 
-pub once-kept : (a b : Told) → ReadsOnce a b → Kept a b
-once-kept a b (inl same) = subst (Kept a) (sym same) (kept-same a)
-once-kept a b (inr passes) = subst (Kept a) (sym passes) (goes_on (λ moment. IsImage a.now) a a a.now a.now a.bytes (kept-same a) (λ moment image le is. is) (λ moment image le is. is))
+passes-kept : (a : Told) → Kept a (after_reads 1 a)
+passes-kept a = goes_on (λ moment. IsImage a.now) a a a.now a.now a.bytes (kept-same a) (λ moment image le is. is) (λ moment image le is. is)
 
-pub read_keeps : (a c d : Option Told) → Goes IsSized a c → Goes ReadsOnce c d → Goes Kept a d
-read_keeps a c d s r = goes-then IsSized ReadsOnce Kept a c d (λ x y z h w. kept-join x y z h.kept (once-kept y z w)) s r
+kept-reads : (n : ℕ) (a : Told) → Kept a (after_reads n a)
+kept-reads zero a = subst (Kept a) (let make : List Unsynced → Told = λ past. record { bytes = a.bytes; past = past; now = a.now } in ap make (sym (append-nil a.past))) (kept-same a)
+kept-reads (suc n) a = subst (Kept a) (reads-join n 1 a (after_reads n a) (after_reads 1 (after_reads n a)) refl refl ∙ ap (λ k. after_reads k a) (let e : n + 1 ≡ suc n = omega arith in e)) (kept-join a (after_reads n a) (after_reads 1 (after_reads n a)) (kept-reads n a) (passes-kept (after_reads n a)))
+
+pub only-kept : (most : ℕ) (a b : Told) → OnlyReads most a b → Kept a b
+only-kept most a b r = subst (Kept a) (sym r.2) (kept-reads r.0 a)
+
+pub read_keeps : (a c d : Option Told) → Goes IsSized a c → Goes (OnlyReads 2) c d → Goes Kept a d
+read_keeps a c d s r = goes-then IsSized (OnlyReads 2) Kept a c d (λ x y z h w. kept-join x y z h.kept (only-kept 2 y z w)) s r
 
 pub start_keeps : (limit : ℕ) (ps : List (List ℕ)) (a c d : Option Told) → Goes IsSized a c → Goes (KeepsPayloads limit ps) c d → Goes (KeepsPayloads limit ps) a d
 start_keeps limit ps a c d s k = goes-then IsSized (KeepsPayloads limit ps) (KeepsPayloads limit ps) a c d (λ x y z r f. keeps-join limit ps x y z (kept-payloads limit ps x y r.kept) f) s k
@@ -249,36 +260,11 @@ start_done size (Some x) (Some y) None (Ok log) s w h le = absurd w
 start_done size (Some x) (Some y) (Some z) (Ok log) s w h le = started_at log x y z s (omega (arith, h, le)) w
 
 -- ---- reading
--- the whole of the bytes came
-all_read : (bytes before new old items : List ℕ) (n len size : ℕ) → len ≡ size → length before ≡ len → size ≡ length bytes → n ≡ min (length before) (length bytes - 0) → new ≡ take n bytes ++ drop n before
-    → items ≡ take n (take len (new ++ drop (length new) old)) → items ≡ bytes
-all_read bytes before new old items n len size cap room is count so cut =
-    let whole : n ≡ length bytes = omega (arith, is, room, count, cap) in
-    let all : take n bytes ≡ bytes = take_all n bytes (omega (arith, whole)) in
-    let none : drop n before ≡ [] = drop_all n before (omega (arith, whole, room, cap, is)) in
-    let filled : new ≡ bytes = so ∙ ap (λ l. l ++ drop n before) all ∙ ap (λ l. bytes ++ l) none ∙ append-nil bytes in
-    cut ∙ ap (λ l. take n (take len (l ++ drop (length new) old))) filled
-    ∙ ap (take n) (take_at bytes (drop (length new) old) len (omega (arith, cap, is))) ∙ all
-
-pub read_whole : (a : Option (List ℕ)) (before new old items : List ℕ) (n len size : ℕ) → len ≡ size → length before ≡ len → IfSome a (λ b. size ≡ length b) → IfSome a (λ b. n ≡ min (length before) (length b - 0))
-    → IfSome a (λ b. new ≡ take n b ++ drop n before) → items ≡ take n (take len (new ++ drop (length new) old)) → IfSome a (λ b. items ≡ b)
-read_whole None before new old items n len size cap room is count so cut = tt
-read_whole (Some t) before new old items n len size cap room is count so cut = all_read t before new old items n len size cap room is count so cut
-
-pub read_answers : (limit : ℕ) (items : List ℕ) (a : Option (List ℕ)) (r : Result Held LoadLog) → IfSome a (λ b. items ≡ b) → Loads limit items r → IfSome a (λ b. Loads limit b r)
-read_answers limit items None r h l = tt
-read_answers limit items (Some t) r h l = subst (λ b. Loads limit b r) h l
-
 pub passed : (a b : Option Told) → Goes (Succeeds Passes) a b → Goes Passes a b
 passed a b w = goes-map (Succeeds Passes) Passes a b (λ x y r. r.1) w
 
-reads-one : (a b : Told) → Passes a b → b ≡ after_reads 1 a
-reads-one a b w = w
+pub only_three : (a b c : Option Told) → Goes (Succeeds Passes) a b → Goes (OnlyReads 2) b c → Goes (OnlyReads 3) a c
+only_three a b c w x = goes-then (Succeeds Passes) (OnlyReads 2) (OnlyReads 3) a b c (λ x y z r s. (1 + s.0, (let n = s.1 in omega (arith, n)), reads-join 1 s.0 x y z r.1 s.2)) w x
 
-reads-two : (a b c : Told) → Passes a b → Passes b c → c ≡ after_reads 2 a
-reads-two a b c w x =
-    let make : List Unsynced → Told = λ past. record { bytes = a.bytes; past = past; now = a.now } in
-    x ∙ ap (λ (t : Told). after_call t t.now t.now t.bytes) w ∙ ap make (append_assoc a.past (a.now ∷ a.now ∷ []) (a.now ∷ a.now ∷ []))
-
-pub only_two : (a b c : Option Told) → Goes (Succeeds Passes) a b → Goes ReadsOnce b c → Goes (OnlyReads 2) a c
-only_two a b c w x = goes-then (Succeeds Passes) ReadsOnce (OnlyReads 2) a b c (λ x y z r s. ⊎_elim (λ e. (1, omega arith, e ∙ reads-one x y r.1)) (λ p. (2, omega arith, reads-two x y z r.1 p)) s) w x
+pub two_reads : (a b c : Option Told) → Goes (Succeeds Passes) a b → Goes Passes b c → Goes (λ old new. new ≡ after_reads 2 old) a c
+two_reads a b c w x = goes-then (Succeeds Passes) Passes (λ old new. new ≡ after_reads 2 old) a b c (λ x y z r p. reads-join 1 1 x y z r.1 p) w x

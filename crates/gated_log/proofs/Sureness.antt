@@ -6,9 +6,9 @@ use Rattle.disk_trait.proofs.Loss.{image-stable}
 use Rattle.disk_trait.proofs.Moments.{left-now, moment-call}
 use Rattle.disk_trait.proofs.Telling.{goes-then, goes-map}
 use Rattle.gated_log.specs.Holding.{IsLogWithin, HasPayloads}
-use Rattle.gated_log.specs.Load.{KeepsPayloads, IsSureOf, IsSureBehind}
+use Rattle.gated_log.specs.Load.{OnlyReads, KeepsPayloads, IsSureOf, IsSureBehind}
 use Rattle.gated_log.proofs.Counted.{steps-pass}
-use Rattle.gated_log.proofs.LoadCalls.{ReadsOnce, kept-pass, kept-payloads, keeps-join, once-kept, start_same}
+use Rattle.gated_log.proofs.LoadCalls.{kept-pass, kept-payloads, keeps-join, only-kept, start_same}
 
 module _ (limit : ℕ) (ps : List (List ℕ)) where
   -- a sync that succeeded, and what keeps the payloads behind it
@@ -29,9 +29,9 @@ module _ (limit : ℕ) (ps : List (List ℕ)) where
   pub sure_sized : (a b c : Option Told) → Goes (Succeeds Syncs) a b → Goes (Succeeds Passes) b c → Goes (IsSureOf limit ps) a c
   sure_sized a b c s w = sure_behind a b c c s w (start_same limit ps c)
 
-  -- one read at most behind them
-  pub sure_read : (a b c d : Option Told) → Goes (Succeeds Syncs) a b → Goes (Succeeds Passes) b c → Goes ReadsOnce c d → Goes (IsSureOf limit ps) a d
-  sure_read a b c d s w r = sure_behind a b c d s w (goes-map ReadsOnce (KeepsPayloads limit ps) c d (λ x y h. kept-payloads limit ps x y (once-kept x y h)) r)
+  -- two reads at most behind them
+  pub sure_read : (a b c d : Option Told) → Goes (Succeeds Syncs) a b → Goes (Succeeds Passes) b c → Goes (OnlyReads 2) c d → Goes (IsSureOf limit ps) a d
+  sure_read a b c d s w r = sure_behind a b c d s w (goes-map (OnlyReads 2) (KeepsPayloads limit ps) c d (λ x y h. kept-payloads limit ps x y (only-kept 2 x y h)) r)
 
   -- where more than the sync was called
   pub behind_of : (a d : Option Told) → Goes (IsSureOf limit ps) a d → Goes (IsSureBehind limit ps) a d

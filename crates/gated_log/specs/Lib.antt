@@ -4,3 +4,5 @@ pub mod Holding
 pub mod Scan
 pub mod Load
 pub mod Commit
+pub mod Growing
+pub mod Turns

@@ -81,9 +81,10 @@ pub record IsStarted (log : Held) (old new : Told) : Type 0 where
 abbrev pub WithinCalls : ℕ → Told → Told → Type 0
 WithinCalls calls old new = moment_of new ≤ moment_of old + 2 * calls
 
--- loading makes four calls at most for a fresh file, and three for any other
+-- Loading makes four calls at most for a fresh file, and three for any other that isn't damaged. Where one is, the size is asked
+-- once more.
 abbrev pub LoadCalls : Told → Told → Type 0
-LoadCalls old new = moment_of new ≤ moment_of old + (if nat_le (length old.bytes) 1 then 8 else 6)
+LoadCalls old new = ((at : ℕ) → IsDamaged old.bytes at → ⊥) → moment_of new ≤ moment_of old + (if nat_le (length old.bytes) 1 then 8 else 6)
 
 -- a file that isn't fresh has the bytes that it had
 abbrev pub KeepsBytes : Told → Told → Type 0

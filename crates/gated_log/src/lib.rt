@@ -9,20 +9,26 @@
 ghost use Rattle.std.specs.Prelude.{◌≡◌, ◌⊎◌, ◌++◌, ◌^◌, ◌<◌, ◌≤◌, ◌↔◌, ◌+◌, ◌-◌, ℕ, List, [], ◌∷◌, length, take, drop, slice_index, slice_index_or, IfSome, IfOk, IfErr, OnOk, OnErr, IsTrue, vec_capacity};
 ghost use Rattle.std.specs.List.{AllByRecursion};
 ghost use Rattle.disk_trait.specs.Calls.{Goes, Passes};
+ghost use Rattle.disk_trait.specs.Meanwhile.{Lasts, IsBetween};
 ghost use Rattle.outside.specs.Counts.{HasCause, Rose};
+ghost use Rattle.outside.specs.Told.{WhereTold};
 ghost use Rattle.gated_log.specs.Log.{IsLog, IsDamaged, batches, gates_of, log_length, StandsFrom, StandBehind};
 ghost use Rattle.gated_log.specs.Held.{Held, log_bytes, staged, room_of};
 ghost use Rattle.gated_log.specs.Holding.{IsOnDisk, IsLogWithin, KeepsOldOrNew, HasNew};
 ghost use Rattle.gated_log.specs.Commit.{Answers, Reserves, WritesSurely, WritesInPart, CommitsInPart};
+ghost use Rattle.gated_log.specs.Growing.{IsGrowing, AnswersGrown, ReadsGrown, LoadsGrown};
 ghost use Rattle.gated_log.specs.Load.{LoadCalls, KeepsBytes, Loads, LeavesOldOrFresh, LeavesFresh, KeepsImages, KeepsPayloads, IsSureOf, IsSureBehind, IsLoaded, IsLogOf, OnlyReads, after_reads, IsFresh, IsStarted, WithinCalls, IsUnwritten};
 
 mod errors;
 mod scan;
+mod turn;
 
 use crate::scan::{find_gates, payload_at};
+use crate::turn::{MOST_READS, Turn, read_once};
 use disk_trait::{Disk, DiskFault};
 use std::alloc::{AllocError, Global};
 use std::marker::Model;
+use std::mem::replace;
 
 /// A log, whole in memory. Contracts see its payloads, the value of its closed gate, its limit, and how long it may
 /// become by one payload without more memory.
@@ -134,8 +140,9 @@ fn write_surely<D: Disk>(disk: &mut D, at: u64, piece: &[u8]) -> Result<(), Disk
 }
 
 impl Log {
-    /// Makes sure of what is on the disk, and reads it, in one read. A fresh file gets a closed gate, which is synced.
-    /// The calls are sync, size, and then one read, or for a fresh file one write and one sync.
+    /// Makes sure of what is on the disk, and reads it. A fresh file gets a closed gate, which is synced. The calls are
+    /// sync, size, and then one read, or for a fresh file one write and one sync. Where the last gate that was read is
+    /// open and its payload isn't whole, the size is asked again, and what another process put there meanwhile is read.
     pub fn load<D: Disk>(alloc: Global, disk: &mut D, limit: u64) -> Result<Log, LoadLog>
         requires { (1 ≤ limit) × (limit ≤ 2 ^ 32) }
         ensures answers { IfSome (D.bytes disk.old) (λ bytes. Loads limit bytes result) }
@@ -150,7 +157,8 @@ impl Log {
         ensures within { Goes LoadCalls (D.told disk.old) (D.told disk.new) }
         ensures unwritten { OnOk result (Goes KeepsBytes (D.told disk.old) (D.told disk.new)) }
         ensures too_large { (size : _) → result ≡ Err (LoadLog.TooLarge size) → Goes (IsUnwritten 2) (D.told disk.old) (D.told disk.new) }
-        ensures damaged { (at : _) → result ≡ Err (LoadLog.Damaged at) → Goes (IsUnwritten 3) (D.told disk.old) (D.told disk.new) }
+        ensures damaged { (at : _) → result ≡ Err (LoadLog.Damaged at) → Goes (IsUnwritten 4) (D.told disk.old) (D.told disk.new) }
+        ensures meanwhile { (payloads : ℕ → List (List ℕ)) → LoadsGrown limit payloads result (D.meanwhile disk.old) (D.meanwhile disk.new) }
         ensures later { D.faults disk.old ≤ D.faults disk.new }
         ensures cause { (fault : _) → result ≡ Err (LoadLog.Disk fault) → Rose (D.faults disk.old) (D.faults disk.new) }
     {
@@ -165,12 +173,14 @@ impl Log {
         Log::read_all(alloc, disk, size, limit)
     }
 
-    /// Reads what is on the disk, in one read, and writes nothing.
+    /// Reads what is on the disk, and writes nothing. The calls are size and then one read. It goes on as a load does
+    /// where another process extends the log meanwhile.
     pub fn peek<D: Disk>(alloc: Global, disk: &mut D, limit: u64) -> Result<Log, LoadLog>
         requires { (1 ≤ limit) × (limit ≤ 2 ^ 32) }
         ensures answers { IfSome (D.bytes disk.old) (λ bytes. Loads limit bytes result) }
         ensures limit { IfOk result (λ log. log.limit ≡ limit) }
-        ensures reads { Goes (OnlyReads 2) (D.told disk.old) (D.told disk.new) }
+        ensures meanwhile { (payloads : ℕ → List (List ℕ)) → WhereTold (D.meanwhile disk.old) (D.meanwhile disk.new) (ReadsGrown limit payloads result) }
+        ensures reads { Goes (OnlyReads 3) (D.told disk.old) (D.told disk.new) }
         ensures done { OnOk result (Goes (λ old new. new ≡ after_reads 2 old) (D.told disk.old) (D.told disk.new)) }
         ensures later { D.faults disk.old ≤ D.faults disk.new }
         ensures cause { (fault : _) → result ≡ Err (LoadLog.Disk fault) → Rose (D.faults disk.old) (D.faults disk.new) }
@@ -182,23 +192,39 @@ impl Log {
         Log::read_all(alloc, disk, length, limit)
     }
 
-    // Reads all of the disk's bytes.
+    // Reads all of the disk's bytes, of which there are so many, and those that another process puts behind them meanwhile.
     fn read_all<D: Disk>(alloc: Global, disk: &mut D, size: u64, limit: u64) -> Result<Log, LoadLog>
         requires limits { (1 ≤ limit) × (limit ≤ 2 ^ 32) × (size ≤ limit) }
         requires size { IfSome (D.bytes disk.old) (λ bytes. size ≡ length bytes) }
         ensures answers { IfSome (D.bytes disk.old) (λ bytes. Loads limit bytes result) }
+        ensures meanwhile { (payloads : ℕ → List (List ℕ)) (from start : ℕ) → WhereTold (D.meanwhile disk.old) (D.meanwhile disk.new) (λ old new.
+            Lasts old new × (IsGrowing old.film payloads from → IsBetween from old.now start → size ≡ length (old.film start)
+            → AnswersGrown limit old.film payloads from new.now result)) }
         ensures limit { IfOk result (λ log. log.limit ≡ limit) }
         ensures ok { OnOk result (Goes Passes (D.told disk.old) (D.told disk.new)) }
-        ensures reads { Goes (λ old new. (new ≡ old) ⊎ Passes old new) (D.told disk.old) (D.told disk.new) }
-        ensures damaged { (at : _) → result ≡ Err (LoadLog.Damaged at) → Goes Passes (D.told disk.old) (D.told disk.new) }
-        ensures fits { (size : _) → result ≡ Err (LoadLog.TooLarge size) → ⊥ }
+        ensures reads { Goes (OnlyReads 2) (D.told disk.old) (D.told disk.new) }
+        ensures once { IfSome (D.bytes disk.old) (λ bytes. ((at : ℕ) → IsDamaged bytes at → ⊥) → Goes (OnlyReads 1) (D.told disk.old) (D.told disk.new)) }
+        ensures damaged { (at : _) → result ≡ Err (LoadLog.Damaged at) → Goes (λ old new. new ≡ after_reads 2 old) (D.told disk.old) (D.told disk.new) }
+        ensures fits { (size : _) → result ≡ Err (LoadLog.TooLarge size) → IfSome (D.bytes disk.old) (λ bytes. ⊥) }
         ensures later { D.faults disk.old ≤ D.faults disk.new }
         ensures cause { (fault : _) → result ≡ Err (LoadLog.Disk fault) → Rose (D.faults disk.old) (D.faults disk.new) }
     {
-        let mut bytes = Vec::from_elem(alloc, 0, size as usize)?;
-        let count = disk.read(0, &mut bytes)?;
-        bytes.truncate(count);
-        Log::of_bytes(alloc, bytes, limit)
+        let mut bytes = Vec::new(alloc);
+        let mut size = size;
+        let mut open = 0;
+        let mut turns = 0;
+        'reads: while turns < MOST_READS {
+            match read_once(alloc, disk, &mut bytes, size, limit) {
+                Ok(Turn::Whole(log)) => return Ok(log),
+                Ok(Turn::Open(at, longer)) => {
+                    open = at;
+                    size = longer;
+                }
+                Err(fault) => return Err(fault),
+            }
+            turns += 1;
+        }
+        Err(LoadLog::Damaged(open))
     }
 
     // Gives a fresh file a closed gate.
@@ -220,11 +246,12 @@ impl Log {
         Ok(log)
     }
 
-    // The log of these bytes.
-    fn of_bytes(alloc: Global, bytes: Vec<u8>, limit: u64) -> Result<Log, LoadLog>
-        requires fits { length bytes.items ≤ limit }
+    // The log of these bytes, which it takes; where they are none they stay.
+    fn of_bytes(alloc: Global, bytes: &mut Vec<u8>, limit: u64) -> Result<Log, LoadLog>
+        requires fits { length bytes.old.items ≤ limit }
         requires limit { (1 ≤ limit) × (limit ≤ 2 ^ 32) }
-        ensures loads { Loads limit bytes.items result }
+        ensures loads { Loads limit bytes.old.items result }
+        ensures kept { OnErr result (bytes.new.items ≡ bytes.old.items) }
         ensures limit { IfOk result (λ log. log.limit ≡ limit) }
         ensures fits { (size : _) → result ≡ Err (LoadLog.TooLarge size) → ⊥ }
         ensures no_call { (fault : _) → result ≡ Err (LoadLog.Disk fault) → ⊥ }
@@ -232,8 +259,8 @@ impl Log {
         if bytes.len() <= 1 {
             return Log::fresh(alloc, limit);
         }
-        let mut bytes = bytes;
-        let found = find_gates(alloc, &bytes)?;
+        let found = find_gates(alloc, bytes)?;
+        let mut bytes = replace(bytes, Vec::new(alloc));
         bytes.truncate(found.closed + 1);
         Ok(Log {
             bytes,

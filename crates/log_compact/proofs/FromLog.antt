@@ -151,7 +151,7 @@ fresh-holds limit w old image least (payloads, h) short here =
 
 -- a file that is no log stays as it was
 pub read-untouched : (limit : ℕ) (fault : LoadLog) (d e : Option Told) → 1 ≤ limit → IfSome d (λ t. Loads limit t.bytes (Err fault)) → Goes KeepsImages d e
-    → ((size : ℕ) → fault ≡ logs.TooLarge size → Goes (IsUnwritten 2) d e) → ((at : ℕ) → fault ≡ logs.Damaged at → Goes (IsUnwritten 3) d e) → from_answer fault ≡ FromBad → Goes IsUntouched d e
+    → ((size : ℕ) → fault ≡ logs.TooLarge size → Goes (IsUnwritten 2) d e) → ((at : ℕ) → fault ≡ logs.Damaged at → Goes (IsUnwritten 4) d e) → from_answer fault ≡ FromBad → Goes IsUntouched d e
 read-untouched limit (logs.Damaged at) d e some loads images large damaged is = fault-untouched limit (logs.Damaged at) d e some loads images large damaged refl
 read-untouched limit (logs.TooLarge size) d e some loads images large damaged is = fault-untouched limit (logs.TooLarge size) d e some loads images large damaged refl
 read-untouched limit (logs.Disk fault) d e some loads images large damaged is = absurd (cc is)

@@ -1,10 +1,12 @@
-use Rattle.std.proofs.Common.{◌≡◌, length, [], arith}
+use Rattle.std.proofs.Common.{◌≡◌, length, [], Err, arith}
 use Rattle.disk_trait.proofs.Telling.{of_told}
 use Rattle.gated_log.specs.Load.{Loads}
+use Rattle.gated_log.specs.declared.LoadLog.TheVariants.{TooLarge}
 use Rattle.gated_log.proofs.LoadCalls.{sync_fails, size_fails, sized, sized_keeps, images_kept, payloads_kept, start_images, start_keeps, read_keeps, size_is, read_done, start_done}
 use Rattle.gated_log.proofs.Fresh.{old_kept, fresh_started}
 use Rattle.gated_log.proofs.Sureness.{sure_behind, sure_sized, sure_read, behind_of, behind_none, behind_size}
-use Rattle.gated_log.proofs.Counted.{steps-pass, steps-sync, one-within, two-within, sized-within, read-within, start-within, read-kept, start-kept, on-ok, then-ok}
+use Rattle.gated_log.proofs.AllReads.{peek_grown, peek_large, lasts-both, sized-then, load_grown, load_fresh}
+use Rattle.gated_log.proofs.Counted.{read-calls, read-damaged, steps-pass, steps-sync, one-within, two-within, sized-within, read-within, start-within, read-kept, start-kept, on-ok, then-ok}
 use Rattle.gated_log.proofs.Log.load.Goals as goal
 
 pub returns-in_err-sync-clause-moments : goal.returns-in_err-sync-clause-moments
@@ -74,7 +76,38 @@ pub returns-then-size-le1-clause-within : goal.returns-then-size-le1-clause-with
 returns-then-size-le1-clause-within g c = start-within c.in_ok-size.size (g.D.Disk.told c.args.disk.now) (g.D.Disk.told c.size.new.self) (g.D.Disk.told c.start.new.disk) (omega arith) (sized (g.D.Disk.told c.args.disk.now) (g.D.Disk.told c.sync.new.self) (g.D.Disk.told c.size.new.self) (g.met.D.Disk.sound c.args.disk.now) c.in_ok-sync.ensures.ok c.in_ok-size.ensures.ok) (size_is c.in_ok-size.size (g.D.Disk.told c.sync.new.self) (g.D.Disk.told c.size.new.self) c.in_ok-size.ensures.ok (of_told (λ b. c.in_ok-size.size ≡ length b) (g.D.Disk.bytes c.sync.new.self) (g.D.Disk.told c.sync.new.self) (g.met.D.Disk.tells c.sync.new.self) c.in_ok-size.ensures.size)) c.start.ensures.calls
 
 pub returns-clause-within : goal.returns-clause-within
-returns-clause-within g c = read-within (g.D.Disk.told c.args.disk.now) (g.D.Disk.told c.size.new.self) (g.D.Disk.told c.read_all.new.disk) (sized (g.D.Disk.told c.args.disk.now) (g.D.Disk.told c.sync.new.self) (g.D.Disk.told c.size.new.self) (g.met.D.Disk.sound c.args.disk.now) c.in_ok-sync.ensures.ok c.in_ok-size.ensures.ok) c.read_all.ensures.reads
+returns-clause-within g c = read-within (g.D.Disk.bytes c.size.new.self) (g.D.Disk.told c.args.disk.now) (g.D.Disk.told c.size.new.self) (g.D.Disk.told c.read_all.new.disk) (sized (g.D.Disk.told c.args.disk.now) (g.D.Disk.told c.sync.new.self) (g.D.Disk.told c.size.new.self) (g.met.D.Disk.sound c.args.disk.now) c.in_ok-sync.ensures.ok c.in_ok-size.ensures.ok) (g.met.D.Disk.tells c.size.new.self) c.read_all.ensures.reads c.read_all.ensures.once
+
+pub returns-clause-calls : goal.returns-clause-calls
+returns-clause-calls g c = read-calls (g.D.Disk.told c.args.disk.now) (g.D.Disk.told c.size.new.self) (g.D.Disk.told c.read_all.new.disk) (sized (g.D.Disk.told c.args.disk.now) (g.D.Disk.told c.sync.new.self) (g.D.Disk.told c.size.new.self) (g.met.D.Disk.sound c.args.disk.now) c.in_ok-sync.ensures.ok c.in_ok-size.ensures.ok) c.read_all.ensures.reads
+
+pub returns-clause-damaged : goal.returns-clause-damaged
+returns-clause-damaged g c = λ at is. read-damaged (g.D.Disk.told c.args.disk.now) (g.D.Disk.told c.size.new.self) (g.D.Disk.told c.read_all.new.disk) (sized (g.D.Disk.told c.args.disk.now) (g.D.Disk.told c.sync.new.self) (g.D.Disk.told c.size.new.self) (g.met.D.Disk.sound c.args.disk.now) c.in_ok-sync.ensures.ok c.in_ok-size.ensures.ok) (c.read_all.ensures.damaged at is)
+
+pub returns-then-size-limit-clause-meanwhile : goal.returns-then-size-limit-clause-meanwhile
+returns-then-size-limit-clause-meanwhile g c = λ payloads.
+    let a = g.D.Disk.meanwhile c.args.disk.now in
+    let b = g.D.Disk.meanwhile c.sync.new.self in
+    let e = g.D.Disk.meanwhile c.size.new.self in
+    load_grown c.args.limit payloads (Err (TooLarge c.in_ok-size.size)) a e
+    (peek_large c.args.limit c.in_ok-size.size payloads a e (omega arith) (lasts-both a b e c.in_ok-sync.ensures.lasts c.in_ok-size.ensures.lasts) (sized-then a b e c.in_ok-size.size c.in_ok-sync.ensures.lasts c.in_ok-size.ensures.measured))
+
+pub returns-then-size-le1-clause-meanwhile : goal.returns-then-size-le1-clause-meanwhile
+returns-then-size-le1-clause-meanwhile g c = λ payloads.
+    let a = g.D.Disk.meanwhile c.args.disk.now in
+    let b = g.D.Disk.meanwhile c.sync.new.self in
+    let e = g.D.Disk.meanwhile c.size.new.self in
+    load_fresh c.args.limit c.in_ok-size.size payloads _ a e (g.D.Disk.meanwhile c.start.new.disk) (omega arith) (sized-then a b e c.in_ok-size.size c.in_ok-sync.ensures.lasts c.in_ok-size.ensures.measured)
+
+pub returns-clause-meanwhile : goal.returns-clause-meanwhile
+returns-clause-meanwhile g c = λ payloads.
+    let a = g.D.Disk.meanwhile c.args.disk.now in
+    let b = g.D.Disk.meanwhile c.sync.new.self in
+    let e = g.D.Disk.meanwhile c.size.new.self in
+    let f = g.D.Disk.meanwhile c.read_all.new.disk in
+    load_grown c.args.limit payloads c.read_all.result a f
+    (peek_grown c.args.limit c.in_ok-size.size payloads c.read_all.result a e f (lasts-both a b e c.in_ok-sync.ensures.lasts c.in_ok-size.ensures.lasts)
+    (sized-then a b e c.in_ok-size.size c.in_ok-sync.ensures.lasts c.in_ok-size.ensures.measured) (λ from start. c.read_all.ensures.meanwhile payloads from start))
 
 pub returns-then-size-le1-clause-unwritten : goal.returns-then-size-le1-clause-unwritten
 returns-then-size-le1-clause-unwritten g c = on-ok c.start.result (start-kept c.in_ok-size.size (g.D.Disk.told c.args.disk.now) (g.D.Disk.told c.size.new.self) (g.D.Disk.told c.start.new.disk) (omega arith) (sized (g.D.Disk.told c.args.disk.now) (g.D.Disk.told c.sync.new.self) (g.D.Disk.told c.size.new.self) (g.met.D.Disk.sound c.args.disk.now) c.in_ok-sync.ensures.ok c.in_ok-size.ensures.ok) (size_is c.in_ok-size.size (g.D.Disk.told c.sync.new.self) (g.D.Disk.told c.size.new.self) c.in_ok-size.ensures.ok (of_told (λ b. c.in_ok-size.size ≡ length b) (g.D.Disk.bytes c.sync.new.self) (g.D.Disk.told c.sync.new.self) (g.met.D.Disk.tells c.sync.new.self) c.in_ok-size.ensures.size)) c.start.ensures.calls)
