@@ -1,12 +1,13 @@
 //! The disk over a file.
 
-ghost use Rattle.std.specs.Prelude.{◌≡◌, ◌≤◌, ◌+◌, ◌*◌, ◌^◌, ◌%◌, min, length, None, IfOk};
+ghost use Rattle.std.specs.Prelude.{◌≡◌, ◌≤◌, ◌+◌, ◌*◌, ◌^◌, ◌%◌, min, length, is_some, None, IfOk};
 ghost use Rattle.outside.specs.Counts.{HasCause};
 ghost use Rattle.disk_trait.specs.Images.{last_moment};
 
-use crate::file;
+use crate::access::Access;
+use crate::{file, lock};
 use disk_trait::{Disk, DiskFault};
-use std::fs::{Files, OpenFile};
+use std::fs::{File, Files, OpenFile};
 use std::io;
 use std::io::ErrorKind;
 
@@ -15,37 +16,71 @@ const CALL_LIMIT: u64 = 1 << 61;
 
 /// A file as a disk. It is opened at the first call; each error is a counted fault.
 #[derive(Drop)]
-pub struct FileDisk<R: Files + Drop> {
+pub struct FileDisk<R: Files<File = File> + Drop> {
     rt: R,
     path: String,
-    make: bool,
-    file: Option<R::File>,
+    access: Access,
+    file: Option<File>,
+    lacks_lock: bool,
     calls: u64,
     faults: u64,
     ghost few: { calls ≤ 2 ^ 61 },
 }
 
-impl<R: Files + Drop> FileDisk<R> {
-    /// The file at this path, not opened yet. With `make` it is made where there is none, and its folder's entry made
-    /// sure of; without, it is opened for reading alone, and each call fails where there is none.
-    pub fn new(rt: R, path: String, make: bool) -> FileDisk<R>
+impl<R: Files<File = File> + Drop> FileDisk<R> {
+    /// The file at this path, not opened yet. One that may be written is made where there is none, and its folder's entry
+    /// made sure of.
+    pub fn new(rt: R, path: String, access: Access) -> FileDisk<R>
         ensures path { result.path ≡ path }
-        ensures make { result.make ≡ make }
+        ensures access { result.access ≡ access }
         ensures faults { result.faults ≡ 0 }
     {
         FileDisk {
             rt,
             path,
-            make,
+            access,
             file: None,
+            lacks_lock: false,
             calls: 0,
             faults: 0,
         }
     }
 
     /// Whether the file was opened.
-    pub fn opened(&self) -> bool {
+    pub fn opened(&self) -> bool
+        ensures { result ≡ is_some self.now.file }
+    {
         self.file.is_some()
+    }
+
+    /// Whether another disk has the lock of a file that this one is to keep for itself. The file is opened for that, or
+    /// waited for, where it wasn't yet; no other file is, and a file that can't be opened is told by the first call.
+    pub fn is_anothers(&mut self) -> bool
+        ensures asked { result ≡ self.new.lacks_lock }
+        ensures calls { self.new.calls ≡ self.old.calls }
+        ensures faults { self.new.faults ≡ self.old.faults }
+    {
+        if self.file.is_none() && matches!(self.access, Access::Own | Access::Await) {
+            self.open().ok();
+        }
+        self.lacks_lock
+    }
+
+    /// Opens the file, and notes where another one has its lock.
+    fn open(&mut self) -> io::Result<()>
+        ensures calls { self.new.calls ≡ self.old.calls }
+        ensures faults { self.new.faults ≡ self.old.faults }
+    {
+        match lock::open(&self.rt, self.path.as_str(), self.access) {
+            Ok(file) => {
+                self.file = Some(file);
+                Ok(())
+            }
+            Err(error) => {
+                self.lacks_lock = error.kind() == ErrorKind::WouldBlock;
+                Err(error)
+            }
+        }
     }
 
     /// Begins a call: counts it, and opens the file where that wasn't done yet.
@@ -58,7 +93,7 @@ impl<R: Files + Drop> FileDisk<R> {
         }
         self.calls += 1;
         if self.file.is_none() {
-            self.file = Some(file::open(&self.rt, self.path.as_str(), self.make)?);
+            self.open()?;
         }
         Ok(())
     }
@@ -124,7 +159,7 @@ impl<R: Files + Drop> FileDisk<R> {
     }
 }
 
-impl<R: Files + Drop> FileDisk<R> {
+impl<R: Files<File = File> + Drop> FileDisk<R> {
     /// How many calls were begun and have returned, together.
     fn moment(&self) -> u64
         ensures { result ≡ 2 * self.now.calls }
@@ -133,12 +168,14 @@ impl<R: Files + Drop> FileDisk<R> {
     }
 }
 
-impl<R: Files + Drop> Disk for FileDisk<R> {
+impl<R: Files<File = File> + Drop> Disk for FileDisk<R> {
     ghost use Rattle.std.specs.Prelude.{None, ⊤};
 
     ghost bytes = { λ d. None };
 
     ghost told = { λ d. None };
+
+    ghost meanwhile = { λ d. None };
 
     ghost faults = { λ d. d.faults };
 

@@ -6,23 +6,24 @@ use std::fs::{Files, OpenFile, OpenOptions};
 use std::io::{ErrorKind, Read, Seek, SeekFrom, Write};
 use std::{fs, io};
 
-/// Opens the regular file at this path. With `make` it may be written too, and is made where there is none; once this
-/// returns its folder has its entry for sure.
-pub fn open<R: Files>(rt: &R, path: &str, make: bool) -> io::Result<R::File> {
+/// Opens the regular file at this path for reading alone.
+pub fn open_to_read<R: Files>(rt: &R, path: &str) -> io::Result<R::File> {
     refuse_special(rt, path)?;
-    let file = OpenOptions::new()
+    fs::open(rt, path)
+}
+
+/// Opens the regular file at this path for reading and writing. It is made where there is none.
+pub fn open_to_write<R: Files>(rt: &R, path: &str) -> io::Result<R::File> {
+    refuse_special(rt, path)?;
+    OpenOptions::new()
         .read(true)
-        .write(make)
-        .create(make)
-        .open(rt, path)?;
-    if make {
-        keep_entry(rt, &file, path)?;
-    }
-    Ok(file)
+        .write(true)
+        .create(true)
+        .open(rt, path)
 }
 
 /// Makes sure of the entry of a file that is new.
-fn keep_entry<R: Files, F: OpenFile>(rt: &R, file: &F, path: &str) -> io::Result<()> {
+pub fn keep_entry<R: Files, F: OpenFile>(rt: &R, file: &F, path: &str) -> io::Result<()> {
     if is_empty(file)? {
         sync_folder(rt, folder_of(path))?;
     }

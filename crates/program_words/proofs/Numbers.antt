@@ -2,9 +2,10 @@
 use Rattle.std.proofs.Common.{◌≡◌, ◌⊎◌, ◌∙◌, ◌<◌, ◌≤◌, ◌^◌, ◌-◌, ap, ℕ, zero, suc, Bool, true, false, not, List, [], ◌∷◌, length, map, is_some, Option, Some, None, refl, sym, subst, inl, inr, arith, codes, cond, drop}
 use Rattle.std.specs.List.{slice_index_or}
 use Rattle.std.specs.Str.{bytes_eq}
-use Rattle.std.specs.Prelude.{pos, unwrap_or, slice_index, ◌==◌}
+use Rattle.std.specs.Prelude.{pos, unwrap_or, slice_index, ◌==◌, ◌↔◌}
 use Rattle.std.specs.Str.Parse.{IsNumeral, digits_value, starts_with_minus, without_leading_plus}
 use Rattle.std.proofs.lemmas.Bool.{eqb-true}
+use Rattle.std.proofs.lemmas.Slice.Eq.{bytes_eq-Decides}
 use Rattle.std.proofs.lemmas.Int.{ints}
 use Rattle.std.proofs.lemmas.List.{get_or-map, length-map}
 use Rattle.clap.specs.Lexer.{without_minus}
@@ -23,7 +24,7 @@ use Rattle.clap.specs.declared.builder.value_parser.ValueParser.{ValueParser}
 use Rattle.clap.specs.declared.builder.value_parser.ValueParser.TheVariants as parser
 use Rattle.clap.specs.declared.parser.matches.ArgMatches.{ArgMatches}
 use Rattle.clap.proofs.WalkLemmas.{both}
-use Rattle.program_words.specs.Command.{command, mode, cache, size, start}
+use Rattle.program_words.specs.Command.{command, mode, cache, size, start, wait}
 use Rattle.program_words.specs.Usage.{WritesNumber, Finds, mode_text}
 use Rattle.program_words.specs.declared.usage.Mode.{Mode}
 use Rattle.program_words.specs.declared.usage.Usage.{Usage}
@@ -53,7 +54,7 @@ plain-arg a simple free =
 
 -- the rules of the command's arguments
 abbrev all-rules : List Rule
-all-rules = mode ∷ cache ∷ size ∷ start ∷ []
+all-rules = mode ∷ cache ∷ size ∷ start ∷ wait ∷ []
 
 abbrev rule : ℕ → Rule
 rule k = slice_index_or all-rules k mode
@@ -63,25 +64,27 @@ simple-rule zero = refl
 simple-rule (suc zero) = refl
 simple-rule (suc (suc zero)) = refl
 simple-rule (suc (suc (suc zero))) = refl
-simple-rule (suc (suc (suc (suc k)))) = refl
+simple-rule (suc (suc (suc (suc zero)))) = refl
+simple-rule (suc (suc (suc (suc (suc k))))) = refl
 
 free-rule : (k : ℕ) → (rule k).is_free ≡ true
 free-rule zero = refl
 free-rule (suc zero) = refl
 free-rule (suc (suc zero)) = refl
 free-rule (suc (suc (suc zero))) = refl
-free-rule (suc (suc (suc (suc k)))) = refl
+free-rule (suc (suc (suc (suc zero)))) = refl
+free-rule (suc (suc (suc (suc (suc k))))) = refl
 
 -- an option of the command: its rule, and that no other has its id
 record IsOption (n : ℕ) (id : Text) (q : ValueParser) : Type 0 where
-  place : n < 4
+  place : n < 5
   word : (rule n).id ≡ id
   parser : (rule n).parser ≡ Some q
   action : (rule n).action ≡ Some Set
   range : (rule n).range ≡ None
   default : 0 < length (rule n).defaults
   case : (rule n).ignore_case ≡ false
-  only : (j : ℕ) → j < 4 → bytes_eq (rule j).id id ≡ true → j ≡ n
+  only : (j : ℕ) → j < 5 → bytes_eq (rule j).id id ≡ true → j ≡ n
   named : id ≡ [] → ⊥
   own : (id ≡ codes "help") ⊎ (id ≡ codes "version") → ⊥
 
@@ -89,12 +92,12 @@ module _ (c : Command) (m : ArgMatches) (p : IsParsedFrom c m) (is : app_of c �
   rules-are : map rule_of (args_of c) ≡ all-rules
   rules-are = ap (λ (a : App). a.top.rules) is
 
-  four : length (args_of c) ≡ 4
-  four = sym (length-map (args_of c) rule_of) ∙ ap length rules-are
+  five : length (args_of c) ≡ 5
+  five = sym (length-map (args_of c) rule_of) ∙ ap length rules-are
 
-  rule-at : (k : ℕ) (d : Arg) → k < 4 → rule_of (slice_index_or (args_of c) k d) ≡ rule k
+  rule-at : (k : ℕ) (d : Arg) → k < 5 → rule_of (slice_index_or (args_of c) k d) ≡ rule k
   rule-at k d lt =
-      sym (get_or-map rule_of (args_of c) k d mode (omega (arith, four))) ∙ ap (λ rules. slice_index_or rules k mode) rules-are
+      sym (get_or-map rule_of (args_of c) k d mode (omega (arith, five))) ∙ ap (λ rules. slice_index_or rules k mode) rules-are
 
   fields : has_plain_fields (out-Command c) ≡ true
   fields = ap (λ (a : App). a.top.is_plain) is
@@ -105,16 +108,16 @@ module _ (c : Command) (m : ArgMatches) (p : IsParsedFrom c m) (is : app_of c �
   plain : IsPlain c
   plain = (
     (λ k d lt.
-        let within : k < 4 = omega (arith, four) in
+        let within : k < 5 = omega (arith, five) in
         plain-arg (slice_index_or (args_of c) k d) (ap (λ (r : Rule). r.is_simple) (rule-at k d within) ∙ simple-rule k)
         (ap (λ (r : Rule). r.is_free) (rule-at k d within) ∙ free-rule k)),
     none-in _ (both _ _ fields).0,
   )
 
   some-arg : Arg
-  some-arg = go (args_of c) four
+  some-arg = go (args_of c) five
     where
-      go : (xs : List Arg) → length xs ≡ 4 → Arg
+      go : (xs : List Arg) → length xs ≡ 5 → Arg
       go [] e = absurd (omega arith)
       go (x ∷ xs) e = x
 
@@ -125,7 +128,7 @@ module _ (c : Command) (m : ArgMatches) (p : IsParsedFrom c m) (is : app_of c �
       let d = some-arg in
       let a = slice_index_or (args_of c) n d in
       let at : rule_of a ≡ rule n = rule-at n d o.place in
-      let lt : n < length (args_of c) = omega (arith, four, o.place) in
+      let lt : n < length (args_of c) = omega (arith, five, o.place) in
       let simple : is_simple_arg a ≡ true = ap (λ (r : Rule). r.is_simple) at ∙ simple-rule n in
       let overrides = both _ _ simple in
       let ifs = both _ _ overrides.1 in
@@ -138,7 +141,7 @@ module _ (c : Command) (m : ArgMatches) (p : IsParsedFrom c m) (is : app_of c �
       let least : 1 ≤ least_values a = subst (λ r. 1 ≤ (unwrap_or_range r).start_inclusive) (sym range) (omega arith) in
       let unique : (j : ℕ) (e : Arg) → j < length (args_of c) → bytes_eq (slice_index_or (args_of c) j e).id.now a.id.now ≡ true → j ≡ n =
       λ j e low same.
-      let within : j < 4 = omega (arith, four) in
+      let within : j < 5 = omega (arith, five) in
       let its : (slice_index_or (args_of c) j e).id.now ≡ (rule j).id = ap (λ (r : Rule). r.id) (rule-at j e within) in
       o.only j within (rw (its, id-is) at same) in
       let named : a.id.now ≡ [] → ⊥ = λ empty. o.named (sym id-is ∙ empty) in
@@ -201,12 +204,13 @@ cache-option = record {
   ];
 }
   where
-    alone : (j : ℕ) → j < 4 → bytes_eq (rule j).id (codes "cache") ≡ true → j ≡ 1
+    alone : (j : ℕ) → j < 5 → bytes_eq (rule j).id (codes "cache") ≡ true → j ≡ 1
     alone zero lt e = let bad : false ≡ true = e in cc
     alone (suc zero) lt e = refl
     alone (suc (suc zero)) lt e = let bad : false ≡ true = e in cc
     alone (suc (suc (suc zero))) lt e = let bad : false ≡ true = e in cc
-    alone (suc (suc (suc (suc j)))) lt e = absurd (omega arith)
+    alone (suc (suc (suc (suc zero)))) lt e = let bad : false ≡ true = e in cc
+    alone (suc (suc (suc (suc (suc j))))) lt e = absurd (omega arith)
 
 size-option : IsOption 2 (codes "size") (parser.Signed (pos 1) (pos 60000))
 size-option = record {
@@ -225,12 +229,13 @@ size-option = record {
   ];
 }
   where
-    alone : (j : ℕ) → j < 4 → bytes_eq (rule j).id (codes "size") ≡ true → j ≡ 2
+    alone : (j : ℕ) → j < 5 → bytes_eq (rule j).id (codes "size") ≡ true → j ≡ 2
     alone zero lt e = let bad : false ≡ true = e in cc
     alone (suc zero) lt e = let bad : false ≡ true = e in cc
     alone (suc (suc zero)) lt e = refl
     alone (suc (suc (suc zero))) lt e = let bad : false ≡ true = e in cc
-    alone (suc (suc (suc (suc j)))) lt e = absurd (omega arith)
+    alone (suc (suc (suc (suc zero)))) lt e = let bad : false ≡ true = e in cc
+    alone (suc (suc (suc (suc (suc j))))) lt e = absurd (omega arith)
 
 start-option : IsOption 3 (codes "start") (parser.Unsigned 0 (2 ^ 64 - 1))
 start-option = record {
@@ -249,12 +254,23 @@ start-option = record {
   ];
 }
   where
-    alone : (j : ℕ) → j < 4 → bytes_eq (rule j).id (codes "start") ≡ true → j ≡ 3
+    alone : (j : ℕ) → j < 5 → bytes_eq (rule j).id (codes "start") ≡ true → j ≡ 3
     alone zero lt e = let bad : false ≡ true = e in cc
     alone (suc zero) lt e = let bad : false ≡ true = e in cc
     alone (suc (suc zero)) lt e = let bad : false ≡ true = e in cc
     alone (suc (suc (suc zero))) lt e = refl
-    alone (suc (suc (suc (suc j)))) lt e = absurd (omega arith)
+    alone (suc (suc (suc (suc zero)))) lt e = let bad : false ≡ true = e in cc
+    alone (suc (suc (suc (suc (suc j))))) lt e = absurd (omega arith)
+
+-- a flag is given or it isn't
+says-flag : (o : Option Text) → (b : Bool) × ((b ≡ true) ↔ (o ≡ Some (codes "true")))
+says-flag None = (
+  false,
+  ((λ e. let bad : false ≡ true = e in cc), (λ e. cc)),
+)
+says-flag (Some text) =
+    let decides = bytes_eq-Decides text (codes "true") in
+    (bytes_eq text (codes "true"), ((λ e. ap Some (decides.0 e)), (λ e. decides.1 (ap (λ o. unwrap_or o []) e))))
 
 -- so a mode is all that may be wanting
 pub usage-of-mode : (c : Command) (m : ArgMatches) → IsParsedFrom c m → app_of c ≡ command → (given : Mode)
@@ -266,5 +282,6 @@ usage-of-mode c m p is given e =
     let cache-is = signed-written 65536 _ cached.0 cached.1 cached.2 in
     let size-is = signed-written 60000 _ sized.0 sized.1 sized.2 in
     let start-is = long-written (2 ^ 64 - 1) _ started.0 started.1 started.2 in
-    let usage : Usage = record { mode = given; cache = cache-is.0; size = size-is.0; start = start-is.0 } in
-    (usage, record { mode = e; cache = cache-is.1; size = size-is.1; start = start-is.1 })
+    let waits = says-flag (first_value (found_of m) (codes "wait")) in
+    let usage : Usage = record { mode = given; cache = cache-is.0; size = size-is.0; start = start-is.0; wait = waits.0 } in
+    (usage, record { mode = e; cache = cache-is.1; size = size-is.1; start = start-is.1; wait = waits.1 })

@@ -1,6 +1,6 @@
 -- What a parse finds is what the words' matches say.
 use Rattle.std.proofs.Common.{◌≡◌, ◌∙◌, ap, sym, subst, List, Option, Some, None, Result, codes, IfOk, inr, []}
-use Rattle.std.specs.Prelude.{MatchOption, Ok, Err}
+use Rattle.std.specs.Prelude.{MatchOption, Ok, Err, ◌↔◌, true}
 use Rattle.std.specs.Option.{ok_or}
 use Rattle.clap.specs.Words.{Text, found_of, first_value, one_text, one_of, first_of, rows_of, matches_of, fault_of}
 use Rattle.clap.proofs.WalkLemmas.{first_value-rows, one_text-rows}
@@ -19,6 +19,9 @@ module _ (m : ArgMatches) (words : List Text) (rows : rows_of (found_of m) ≡ m
   word-is : first_value (found_of m) (codes "MODE") ≡ first_of (codes "MODE") (matches_of command words)
   word-is = first_value-rows (found_of m) (codes "MODE") ∙ ap (first_of (codes "MODE")) rows
 
+  flag-is : first_value (found_of m) (codes "wait") ≡ first_of (codes "wait") (matches_of command words)
+  flag-is = first_value-rows (found_of m) (codes "wait") ∙ ap (first_of (codes "wait")) rows
+
   text-is : (id : Text) → one_text (found_of m) id ≡ one_of id (matches_of command words)
   text-is id = one_text-rows (found_of m) id ∙ ap (one_of id) rows
 
@@ -28,6 +31,7 @@ module _ (m : ArgMatches) (words : List Text) (rows : rows_of (found_of m) ≡ m
     cache = subst (λ t. WritesNumber 1 65536 t usage.cache) (text-is (codes "cache")) h.cache;
     size = subst (λ t. WritesNumber 1 60000 t usage.size) (text-is (codes "size")) h.size;
     start = subst (λ t. WritesNumber 0 18446744073709551615 t usage.start) (text-is (codes "start")) h.start;
+    wait = subst (λ t. (usage.wait ≡ true) ↔ (t ≡ Some (codes "true"))) flag-is h.wait;
   }
 
   pub accepted : (o : Option Usage) (r : Result Usage WordsFault) → r ≡ ok_or o fault.Usage

@@ -1,7 +1,7 @@
 -- The one simple command that the words are read as.
 use Rattle.std.specs.Prelude.{pos, ◌∷◌, [], ◌^◌, ◌-◌, Some, true, codes}
 use Rattle.clap.specs.Words.{App, Rule, new_app, new_rule, with_rule}
-use Rattle.clap.specs.declared.builder.action.ArgAction.TheVariants.{Set}
+use Rattle.clap.specs.declared.builder.action.ArgAction.TheVariants.{Set, SetTrue}
 use Rattle.clap.specs.declared.builder.value_parser.ValueParser.TheVariants as parser
 
 -- a mode has to be there
@@ -35,10 +35,14 @@ start = record (new_rule (codes "start")) {
   defaults = codes "0" ∷ [];
 }
 
+-- `--wait`, a flag
+abbrev pub wait : Rule
+wait = record (new_rule (codes "wait")) { long = Some (codes "wait"); action = Some SetTrue }
+
 -- no argument yet; the words begin with the first of them
 abbrev pub bare : App
 bare = let app = new_app (codes "segdag") in record app { top = record app.top { no_binary_name = true } }
 
 -- the whole command
 abbrev pub command : App
-command = with_rule (with_rule (with_rule (with_rule bare mode) cache) size) start
+command = with_rule (with_rule (with_rule (with_rule (with_rule bare mode) cache) size) start) wait

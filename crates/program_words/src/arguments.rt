@@ -2,7 +2,7 @@
 
 ghost use Rattle.std.specs.Prelude.{◌≡◌, IfOk, false};
 ghost use Rattle.clap.specs.Words.{app_of, rule_of};
-ghost use Rattle.program_words.specs.Command.{mode, cache, size, start, command as whole};
+ghost use Rattle.program_words.specs.Command.{mode, cache, size, start, wait, command as whole};
 
 use clap::{Arg, ArgAction, Command};
 use std::alloc::{AllocError, Global};
@@ -53,6 +53,16 @@ fn start_arg<'a>(alloc: Global) -> Arg<'a>
         .default_value("0")
 }
 
+/// Whether the program waits for a log that another process has.
+fn wait_arg<'a>(alloc: Global) -> Arg<'a>
+    ensures rule { rule_of result ≡ wait }
+    ensures global { result.global ≡ false }
+{
+    Arg::new(alloc, "wait")
+        .long("wait")
+        .action(ArgAction::SetTrue)
+}
+
 /// The whole command. Its words begin with the first argument.
 pub fn command<'a>(alloc: Global) -> Result<Command<'a>, AllocError>
     ensures { IfOk result (λ command. app_of command ≡ whole) }
@@ -62,5 +72,6 @@ pub fn command<'a>(alloc: Global) -> Result<Command<'a>, AllocError>
         .arg(mode_arg(alloc))?
         .arg(cache_arg(alloc))?
         .arg(size_arg(alloc))?
-        .arg(start_arg(alloc))
+        .arg(start_arg(alloc))?
+        .arg(wait_arg(alloc))
 }

@@ -1,6 +1,6 @@
 //! Words and what they are read as, proved by computing.
 
-ghost use Rattle.std.specs.Prelude.{◌≡◌, ◌∷◌, [], List, codes};
+ghost use Rattle.std.specs.Prelude.{◌≡◌, ◌∷◌, [], List, true, false, codes};
 ghost use Rattle.clap.specs.Words.{Text, fault_of};
 ghost use Rattle.clap.specs.declared.error.kind.ErrorKind.TheVariants as kind;
 ghost use Rattle.program_words.specs.Command.{command as whole};
@@ -18,8 +18,10 @@ pub fn words_spelled_out()
     ensures help { fault_of whole (codes "--help" ∷ []) ≡ kind.DisplayHelp ∷ [] }
     ensures taken { fault_of whole (codes "--size" ∷ codes "3" ∷ codes "demo" ∷ codes "--start=5" ∷ []) ≡ [] }
     ensures read { AreMatches (matches_of whole (codes "--size" ∷ codes "3" ∷ codes "demo" ∷ codes "--start=5" ∷ []))
-        (record { mode = Demo; cache = 4096; size = 3; start = 5 }) }
-    ensures plain { AreMatches (matches_of whole (codes "run" ∷ [])) (record { mode = Run; cache = 4096; size = 1000; start = 0 }) }
+        (record { mode = Demo; cache = 4096; size = 3; start = 5; wait = false }) }
+    ensures plain { AreMatches (matches_of whole (codes "run" ∷ [])) (record { mode = Run; cache = 4096; size = 1000; start = 0; wait = false }) }
+    ensures waiting { AreMatches (matches_of whole (codes "run" ∷ codes "--wait" ∷ [])) (record { mode = Run; cache = 4096; size = 1000; start = 0; wait = true }) }
+    ensures flag { fault_of whole (codes "run" ∷ codes "--wait=1" ∷ []) ≡ kind.TooManyValues ∷ [] }
 {}
 
 /// Words are a usage in one way at most, and those of no usage in none.

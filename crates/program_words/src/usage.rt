@@ -1,6 +1,6 @@
 //! What a usage of the program is.
 
-ghost use Rattle.std.specs.Prelude.{◌≡◌, ◌≢◌, ◌^◌, ◌-◌, MatchOption, Some, codes, ℕ};
+ghost use Rattle.std.specs.Prelude.{◌≡◌, ◌≢◌, ◌↔◌, ◌^◌, ◌-◌, IsTrue, MatchOption, Some, codes, ℕ};
 ghost use Rattle.clap.specs.Words.{found_of, one_text, first_value};
 ghost use Rattle.program_words.specs.Usage.{mode_text, WritesNumber, Finds};
 
@@ -31,6 +31,8 @@ pub struct Usage {
     pub size: u32,
     /// The number with which a demonstration's drawing begins.
     pub start: u64,
+    /// Whether a log that another process has is waited for.
+    pub wait: bool,
 }
 
 /// Why words weren't read.
@@ -92,6 +94,16 @@ fn long_number_given(matches: &ArgMatches<'_>, name: &str) -> Option<u64>
     matches.get_one(name)
 }
 
+/// Whether the flag `--wait` is given.
+fn is_waiting(matches: &ArgMatches<'_>) -> bool
+    ensures { IsTrue result ↔ (first_value (found_of matches.now) (codes "wait") ≡ Some (codes "true")) }
+{
+    match matches.get_str("wait") {
+        Some(word) => word == "true",
+        None => false,
+    }
+}
+
 /// The usage that these matches are of; `None` where they are of none.
 pub fn usage_of(matches: &ArgMatches<'_>) -> Option<Usage>
     ensures { MatchOption result ((usage : _) → ¬ (Finds matches.now usage)) (Finds matches.now) }
@@ -101,5 +113,6 @@ pub fn usage_of(matches: &ArgMatches<'_>) -> Option<Usage>
         cache: number_given(matches, "cache", 65_536)?,
         size: number_given(matches, "size", 60_000)?,
         start: long_number_given(matches, "start")?,
+        wait: is_waiting(matches),
     })
 }
