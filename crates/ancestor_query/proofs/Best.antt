@@ -1,5 +1,5 @@
 -- The best jump at an id.
-use Rattle.std.proofs.Common.{◌≡◌, ℕ, ◌+◌, ◌<◌, ◌≤◌, ◌^◌, inl, Bool, true, false, nat_lt, List, [], ◌∷◌, Option, Some, None, refl, sym, subst, ap, ◌∙◌, arith, ⊎_elim, if◌then◌else◌}
+use Rattle.std.proofs.Common.{◌≡◌, ℕ, zero, suc, ◌+◌, ◌-◌, ◌<◌, ◌≤◌, ◌^◌, ◌⊎◌, inl, inr, IsTrue, Bool, true, false, nat_lt, List, [], ◌∷◌, Option, Some, None, refl, sym, subst, ap, ◌∙◌, arith, ⊎_elim, if◌then◌else◌}
 use Rattle.std.specs.Prelude.{MatchOption, IsSome}
 use Rattle.std.proofs.lemmas.Bool.{ltb-true, ltb-false, lt-ltb}
 use Rattle.id_groups.specs.Lists.{IsIn}
@@ -86,6 +86,37 @@ module _ (flats : List Segment) (ending : ℕ → ℕ → Option Segment) (id : 
                   (λ (le : k ≤ j). let one = ap (λ (q : Segment). q.low) (some-one (segment_of t) s (ending k id) found (subst (λ i. ending i id ≡ Some s) (let i : j ≡ k = omega arith in i) f)) in omega arith)
                   (λ (l : j < k). let h = b.each j s pos l f in omega arith) (le_or_lt k j);
             }
+
+    pub best-lower : (k n : ℕ) → n ≡ k + 1 → (best : Segment) (t : SegmentRef) → IsBest flats ending k id best → ending k id ≡ Some (segment_of t) → (segment_of t).low < best.low
+        → ((s : Segment) → ending k id ≡ Some s → IsEnding flats k id s) → IsBest flats ending n id (segment_of t)
+    best-lower k n en best t b found lt law =
+        best-next k n en best (Some t) (segment_of t) b found law (sym (ap (λ c. if c then segment_of t else best) (lt-ltb (segment_of t).low best.low lt)))
+
+    -- a segment that begins lower than the best and ends where it does has the id before the best's lowest as a parent of one of
+    -- the best's ids
+    pub best-last : (k n : ℕ) (best : Segment) → IsBest flats ending k id best → ¬ (IsIn (best.low - 1) best.parents) → ((level : ℕ) (s : Segment) → ending level id ≡ Some s → IsEnding flats level id s)
+        → IsBest flats ending n id best
+    best-last k n best b lacks law = record {
+      jump = b.jump;
+      group = b.group;
+      flat = b.flat;
+      each = λ j s pos lt e. ⊎_elim (λ (le : best.low ≤ s.low). le) (λ (out : s.low < best.low). absurd (lower j s pos (law j s e) out)) (le_or_lt best.low s.low);
+    }
+      where
+        lower : (j : ℕ) (s : Segment) → 0 < j → IsEnding flats j id s → s.low < best.low → ⊥
+        lower zero s pos end out = omega (arith, pos)
+        lower (suc j) s pos end out =
+            let high = end.2 in let h = end.3 in let order = b.jump.order in
+            let c = h.one_head (best.low - 1) (omega (arith, out), omega (arith, out, high, order)) (omega (arith, out, high, order)) in
+            let below = (parent-below flats lawful c.0 (best.low - 1) c.2).0 in
+            let up = c.1.1 in
+            lacks (b.jump.out c.0 (best.low - 1) (omega (arith, below)) (omega (arith, up, high)) c.2 (omega (arith, out)))
+
+-- a test that says that the parent may be there, and says no
+pub lacks-before : (s : Segment) (t : Bool) → (IsTrue t ⊎ ¬ (IsIn (s.low - 1) s.parents)) → t ≡ false → ¬ (IsIn (s.low - 1) s.parents)
+lacks-before s true (inl e) n = absurd cc
+lacks-before s false (inl e) n = absurd cc
+lacks-before s t (inr h) n = h
 
 -- what a jump without parents has in it is all that its id reaches
 reached-over : (flats : List Segment) → IsLawful flats → (low id : ℕ) (ps : List ℕ) → IsJump (table_graph flats) low id ps → ps ≡ [] → (u : ℕ) (walk : List ℕ) (z : ℕ) → low ≤ u → u ≤ id → IsWalk (table_graph flats) u walk z → low ≤ z

@@ -1,9 +1,10 @@
 //! How far a visit may go down at once.
 
-ghost use Rattle.std.specs.Prelude.{◌≡◌, ◌+◌, ◌-◌, ◌≤◌, ◌^◌, Some, MatchOption, min};
+ghost use Rattle.std.specs.Prelude.{◌≡◌, ◌+◌, ◌-◌, ◌≤◌, ◌<◌, ◌^◌, ◌⊎◌, IsTrue, MatchOption, min};
+ghost use Rattle.id_groups.specs.Lists.{IsIn};
 ghost use Rattle.segment_codec.specs.Table.{IsHeld};
 ghost use Rattle.segment_codec.specs.Lent.{segment_of};
-ghost use Rattle.ancestor_query.specs.Jumps.{IsBest, lower_of};
+ghost use Rattle.ancestor_query.specs.Jumps.{IsBest};
 
 use id_groups::Id;
 use segment_codec::{SegmentRef, SegmentTable, Steps};
@@ -11,25 +12,73 @@ use segment_codec::{SegmentRef, SegmentTable, Steps};
 /// Levels of segments end below this one.
 const LEVEL_END: u8 = 8;
 
-/// The segment that begins lower.
-#[inline]
-fn lower<'a>(best: SegmentRef<'a>, other: Option<SegmentRef<'a>>) -> SegmentRef<'a>
-    ensures { MatchOption other.entry (segment_of result ≡ segment_of best.entry) (λ s. segment_of result ≡ lower_of (segment_of best.entry) (Some (segment_of s))) }
+/// Parents that take more bytes aren't read to learn whether a segment may begin lower.
+const FEW_BYTES: usize = 32;
+
+/// Whether a longer segment may end where this one does. One that begins lower has the id before this one's lowest, which so is a
+/// parent of this one.
+fn may_begin_lower(segment: &SegmentRef<'_>) -> bool
+    ensures { IsTrue result ⊎ ¬ (IsIn ((segment_of segment.now).low - 1) (segment_of segment.now).parents) }
 {
-    match other {
-        None => best,
-        Some(segment) => {
-            if segment.low() < best.low() {
-                segment
-            } else {
-                best
-            }
+    if segment.parents_len() > FEW_BYTES {
+        return true;
+    }
+    let before = segment.low().number().saturating_sub(1);
+    let mut rest = segment.parents();
+    'parents: while let Some(parent) = rest.next() {
+        if parent.number() == before {
+            return true;
         }
+    }
+    false
+}
+
+/// Counts the look-ups of the levels from one on as made.
+#[inline]
+fn pass_levels(first: u8, steps: &mut Steps)
+    requires { first ≤ 8 }
+    ensures few { steps.new.taken + first ≤ steps.old.taken + 8 }
+    ensures counted { min steps.old.taken (2 ^ 64 - 1) ≤ steps.new.taken }
+    ensures looked { min (steps.old.taken + (8 - first)) (2 ^ 64 - 1) ≤ steps.new.taken }
+{
+    'levels: for _level in first..LEVEL_END {
+        steps.tick();
     }
 }
 
+/// The first segment of the levels from one on that ends at the id and begins lower than the best of those below; where there is
+/// none all levels were asked. `level` is then the one behind.
+fn next_lower<'a, T: SegmentTable>(
+    table: &'a T,
+    id: Id,
+    best: &SegmentRef<'a>,
+    level: &mut u8,
+    steps: &mut Steps,
+) -> Option<SegmentRef<'a>>
+    requires within { level.old ≤ 8 }
+    requires best { IsBest (T.flats table.now) (T.ending_at table.now) level.old id (segment_of best.now) }
+    ensures within { level.new ≤ 8 }
+    ensures from { level.old ≤ level.new }
+    ensures best { MatchOption result (IsBest (T.flats table.now) (T.ending_at table.now) 8 id (segment_of best.now)) (λ s. IsBest (T.flats table.now) (T.ending_at table.now) level.new id (segment_of s)) }
+    ensures few { steps.new.taken + level.old ≤ steps.old.taken + level.new }
+    ensures counted { min steps.old.taken (2 ^ 64 - 1) ≤ steps.new.taken }
+    ensures looked { min (steps.old.taken + (level.new - level.old)) (2 ^ 64 - 1) ≤ steps.new.taken }
+    ensures all { MatchOption result (level.new ≡ 8) (λ s. (segment_of s).low < (segment_of best.now).low) }
+{
+    'levels: while *level < LEVEL_END {
+        let other = table.ending(*level, id, steps);
+        *level += 1;
+        if let Some(segment) = other {
+            if segment.low().number() < best.low().number() {
+                return Some(segment);
+            }
+        }
+    }
+    None
+}
+
 /// The segment that begins lowest, of the flat one that has the id and those of the higher levels that end there. It
-/// takes at most eight look-ups.
+/// takes at most eight look-ups, and counts as many: where none of the levels above can begin lower, they aren't asked.
 #[inline]
 pub fn best_jump<'a, T: SegmentTable>(table: &'a T, id: Id, steps: &mut Steps) -> SegmentRef<'a>
     requires { IsHeld (T.flats table.now) id }
@@ -39,9 +88,13 @@ pub fn best_jump<'a, T: SegmentTable>(table: &'a T, id: Id, steps: &mut Steps) -
     ensures looked { min (steps.old.taken + 8) (2 ^ 64 - 1) ≤ steps.new.taken }
 {
     let mut best = table.flat(id, steps).unwrap();
-    'levels: for level in 1..LEVEL_END {
-        let other = table.ending(level, id, steps);
-        best = lower(best, other);
+    let mut level = 1u8;
+    'longer: while may_begin_lower(&best) {
+        let Some(longer) = next_lower(table, id, &best, &mut level, steps) else {
+            return best;
+        };
+        best = longer;
     }
+    pass_levels(level, steps);
     best
 }

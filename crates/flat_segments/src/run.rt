@@ -12,6 +12,9 @@ use crate::search::count_up_to;
 use id_groups::{FIRST_OTHER, Id};
 use segment_codec::{SegmentRef, Steps};
 
+/// The place of the last look-up takes the low bits of what `Steps` keeps; the others are left to the levels above.
+const PLACES: usize = 0xffff_ffff;
+
 /// Some segments in turn, up to the id before the end. A segment ends where the next begins.
 #[derive(Clone, Copy)]
 pub(crate) struct Run<'a> {
@@ -89,8 +92,9 @@ impl<'a> Run<'a> {
         ensures found { segment_at (flats_in self.now.bytes.now self.now.end self.now.entries.now) id ≡ Some (segment_of result) }
         ensures steps { steps.new.taken ≡ steps.old.taken }
     {
-        let place = self.place_of(id, steps.near());
-        steps.set_near(place);
+        let near = steps.near();
+        let place = self.place_of(id, near & PLACES);
+        steps.set_near(near & !PLACES | place);
         self.at(place)
     }
 }

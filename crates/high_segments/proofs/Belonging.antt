@@ -26,8 +26,10 @@ use Rattle.segment_levels.proofs.Deciding.{EndingFacts, ending-decided, ending-n
 use Rattle.segment_levels.proofs.Leveled.{level-high}
 use Rattle.segment_levels.proofs.Viewing.{ends-in}
 use Rattle.high_segments.specs.Growing.{AreReadable, MayBecome}
+use Rattle.high_segments.specs.Nested.{are_nested}
 use Rattle.high_segments.proofs.Batch.{table-whole}
 use Rattle.high_segments.proofs.Holding.{grows-self, held-mixed, whole-mixed, whole-readable}
+use Rattle.high_segments.proofs.Nesting.{nested}
 
 -- ---- what is headed in the whole group is headed in a part that has its ids
 
@@ -158,6 +160,9 @@ module _ (v : FlatView) (levels : KeptLevels) (table : FlatKept) (records : List
 
   pub together-endings : (j id : ℕ) → high_ending (master_count v) levels.levels (suc j) id ≡ level_ending (flats_of table records) (master_count v) (suc j) id
   together-endings j id = same-endings (flats_of table records) table.end (master_count v) levels.levels j id whole-is b.small few-flats b.levels_of.levels
+
+  pub together-nested : are_nested (master_count v) levels.levels ≡ true
+  together-nested = nested (flats_of table records) table.end (master_count v) levels.levels whole-is together-endings
 
 -- ---- a look-up
 

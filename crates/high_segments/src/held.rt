@@ -3,7 +3,9 @@
 ghost use Rattle.std.specs.Prelude.{◌≡◌, ◌<◌, ◌+◌, ℕ, List, None, Some, MatchOption, IfOk, length, take, slice_get};
 ghost use Rattle.segment_codec.specs.Record.{Segment};
 ghost use Rattle.segment_codec.specs.Lent.{segment_of};
-ghost use Rattle.segment_levels.specs.Kept.{PlainGroups};
+ghost use Rattle.segment_codec.specs.Table.{segment_at};
+ghost use Rattle.segment_levels.specs.Kept.{PlainGroups, groups_in};
+ghost use Rattle.segment_levels.specs.Sound.{IsReadable};
 ghost use Rattle.segment_levels.specs.Endings.{held_from};
 ghost use Rattle.high_segments.specs.Growing.{AreReadable, HasFrom, IsRowFrom, next_end_of};
 
@@ -12,25 +14,35 @@ use crate::level::Level;
 use segment_codec::SegmentRef;
 use std::alloc::{AllocError, Global};
 
+/// The kept group that has the id, if the level keeps some.
+#[inline(always)]
+fn find_kept<'a>(level: &'a KeptLevel, id: u64, near: &mut usize) -> Option<SegmentRef<'a>>
+    requires { IsReadable level.now }
+    ensures { MatchOption result (segment_at (groups_in level.now) id ≡ None) (λ r. segment_at (groups_in level.now) id ≡ Some (segment_of r)) }
+{
+    if level.keeps_none() {
+        return None;
+    }
+    level.find(id, near)
+}
+
 /// The segment that has the id on the last of these levels, under the number of the level that keeps it. On each level the
-/// search begins at a place.
-pub(crate) fn held<'a>(levels: &'a [KeptLevel], id: u64, near: usize) -> Option<SegmentRef<'a>>
+/// search begins at a place, which level 1 moves to where it found the segment.
+pub(crate) fn held<'a>(levels: &'a [KeptLevel], id: u64, near: &mut usize) -> Option<SegmentRef<'a>>
     requires { AreReadable levels.now }
     ensures { MatchOption result (held_from None levels.now id ≡ None) (λ r. held_from None levels.now id ≡ Some (segment_of r)) }
 {
-    let Some((top, lower)) = levels.split_last() else {
-        return None;
-    };
-    if id >= top.end() {
-        return None;
+    let mut rest = levels;
+    'levels: while let Some((top, lower)) = rest.split_last() {
+        if id >= top.end() {
+            return None;
+        }
+        if let Some(segment) = find_kept(top, id, near) {
+            return Some(segment);
+        }
+        rest = lower;
     }
-    if top.keeps_none() {
-        return held(lower, id, near);
-    }
-    match top.find(id, near) {
-        Some(segment) => Some(segment),
-        None => held(lower, id, near),
-    }
+    None
 }
 
 /// The segments of a level from an id on, at which one begins, up to the end of the last of these levels, whose number it
@@ -46,10 +58,11 @@ fn segments_from(
     ensures { IfOk result (λ run. (segments : List Segment) (from : ℕ) → HasFrom levels.now top.now segments from start → IsRowFrom top.now segments from run) }
 {
     let mut run = Level::begin(alloc, top.level(), start, top.grouped());
+    let mut place = near;
     'ids: while run.end() < top.end() {
-        let near = near.saturating_add(run.len());
-        let segment = held(levels, run.end(), near).unwrap();
+        let segment = held(levels, run.end(), &mut place).unwrap();
         run.push(segment.at_level(top.level()))?;
+        place = place.saturating_add(1);
     }
     Ok(run)
 }

@@ -4,6 +4,7 @@ ghost use Rattle.std.specs.List.{AllWithin, AllByRecursion, list_all};
 ghost use Rattle.std.specs.Prelude.{◌↔◌, IsTrue, nat_le, false, None, MatchOption, ◌≡◌, ◌≤◌, ◌<◌, ◌+◌, ◌^◌, [], true, length, Some, OnOk, OnErr, IfOk};
 ghost use Rattle.segment_codec.specs.Lent.{segment_of};
 ghost use Rattle.segment_codec.specs.Number.{numbers_in};
+ghost use Rattle.segment_codec.specs.Record.{Segment};
 ghost use Rattle.segment_codec.specs.Table.{segment_at};
 ghost use Rattle.flat_segments.specs.Runs.{slice_in, is_read};
 ghost use Rattle.segment_levels.specs.Kept.{PlainGroup, PlainGroups, groups_in, made_in, entry_of};
@@ -60,6 +61,9 @@ impl Mark {
     }
 }
 
+/// So many groups before a place are tried one by one.
+const STEPS: usize = 8;
+
 /// How many of the groups begin at the id or below it.
 fn count_by_halves(groups: &[Group], id: u64) -> usize
     requires { DoRise groups.now }
@@ -70,15 +74,36 @@ fn count_by_halves(groups: &[Group], id: u64) -> usize
     groups.partition_point(|group| group.low() <= id)
 }
 
-/// How many of the groups begin at the id or below it. The place `near` is tried first.
+/// How many of the groups begin at the id or below it. The place `at`, behind which all begin above it, is tried first, then
+/// some before it, then halves.
+fn count_before(groups: &[Group], id: u64, at: usize) -> usize
+    requires rise { DoRise groups.now }
+    requires within { at < length groups.now }
+    requires back { AllWithin (λ (g : PlainGroup). nat_le g.low id ≡ false) groups.now at (length groups.now) }
+    ensures within { result ≤ length groups.now }
+    ensures front { AllWithin (λ (g : PlainGroup). nat_le g.low id ≡ true) groups.now 0 result }
+    ensures back { AllWithin (λ (g : PlainGroup). nat_le g.low id ≡ false) groups.now result (length groups.now) }
+{
+    let mut place = at;
+    let least = at.saturating_sub(STEPS);
+    'places: while least < place {
+        if groups[place - 1].low() <= id {
+            return place;
+        }
+        place -= 1;
+    }
+    count_by_halves(groups, id)
+}
+
+/// How many of the groups begin at the id or below it. The place `near` and some before it are tried first.
 fn count_up_to(groups: &[Group], id: u64, near: usize) -> usize
     requires { DoRise groups.now }
     ensures within { result ≤ length groups.now }
     ensures front { AllWithin (λ (g : PlainGroup). nat_le g.low id ≡ true) groups.now 0 result }
     ensures back { AllWithin (λ (g : PlainGroup). nat_le g.low id ≡ false) groups.now result (length groups.now) }
 {
-    if 0 < near && near < groups.len() && groups[near].low() > id && groups[near - 1].low() <= id {
-        return near;
+    if near < groups.len() && groups[near].low() > id {
+        return count_before(groups, id, near);
     }
     count_by_halves(groups, id)
 }
@@ -178,12 +203,13 @@ impl KeptLevel {
         self.groups.is_empty()
     }
 
-    /// The kept group that has the id. The search begins at a place. No parent is read.
-    pub(crate) fn find(&self, id: u64, near: usize) -> Option<SegmentRef<'_>>
+    /// The kept group that has the id. The search begins at a place, which level 1, the one with the most groups, moves to where
+    /// it found one. No parent is read.
+    pub(crate) fn find(&self, id: u64, near: &mut usize) -> Option<SegmentRef<'_>>
         requires { IsReadable self.now }
         ensures { MatchOption result (segment_at (groups_in self.now) id ≡ None) (λ r. segment_at (groups_in self.now) id ≡ Some (segment_of r)) }
     {
-        let count = count_up_to(&self.groups, id, near);
+        let count = count_up_to(&self.groups, id, *near);
         if count == 0 {
             return None;
         }
@@ -191,7 +217,23 @@ impl KeptLevel {
         if group.high() < id {
             return None;
         }
+        if self.level == 1 {
+            *near = count;
+        }
         Some(lend_group(self.level, &self.bytes, group))
+    }
+
+    /// Whether the kept group before a place has the id and ends above it.
+    #[inline(always)]
+    pub(crate) fn has_within(&self, id: u64, near: usize) -> bool
+        requires { IsReadable self.now }
+        ensures { IsTrue result → (s : Segment) × (segment_at (groups_in self.now) id ≡ Some s) × (id < s.high) }
+    {
+        if near == 0 || near > self.groups.len() {
+            return false;
+        }
+        let group = self.groups[near - 1];
+        group.low() <= id && id < group.high()
     }
 
     /// How much is kept.
