@@ -43,6 +43,7 @@ use Rattle.outside.proofs.ToldLemmas.{WhereTold-map}
 use Rattle.disk_trait.specs.Calls.{Goes}
 use Rattle.disk_trait.proofs.Telling.{goes-both, goes-from, goes-told}
 use Rattle.gated_log.specs.Load.{LoadCalls}
+use Rattle.gated_log.proofs.Damage.{log-or-damaged}
 use Rattle.change_rules.specs.Holding.{HoldAs}
 use Rattle.dag_run.specs.Seen.{seen}
 use Rattle.dag_run.specs.Ends.{OpensRun, LoadPuts}
@@ -285,7 +286,7 @@ module _ (limits : Limits) (fair : AreLimits limits) (w : World Name) (payloads 
       let both = goes-both (KeepsHolding limits.log w) (IsSureOf limits.log (map text_of payloads)) P d e (λ x y r s. (r, s)) keeps (sure (λ no. cc no)) in
       let disk = goes-both P LoadCalls Q d e (λ x y r s. (r, s)) both calls in
       WhereTold-map (seen d i o) (seen e i q) (Each Q (λ x y. y ≡ x) (λ x y. y ≡ x)) (MeansSo (Err stops.Memory))
-      (λ x y t begins. ends-memory limits fair w payloads room mirrors SinkFailed x begins y (t.disk.0.0 begins.0.holds) t.disk.0.1 t.disk.1 t.left t.taken)
+      (λ x y t begins. ends-memory limits fair w payloads room mirrors SinkFailed x begins y (t.disk.0.0 begins.0.holds) t.disk.0.1 (t.disk.1 (λ at damaged. log-or-damaged x.disk.bytes (map text_of payloads) at (log-of limits.log x.disk.bytes w payloads begins.0.read).1 damaged)) t.left t.taken)
       (seen-each d e i i o q Q (λ x y. y ≡ x) (λ x y. y ≡ x) (goes-told Q d e disk) (same-told i) put)
   load-stops stops.NotLoaded opens keeps sure behind calls is put =
       let P : Told → Told → Type 0 = λ x y. KeepsHolding limits.log w x y × IsSureBehind limits.log (map text_of payloads) x y in
@@ -293,7 +294,7 @@ module _ (limits : Limits) (fair : AreLimits limits) (w : World Name) (payloads 
       let both = goes-both (KeepsHolding limits.log w) (IsSureBehind limits.log (map text_of payloads)) P d e (λ x y r s. (r, s)) keeps behind in
       let disk = goes-both P LoadCalls Q d e (λ x y r s. (r, s)) both calls in
       WhereTold-map (seen d i o) (seen e i q) (Each Q (λ x y. y ≡ x) (PutsFault SinkFailed)) (MeansSo (Err stops.NotLoaded))
-      (λ x y t begins. ends-unloaded limits fair w payloads room mirrors SinkFailed x begins y (t.disk.0.0 begins.0.holds) t.disk.0.1 t.disk.1 t.taken)
+      (λ x y t begins. ends-unloaded limits fair w payloads room mirrors SinkFailed x begins y (t.disk.0.0 begins.0.holds) t.disk.0.1 (t.disk.1 (λ at damaged. log-or-damaged x.disk.bytes (map text_of payloads) at (log-of limits.log x.disk.bytes w payloads begins.0.read).1 damaged)) t.taken)
       (seen-each d e i i o q Q (λ x y. y ≡ x) (PutsFault SinkFailed) (goes-told Q d e disk) (same-told i) put)
   load-stops stops.NoLog opens keeps sure behind calls is put =
       let Q : Told → Told → Type 0 = λ x y. HoldAs limits.log x.bytes payloads w → ⊥ in

@@ -4,8 +4,6 @@ use Rattle.std.specs.List.{list_any}
 use Rattle.std.specs.declared.result.Result.{Result}
 use Rattle.line_io.specs.declared.lines.LineFault.{LineFault}
 use Rattle.line_io.specs.declared.lines.LineFault.TheVariants.{Read, Limit}
-use Rattle.dag_store.specs.declared.replies.LoadFault.{LoadFault}
-use Rattle.dag_store.specs.declared.replies.LoadFault.TheVariants as loads
 use Rattle.run_rules.specs.Ends.{End, Done, OverLimit, NoSource, NoSink, NotLoaded, NotStored, NoLog, NoMemory}
 use Rattle.dag_run.specs.declared.stops.Stop.{Stop}
 use Rattle.dag_run.specs.declared.stops.Stop.TheVariants as stops
@@ -14,14 +12,6 @@ use Rattle.dag_run.specs.declared.stops.Stop.TheVariants as stops
 abbrev pub stop_of : LineFault → Stop
 stop_of Read = stops.Source
 stop_of Limit = stops.Limit
-
--- where no store was loaded
-abbrev pub load_stop : LoadFault → Stop
-load_stop (loads.Frame at) = stops.NoLog
-load_stop (loads.TooLarge size) = stops.NoLog
-load_stop (loads.Batch k) = stops.NoLog
-load_stop (loads.Disk fault) = stops.NotLoaded
-load_stop loads.Memory = stops.Memory
 
 -- how the run ends
 abbrev pub end_of : Result Unit Stop → End

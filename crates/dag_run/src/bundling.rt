@@ -7,6 +7,7 @@ ghost use Rattle.outside.specs.Told.{WhereTold};
 ghost use Rattle.id_groups.specs.Name.{Name};
 ghost use Rattle.commit_graph.specs.World.{World};
 ghost use Rattle.disk_trait.specs.Calls.{Goes};
+ghost use Rattle.gated_log.specs.Load.{LeavesOldOrFresh};
 ghost use Rattle.batch_codec.specs.Payload.{Payload};
 ghost use Rattle.change_rules.specs.Holding.{HoldAs, KeepsHolding};
 ghost use Rattle.change_rules.specs.Standard.{AreLimits};
@@ -78,6 +79,7 @@ fn load_bundle<D: Disk>(alloc: Global, limits: Limits, log: &mut D) -> Result<Ve
     ensures bundles { (payloads : List Payload) (w : World Name) → IfSome (D.bytes log.old) (λ bytes. HoldAs limits.log bytes payloads w → Bundles payloads w result) }
     ensures refuses { IfSome (D.bytes log.old) (λ bytes. BundleRefuses limits.log bytes result) }
     ensures holds { (w : World Name) → Goes (KeepsHolding limits.log w) (D.told log.old) (D.told log.new) }
+    ensures loaded { Goes LeavesOldOrFresh (D.told log.old) (D.told log.new) }
     ensures unwritten { result ≡ Err Unbundled.NoLog → Goes IsUntouched (D.told log.old) (D.told log.new) }
     ensures disk { result ≡ Err Unbundled.NotLoaded → Rose (D.faults log.old) (D.faults log.new) }
 {
@@ -114,6 +116,7 @@ pub(crate) fn put_bundle<D: Disk, O: Sink>(
         → WhereTold (O.taken output.old) (O.taken output.new) (BundleMeans payloads w result)) }
     ensures refuses { IfSome (D.bytes log.old) (λ bytes. StatusRefuses limits.log bytes result) }
     ensures holds { (w : World Name) → Goes (KeepsHolding limits.log w) (D.told log.old) (D.told log.new) }
+    ensures loaded { Goes LeavesOldOrFresh (D.told log.old) (D.told log.new) }
     ensures quiet { (result ≡ 0) ⊎ ((result ≡ 6) ⊎ (output.new ≡ output.old)) }
     ensures unwritten { result ≡ 4 → Goes IsUntouched (D.told log.old) (D.told log.new) }
     ensures disk { result ≡ 3 → Rose (D.faults log.old) (D.faults log.new) }

@@ -8,6 +8,7 @@ ghost use Rattle.outside.specs.Told.{WhereTold};
 ghost use Rattle.id_groups.specs.Name.{Name};
 ghost use Rattle.commit_graph.specs.World.{World};
 ghost use Rattle.disk_trait.specs.Calls.{Goes};
+ghost use Rattle.gated_log.specs.Load.{LeavesOldOrFresh};
 ghost use Rattle.dag_run.specs.Compacting.{CompactMeans, HasStatus, IsCompactStatus, PutsAnswer};
 
 use command_lines::put_shrunk;
@@ -68,6 +69,7 @@ pub(crate) fn compact_log<D: Disk, O: Sink>(
     ensures known { IsCompactStatus result }
     ensures means { CompactMeans limit (D.bytes log.old) (D.bytes spare.old) (D.told spare.old) (D.told spare.new) (O.taken output.old) (O.taken output.new) result }
     ensures holds { (w : World Name) → Goes (KeepsHolding limit w) (D.told log.old) (D.told log.new) }
+    ensures loaded { Goes LeavesOldOrFresh (D.told log.old) (D.told log.new) }
     ensures quiet { (result ≡ 3) ⊎ (result ≡ 4) → spare.new ≡ spare.old }
     ensures nothing { (result ≡ 0) ⊎ ((result ≡ 6) ⊎ (output.new ≡ output.old)) }
     ensures unwritten { result ≡ 4 → Goes IsUntouched (D.told log.old) (D.told log.new) }

@@ -3,7 +3,12 @@
 ghost use Rattle.std.specs.Prelude.{◌≡◌, ◌+◌, ℕ, List, [], ◌∷◌, Some, None, codes};
 ghost use Rattle.commit_graph.specs.World.{empty_world};
 ghost use Rattle.disk_trait.specs.Images.{fresh_disk};
+ghost use Rattle.line_io.specs.Lines.{lines_of};
 ghost use Rattle.change_rules.specs.declared.Limits.{Limits};
+ghost use Rattle.remote_rules.specs.Mirror.{Mirror};
+ghost use Rattle.remote_rules.specs.Serving.{AllServe};
+ghost use Rattle.step_rules.specs.Verb.{Pull};
+ghost use Rattle.run_rules.specs.Premises.{AllBegin, HasCommand};
 ghost use Rattle.dag_run.specs.Ends.{Begins};
 ghost use Rattle.dag_run.specs.Words.{dashes_at, split_of};
 
@@ -14,7 +19,10 @@ pub fn words_spelled_out()
     ensures first { split_of (dashes_at (codes "--" ∷ codes "run" ∷ [])) ≡ None }
 {}
 
-/// A run without mirrors may begin over a new disk, which holds the empty world.
+/// A run may begin over a new disk, which holds the empty world: without mirrors, and beside those that serve it.
 pub fn new_disks_begin()
-    ensures { (limits : Limits) (left taken : List ℕ) → Begins limits empty_world [] [] (record { disk = fresh_disk []; left = left; taken = taken }) }
+    ensures alone { (limits : Limits) (left taken : List ℕ) → Begins limits empty_world [] [] (record { disk = fresh_disk []; left = left; taken = taken }) }
+    ensures beside { (limits : Limits) (left taken : List ℕ) (mirrors : List Mirror) → AllServe 0 empty_world mirrors
+        → (HasCommand Pull (lines_of limits.input left) → AllBegin 0 empty_world mirrors (lines_of limits.input left))
+        → Begins limits empty_world [] mirrors (record { disk = fresh_disk []; left = left; taken = taken }) }
 {}

@@ -8,7 +8,7 @@ ghost use Rattle.line_io.specs.Reading.{budget, is_over, new_reading};
 ghost use Rattle.id_groups.specs.Name.{Name};
 ghost use Rattle.commit_graph.specs.World.{World};
 ghost use Rattle.disk_trait.specs.Calls.{Goes};
-ghost use Rattle.gated_log.specs.Load.{IsSureOf, IsSureBehind, LoadCalls};
+ghost use Rattle.gated_log.specs.Load.{IsSureOf, IsSureBehind, LeavesOldOrFresh, LoadCalls};
 ghost use Rattle.gated_log.specs.Holding.{IsOnDisk};
 ghost use Rattle.batch_codec.specs.Payload.{Payload};
 ghost use Rattle.change_rules.specs.Holding.{HoldAs, KeepsHolding};
@@ -361,6 +361,7 @@ fn run_mode<D: Disk, I: Source, O: Sink>(
     ensures compacts { usage.mode ≡ Mode.Compact
         → CompactMeans limits.log (D.bytes log.old) (D.bytes spare.old) (D.told spare.old) (D.told spare.new) (O.taken output.old) (O.taken output.new) result.status }
     ensures holds { (w : World Name) → (usage.mode ≡ Mode.Bundle) ⊎ (usage.mode ≡ Mode.Compact) → Goes (KeepsHolding limits.log w) (D.told log.old) (D.told log.new) }
+    ensures loaded { (usage.mode ≡ Mode.Bundle) ⊎ (usage.mode ≡ Mode.Compact) → Goes LeavesOldOrFresh (D.told log.old) (D.told log.new) }
     ensures log { (usage.mode ≡ Mode.Demo) ⊎ (usage.mode ≡ Mode.Serve) → log.new ≡ log.old }
     ensures changes { (usage.mode ≡ Mode.Run → ⊥) → result.changes ≡ [] }
     ensures aside { (usage.mode ≡ Mode.Demo) ⊎ ((usage.mode ≡ Mode.Bundle) ⊎ (usage.mode ≡ Mode.Compact)) → (mirrors.new ≡ mirrors.old) × (input.new ≡ input.old) }
@@ -434,6 +435,7 @@ pub fn top<D: Disk, I: Source, O: Sink>(
     ensures kept { (w : World Name) → IsUsageOf Mode.Compact (map string_bytes words.now) → Goes (KeepsHolding standard.log w) (D.told log.old) (D.told log.new) }
     ensures anew { IsUsageOf Mode.Compact (map string_bytes words.now)
         → (mirrors.new ≡ mirrors.old) × (input.new ≡ input.old) × (result.changes ≡ []) × ((result.status ≡ 0) ⊎ ((result.status ≡ 6) ⊎ (output.new ≡ output.old))) }
+    ensures loaded { IsUsageOf Mode.Bundle (map string_bytes words.now) ⊎ IsUsageOf Mode.Compact (map string_bytes words.now) → Goes LeavesOldOrFresh (D.told log.old) (D.told log.new) }
     ensures unwritten { result.status ≡ 4 → Goes IsUntouched (D.told log.old) (D.told log.new) × (input.new ≡ input.old) × (output.new ≡ output.old) × (mirrors.new ≡ mirrors.old) }
     ensures quiet { IsOneOf (2 ∷ 7 ∷ 10 ∷ 11 ∷ 13 ∷ 14 ∷ 15 ∷ []) result.status → (input.new ≡ input.old) × (output.new ≡ output.old) × (mirrors.new ≡ mirrors.old) }
     ensures untouched { result.status ≡ 2 → log.new ≡ log.old }

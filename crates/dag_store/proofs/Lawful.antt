@@ -34,11 +34,11 @@ lawful-log limit bytes log payloads h lawful texts (inr (inr u)) =
 
 -- the log refused it
 pub log-untouched : (limit : ℕ) (fault : LoadLog) (d e : Option Told) → 1 ≤ limit → IfSome d (λ t. Loads limit t.bytes (Err fault)) → Goes KeepsImages d e
-    → ((size : ℕ) → fault ≡ logs.TooLarge size → Goes (IsUnwritten 2) d e) → ((at : ℕ) → fault ≡ logs.Damaged at → Goes (IsUnwritten 3) d e) → IsNoLogFault (fault_of fault) → Goes IsUntouched d e
+    → ((size : ℕ) → fault ≡ logs.TooLarge size → Goes (IsUnwritten 2) d e) → ((at : ℕ) → fault ≡ logs.Damaged at → Goes (IsUnwritten 4) d e) → IsNoLogFault (fault_of fault) → Goes IsUntouched d e
 log-untouched limit (logs.Damaged at) d e some loads images large damaged is =
-    let Both : Told → Told → Type 0 = λ a b. KeepsImages a b × IsUnwritten 3 a b in
+    let Both : Told → Told → Type 0 = λ a b. KeepsImages a b × IsUnwritten 4 a b in
     goes-from Both IsUntouched (λ t. Loads limit t.bytes (Err (logs.Damaged at))) d e (λ a b l both. (both.1.1, both.0 l.1.0)) loads
-    (goes-both KeepsImages (IsUnwritten 3) Both d e (λ a b i u. (i, u)) images (damaged at refl))
+    (goes-both KeepsImages (IsUnwritten 4) Both d e (λ a b i u. (i, u)) images (damaged at refl))
 log-untouched limit (logs.TooLarge size) d e some loads images large damaged is =
     let Both : Told → Told → Type 0 = λ a b. KeepsImages a b × IsUnwritten 2 a b in
     goes-from Both IsUntouched (λ t. Loads limit t.bytes (Err (logs.TooLarge size))) d e (λ a b l both. (both.1.1, both.0 (let over = l.0 in omega (arith, some, over)))) loads

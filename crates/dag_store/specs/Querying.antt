@@ -1,5 +1,5 @@
 -- How an expression is answered in a session's view.
-use Rattle.std.specs.Prelude.{◌≡◌, ◌<◌, ◌≤◌, ◌⊎◌, not, ⊤, ℕ, nat_eq, nat_lt, List, [], ◌∷◌, Option, Some, None, Result, Ok, Err, IfOk, length, map, filter}
+use Rattle.std.specs.Prelude.{◌≡◌, ◌<◌, ◌≤◌, ◌⊎◌, not, ⊤, ℕ, nat_eq, List, [], ◌∷◌, Option, Some, None, Result, Ok, Err, IfOk, length, map, filter}
 use Rattle.std.specs.List.{AllByRecursion}
 use Rattle.id_groups.specs.Lists.{IsIn, AreAllIn, is_in}
 use Rattle.id_groups.specs.Name.{Name, same_name}
@@ -25,7 +25,7 @@ use Rattle.lazy_names.specs.Fetching.{IsCacheOf}
 use Rattle.lazy_names.specs.declared.fetched.FetchedName.{FetchedName}
 use Rattle.step_rules.specs.declared.Refusal.{Refusal}
 use Rattle.step_rules.specs.declared.Refusal.TheVariants as why
-use Rattle.step_rules.specs.Tests.{Test, plain, refuse_if}
+use Rattle.step_rules.specs.Tests.{Test}
 use Rattle.step_rules.specs.Asking.{refusal_for}
 use Rattle.dag_store.specs.declared.query.Found.{Found}
 use Rattle.dag_store.specs.Steps.{known_name}
@@ -93,10 +93,6 @@ pub record Fetches (payloads : List Payload) (w : World Name) (rows : List (Row 
   pub within : (k : KnownName) → IsIn k names → IsIn k.id (lazy_ids payloads w ids)
   pub whole : IfOk result (λ fetched. (names ≡ map known_name fetched) × (map (λ (k : KnownName). k.id) names ≡ lazy_ids payloads w ids))
   pub right : AreRight payloads w old → IsCacheOf w.master before.entries → AreNamesIn w names × IsRightEnd result
-
--- the answer's test
-abbrev pub count_test : ℕ → List ℕ → Test
-count_test most ids = plain (refuse_if (nat_lt most (length ids)) (why.Answer (length ids)))
 
 -- The names of an answer are found: it isn't too long, and those that aren't stored are fetched.
 pub record FindsMembers (most : ℕ) (payloads : List Payload) (w : World Name) (rows : List (Row Name)) (ids : List ℕ) (old new : List Mirror) (before now : PlainCache) (result : Result Found Refusal) : Type 0 where

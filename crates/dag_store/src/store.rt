@@ -6,7 +6,7 @@ ghost use Rattle.id_groups.specs.Name.{Name as NameBytes};
 ghost use Rattle.outside.specs.Counts.{Rose};
 ghost use Rattle.commit_graph.specs.World.{World};
 ghost use Rattle.disk_trait.specs.Calls.{Goes};
-ghost use Rattle.gated_log.specs.Load.{IsSureOf, IsSureBehind};
+ghost use Rattle.gated_log.specs.Load.{IsSureOf, IsSureBehind, LeavesOldOrFresh};
 ghost use Rattle.batch_codec.specs.Payload.{Payload};
 ghost use Rattle.name_map.specs.Added.{Placed, payloads_of};
 ghost use Rattle.payload_tables.specs.Kept.{AreTablesOf};
@@ -94,6 +94,7 @@ impl Store {
         ensures answers { IfSome (D.bytes disk.old) (λ bytes. LoadAnswers limits bytes result) }
         ensures opens { (payloads : List Payload) (w : World NameBytes) → IfSome (D.bytes disk.old) (λ bytes. HoldAs limits.log bytes payloads w → Opens limits payloads w result) }
         ensures images { (w : World NameBytes) → Goes (KeepsHolding limits.log w) (D.told disk.old) (D.told disk.new) }
+        ensures loaded { Goes LeavesOldOrFresh (D.told disk.old) (D.told disk.new) }
         ensures sure { ((fault : _) → result ≡ Err (LoadFault.Disk fault) → ⊥)
             → (payloads : List (List ℕ)) → Goes (IsSureOf limits.log payloads) (D.told disk.old) (D.told disk.new) }
         ensures behind { (payloads : List (List ℕ)) → Goes (IsSureBehind limits.log payloads) (D.told disk.old) (D.told disk.new) }

@@ -5,3 +5,4 @@ pub mod Prefixes
 pub mod GoesOn
 pub mod Matched
 pub mod Reopening
+pub mod Alone

@@ -80,6 +80,9 @@ module _ (limits : Limits) (P : State → Type 0) (keep : (st st' : State) (s : 
       by_test true g f k = f g
       by_test false g f k = k g
 
+pub one-kept : (limits : Limits) (st st' : State) (line : List ℕ) (reply : Reply) → IsState st → Step limits st line reply st' → IsState st'
+one-kept limits st st' line reply h step = step-kept limits IsState (λ a b s verb reply k v step. step-state limits a s k verb reply b v step) st st' line reply h step
+
 pub run-kept : (limits : Limits) (st st' : State) (lines : List (List ℕ)) (replies : List Reply) → IsState st → Run limits st lines replies st' → IsState st'
 run-kept limits st st' lines replies h r = run-keeps limits IsState (λ a b s verb reply k v step. step-state limits a s k verb reply b v step) st st' lines replies h r
 

@@ -1,15 +1,10 @@
 -- A run over the lines of an input.
 use Rattle.std.specs.Prelude.{◌≡◌, ◌⊎◌, ℕ, List, [], ◌∷◌, flat_map}
 use Rattle.std.specs.Bool.{MatchBool}
-use Rattle.id_groups.specs.Name.{Name}
-use Rattle.line_io.specs.Lines.{lines_of, is_too_long, is_silent}
-use Rattle.commit_graph.specs.World.{World}
-use Rattle.batch_codec.specs.Payload.{Payload}
+use Rattle.line_io.specs.Lines.{is_too_long, is_silent}
 use Rattle.change_rules.specs.declared.Limits.{Limits}
-use Rattle.change_rules.specs.Holding.{HoldAs}
-use Rattle.remote_rules.specs.Mirror.{Mirror}
 use Rattle.step_rules.specs.declared.Refusal.TheVariants.{Memory}
-use Rattle.step_rules.specs.State.{State, at_start}
+use Rattle.step_rules.specs.State.{State}
 use Rattle.step_rules.specs.Verb.{Verb}
 use Rattle.step_rules.specs.Reply.{Reply, Refused, NoCommand, LongLine, reply_text}
 use Rattle.step_rules.specs.Step.{CommandStep, MayWantMemory}
@@ -47,10 +42,3 @@ Run limits st (line ∷ lines) replies st' =
 -- what is written for these replies
 abbrev pub output_of : List Reply → List ℕ
 output_of replies = flat_map reply_text replies
-
--- Over a log of these bytes that hold the world, with room for so many names and these mirrors, the input may lead to these
--- replies and this state.
-abbrev pub RunsTo : Limits → List ℕ → World Name → ℕ → List Mirror → List ℕ → List Reply → State → Type 0
-RunsTo limits log w room mirrors input replies st =
-    (payloads : List Payload) × HoldAs limits.log log payloads w
-    × Run limits (at_start w payloads room mirrors) (lines_of limits.input input) replies st

@@ -4,7 +4,9 @@
 ghost use Rattle.std.specs.Prelude.{◌≡◌, ◌<◌, ◌≤◌, ◌⊎◌, ◌++◌, ◌+◌, ℕ, List, [], ◌∷◌, length, map, take};
 ghost use Rattle.line_io.specs.Streams.{Streams};
 ghost use Rattle.change_rules.specs.declared.Limits.{Limits};
-ghost use Rattle.step_rules.specs.State.{State, Stored, IsState, IsHeld, at_start, world_at};
+ghost use Rattle.step_rules.specs.State.{State, Stored, IsState, IsHeld, at_start, base_of, view_of, world_at};
+ghost use Rattle.step_rules.specs.Isolation.{moves_session, changes_view};
+ghost use Rattle.run_rules.specs.Alone.{HasNone};
 ghost use Rattle.step_rules.specs.Served.{IsServed};
 ghost use Rattle.change_rules.specs.Standard.{AreLimits};
 ghost use Rattle.change_rules.specs.Tables.{cloned_count};
@@ -48,6 +50,16 @@ pub fn runs_keep_all()
     ensures all { (limits : Limits) (log : List ℕ) (w : World Name) (payloads : List Payload) (room : ℕ) (mirrors : List Mirror) (lines : List (List ℕ)) (replies : List Reply) (st : State)
         → AreLimits limits → HoldAs limits.log log payloads w → AllServe (cloned_count payloads) w mirrors → Run limits (at_start w payloads room mirrors) lines replies st
         → IsState st × IsHeld limits st.store × IsServed st }
+{}
+
+/// What a session works on after a run is what it worked on before, unless one of its own lines was a flush, a strip, a reload, a clone
+/// or a pull; and it sees the same, unless one of its own lines was one of these, an add or a discard. What the others do meanwhile
+/// changes neither.
+pub fn sessions_are_alone()
+    ensures base { (limits : Limits) (st st' : State) (lines : List (List ℕ)) (replies : List Reply) (s : ℕ) → IsState st → Run limits st lines replies st'
+        → HasNone moves_session s lines → base_of st'.store s ≡ base_of st.store s }
+    ensures view { (limits : Limits) (st st' : State) (lines : List (List ℕ)) (replies : List Reply) (s : ℕ) → IsState st → Run limits st lines replies st'
+        → HasNone changes_view s lines → view_of st'.store s ≡ view_of st.store s }
 {}
 
 /// The payloads of each prefix of a run's changes hold the world that was stored by the last of them.

@@ -9,7 +9,7 @@ use Rattle.change_rules.specs.declared.Limit.TheVariants as limit
 use Rattle.remote_rules.specs.Mirror.{Mirror}
 use Rattle.step_rules.specs.declared.Refusal.TheVariants as why
 use Rattle.step_rules.specs.State.{State, session_count, at_start}
-use Rattle.step_rules.specs.Verb.{Verb, Flush, Reload, Levels, Clone, Pull, Strip, CountMirrors, Drop}
+use Rattle.step_rules.specs.Verb.{Verb, Add, Flush, Reload, Discard, Levels, Clone, Pull, Strip, CountMirrors, Drop}
 use Rattle.step_rules.specs.Reply.{Reply, Refused}
 use Rattle.step_rules.specs.Tests.{refused_first, tests}
 use Rattle.step_rules.specs.Turns.{Turn, AreTurns, turns_of}
@@ -23,6 +23,21 @@ reads_stored Clone = true
 reads_stored Pull = true
 reads_stored Levels = true
 reads_stored _ = false
+
+-- whether a command may take its session to another world
+abbrev pub moves_session : Verb → Bool
+moves_session Reload = true
+moves_session (Flush heads) = true
+moves_session (Strip names) = true
+moves_session Clone = true
+moves_session Pull = true
+moves_session _ = false
+
+-- whether it may change what its session sees
+abbrev pub changes_view : Verb → Bool
+changes_view (Add name parents) = true
+changes_view Discard = true
+changes_view verb = moves_session verb
 
 -- whether it takes a mirror's master
 abbrev pub takes_master : Verb → Bool

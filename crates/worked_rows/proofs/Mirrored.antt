@@ -16,7 +16,7 @@ use Rattle.set_expr.specs.Computed.{is_some_of}
 use Rattle.change_rules.specs.declared.Limits.{Limits}
 use Rattle.remote_rules.specs.CloneData.{KnownName}
 use Rattle.remote_rules.specs.Mirror.{Mirror}
-use Rattle.remote_rules.specs.Calls.{Keeps, WhereBoth, MasterGoesOn, IsAskedFor, IsCloned}
+use Rattle.remote_rules.specs.Calls.{Keeps, WhereBoth, MasterGoesOn, IsAskedFor, IsCloned, IsPulled, RowsFrom}
 use Rattle.remote_rules.specs.Asking.{IsOneAsk}
 use Rattle.step_rules.specs.declared.Refusal.{Refusal}
 use Rattle.step_rules.specs.Tests.{refused_first, tests}
@@ -53,6 +53,14 @@ still (Some w) = refl
 
 pub is-cloned : (m : Mirror) → m.settled ≡ true → IsCloned m m
 is-cloned m e = record { keeps = same-keeps m; master = subst (λ b. MasterGoesOn b m.master m.master) (sym e) (still m.master); asked = refl }
+
+-- a settled mirror that was asked for its clone data and so many names
+pub is-pulled : (from count : ℕ) (m : Mirror) → m.settled ≡ true → RowsFrom from m.master m.asked (ask_of count m).asked → IsPulled from m (ask_of count m)
+is-pulled from count m e few = record {
+  keeps = record { settled = refl; tells_master = refl; tells_clone = refl; tells_faults = refl; faults = le_refl m.faults; to_come = no-more m.to_come; sound = λ s. s };
+  master = subst (λ b. MasterGoesOn b m.master m.master) (sym e) (still m.master);
+  asked = few;
+}
 
 -- the first mirror answers
 pub first-answers : (Does : Mirror → Mirror → Type 0) (m asked : Mirror) (more : List Mirror) → Does m asked → IsOneAsk Does (m ∷ more) None (asked ∷ more)

@@ -4,14 +4,14 @@ use Rattle.commit_graph.specs.World.{World, empty_world}
 use Rattle.id_groups.specs.Name.{Name}
 use Rattle.remote_rules.specs.Mirror.{Mirror}
 use Rattle.remote_rules.specs.Honest.{clone_data_of}
-use Rattle.change_rules.specs.Change.{clone_change}
+use Rattle.change_rules.specs.Change.{clone_change, flush_change}
 use Rattle.set_expr.specs.Expr.{Up}
 use Rattle.step_rules.specs.State.{State, at_start}
 use Rattle.step_rules.specs.Verb.{IdOf, Query, Clone, CountMirrors, Drop}
 use Rattle.step_rules.specs.Reply.{Cloned, Identified, Listed, Counted, Dropped, Refused}
 use Rattle.step_rules.specs.declared.Refusal.TheVariants as why
 use Rattle.worked_rows.specs.Runs.{Said, said}
-use Rattle.worked_rows.specs.Worlds.{n, ns, ten}
+use Rattle.worked_rows.specs.Worlds.{n, ns, on, ten}
 
 -- an honest remote with this master, which never changes and never fails
 abbrev pub steady : World Name → Mirror
@@ -24,6 +24,13 @@ over mirrors = at_start empty_world [] 8 mirrors
 -- for how many names each mirror was asked
 abbrev pub asked_counts : State → List ℕ
 asked_counts st = map (λ m. m.asked) st.outside.mirrors
+
+-- the log of a clone of the ten commits to which one other commit was added on the ninth, by the name that a remote's next commit has
+abbrev pub crossed_world : World Name
+crossed_world = record { master = ten.master; others = on 0x1a (0x18 ∷ []) ∷ [] }
+
+abbrev pub crossed : List Mirror → State
+crossed mirrors = at_start crossed_world (clone_change ten ∷ flush_change ten crossed_world ∷ []) 8 mirrors
 
 -- Names that a clone doesn't store are asked when they are wanted.
 abbrev pub lazy_names_said : List Said

@@ -1,7 +1,7 @@
 //! Examples, worked out on the definitions.
 #![tactic(auto)]
 
-ghost use Rattle.std.specs.Prelude.{◌≡◌, take, ◌++◌, ◌+◌, ◌^◌, ℕ, List, [], ◌∷◌, length, codes, None, Some};
+ghost use Rattle.std.specs.Prelude.{◌≡◌, take, replicate, ◌++◌, ◌+◌, ◌^◌, ℕ, List, [], ◌∷◌, length, codes, None, Some};
 ghost use Rattle.id_groups.specs.Name.{Name, same_name};
 ghost use Rattle.commit_graph.specs.World.{Row, World, IsWorld, empty_world};
 ghost use Rattle.step_rules.specs.State.{State, at_start};
@@ -12,9 +12,13 @@ ghost use Rattle.change_rules.specs.Standard.{standard};
 ghost use Rattle.change_rules.specs.declared.Limit.TheVariants as limit;
 ghost use Rattle.worked_rows.specs.Runs.{AreTold, AreToldTo, said};
 ghost use Rattle.set_expr.specs.Expr.{One};
-ghost use Rattle.step_rules.specs.Verb.{Query};
-ghost use Rattle.step_rules.specs.Reply.{Listed};
-ghost use Rattle.worked_rows.specs.Remotes.{steady, over, asked_counts, lazy_names_said, after_clone, stumbling, failing_said};
+ghost use Rattle.step_rules.specs.Verb.{Query, Pull};
+ghost use Rattle.step_rules.specs.Reply.{Listed, Pulled};
+ghost use Rattle.worked_rows.specs.Remotes.{steady, over, asked_counts, lazy_names_said, after_clone, stumbling, failing_said, crossed_world, crossed};
+ghost use Rattle.remote_rules.specs.Serving.{AllServe};
+ghost use Rattle.run_rules.specs.Premises.{AllBegin};
+ghost use Rattle.segment_rules.specs.Flat.{flat_segments_of};
+ghost use Rattle.segment_rules.specs.NewLevels.{new_levels};
 ghost use Rattle.remote_rules.specs.CloneData.{first_broken};
 ghost use Rattle.remote_rules.specs.Honest.{clone_data_of, stored_ids};
 ghost use Rattle.batch_codec.specs.Grammar.{head_names};
@@ -101,6 +105,30 @@ pub fn pulls()
     ensures again { pulled same_name (pulled same_name with_two twelve) twelve ≡ pulled same_name with_two twelve }
     ensures fine { first_conflict same_name with_two twelve.master ≡ None }
     ensures conflict { first_conflict same_name (record { master = ten.master; others = on 0x1a (0x18 ∷ []) ∷ [] }) twelve.master ≡ Some (n 0x1a) }
+{}
+
+/// A pull takes what a mirror has behind the cloned commits, and asks for the names of that alone; where one of these commits has the name
+/// of another one here it is refused, and the row is told.
+pub fn pulls_told()
+    ensures taken { (last : State) × AreToldTo standard (after_clone (steady twelve ∷ [])) (said 0 Pull (Pulled 12 0) ∷ []) last
+        × (last.store.stored ≡ twelve) × (asked_counts last ≡ 2 ∷ []) }
+    ensures refused { (last : State) × AreToldTo standard (crossed (steady twelve ∷ [])) (said 0 Pull (Refused (why.Conflict (n 0x1a))) ∷ []) last
+        × (last.store.stored ≡ crossed_world) }
+{}
+
+/// What runs and pulls ask of mirrors is met: by one over a new log, by two of one master and more over a clone, by one with more for a
+/// pull, and by two of one order for a clone with a pull behind it.
+pub fn mirrors_that_serve()
+    ensures fresh { AllServe 0 empty_world (steady ten ∷ []) }
+    ensures two { AllServe 10 ten (steady ten ∷ steady twelve ∷ []) }
+    ensures pulled { (lines : List (List ℕ)) → AllBegin 10 ten (steady twelve ∷ []) lines }
+    ensures cloned { (lines : List (List ℕ)) → AllBegin 0 empty_world (steady ten ∷ steady ten ∷ []) lines }
+{}
+
+/// The level segments that come with three roots behind sixteen: two more groups are decided.
+pub fn levels_that_come()
+    ensures { new_levels (flat_segments_of 0 (replicate 17 [])) (flat_segments_of 0 (replicate 19 []))
+        ≡ record { low = 1; high = 1; level = 1; parents = [] } ∷ record { low = 2; high = 2; level = 1; parents = [] } ∷ [] }
 {}
 
 /// A name that was asked and found isn't asked again to be printed.

@@ -5,6 +5,7 @@ use Rattle.dag_run.specs.Modes.{EndsAtOnce}
 use Rattle.dag_run.proofs.Usages.{once-means, cache-least, one-cache, once-refuses, once-demo, one-mode, of-demo, size-least, demo-means, only-memory}
 use Rattle.dag_run.proofs.Over.{once-over}
 use Rattle.dag_run.proofs.Served.{the-one, once-serves, once-one}
+use Rattle.log_compact.proofs.Both.{loaded-same}
 use Rattle.dag_run.proofs.Anew.{compact-idle}
 use Rattle.dag_run.proofs.Bundled.{bundle-idle, refuses-idle, holds-idle}
 use Rattle.dag_run.proofs.ModeStatuses.{mode-known, mode-words, mode-refuses, mode-untouched, mode-quiet, once-status, once-words}
@@ -85,6 +86,11 @@ returns-in-Ok-clause-compacts g c = λ of. rw c.standard-limits.ensures at c.run
 pub returns-in-Ok-clause-kept : goal.returns-in-Ok-clause-kept
 returns-in-Ok-clause-kept g c = λ w of. rw c.standard-limits.ensures at c.run_mode.ensures.holds w (inr (one-mode (map string_bytes c.args.words.now) c.in-Ok.usage Compact c.in-Ok.ensures of))
 
+pub returns-in-Ok-clause-loaded : goal.returns-in-Ok-clause-loaded
+returns-in-Ok-clause-loaded g c = λ of.
+    let words = map string_bytes c.args.words.now in
+    c.run_mode.ensures.loaded (⊎_elim (λ b. inl (one-mode words c.in-Ok.usage Bundle c.in-Ok.ensures b)) (λ k. inr (one-mode words c.in-Ok.usage Compact c.in-Ok.ensures k)) of)
+
 pub returns-in-Ok-clause-anew : goal.returns-in-Ok-clause-anew
 returns-in-Ok-clause-anew g c = λ of.
     let mode = one-mode (map string_bytes c.args.words.now) c.in-Ok.usage Compact c.in-Ok.ensures of in
@@ -158,6 +164,9 @@ returns-in-Err-clause-held g c = λ w of. holds-idle standard.log w (g.D.Disk.to
 pub returns-in-Err-clause-compacts : goal.returns-in-Err-clause-compacts
 returns-in-Err-clause-compacts g c = λ of.
     compact-idle standard.log c.idle.result.status (only-memory (map string_bytes c.args.words.now) c.idle.result.status of.0 (subst (EndsAtOnce (map string_bytes c.args.words.now)) (sym c.idle.ensures.status) c.in-Err.ensures) of.1) (g.D.Disk.bytes c.args.log.now) (g.D.Disk.bytes c.args.spare.now) (g.D.Disk.told c.args.spare.now) (g.O.Sink.taken c.args.output.now)
+
+pub returns-in-Err-clause-loaded : goal.returns-in-Err-clause-loaded
+returns-in-Err-clause-loaded g c = λ of. loaded-same (g.D.Disk.told c.args.log.now)
 
 pub returns-in-Err-clause-kept : goal.returns-in-Err-clause-kept
 returns-in-Err-clause-kept g c = λ w of. holds-idle standard.log w (g.D.Disk.told c.args.log.now)
