@@ -19,19 +19,19 @@ use Rattle.remote_store.specs.Remote.{PlainStore, bytes_in, rows_told, mirror_of
 
 -- ---- reads alone
 
-pub same-bytes : (a b : Option Told) → Goes (OnlyReads 2) a b → bytes_in b ≡ bytes_in a
+pub same-bytes : (a b : Option Told) → Goes (OnlyReads 3) a b → bytes_in b ≡ bytes_in a
 same-bytes None None g = refl
 same-bytes None (Some y) g = absurd g
 same-bytes (Some x) None g = absurd g
 same-bytes (Some x) (Some y) g = ap (λ (t : Told). Some t.bytes) g.2
 
-same-honest : (a b : Option Told) → Goes (OnlyReads 2) a b → is_some b ≡ is_some a
+same-honest : (a b : Option Told) → Goes (OnlyReads 3) a b → is_some b ≡ is_some a
 same-honest None None g = refl
 same-honest None (Some y) g = absurd g
 same-honest (Some x) None g = absurd g
 same-honest (Some x) (Some y) g = refl
 
-module _ (before now : PlainStore) (limit : now.limit ≡ before.limit) (told : Goes (OnlyReads 2) before.told now.told) where
+module _ (before now : PlainStore) (limit : now.limit ≡ before.limit) (told : Goes (OnlyReads 3) before.told now.told) where
   pub rows-same : rows_told now ≡ rows_told before
   rows-same =
       ap (λ l. option_and_then (master_told l) (bytes_in now.told)) limit
@@ -85,11 +85,11 @@ abbrev pub IsKeptOf : ℕ → Option Told → Option (List (List ℕ)) → Type 
 IsKeptOf limit told kept = IfSome (bytes_in told) (λ bytes. IfSome kept (λ texts. (texts_within limit bytes ≡ Some texts) × (IsUnfit limit bytes → ⊥)))
 
 -- reads don't change it
-pub kept-still : (limit : ℕ) (a b : Option Told) (kept : Option (List (List ℕ))) → Goes (OnlyReads 2) a b → IsKeptOf limit a kept → IsKeptOf limit b kept
+pub kept-still : (limit : ℕ) (a b : Option Told) (kept : Option (List (List ℕ))) → Goes (OnlyReads 3) a b → IsKeptOf limit a kept → IsKeptOf limit b kept
 kept-still limit a b kept g h = subst (λ o. IfSome o (λ bytes. IfSome kept (λ texts. (texts_within limit bytes ≡ Some texts) × (IsUnfit limit bytes → ⊥)))) (sym (same-bytes a b g)) h
 
 -- what was read is kept
-pub kept-new : (limit : ℕ) (a b : Option Told) (bytes : Option (List ℕ)) (texts : List (List ℕ)) → Goes (OnlyReads 2) a b → IfSome a (λ z. bytes ≡ Some z.bytes)
+pub kept-new : (limit : ℕ) (a b : Option Told) (bytes : Option (List ℕ)) (texts : List (List ℕ)) → Goes (OnlyReads 3) a b → IfSome a (λ z. bytes ≡ Some z.bytes)
     → IfSome bytes (λ bs. (texts_within limit bs ≡ Some texts) × (IsUnfit limit bs → ⊥)) → IsKeptOf limit b (Some texts)
 kept-new limit a b bytes texts g tells h = kept-still limit a b (Some texts) g (told-bytes a bytes (λ bs. (texts_within limit bs ≡ Some texts) × (IsUnfit limit bs → ⊥)) tells h)
 

@@ -50,7 +50,7 @@ mirror_of r = record {
 -- what reading the log leaves: its bytes as they were, and a failure is counted
 pub record Reads (before now : PlainStore) : Type 0 where
   pub limit : now.limit ≡ before.limit
-  pub told : Goes (OnlyReads 2) before.told now.told
+  pub told : Goes (OnlyReads 3) before.told now.told
   pub disk_faults : before.disk_faults ≤ now.disk_faults
   pub asked : now.asked ≡ before.asked
 

@@ -77,7 +77,7 @@ fn peek_log<D: Disk>(alloc: Global, disk: &mut D, limit: u64) -> Result<Log, Rem
     requires { (1 ≤ limit) × (limit ≤ 2 ^ 32) }
     ensures answers { IfSome (D.bytes disk.old) (λ bytes. PeeksLog limit bytes (D.faults disk.old) (D.faults disk.new) result) }
     ensures limit { IfOk result (λ log. log.limit ≡ limit) }
-    ensures reads { Goes (OnlyReads 2) (D.told disk.old) (D.told disk.new) }
+    ensures reads { Goes (OnlyReads 3) (D.told disk.old) (D.told disk.new) }
     ensures later { D.faults disk.old ≤ D.faults disk.new }
 {
     match Log::peek(alloc, disk, limit) {
@@ -134,7 +134,7 @@ impl Loaded {
     ) -> Result<Loaded, RemoteFault>
         requires { (1 ≤ limit) × (limit ≤ 2 ^ 32) }
         ensures answers { IfSome (D.bytes disk.old) (λ bytes. Peeks limit bytes (D.faults disk.old) (D.faults disk.new) result) }
-        ensures reads { Goes (OnlyReads 2) (D.told disk.old) (D.told disk.new) }
+        ensures reads { Goes (OnlyReads 3) (D.told disk.old) (D.told disk.new) }
         ensures later { D.faults disk.old ≤ D.faults disk.new }
     {
         let log = peek_log(alloc, disk, limit)?;

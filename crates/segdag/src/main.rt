@@ -2,7 +2,7 @@
 
 //! The program `segdag`: answers command lines of standard input on standard output, over the log in a file.
 
-ghost use Rattle.std.specs.Prelude.{◌≡◌, ◌⊎◌, ◌<◌, ◌^◌, ◌==◌, ◌&&◌, ◌∷◌, ◌++◌, [], true, not, length, map, string_bytes, if◌then◌else◌, ℕ, List, IfOk, IfSome, MatchResult};
+ghost use Rattle.std.specs.Prelude.{◌≡◌, ◌⊎◌, ◌<◌, ◌^◌, ◌∷◌, [], length, map, string_bytes, ℕ, List, IfSome, MatchResult};
 ghost use Rattle.std.specs.Process.{exit_status};
 ghost use Rattle.disk_trait.specs.Since.{IsUntouched};
 ghost use Rattle.outside.specs.Counts.{Rose};
@@ -12,9 +12,10 @@ ghost use Rattle.commit_graph.specs.World.{World};
 ghost use Rattle.batch_codec.specs.Payload.{Payload};
 ghost use Rattle.change_rules.specs.Standard.{standard};
 ghost use Rattle.disk_trait.specs.Calls.{Goes};
+ghost use Rattle.gated_log.specs.Load.{LeavesOldOrFresh};
 ghost use Rattle.change_rules.specs.Holding.{HoldAs, KeepsHolding};
 ghost use Rattle.dag_run.specs.Seen.{seen};
-ghost use Rattle.dag_run.specs.Ends.{Begins, StatusMeans, StatusRefuses};
+ghost use Rattle.dag_run.specs.Ends.{Begins, EndRefuses, StatusMeans, StatusRefuses};
 ghost use Rattle.dag_run.specs.Demo.{DemoMeans};
 ghost use Rattle.dag_run.specs.Bundling.{BundleMeans};
 ghost use Rattle.dag_run.specs.Compacting.{CompactMeans};
@@ -23,17 +24,19 @@ ghost use Rattle.remote_serve.specs.Steps.{ports, served_streams};
 ghost use Rattle.dag_run.specs.Stops.{IsDemoStatus, IsOneOf, IsOverBy, IsStatus};
 ghost use Rattle.segdag.specs.Usage.{HasStatus, IsDemo, IsRun, IsUsage, Refuses};
 
+mod files;
 mod remotes;
 mod words;
 
-use crate::remotes::{bundle_at, bundle_path, log_at, remotes_of};
+use crate::files::{access_of, files_at, own_status};
+use crate::remotes::{Named, bundle_at, log_at, named_by, pipe_at, remotes_of};
 use crate::words::{log_of, mode_of};
 use dag_run::top;
 use disk_trait::Disk;
-use file_disk::FileDisk;
+use file_disk::{Access, FileDisk};
 use line_io::{Sink, Source, StdSink, StdSource};
 use mirror_set::Mirrors;
-use program_words::Mode;
+use program_words::{Mode, read_words};
 use remote_trait::Remote;
 use std::alloc::{AllocError, Global};
 use std::io::ErrorKind;
@@ -43,14 +46,11 @@ use std::{env, io};
 /// The status of words that aren't a usage.
 const NO_USAGE: u8 = 2;
 
-/// The status where the disk failed.
-const DISK_FAILED: u8 = 3;
-
 /// The status where the words want memory.
 const NO_MEMORY: u8 = 7;
 
-/// The status where the log was never opened.
-const NOT_OPENED: u8 = 9;
+/// The status where another process has the log.
+const NOT_OURS: u8 = 16;
 
 /// Answers the lines of the input over the log, or those of a demonstration, or serves the one mirror, or puts the log's bundle, or
 /// writes the log anew to the spare disk, where the words, the program's own name in front, are a usage, and gives the status. The mirrors
@@ -75,6 +75,8 @@ fn answer<D: Disk, I: Source, O: Sink>(
         (Rose (D.faults log.old) (D.faults log.new)) (Rose (I.faults input.old) (I.faults input.new)) (Rose (O.faults output.old) (O.faults output.new)) result changes before after) }
     ensures over { IsUsage Mode.Run (map string_bytes words.now) → WhereTold (I.left input.old) (I.left input.new) (λ before after. IsOverBy standard.input result (length before)) }
     ensures refuses { IsUsage Mode.Run (map string_bytes words.now) → IfSome (D.bytes log.old) (λ bytes. StatusRefuses standard.log bytes result) }
+    ensures no_log { IsUsage Mode.Run (map string_bytes words.now)
+        → WhereTold (seen (D.told log.old) (I.left input.old) (O.taken output.old)) (seen (D.told log.new) (I.left input.new) (O.taken output.new)) (EndRefuses standard result) }
     ensures unwritten { result ≡ 4 → Goes IsUntouched (D.told log.old) (D.told log.new) × (input.new ≡ input.old) × (output.new ≡ output.old) × (mirrors.new ≡ mirrors.old) }
     ensures demo { (size start : ℕ) → IsDemo size start (map string_bytes words.now) → WhereTold (O.taken output.old) (O.taken output.new) (DemoMeans size start result) }
     ensures aside { IsUsage Mode.Demo (map string_bytes words.now) → IsDemoStatus result × (log.new ≡ log.old) × (mirrors.new ≡ mirrors.old) × (input.new ≡ input.old) }
@@ -94,6 +96,7 @@ fn answer<D: Disk, I: Source, O: Sink>(
     ensures kept { (w : World Name) → IsUsage Mode.Compact (map string_bytes words.now) → Goes (KeepsHolding standard.log w) (D.told log.old) (D.told log.new) }
     ensures anew { IsUsage Mode.Compact (map string_bytes words.now)
         → (mirrors.new ≡ mirrors.old) × (input.new ≡ input.old) × ((result ≡ 0) ⊎ ((result ≡ 6) ⊎ (output.new ≡ output.old))) }
+    ensures loaded { IsUsage Mode.Bundle (map string_bytes words.now) ⊎ IsUsage Mode.Compact (map string_bytes words.now) → Goes LeavesOldOrFresh (D.told log.old) (D.told log.new) }
     ensures quiet { IsOneOf (2 ∷ 7 ∷ 10 ∷ 11 ∷ 13 ∷ 14 ∷ 15 ∷ []) result → (input.new ≡ input.old) × (output.new ≡ output.old) × (mirrors.new ≡ mirrors.old) }
     ensures untouched { result ≡ 2 → log.new ≡ log.old }
     ensures disk { result ≡ 3 → Rose (D.faults log.old) (D.faults log.new) }
@@ -119,25 +122,6 @@ fn words_of(rt: &HostRuntime) -> Result<Vec<String>, u8> {
         .map_err(|_refused| NO_MEMORY)
 }
 
-/// The file at this path with this behind it; it is made where there is none. Nothing is opened yet.
-fn disk_at(rt: &HostRuntime, path: &str, ending: &str) -> Result<FileDisk<HostRuntime>, AllocError>
-    ensures make { IfOk result (λ disk. disk.make ≡ true) }
-    ensures path { IfOk result (λ disk. string_bytes disk.path ≡ path.now ++ ending.now) }
-{
-    let path = format!(in rt.alloc(); "{path}{ending}")?;
-    Ok(FileDisk::new(rt.clone()?, path, true))
-}
-
-/// The program's own status: where the disk failed and the log was never opened it is another one.
-fn own_status(status: u8, is_opened: bool) -> u8
-    ensures { result ≡ if status == 3 && not is_opened then 9 else status }
-{
-    if status == DISK_FAILED && !is_opened {
-        return NOT_OPENED;
-    }
-    status
-}
-
 /// Answers the lines of standard input on standard output over this log, beside these mirrors, and gives the status.
 fn run_on(
     rt: &HostRuntime,
@@ -161,39 +145,60 @@ fn run_on(
     )
 }
 
-/// The same over the log at this path. Its spare file has `.new` behind the path.
+/// The same over the log at this path, which is used so. Where another process has it the status says so, and nothing is done.
 fn run_over(
     rt: &HostRuntime,
     words: &[String],
     path: &str,
+    access: Access,
     mirrors: &mut Mirrors,
 ) -> Result<u8, AllocError>
     requires { length words.now < 2 ^ 32 }
 {
-    let mut log = disk_at(rt, path, "")?;
-    let mut spare = disk_at(rt, path, ".new")?;
-    let status = run_on(rt, words, &mut log, &mut spare, mirrors);
-    Ok(own_status(status, log.opened()))
+    let mut files = files_at(rt, path, access)?;
+    if files.log.is_anothers() {
+        return Ok(NOT_OURS);
+    }
+    let status = run_on(rt, words, &mut files.log, &mut files.spare, mirrors);
+    Ok(own_status(status, &files.log))
 }
 
-/// The same beside the remotes that these words name: bundles, where `bundle:` stands in front of the path, and else logs.
+/// Whether the words are those of a run, which alone asks who is behind a pipe.
+fn is_run(alloc: Global, words: &[String]) -> bool
+    requires { length words.now < 2 ^ 32 }
+{
+    let Some(mode) = mode_of(words) else {
+        return false;
+    };
+    match read_words(alloc, mode) {
+        Ok(usage) => usage.mode == Mode::Run,
+        Err(_) => false,
+    }
+}
+
+/// The same beside the remotes that these words name: bundles, where `bundle:` stands in front of the path, mirrors behind pipes, where
+/// `pipe:` does, and else logs.
 fn run_beside(
     rt: &HostRuntime,
     words: &[String],
     remotes: &[String],
     path: &str,
+    access: Access,
 ) -> Result<u8, AllocError>
     requires words { length words.now < 2 ^ 32 }
     requires remotes { length remotes.now < 2 ^ 32 }
 {
+    let is_run = is_run(rt.alloc(), words);
     let mut list: Vec<Box<dyn Remote>> = Vec::with_capacity(rt.alloc(), remotes.len())?;
     'remotes: for word in remotes {
-        match bundle_path(word.as_str()) {
-            Some(path) => list.push_reserved(bundle_at(rt, path)?),
-            None => list.push_reserved(log_at(rt, word.as_str())?),
+        match named_by(word.as_str(), is_run) {
+            Named::Log(path) => list.push_reserved(log_at(rt, path)?),
+            Named::Bundle(path) => list.push_reserved(bundle_at(rt, path)?),
+            Named::Pipe(to, from) => list.push_reserved(pipe_at(rt, to, from)?),
+            Named::Unasked => {}
         }
     }
-    run_over(rt, words, path, &mut Mirrors::new(list))
+    run_over(rt, words, path, access, &mut Mirrors::new(list))
 }
 
 /// Answers the lines of standard input on standard output, and gives the status.
@@ -205,12 +210,16 @@ fn run(rt: &HostRuntime) -> Result<u8, u8> {
     let Some(path) = log_of(&words) else {
         return Err(NO_USAGE);
     };
+    let Some(mode) = mode_of(&words) else {
+        return Err(NO_USAGE);
+    };
+    let access = access_of(rt.alloc(), mode)?;
     let remotes = remotes_of(&words);
-    run_beside(rt, &words, remotes, path).map_err(|_refused| NO_MEMORY)
+    run_beside(rt, &words, remotes, path, access).map_err(|_refused| NO_MEMORY)
 }
 
 /// Ends with the status that a run gave, or with that for which none began. Where the words were no usage it says on standard error how
-/// the program is called.
+/// the program is called, and where another process has the log it says so.
 fn end(rt: &HostRuntime, ended: Result<u8, u8>) -> ExitCode
     ensures { MatchResult ended (λ status. exit_status result ≡ status) (λ status. exit_status result ≡ status) }
 {
@@ -219,7 +228,12 @@ fn end(rt: &HostRuntime, ended: Result<u8, u8>) -> ExitCode
     };
     if status == NO_USAGE {
         eprintln!(rt;
-            "usage: segdag LOG [REMOTE]... -- MODE [--cache N] [--size N] [--start N]"
+            "usage: segdag LOG [REMOTE]... -- MODE [--cache N] [--size N] [--start N] [--wait]"
+        ).ok();
+    }
+    if status == NOT_OURS {
+        eprintln!(rt;
+            "segdag: another process has the log; with --wait this one waits for it"
         ).ok();
     }
     ExitCode::from(status)

@@ -1,12 +1,15 @@
 //! The remotes that the words of the command line name.
 
-ghost use Rattle.std.specs.Prelude.{◌≡◌, ◌<◌, ◌≤◌, ◌-◌, ◌^◌, ℕ, List, false, length, map, take, drop, string_bytes, IfOk, IfSome, IfNone};
+ghost use Rattle.std.specs.Prelude.{◌≡◌, ◌<◌, ◌≤◌, ◌-◌, ◌^◌, ◌++◌, ◌∷◌, ℕ, Bool, List, codes, length, map, take, drop, string_bytes, IfOk, IfSome, IfNone};
 ghost use Rattle.change_rules.specs.Standard.{standard};
-ghost use Rattle.segdag.specs.Remotes.{remote_words, IsBundleWord};
+ghost use Rattle.outside.specs.Parts.{HasNone};
+ghost use Rattle.segdag.specs.Remotes.{remote_words, IsBundleWord, IsPipeWord, NamesSo};
 
 use dag_run::split_words;
-use file_disk::FileDisk;
+use file_disk::{Access, FileDisk};
+use pipe_files::{PipeSink, PipeSource};
 use remote_bundle::BundleRemote;
+use remote_pipe::{Ends, PipeRemote};
 use remote_store::{Limits, StoreRemote};
 use std::alloc::AllocError;
 
@@ -15,11 +18,11 @@ const BUNDLE_LIMIT: u64 = 1 << 30;
 
 /// The file at this path, for reading alone. It has to be there when it is read, and nothing is opened yet.
 fn file_at(rt: &HostRuntime, path: &str) -> Result<FileDisk<HostRuntime>, AllocError>
-    ensures make { IfOk result (λ disk. disk.make ≡ false) }
+    ensures access { IfOk result (λ disk. disk.access ≡ Access.Read) }
     ensures path { IfOk result (λ disk. string_bytes disk.path ≡ path.now) }
 {
     let path = format!(in rt.alloc(); "{path}")?;
-    Ok(FileDisk::new(rt.clone()?, path, false))
+    Ok(FileDisk::new(rt.clone()?, path, Access::Read))
 }
 
 /// The log at this path as a remote. It may have as many bytes as the program's own log.
@@ -44,6 +47,95 @@ pub fn bundle_at(
     let disk = file_at(rt, path)?;
     let remote = Box::new(rt.alloc(), BundleRemote::new(disk, BUNDLE_LIMIT))?;
     Ok(remote)
+}
+
+/// The mirror behind the pipe of which the first path is written and the second read. Neither is opened yet.
+pub fn pipe_at(
+    rt: &HostRuntime,
+    to: &str,
+    from: &str,
+) -> Result<Box<PipeRemote<Ends<PipeSource, PipeSink>>>, AllocError> {
+    let input = source_at(rt, from)?;
+    let output = sink_at(rt, to)?;
+    let remote = Box::new(rt.alloc(), PipeRemote::new(Ends::new(input, output)))?;
+    Ok(remote)
+}
+
+/// The end at this path that is read.
+fn source_at(rt: &HostRuntime, path: &str) -> Result<PipeSource, AllocError>
+    ensures { IfOk result (λ source. string_bytes source.path ≡ path.now) }
+{
+    let path = format!(in rt.alloc(); "{path}")?;
+    Ok(PipeSource::new(rt.clone()?, path))
+}
+
+/// The end at this path that is written.
+fn sink_at(rt: &HostRuntime, path: &str) -> Result<PipeSink, AllocError>
+    ensures { IfOk result (λ sink. string_bytes sink.path ≡ path.now) }
+{
+    let path = format!(in rt.alloc(); "{path}")?;
+    Ok(PipeSink::new(rt.clone()?, path))
+}
+
+/// What the word of a remote names.
+#[derive(Clone, Copy)]
+pub enum Named<'a> {
+    /// The log at this path.
+    Log(&'a str),
+    /// The bundle at this path.
+    Bundle(&'a str),
+    /// The mirror behind a pipe, of which the first path is written and the second read.
+    Pipe(&'a str, &'a str),
+    /// A mirror behind a pipe, which only a run asks.
+    Unasked,
+}
+
+/// What the word names.
+pub fn named_by<'a>(word: &'a str, is_run: bool) -> Named<'a>
+    ensures { NamesSo is_run word.now result }
+{
+    match pipe_paths(word) {
+        Some((to, from)) if is_run => Named::Pipe(to, from),
+        Some(_) => Named::Unasked,
+        None => kept_by(word),
+    }
+}
+
+/// What a word names that names no pipe.
+fn kept_by<'a>(word: &'a str) -> Named<'a>
+    requires { (to from : List ℕ) → IsPipeWord to from word.now → ⊥ }
+    ensures { (is_run : Bool) → NamesSo is_run word.now result }
+{
+    match bundle_path(word) {
+        Some(path) => Named::Bundle(path),
+        None => Named::Log(word),
+    }
+}
+
+/// The paths of the pipe that the word of a remote names: what stands behind `pipe:`, up to the next colon and behind it. `None` where it
+/// names no pipe.
+pub fn pipe_paths<'a>(word: &'a str) -> Option<(&'a str, &'a str)>
+    ensures some { IfSome result (λ paths. IsPipeWord paths.0.now paths.1.now word.now) }
+    ensures none { IfNone result ((to from : List ℕ) → IsPipeWord to from word.now → ⊥) }
+{
+    let paths = behind_pipe(word)?;
+    split_at_colon(paths)
+}
+
+/// What stands behind `pipe:`.
+fn behind_pipe<'a>(word: &'a str) -> Option<&'a str>
+    ensures some { IfSome result (λ paths. word.now ≡ codes "pipe:" ++ paths.now) }
+    ensures none { IfNone result ((paths : List ℕ) → word.now ≡ codes "pipe:" ++ paths → ⊥) }
+{
+    word.strip_prefix("pipe:")
+}
+
+/// What stands before the first colon, and behind it. `None` where there is none.
+fn split_at_colon<'a>(text: &'a str) -> Option<(&'a str, &'a str)>
+    ensures some { IfSome result (λ parts. (text.now ≡ parts.0.now ++ 58 ∷ parts.1.now) × HasNone 58 parts.0.now) }
+    ensures none { IfNone result ((to from : List ℕ) → text.now ≡ to ++ 58 ∷ from → ⊥) }
+{
+    text.split_once(':')
 }
 
 /// The path of the bundle that the word of a remote names: what stands behind `bundle:`. `None` where it names a log.

@@ -1,7 +1,7 @@
 //! A remote whose file isn't there.
 
 use crate::logs::drawn::name_of;
-use file_disk::FileDisk;
+use file_disk::{Access, FileDisk};
 use remote_store::{Limits, StoreRemote};
 use remote_trait::{Remote, RemoteFault};
 use std::alloc::{AllocError, Global};
@@ -10,7 +10,7 @@ use std::test::Fail;
 /// A remote of a file that isn't there.
 fn missing(rt: &HostRuntime) -> Result<StoreRemote<FileDisk<HostRuntime>>, AllocError> {
     let path = format!(in rt.alloc(); "a log that is not there")?;
-    let disk = FileDisk::new(rt.clone()?, path, false);
+    let disk = FileDisk::new(rt.clone()?, path, Access::Read);
     Ok(StoreRemote::new(disk, Limits::standard()))
 }
 

@@ -47,6 +47,8 @@ impl Disk for GrowingDisk {
 
     ghost told = { λ _. None };
 
+    ghost meanwhile = { λ _. None };
+
     ghost faults = { λ _. 0 };
 
     ghost tells = { λ _. tt };

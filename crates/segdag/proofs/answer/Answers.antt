@@ -1,4 +1,4 @@
-use Rattle.std.proofs.Common.{◌≡◌, sym, subst}
+use Rattle.std.proofs.Common.{◌≡◌, inl, inr, ⊎_elim, sym, subst}
 use Rattle.std.specs.Prelude.{MatchOption}
 use Rattle.outside.proofs.ToldLemmas.{WhereTold-map}
 use Rattle.dag_run.specs.Modes.{IsUsageOf, IsRunOf, IsDemoOf, HasModeStatus, RefusesWords}
@@ -72,3 +72,10 @@ pub returns-clause-anew : goal.returns-clause-anew
 returns-clause-anew g c = λ used.
     let anew = c.top.ensures.anew (subst (λ mode. MatchOption mode ⊥ (IsUsageOf Compact)) c.in-Some.ensures used) in
     (anew.0, anew.1, anew.3)
+
+pub returns-clause-loaded : goal.returns-clause-loaded
+returns-clause-loaded g c = λ used. c.top.ensures.loaded
+    (⊎_elim (λ b. inl (subst (λ mode. MatchOption mode ⊥ (IsUsageOf Bundle)) c.in-Some.ensures b)) (λ k. inr (subst (λ mode. MatchOption mode ⊥ (IsUsageOf Compact)) c.in-Some.ensures k)) used)
+
+pub returns-clause-no_log : goal.returns-clause-no_log
+returns-clause-no_log g c = λ used. c.top.ensures.no_log (subst (λ mode. MatchOption mode ⊥ (IsUsageOf Run)) c.in-Some.ensures used)

@@ -1,0 +1,12 @@
+pub mod Items
+pub mod ItemsInTurn
+pub mod ListsRead
+pub mod AnswerReads
+pub mod BodiesRead
+pub mod FramesPut
+pub mod Asking
+pub mod Blocks
+pub mod Mirrors
+pub mod RemoteCalls
+pub mod Framing
+pub mod Taking

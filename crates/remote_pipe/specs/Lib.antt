@@ -1,0 +1,7 @@
+pub mod Answering
+pub mod Reading
+pub mod Peer
+pub mod Exchange
+pub mod Line
+pub mod Remote
+pub mod Steps
