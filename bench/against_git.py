@@ -8,7 +8,11 @@ import time
 from collections import Counter
 from pathlib import Path
 
+from end_to_end import TOOLS, table
 from history import lines
+
+sys.path.insert(0, str(TOOLS))
+from segdag_lines import Program  # noqa: E402: it stands in tools/
 
 PROGRAM = os.path.abspath(sys.argv[1])
 EACH = 10_000  # commits between two flushes
@@ -78,25 +82,18 @@ class Store:
     """A run of the program over the log, loaded before the first question. An answer of too many names is None."""
 
     def __init__(self, log):
-        self.process = subprocess.Popen([PROGRAM, log, "--", "run"], stdin=subprocess.PIPE, stdout=subprocess.PIPE)
-        self.ask(["status"])
+        self.lines = Program([PROGRAM, log, "--", "run"])
+        self.lines.must("status")
 
     def ask(self, questions):
         """The names and numbers of each answer, and the seconds that all took."""
         begun = time.perf_counter()
         answers = []
         for question in questions:
-            self.process.stdin.write(f"0 {question}\n".encode())
-            self.process.stdin.flush()
-            names = []
-            for line in self.process.stdout:
-                if line[:3] in (b"ok ", b"err"):
-                    break
-                names.append(line)
-            is_long = line.startswith(b"err answer")
-            if line[:2] != b"ok" and not is_long:
-                stop(f"{question[:80]}: {line.decode()}")
-            answers.append(None if is_long else (names, line.split()[1:]))
+            reply = self.lines.ask(question)
+            if not reply.ok and not reply.last.startswith("err answer"):
+                stop(f"{question[:80]}: {reply.last}")
+            answers.append((reply.text.splitlines(), [word.encode() for word in reply.words]) if reply.ok else None)
         return answers, time.perf_counter() - begun
 
 
@@ -216,6 +213,14 @@ def first_parents(table, names, draw):
     table.tell("the n-th first parent, n below 1,000", ours / STEPS, theirs / STEPS)
 
 
+def ends(git, names):
+    """The table from process to process."""
+    progress("from process to process")
+    draw = random.Random(2)
+    table(git.folder, PROGRAM, pairs(draw, names, 2, True), pairs(draw, names, 2, False), stop)
+    return 0
+
+
 def main():
     if not os.access(PROGRAM, os.X_OK):
         stop(f"{PROGRAM} isn't built; make run builds it")
@@ -233,16 +238,17 @@ def main():
         rows = listed.stdout.splitlines()
         if len(rows) < 2:
             stop("the repository has no two commits")
-        most = max(rows, key=len)
-        if most.count(" ") > 8:
-            stop(f"commit {most[:40]} has {most.count(' ')} parents, and a log holds at most 8")
+        if max(row.count(" ") for row in rows) > 8:
+            # The program's own words know no stand-ins, which `git segdag` leaves out.
+            print("Only from process to process, since there are merges of more than eight parents.")
+            return ends(git, [row[:40] for row in rows])
         progress("the log is written")
         stored_took = store_all(rows, log, folder)
         names = [row[:40] for row in rows]
         begun = time.perf_counter()
-        table = Table(git, Store(log))
+        found = Table(git, Store(log))
         loaded_took = time.perf_counter() - begun
-        ask_all(table, names, names[-1])
+        ask_all(found, names, names[-1])
         progress("")
         parents = Counter(row.count(" ") for row in rows)
         graph = Path(repository, "objects/info/commit-graph").stat().st_size
@@ -251,10 +257,11 @@ def main():
         print(f"git lists the history in {listed_took:.2f} s and writes its commit-graph, {graph / len(rows):.0f} bytes a commit, "
               f"in {graph_took:.2f} s.")
         print(f"segdag stores it in {stored_took:.2f} s, {size / len(rows):.0f} bytes a commit, and loads it in {loaded_took:.3f} s.")
+        progress("")
         print("Each answer was compared, name by name. A git process that does nothing took "
               f"{max(git.floor.values()) * 1000:.1f} ms at most; that is taken off.\n")
-        table.put()
-    return 0
+        found.put()
+        return ends(git, names)
 
 
 if __name__ == "__main__":

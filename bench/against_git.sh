@@ -2,7 +2,8 @@
 # The same questions, asked of the built program and of git with its commit-graph, over one history. Behind `make run`.
 #     bench/against_git.sh [REPOSITORY | COMMITS]
 # A repository is copied by its references and left as it is; of so many commits (100,000 where nothing is said) one is drawn. The answers are
-# compared name by name, and the status is 1 where one differs. Then one table is printed: milliseconds for each question.
+# compared name by name, and the status is 1 where one differs. Then two tables are printed, milliseconds
+# for each question: by itself, and from the start of a process to its end.
 set -eu
 cd "$(dirname "$0")/.."
 for wanted in git python3; do

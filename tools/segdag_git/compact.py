@@ -1,0 +1,37 @@
+"""`git segdag compact`: the log is written anew by the program, and takes the old one's place."""
+import os
+import shutil
+from contextlib import suppress
+
+from segdag_lines import DEVNULL, PIPE, Popen, Refused, end_of
+
+from .daemon import serves
+from .place import patient, program
+
+
+def compact(place):
+    place.must_have_commits()
+    with place.changing() as held:
+        if serves(place):
+            raise Refused("a daemon has the log: `git segdag daemon stop` ends it")
+        fresh = place.log + ".new"
+        # Who was killed behind the writing left one.
+        with suppress(FileNotFoundError):
+            os.unlink(fresh)
+        told = patient(lambda more: written(place.log, more, held), place.log)
+        shutil.copymode(place.log, fresh)
+        os.replace(fresh, place.log)
+        folder = os.open(place.folder, os.O_RDONLY)
+        os.fsync(folder)
+        os.close(folder)
+        master, others, old, new = (int(word) for word in told[2:6])
+        print(f"{master + others} rows in the log, {new} bytes in place of {old}")
+
+
+def written(log, more, held):
+    """The words of the program's reply, when the new log is whole."""
+    child = Popen([program(), log, "--", "compact", *more], stdin=DEVNULL, stdout=PIPE, stderr=DEVNULL, pass_fds=(held,))
+    told = child.communicate()[0].split()
+    if child.returncode != 0 or told[:2] != [b"ok", b"compacted"]:
+        raise Refused(f"{log}: {end_of(child.returncode)}", child.returncode)
+    return told
