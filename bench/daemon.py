@@ -1,0 +1,196 @@
+#!/usr/bin/env python3
+"""Times tools/segdagd: lines a second of 1, 4 and 16 clients beside the program's own pipe, and how long a merge base takes.
+
+Usage: bench/daemon.py [COMMITS [LINES]], behind `make run`; SEGDAG may say where the program is. Each client is a
+process that sends as far ahead as its socket takes, and the same process measures the pipe. What a kind of line is
+answered through the pipe, and through the daemon by each number of clients, stands in one row; each is the best of three.
+"""
+import os
+import random
+import select
+import shutil
+import socket
+import subprocess
+import sys
+import tempfile
+import time
+from contextlib import suppress
+from pathlib import Path
+
+from history import lines, name
+
+TOP = Path(__file__).resolve().parent.parent
+PROGRAM = os.environ.get("SEGDAG") or str(TOP / "crates/segdag/out/segdag")
+SEGDAGD = TOP / "tools/segdagd"
+
+
+def carry(to, back, text, count):
+    """Sends the text while it reads replies, until there are so many. Each has one letter k, in its `ok`, and no name has any."""
+    waiting, at = select.poll(), 0
+    both = select.POLLIN | select.POLLOUT
+    waiting.register(back, both if to == back else select.POLLIN)
+    if to != back:
+        waiting.register(to, select.POLLOUT)
+    for place in {to, back}:
+        os.set_blocking(place, False)
+    while count > 0:
+        for place, event in waiting.poll():
+            if event & select.POLLOUT:
+                at += os.write(to, text[at : at + 65536])
+                if at == len(text):
+                    waiting.modify(to, select.POLLIN) if to == back else waiting.unregister(to)
+            if event & ~select.POLLOUT:
+                piece = os.read(back, 65536)
+                if not piece:
+                    sys.exit("daemon: it ended before it replied")
+                count -= piece.count(b"k")
+
+
+def client(path, given):
+    """A process that says when it has a session, waits to be told to go on, sends what the file has, and says when it is done."""
+    text = memoryview(Path(given).read_bytes())
+    count = bytes(text).count(b"\n")
+    with socket.socket(socket.AF_UNIX, socket.SOCK_STREAM) as sock:
+        sock.connect(path)
+        sock.sendall(b"status\n")
+        sock.recv(100)
+        print("ready", flush=True)
+        sys.stdin.readline()
+        carry(sock.fileno(), sock.fileno(), text, count)
+        print("done", flush=True)
+
+
+def by_pipe(log, text):
+    """How many lines a second the program answers through its pipe."""
+    with subprocess.Popen([PROGRAM, log, "--", "run"], stdin=subprocess.PIPE, stdout=subprocess.PIPE, bufsize=0) as ran:
+        ran.stdin.write(b"0 status\n")
+        ran.stdout.read(100)
+        prefixed = b"".join(b"0 " + line for line in text.splitlines(True))
+        begun = time.perf_counter()
+        carry(ran.stdin.fileno(), ran.stdout.fileno(), memoryview(prefixed), text.count(b"\n"))
+        taken = time.perf_counter() - begun
+        ran.stdin.close()
+    return text.count(b"\n") / taken
+
+
+def by_clients(path, files):
+    """How many lines a second the daemon answers, to a client for each file at once."""
+    words = [sys.executable, os.path.abspath(__file__), "client", path]
+    ran = [subprocess.Popen([*words, file], stdin=subprocess.PIPE, stdout=subprocess.PIPE, bufsize=0) for file in files]
+    for process in ran:
+        process.stdout.readline()
+    begun = time.perf_counter()
+    for process in ran:
+        process.stdin.write(b"\n")
+    for process in ran:
+        process.stdout.readline()
+    taken = time.perf_counter() - begun
+    for process in ran:
+        process.communicate()
+    return sum(Path(file).read_bytes().count(b"\n") for file in files) / taken
+
+
+def kinds(draw, commits, count):
+    """Lines of each kind, those of one client for each number."""
+    some = lambda: draw.randrange(commits)
+    near = lambda: (lambda i: (i, max(0, i - draw.randrange(1, 200))))(some())
+    pair = lambda i, j: f"gca(union({name(i)},{name(j)}))"
+    yield "status", lambda _: ["status"] * count
+    yield "id of a name", lambda _: [f"id {name(some())}" for _ in range(count)]
+    yield "add, a flush each thousand", lambda k: added(commits + 1_000_000 * (1 + k), min(count, 30_000))
+    yield "near merge base, counted", lambda _: [f"count {pair(*near())}" for _ in range(count)]
+    yield "near merge base by name", lambda _: [f"query {pair(*near())}" for _ in range(count // 4)]
+
+
+def added(first, count):
+    """A chain of so many commits that nobody else has."""
+    for i in range(first, first + count):
+        yield f"add {name(i)}" + (f" {name(i - 1)}" if i > first else "")
+        if i % 1000 == 999:
+            yield f"flush {name(i)}"
+
+
+def ask(sock, line):
+    sock.sendall(line)
+    reply = b""
+    while not reply.rpartition(b"\nok ")[1] and not reply.startswith(b"ok "):
+        reply += sock.recv(1 << 16)
+    return reply
+
+
+def latency(path, draw, commits, others):
+    """Milliseconds of a merge base, each from its line to its reply: the median and the 99th of a hundred, beside so many busy clients."""
+    with tempfile.NamedTemporaryFile(dir=os.path.dirname(path)) as given:
+        given.write(b"".join(b"id %s\n" % name(draw.randrange(commits)).encode() for _ in range(300_000 if others else 1)))
+        given.flush()
+        words = [sys.executable, os.path.abspath(__file__), "client", path, given.name]
+        ran = [subprocess.Popen(words, stdin=subprocess.PIPE, stdout=subprocess.PIPE, bufsize=0) for _ in range(others)]
+        for process in ran:
+            process.stdout.readline()
+            process.stdin.write(b"\n")
+        taken = []
+        with socket.socket(socket.AF_UNIX, socket.SOCK_STREAM) as sock:
+            sock.connect(path)
+            for _ in range(2000):
+                i = draw.randrange(commits)
+                line = f"query gca(union({name(i)},{name(max(0, i - draw.randrange(1, 200)))}))\n".encode()
+                begun = time.perf_counter()
+                ask(sock, line)
+                taken.append(1000 * (time.perf_counter() - begun))
+        for process in ran:
+            process.kill()
+            process.communicate()
+    taken.sort()
+    return taken[len(taken) // 2], taken[len(taken) * 99 // 100]
+
+
+def begin(log, path):
+    """A daemon, which listens."""
+    daemon = subprocess.Popen([sys.executable, SEGDAGD, log, "--socket", path], env=dict(os.environ, SEGDAG=PROGRAM))
+    while True:
+        with suppress(OSError), socket.socket(socket.AF_UNIX, socket.SOCK_STREAM) as sock:
+            sock.connect(path)
+            return daemon
+        time.sleep(0.01)
+
+
+def throughput(log, path, folder, make):
+    """Lines a second by the pipe, and by 1, 4 and 16 clients, each over a copy of the log."""
+    files, copy = [os.path.join(folder, f"lines{k}") for k in range(16)], log + ".copy"
+    for k, file in enumerate(files):
+        Path(file).write_text("".join(line + "\n" for line in make(k)))
+    rows = []
+    for _ in range(3):
+        shutil.copyfile(log, copy)
+        row = [by_pipe(copy, Path(files[0]).read_bytes())]
+        for clients in (1, 4, 16):
+            shutil.copyfile(log, copy)
+            daemon = begin(copy, path)
+            row.append(by_clients(path, files[:clients]))
+            daemon.terminate()
+            daemon.wait()
+        rows.append(row)
+    return [max(column) for column in zip(*rows)]
+
+
+def main():
+    commits = int(sys.argv[1]) if len(sys.argv) > 1 else 1_000_000
+    count = int(sys.argv[2]) if len(sys.argv) > 2 else 200_000
+    draw = random.Random(1)
+    with tempfile.TemporaryDirectory() as folder:
+        log, path = os.path.join(folder, "log"), os.path.join(folder, "socket")
+        text = "".join(line + "\n" for line in lines(commits, 1000)).encode()
+        subprocess.run([PROGRAM, log, "--", "run"], input=text, stdout=subprocess.DEVNULL, check=True)
+        print(f"lines a second over {commits} commits: by the program's pipe; by 1, 4 and 16 clients (load {os.getloadavg()[0]:.1f})", flush=True)
+        for kind, make in kinds(draw, commits, count):
+            print(f"{kind}: " + ", ".join(f"{number:,.0f}" for number in throughput(log, path, folder, make)), flush=True)
+        daemon = begin(log, path)
+        for others in (0, 3, 15):
+            middle, late = latency(path, draw, commits, others)
+            print(f"a near merge base beside {others} busy clients: {middle:.3f} ms at the median, {late:.3f} at the 99th", flush=True)
+        daemon.terminate()
+        daemon.wait()
+
+
+if __name__ == "__main__":
+    client(*sys.argv[2:]) if sys.argv[1:2] == ["client"] else main()

@@ -1,0 +1,232 @@
+"""One client of segdagd: the lines that came from it and wait for their turn, and the replies that it hasn't taken yet."""
+import os
+import tempfile
+from select import EPOLLIN, EPOLLOUT
+from time import monotonic
+
+LINE = 16_384 - 3  # bytes of a client's line: one of the program has 16,384, and the longest session's number and a space are three
+TOO_LONG = b"err line 16384\n"
+PIECE = 1 << 16  # bytes of one call of the system, and of lines that wait, before no more is read
+FIRST = 1 << 12  # the same of a client without a session
+UNREAD = 1 << 16  # with so many bytes of replies not taken, no line of the client is sent on
+KEPT = 1 << 20  # bytes of replies that are kept in memory; what is more goes to a file
+SETTLING = (b"flush", b"discard")  # lines behind which there may be nothing pending
+HEAVY = (b"query", b"count", b"pull", b"clone", b"strip")  # lines that may take long, or have large replies
+AHEAD = 32  # such lines of one client under way at most, where their replies are small
+SMALL, LARGE = 1 << 12, 1 << 16  # replies below the one let more heavy lines go ahead, those above the other one alone
+
+
+class Full(Exception):
+    """There is no room for a client's replies."""
+
+
+class Outbox:
+    """Replies that weren't taken: the first in memory, what comes behind a megabyte in a file without a name."""
+
+    def __init__(self, limit):
+        self.limit, self.held = limit, bytearray()
+        self.file, self.begin, self.end = None, 0, 0
+
+    def __len__(self):
+        return len(self.held) + self.end - self.begin
+
+    def put(self, data):
+        if self.begin == self.end and len(self.held) + len(data) <= KEPT:
+            self.held += data
+            return
+        if self.end + len(data) > self.limit:
+            raise Full
+        try:
+            if self.file is None:
+                self.file = tempfile.TemporaryFile(buffering=0)
+            if os.pwrite(self.file.fileno(), data, self.end) != len(data):
+                raise Full
+        except OSError as error:
+            raise Full from error
+        self.end += len(data)
+
+    def refill(self):
+        """Takes a piece of the file to memory."""
+        self.held += os.pread(self.file.fileno(), min(PIECE, self.end - self.begin), self.begin)
+        self.begin += len(self.held)
+        if self.begin == self.end:
+            self.close()
+
+    def give(self, sock):
+        """Sends what the socket takes, up to four pieces, so that others have their turn; how many bytes that were."""
+        sent = 0
+        for _ in range(4):
+            if not self.held and self.begin < self.end:
+                self.refill()
+            if not self.held:
+                break
+            try:
+                count = sock.send(self.held)
+            except BlockingIOError:
+                break
+            del self.held[:count]
+            sent += count
+        return sent
+
+    def close(self):
+        if self.file is not None:
+            self.file.close()
+        self.file, self.begin, self.end = None, 0, 0
+
+
+class Client:
+    """A connection. It has a session from the moment on at which one is free, and lines are sent on once that is renewed."""
+
+    def __init__(self, sock, number, limit):
+        self.sock, self.number = sock, number
+        self.session, self.prefix = None, b""
+        self.is_ready = self.is_known = self.is_over = self.is_told = self.is_gone = False
+        # Whole lines, of which the first `at` were sent on; one that is too long is None. `part` is what stands behind the last line feed.
+        self.lines, self.at, self.queued = [], 0, 0
+        self.part, self.is_skipping = b"", False
+        # A line among these may be heavy, or None. No line that adds may be sent on, or none behind the next one that stores or lets go.
+        self.is_mixed = self.holds_adds = self.is_settling = False
+        self.afloat, self.heavy, self.ahead = 0, 0, 1
+        self.outbox, self.moved, self.mask = Outbox(limit), 0.0, 0
+
+    def has_lines(self):
+        return self.at < len(self.lines)
+
+    def is_done(self):
+        """It sends nothing more and has all replies, or it had its last word."""
+        return not self.outbox and (self.is_told or self.is_over and not self.has_lines() and not self.afloat)
+
+    def wanted(self):
+        """What is to be told of its socket."""
+        limit = FIRST if self.session is None else PIECE
+        is_open = not self.is_over and not self.is_told and self.queued < limit
+        return EPOLLIN * is_open | EPOLLOUT * bool(self.outbox)
+
+    def read(self):
+        """Takes some bytes in; False where the connection is broken."""
+        try:
+            data = self.sock.recv(FIRST if self.session is None else PIECE)
+        except BlockingIOError:
+            return True
+        except OSError:
+            return False
+        if data:
+            self.take_in(data)
+        else:
+            # A line that no line feed ends may be half of one, of a client that was killed: it isn't carried out.
+            self.is_over, self.part = True, b""
+        return True
+
+    def take_in(self, data):
+        """Cuts bytes into lines. Those that get no reply, empty ones and comments, are left out."""
+        data = self.part + data
+        lines = data.split(b"\n")
+        self.part = lines.pop()
+        if lines and self.is_skipping:
+            lines[0], self.is_skipping = None, False
+        if self.is_skipping or len(self.part) > LINE + 1:
+            self.is_skipping, self.part = True, b""
+        if None in lines or b"" in lines or b"#" in data or b"\r" in data or len(max(lines, key=len, default=b"")) > LINE:
+            lines = [judged(line) for line in lines]
+            lines = [line for line in lines if line != b""]
+        if not lines:
+            return
+        self.is_mixed = self.is_mixed or None in lines or any(word in data for word in HEAVY)
+        self.queued += len(data)
+        self.lines = self.lines[self.at :] + lines
+        self.at = 0
+
+    def may_send(self):
+        """Whether its next line can be sent on."""
+        return self.is_ready and self.has_lines() and len(self.outbox) < UNREAD and self.pick(1) > 0
+
+    def refuse(self):
+        """Answers lines that are too long, when all in front of them are answered."""
+        while self.is_ready and self.has_lines() and self.lines[self.at] is None and not self.afloat and len(self.outbox) < UNREAD:
+            self.take(TOO_LONG)
+            self.passed(1)
+
+    def pick(self, most):
+        """How many of its next lines are sent on now."""
+        count = min(most, len(self.lines) - self.at)
+        if not self.is_mixed and not self.holds_adds and not self.is_settling:
+            return count
+        heavy = self.heavy
+        for place in range(count):
+            line = self.lines[self.at + place]
+            if line is None or self.holds_adds and line.startswith(b"add"):
+                return place
+            heavy += line.startswith(HEAVY)
+            if heavy > self.ahead:
+                return place
+            if self.is_settling and line.startswith(SETTLING):
+                return place + 1
+        return count
+
+    def next_lines(self, count):
+        """The next lines, which are now under way, and how many of them are heavy."""
+        lines = self.lines[self.at : self.at + count]
+        heavy = sum(line.startswith(HEAVY) for line in lines) if self.is_mixed else 0
+        if self.is_settling and lines[-1].startswith(SETTLING):
+            self.holds_adds, self.is_settling = True, False
+        self.afloat += count
+        self.heavy += heavy
+        self.passed(count)
+        return lines, heavy
+
+    def passed(self, count):
+        self.at += count
+        if not self.has_lines():
+            self.lines, self.at, self.queued, self.is_mixed = [], 0, 0, False
+
+    def take(self, data):
+        """Bytes of its replies."""
+        if self.is_gone or self.is_told:
+            return
+        if not self.outbox:
+            self.moved = monotonic()
+        self.outbox.put(data)
+
+    def answered(self, count, heavy, size):
+        """All replies to lines that were sent on at once were taken: of so many lines and heavy ones, and bytes."""
+        self.afloat -= count
+        self.heavy -= heavy
+        if size > LARGE:
+            self.ahead = 1
+        elif heavy and size < SMALL * heavy:
+            self.ahead = min(AHEAD, 2 * self.ahead)
+
+    def give(self):
+        """Sends replies as far as the client takes them; False where the connection is broken."""
+        try:
+            if self.outbox.give(self.sock):
+                self.moved = monotonic()
+        except OSError:
+            return False
+        return True
+
+    def tell(self, line):
+        """The last that it is told: what it sent and what is under way for it isn't answered any more."""
+        if self.is_told or self.is_gone:
+            return
+        if not self.outbox:
+            self.moved = monotonic()
+        try:
+            self.outbox.put(line)
+        except Full:
+            self.outbox.close()
+        self.lines, self.at, self.part, self.is_told = [], 0, b"", True
+
+    def close(self):
+        self.is_gone, self.is_ready = True, False
+        self.lines, self.at, self.part = [], 0, b""
+        self.outbox.close()
+        self.outbox.held.clear()
+        self.sock.close()
+
+
+def judged(line):
+    """A line as it is sent on, None where it is too long, and nothing where it gets no reply."""
+    if line is None or len(line) - line.endswith(b"\r") > LINE:
+        return None
+    return b"" if line in (b"", b"\r") or line.startswith(b"#") else line
