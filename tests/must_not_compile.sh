@@ -2,16 +2,11 @@
 # A log is taken by its commit and a store by its flush, so that a payload or a name that is lent from it must be let go before. No
 # contract can say so: here the compiler has to refuse a program that holds one longer, and to take the same program without that.
 # Nothing is proved here.
-set -eu
-cd "$(dirname "$0")/.."
+. "$(dirname "$0")/lib.sh"
 rt=${RT:-rt}
-if ! command -v "$rt" > /dev/null; then
-    echo "must_not_compile: there is no $rt, so this isn't tried"
-    exit 0
-fi
-
-copy=$(mktemp -d)
-trap 'rm -rf "$copy"' EXIT
+wants "$rt"
+wants_folder
+copy=$folder
 mkdir -p "$copy/crates/lent/src"
 grep -E '^[a-z_]+:' crates.txt | grep -vE '^(command_lines|dag_run|segdag|bench|remote_store|[a-z_]*_rows|run_rules):' > "$copy/crates.txt"
 for crate in $(cut -d: -f1 "$copy/crates.txt"); do

@@ -21,8 +21,15 @@ def fail(text):
     sys.exit(f"real_files: {text}")
 
 
-def skip(part, why):
+def skip(part, why, tool=None):
+    """Says that a part isn't tried, as tests/lib.sh does for a script; where it must be tried for that tool it is a failure."""
+    needed = os.environ.get("SEGDAG_NO_SKIP", "")
+    if tool in (["strace"] if needed == "1" else needed.split()):
+        fail(f"{part}: {why}")
     print(f"real_files: {part}: {why}, so this isn't tried")
+    if os.environ.get("SKIPPED"):
+        with open(os.environ["SKIPPED"], "a") as skipped:
+            skipped.write(f"real_files, {part}: {why}\n")
 
 
 def name(i):
@@ -192,7 +199,7 @@ def counted_calls(trace):
 def moments():
     """Each call on a log in turn fails, or the process is killed in it, or a signal interrupts it."""
     if shutil.which("strace") is None:
-        return skip("moments", "there is no strace")
+        return skip("moments", "there is no strace", "strace")
     trace = os.path.join(FOLDER, "trace")
     log = fresh("moments")
     tracing = ["strace", "-f", "-q", "-o", trace, "-P", log]
@@ -284,7 +291,7 @@ def anew():
 def anew_calls(log, data, whole, line):
     """The same by each call on the new file."""
     if shutil.which("strace") is None:
-        return skip("anew", "there is no strace")
+        return skip("anew", "there is no strace", "strace")
     new, trace = log + ".new", os.path.join(FOLDER, "trace")
     tracing = ["strace", "-f", "-q", "-o", trace, "-P", new]
     os.remove(new)
@@ -309,7 +316,7 @@ def anew_calls(log, data, whole, line):
 def order():
     """A commit writes its payload, makes sure of it, opens the gate, makes sure of that, and only then is the reply written."""
     if shutil.which("strace") is None:
-        return skip("order", "there is no strace")
+        return skip("order", "there is no strace", "strace")
     trace = os.path.join(FOLDER, "trace")
     log = fresh("order")
     tracing = ["strace", "-f", "-q", "-s", "16", "-o", trace, "-e", "trace=openat,write,fsync,fdatasync,ftruncate,pwrite64"]

@@ -1,16 +1,9 @@
 #!/bin/sh
 # What the built program makes of its words: those that are no usage end it with status 2 and one line on standard error, and a
 # usage without any input with status 0, and a log of one byte that it makes. Neither writes anything on standard output.
-set -eu
-cd "$(dirname "$0")/.."
-program=${PROGRAM:-$PWD/crates/segdag/out/segdag}
-if [ ! -x "$program" ]; then
-    echo "words: $program isn't built, so this isn't tried; make run builds it"
-    exit 0
-fi
-
-folder=$(mktemp -d)
-trap 'rm -rf "$folder"' EXIT
+. "$(dirname "$0")/lib.sh"
+wants_program
+wants_folder
 told=$folder/told
 cd "$folder"
 
