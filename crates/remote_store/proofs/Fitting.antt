@@ -125,7 +125,7 @@ fit-log limit bytes log h fit (inr (inr u)) = fit (subst AreNoRemote (one-log by
 pub peeked : (limit : ℕ) (b : Option (List ℕ)) (before now : ℕ) (fault : LoadLog) (f : RemoteFault) → ((f ≡ faults.Memory) ↔ (fault ≡ logs.Memory)) → ((x : _) → fault ≡ logs.Disk x → Rose before now)
     → IfSome b (λ bytes. Loads limit bytes (Err fault)) → IfSome b (λ bytes. PeeksLog limit bytes before now (Err f))
 peeked limit None before now fault f same cause h = tt
-peeked limit (Some bytes) before now fault faults.Memory same cause h = tt
+peeked limit (Some bytes) before now fault faults.Memory same cause h = subst (λ x. Loads limit bytes (Err x)) (same.0 refl) h
 peeked limit (Some bytes) before now (logs.Damaged at) faults.Failed same cause h = inr (inr (at, h.1))
 peeked limit (Some bytes) before now (logs.TooLarge size) faults.Failed same cause h = inr (inl h.0)
 peeked limit (Some bytes) before now (logs.Disk x) faults.Failed same cause h = inl (cause x refl)

@@ -9,3 +9,5 @@ pub mod Counting
 pub mod Fitting
 pub mod Honest
 pub mod Sound
+pub mod Growing
+pub mod Readings

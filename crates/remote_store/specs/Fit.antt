@@ -1,8 +1,10 @@
 -- Logs that are no remote's.
-use Rattle.std.specs.Prelude.{◌≡◌, ◌<◌, ◌⊎◌, ℕ, true, List, [], length}
+use Rattle.std.specs.Prelude.{◌≡◌, ◌<◌, ◌≤◌, ◌+◌, ◌⊎◌, ℕ, true, List, [], length}
 use Rattle.id_groups.specs.Name.{Name}
 use Rattle.commit_graph.specs.World.{World}
+use Rattle.disk_trait.specs.Meanwhile.{IsBetween, IsLengthBetween}
 use Rattle.gated_log.specs.Log.{IsLog, IsDamaged}
+use Rattle.gated_log.specs.Growing.{most_reads}
 use Rattle.batch_codec.specs.Payload.{Payload}
 use Rattle.change_rules.specs.Lawful.{AreLawful}
 use Rattle.change_rules.specs.Holding.{HoldPayloads, AreSpelled}
@@ -26,3 +28,13 @@ IsUnfit limit bytes =
     (limit < length bytes)
     ⊎ (((at : ℕ) × IsDamaged bytes at)
     ⊎ ((texts : List (List ℕ)) × IsLog bytes texts × AreNoRemote texts))
+
+-- of a log to which payloads are added between two moments: it has too many bytes at one of them, or more payloads come than are read on for
+abbrev pub IsTooLong : ℕ → (ℕ → List ℕ) → (ℕ → List (List ℕ)) → ℕ → ℕ → Type 0
+IsTooLong limit film payloads from to =
+    ((size : ℕ) × (limit < size) × IsLengthBetween film from to size) ⊎ (length (payloads from) + most_reads ≤ length (payloads to))
+
+-- the same, or no remote can be made of what it holds at some moment between
+abbrev pub IsUnfitMeanwhile : ℕ → (ℕ → List ℕ) → (ℕ → List (List ℕ)) → ℕ → ℕ → Type 0
+IsUnfitMeanwhile limit film payloads from to =
+    IsTooLong limit film payloads from to ⊎ ((moment : ℕ) × IsBetween from to moment × AreNoRemote (payloads moment))

@@ -3,8 +3,10 @@ use Rattle.std.specs.Prelude.{◌≡◌, ◌≤◌, ◌<◌, ◌⊎◌, ℕ, Lis
 use Rattle.id_groups.specs.Name.{Name}
 use Rattle.outside.specs.Counts.{Rose}
 use Rattle.commit_graph.specs.World.{World, IsNamedWorld}
+use Rattle.disk_trait.specs.Meanwhile.{Meanwhile, Lasts}
 use Rattle.gated_log.specs.Log.{IsDamaged}
 use Rattle.gated_log.specs.Load.{IsLogOf}
+use Rattle.gated_log.specs.Growing.{IsGrowing, AreOfMoment}
 use Rattle.gated_log.specs.Held.{Held, log_bytes}
 use Rattle.batch_codec.specs.Grammar.{count_after}
 use Rattle.name_map.specs.Added.{Placed, payloads_of, known_of, AllStand}
@@ -16,7 +18,7 @@ use Rattle.payload_tables.specs.Bases.{flat_segments_in}
 use Rattle.remote_trait.specs.declared.fault.RemoteFault.{RemoteFault}
 use Rattle.remote_trait.specs.declared.fault.RemoteFault.TheVariants.{Failed, Memory}
 use Rattle.remote_store.specs.Told.{texts_within}
-use Rattle.remote_store.specs.Fit.{IsUnfit, AreUnlawful}
+use Rattle.remote_store.specs.Fit.{IsUnfit, IsUnfitMeanwhile, IsTooLong, AreUnlawful}
 use Rattle.remote_answers.specs.Paths.{IsReachedBy}
 use Rattle.remote_answers.specs.declared.reached.Reached.{Reached}
 
@@ -43,11 +45,12 @@ abbrev pub IsLoaded : Held → PlainTables → PlainPending → Reached → Type
 IsLoaded log tables none reached =
     (read : IsRead log tables none) × IsReachedBy (flat_segments_in read.of_world) read.of_world.master reached
 
--- what a disk's bytes answer to who reads the log: the log; or a failure, since they are none or the count of the disk's faults rose
+-- what a disk's bytes answer to who reads the log: the log; or a failure, since they are none or the count of the disk's faults rose; no
+-- memory is wanted for more bytes than the limit
 abbrev pub PeeksLog : ℕ → List ℕ → ℕ → ℕ → Result Held RemoteFault → Type 0
 PeeksLog limit bytes before now (Ok log) = IsLogOf limit bytes log
 PeeksLog limit bytes before now (Err Failed) = Rose before now ⊎ ((limit < length bytes) ⊎ ((at : ℕ) × IsDamaged bytes at))
-PeeksLog limit bytes before now (Err Memory) = ⊤
+PeeksLog limit bytes before now (Err Memory) = length bytes ≤ limit
 
 -- what is made of the texts: tables of lawful payloads; or a failure, since they aren't lawful
 abbrev pub MakesOf : Held → Result PlainTables RemoteFault → Type 0
@@ -56,8 +59,21 @@ MakesOf log (Err Failed) = AreUnlawful log.payloads
 MakesOf log (Err Memory) = ⊤
 
 -- what reading answers over these bytes: the log's texts; or a failure, since no remote can be made of them or the count of the disk's
--- faults rose
+-- faults rose; no memory is wanted for more bytes than the limit
 abbrev pub Peeks : ℕ → List ℕ → ℕ → ℕ → Result (List (List ℕ)) RemoteFault → Type 0
 Peeks limit bytes before now (Ok texts) = (texts_within limit bytes ≡ Some texts) × (IsUnfit limit bytes → ⊥)
 Peeks limit bytes before now (Err Failed) = Rose before now ⊎ IsUnfit limit bytes
-Peeks limit bytes before now (Err Memory) = ⊤
+Peeks limit bytes before now (Err Memory) = length bytes ≤ limit
+
+-- The same of a log to which another process adds payloads meanwhile: the log of some moment of the reading, or a failure, since the count
+-- of the disk's faults rose or none can be read meanwhile.
+abbrev pub PeeksLogGrown : ℕ → (ℕ → List (List ℕ)) → ℕ → ℕ → Result Held RemoteFault → Meanwhile → Meanwhile → Type 0
+PeeksLogGrown limit payloads before now (Ok log) old new = IsGrowing old.film payloads old.now → AreOfMoment payloads old.now new.now log.payloads
+PeeksLogGrown limit payloads before now (Err Failed) old new = IsGrowing old.film payloads old.now → Rose before now ⊎ IsTooLong limit old.film payloads old.now new.now
+PeeksLogGrown limit payloads before now (Err Memory) old new = ⊤
+
+-- and of its texts, of which a remote is made
+abbrev pub PeeksGrown : ℕ → (ℕ → List (List ℕ)) → ℕ → ℕ → Result (List (List ℕ)) RemoteFault → Meanwhile → Meanwhile → Type 0
+PeeksGrown limit payloads before now (Ok texts) old new = IsGrowing old.film payloads old.now → AreOfMoment payloads old.now new.now texts
+PeeksGrown limit payloads before now (Err Failed) old new = IsGrowing old.film payloads old.now → Rose before now ⊎ IsUnfitMeanwhile limit old.film payloads old.now new.now
+PeeksGrown limit payloads before now (Err Memory) old new = ⊤

@@ -1,8 +1,10 @@
 //! A log that was read, and what is made of it.
 
-ghost use Rattle.std.specs.Prelude.{◌≡◌, ◌≤◌, ◌<◌, ◌^◌, ◌↔◌, List, length, take, IfOk, IfSome, IsTrue, Err, OnOk};
+ghost use Rattle.std.specs.Prelude.{◌≡◌, ◌≤◌, ◌<◌, ◌^◌, ◌↔◌, ℕ, List, length, take, IfOk, IfSome, IsTrue, Err, OnOk};
+ghost use Rattle.outside.specs.Told.{WhereTold};
 ghost use Rattle.disk_trait.specs.Calls.{Goes};
-ghost use Rattle.gated_log.specs.Load.{OnlyReads};
+ghost use Rattle.disk_trait.specs.Meanwhile.{Lasts};
+ghost use Rattle.gated_log.specs.Load.{OnlyReads, after_reads};
 ghost use Rattle.name_map.specs.Added.{Placed};
 ghost use Rattle.payload_tables.specs.Kept.{AreTablesOf};
 ghost use Rattle.payload_tables.specs.Pending.{PlainPending};
@@ -17,7 +19,7 @@ ghost use Rattle.remote_store.specs.Told.{told_in};
 ghost use Rattle.remote_store.specs.Fit.{AreNoRemote};
 ghost use Rattle.remote_answers.specs.Master.{IsMasterIn};
 ghost use Rattle.remote_store.specs.Names.{AreLogNames};
-ghost use Rattle.remote_store.specs.Loaded.{Peeks, PeeksLog, MakesOf, HaveNames, IsRead};
+ghost use Rattle.remote_store.specs.Loaded.{Peeks, PeeksLog, PeeksGrown, PeeksLogGrown, MakesOf, HaveNames, IsRead};
 
 use crate::names::LogNames;
 use crate::reading::tables_of;
@@ -77,7 +79,10 @@ fn peek_log<D: Disk>(alloc: Global, disk: &mut D, limit: u64) -> Result<Log, Rem
     requires { (1 ≤ limit) × (limit ≤ 2 ^ 32) }
     ensures answers { IfSome (D.bytes disk.old) (λ bytes. PeeksLog limit bytes (D.faults disk.old) (D.faults disk.new) result) }
     ensures limit { IfOk result (λ log. log.limit ≡ limit) }
+    ensures grown { (payloads : ℕ → List (List ℕ)) → WhereTold (D.meanwhile disk.old) (D.meanwhile disk.new) (PeeksLogGrown limit payloads (D.faults disk.old) (D.faults disk.new) result) }
+    ensures lasts { WhereTold (D.meanwhile disk.old) (D.meanwhile disk.new) Lasts }
     ensures reads { Goes (OnlyReads 3) (D.told disk.old) (D.told disk.new) }
+    ensures done { OnOk result (Goes (λ old new. new ≡ after_reads 2 old) (D.told disk.old) (D.told disk.new)) }
     ensures later { D.faults disk.old ≤ D.faults disk.new }
 {
     match Log::peek(alloc, disk, limit) {
@@ -134,7 +139,10 @@ impl Loaded {
     ) -> Result<Loaded, RemoteFault>
         requires { (1 ≤ limit) × (limit ≤ 2 ^ 32) }
         ensures answers { IfSome (D.bytes disk.old) (λ bytes. Peeks limit bytes (D.faults disk.old) (D.faults disk.new) result) }
+        ensures grown { (payloads : ℕ → List (List ℕ)) → WhereTold (D.meanwhile disk.old) (D.meanwhile disk.new) (PeeksGrown limit payloads (D.faults disk.old) (D.faults disk.new) result) }
+        ensures lasts { WhereTold (D.meanwhile disk.old) (D.meanwhile disk.new) Lasts }
         ensures reads { Goes (OnlyReads 3) (D.told disk.old) (D.told disk.new) }
+        ensures done { OnOk result (Goes (λ old new. new ≡ after_reads 2 old) (D.told disk.old) (D.told disk.new)) }
         ensures later { D.faults disk.old ≤ D.faults disk.new }
     {
         let log = peek_log(alloc, disk, limit)?;

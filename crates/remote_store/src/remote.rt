@@ -1,6 +1,6 @@
 //! The remote.
 
-ghost use Rattle.std.specs.Prelude.{◌≡◌, ◌≤◌, ◌<◌, ◌^◌, true, false, length, take, IfOk, IfSome, OnOk, IsErrOf};
+ghost use Rattle.std.specs.Prelude.{◌≡◌, ◌≤◌, ◌<◌, ◌^◌, true, None, length, take, is_some, IfOk, IfSome, IsErrOf};
 ghost use Rattle.change_rules.specs.Standard.{AreLimits};
 ghost use Rattle.remote_trait.specs.declared.fault.RemoteFault.TheVariants.{Failed as FaultFailed};
 ghost use Rattle.remote_trait.specs.Calls.{Leaves, Refreshes, Fails, raised};
@@ -8,7 +8,7 @@ ghost use Rattle.remote_trait.specs.Honest.{AreNamesOf, IsPathOf};
 ghost use Rattle.remote_rules.specs.Clones.{IsCloneOf};
 ghost use Rattle.remote_rules.specs.Known.{master_world};
 ghost use Rattle.remote_rules.specs.Honest.{clone_data_of};
-ghost use Rattle.remote_store.specs.Remote.{mirror_of, rows_told, KeepsStore, HasStoreCause};
+ghost use Rattle.remote_store.specs.Remote.{mirror_of, rows_told, rows_kept, KeepsStore, HasStoreCause, ReadsAnew, ReadsWhereLacking};
 
 use crate::loaded::Loaded;
 use change_rules::Limits;
@@ -20,7 +20,8 @@ use std::marker::Model;
 use std::mem::replace;
 
 /// A log on a disk as a remote. It reads the log at its first call, at each `refresh`, and at the next call after one that answered a
-/// fault, and never writes.
+/// fault, at no other call, and never writes. Where another process adds to the log meanwhile, what it answers is of the log of some moment
+/// of its last reading.
 #[derive(Drop)]
 pub struct StoreRemote<D: Disk + Drop> {
     disk: D,
@@ -31,14 +32,14 @@ pub struct StoreRemote<D: Disk + Drop> {
 }
 
 impl<D: Disk + Drop> Model for StoreRemote<D> {
-    ghost use Rattle.std.specs.Prelude.{◌≡◌, ◌≤◌, ◌^◌, Some, IfSome, is_some};
+    ghost use Rattle.std.specs.Prelude.{◌≡◌, ◌≤◌, ◌^◌, Some, IfSome};
     ghost use Rattle.remote_store.specs.Told.{texts_within};
     ghost use Rattle.remote_store.specs.Fit.{IsUnfit};
-    ghost use Rattle.remote_store.specs.Remote.{PlainStore, bytes_in};
+    ghost use Rattle.remote_store.specs.Remote.{PlainRemote, bytes_in};
 
-    ghost Value = { PlainStore };
+    ghost Value = { PlainRemote D };
 
-    ghost view = { λ r. record { limit = r.limits.log; told = D.told r.disk; disk_faults = D.faults r.disk; faults = r.faults; asked = r.asked; is_kept = is_some r.kept } };
+    ghost view = { λ r. record { log = record { limit = r.limits.log; told = D.told r.disk; disk_faults = D.faults r.disk; faults = r.faults; asked = r.asked; kept = r.kept }; disk = r.disk } };
 
     ghost invariant = { λ r. (1 ≤ r.limits.log) × (r.limits.log ≤ 2 ^ 32)
         × IfSome (bytes_in (D.told r.disk)) (λ bytes. IfSome r.kept (λ texts. (texts_within r.limits.log bytes ≡ Some texts) × (IsUnfit r.limits.log bytes → ⊥))) };
@@ -48,7 +49,7 @@ impl<D: Disk + Drop> StoreRemote<D> {
     /// The log on this disk, within these limits. No call of the disk is made yet.
     pub fn new(disk: D, limits: Limits) -> StoreRemote<D>
         requires { AreLimits limits }
-        ensures { result ≡ record { limit = limits.log; told = D.told disk; disk_faults = D.faults disk; faults = 0; asked = 0; is_kept = false } }
+        ensures { result ≡ record { log = record { limit = limits.log; told = D.told disk; disk_faults = D.faults disk; faults = 0; asked = 0; kept = None }; disk = disk } }
     {
         StoreRemote {
             disk,
@@ -61,14 +62,16 @@ impl<D: Disk + Drop> StoreRemote<D> {
 
     /// Lets go of what is kept, so that the next call reads the log again.
     fn let_go(&mut self)
-        ensures { self.new ≡ record self.old { is_kept = false } }
+        ensures { self.new ≡ record { log = record self.old.log { kept = None }; disk = self.old.disk } }
     {
         drop(self.kept.take());
     }
 
-    /// Reads the log anew. A failure is counted.
+    /// Reads the log. A failure is counted.
     fn peek(&mut self, alloc: Global) -> Result<(), RemoteFault>
-        ensures { KeepsStore self.old self.new result }
+        requires { self.old.log.kept ≡ None }
+        ensures left { KeepsStore self.old.log self.new.log result }
+        ensures anew { ReadsAnew D.meanwhile self.old self.new result }
     {
         match Loaded::peek(alloc, &mut self.disk, self.limits.log) {
             Ok(loaded) => {
@@ -85,7 +88,8 @@ impl<D: Disk + Drop> StoreRemote<D> {
 
     /// Reads the log, if nothing is kept of it.
     fn keep(&mut self, alloc: Global) -> Result<(), RemoteFault>
-        ensures { KeepsStore self.old self.new result }
+        ensures left { KeepsStore self.old.log self.new.log result }
+        ensures log { ReadsWhereLacking D.meanwhile self.old self.new result }
     {
         if self.kept.is_some() {
             return Ok(());
@@ -95,18 +99,20 @@ impl<D: Disk + Drop> StoreRemote<D> {
 
     /// The clone data of what is kept.
     fn kept_clone(&self, alloc: Global) -> Result<CloneData, AllocError>
-        requires { self.now.is_kept ≡ true }
-        ensures { IfOk result (λ given. IfSome (rows_told self.now) (λ rows. IsCloneOf rows given × (given ≡ clone_data_of (master_world rows)))) }
+        requires { is_some self.now.log.kept ≡ true }
+        ensures told { IfOk result (λ given. IfSome (rows_told self.now.log) (λ rows. IsCloneOf rows given × (given ≡ clone_data_of (master_world rows)))) }
+        ensures kept { IfOk result (λ given. IfSome (rows_kept self.now.log) (λ rows. IsCloneOf rows given × (given ≡ clone_data_of (master_world rows)))) }
     {
         self.kept.as_ref().unwrap().clone_data(alloc)
     }
 
     /// Names from what is kept.
     fn kept_names(&self, x: &Name, back: u64, out: &mut [Name]) -> u32
-        requires kept { self.now.is_kept ≡ true }
+        requires kept { is_some self.now.log.kept ≡ true }
         requires few { length out.old < 2 ^ 32 }
         ensures count { result ≤ length out.old }
-        ensures names { IfSome (rows_told self.now) (λ rows. AreNamesOf rows x.now back (length out.old) (take result out.new)) }
+        ensures names { IfSome (rows_told self.now.log) (λ rows. AreNamesOf rows x.now back (length out.old) (take result out.new)) }
+        ensures kept { IfSome (rows_kept self.now.log) (λ rows. AreNamesOf rows x.now back (length out.old) (take result out.new)) }
     {
         self.kept.as_ref().unwrap().put_names(x, back, out)
     }
@@ -118,9 +124,10 @@ impl<D: Disk + Drop> StoreRemote<D> {
         heads: &[Name],
         name: &Name,
     ) -> Result<Option<Path>, AllocError>
-        requires { self.old.is_kept ≡ true }
+        requires { is_some self.old.log.kept ≡ true }
         ensures same { self.new ≡ self.old }
-        ensures path { IfOk result (λ found. IfSome (rows_told self.old) (λ rows. IsPathOf rows heads.now name.now found)) }
+        ensures path { IfOk result (λ found. IfSome (rows_told self.old.log) (λ rows. IsPathOf rows heads.now name.now found)) }
+        ensures kept { IfOk result (λ found. IfSome (rows_kept self.old.log) (λ rows. IsPathOf rows heads.now name.now found)) }
     {
         self.kept.as_mut().unwrap().find_path(alloc, heads, name)
     }
@@ -129,23 +136,26 @@ impl<D: Disk + Drop> StoreRemote<D> {
 impl<D: Disk + Drop> Remote for StoreRemote<D> {
     ghost use Rattle.remote_store.specs.Remote.{mirror_of};
 
-    ghost shown = { λ r. mirror_of r };
+    ghost shown = { λ r. mirror_of r.log };
 
     fn refresh(&mut self, alloc: Global) -> Result<(), RemoteFault>
-        ensures left { Refreshes (mirror_of self.old) (mirror_of self.new) }
-        ensures failed { IsErrOf result FaultFailed → Fails (mirror_of self.old) (mirror_of self.new) }
-        ensures cause { HasStoreCause self.old self.new result }
+        ensures left { Refreshes (mirror_of self.old.log) (mirror_of self.new.log) }
+        ensures failed { IsErrOf result FaultFailed → Fails (mirror_of self.old.log) (mirror_of self.new.log) }
+        ensures cause { HasStoreCause self.old.log self.new.log result }
+        ensures anew { ReadsAnew D.meanwhile self.old self.new result }
     {
         self.let_go();
         self.peek(alloc)
     }
 
     fn clone_data(&mut self, alloc: Global) -> Result<CloneData, RemoteFault>
-        ensures left { Leaves (λ asked. asked) (mirror_of self.old) (mirror_of self.new) }
-        ensures failed { IsErrOf result FaultFailed → Fails (mirror_of self.old) (mirror_of self.new) }
-        ensures told { IfOk result (λ given. IfSome (mirror_of self.old).cloned (λ told. given ≡ told)) }
-        ensures honest { IfOk result (λ given. IfSome (mirror_of self.old).master (λ rows. IsCloneOf rows given)) }
-        ensures cause { HasStoreCause self.old self.new result }
+        ensures left { Leaves (λ asked. asked) (mirror_of self.old.log) (mirror_of self.new.log) }
+        ensures failed { IsErrOf result FaultFailed → Fails (mirror_of self.old.log) (mirror_of self.new.log) }
+        ensures told { IfOk result (λ given. IfSome (mirror_of self.old.log).cloned (λ told. given ≡ told)) }
+        ensures honest { IfOk result (λ given. IfSome (mirror_of self.old.log).master (λ rows. IsCloneOf rows given)) }
+        ensures cause { HasStoreCause self.old.log self.new.log result }
+        ensures log { ReadsWhereLacking D.meanwhile self.old self.new result }
+        ensures kept { IfOk result (λ given. IfSome (rows_kept self.new.log) (λ rows. IsCloneOf rows given × (given ≡ clone_data_of (master_world rows)))) }
     {
         self.keep(alloc)?;
         match self.kept_clone(alloc) {
@@ -166,10 +176,12 @@ impl<D: Disk + Drop> Remote for StoreRemote<D> {
     ) -> Result<u32, RemoteFault>
         requires { length out.old < 2 ^ 32 }
         ensures count { IfOk result (λ n. n ≤ length out.old) }
-        ensures left { Leaves (raised (length out.old)) (mirror_of self.old) (mirror_of self.new) }
-        ensures failed { IsErrOf result FaultFailed → Fails (mirror_of self.old) (mirror_of self.new) }
-        ensures honest { IfOk result (λ n. IfSome (mirror_of self.old).master (λ rows. AreNamesOf rows x.now back (length out.old) (take n out.new))) }
-        ensures cause { HasStoreCause self.old self.new result }
+        ensures left { Leaves (raised (length out.old)) (mirror_of self.old.log) (mirror_of self.new.log) }
+        ensures failed { IsErrOf result FaultFailed → Fails (mirror_of self.old.log) (mirror_of self.new.log) }
+        ensures honest { IfOk result (λ n. IfSome (mirror_of self.old.log).master (λ rows. AreNamesOf rows x.now back (length out.old) (take n out.new))) }
+        ensures cause { HasStoreCause self.old.log self.new.log result }
+        ensures log { ReadsWhereLacking D.meanwhile self.old self.new result }
+        ensures kept { IfOk result (λ n. IfSome (rows_kept self.new.log) (λ rows. AreNamesOf rows x.now back (length out.old) (take n out.new))) }
     {
         self.asked = self.asked.saturating_add(out.len() as u64);
         self.keep(alloc)?;
@@ -182,10 +194,12 @@ impl<D: Disk + Drop> Remote for StoreRemote<D> {
         heads: &[Name],
         name: &Name,
     ) -> Result<Option<Path>, RemoteFault>
-        ensures left { Leaves (raised 1) (mirror_of self.old) (mirror_of self.new) }
-        ensures failed { IsErrOf result FaultFailed → Fails (mirror_of self.old) (mirror_of self.new) }
-        ensures honest { IfOk result (λ found. IfSome (mirror_of self.old).master (λ rows. IsPathOf rows heads.now name.now found)) }
-        ensures cause { HasStoreCause self.old self.new result }
+        ensures left { Leaves (raised 1) (mirror_of self.old.log) (mirror_of self.new.log) }
+        ensures failed { IsErrOf result FaultFailed → Fails (mirror_of self.old.log) (mirror_of self.new.log) }
+        ensures honest { IfOk result (λ found. IfSome (mirror_of self.old.log).master (λ rows. IsPathOf rows heads.now name.now found)) }
+        ensures cause { HasStoreCause self.old.log self.new.log result }
+        ensures log { ReadsWhereLacking D.meanwhile self.old self.new result }
+        ensures kept { IfOk result (λ found. IfSome (rows_kept self.new.log) (λ rows. IsPathOf rows heads.now name.now found)) }
     {
         self.asked = self.asked.saturating_add(1);
         self.keep(alloc)?;

@@ -1,1 +1,2 @@
 pub mod PipeWords
+pub mod Mirrors

@@ -25,11 +25,12 @@ ghost use Rattle.dag_run.specs.Stops.{IsDemoStatus, IsOneOf, IsOverBy, IsStatus}
 ghost use Rattle.segdag.specs.Usage.{HasStatus, IsDemo, IsRun, IsUsage, Refuses};
 
 mod files;
+mod mirror;
 mod remotes;
 mod words;
 
 use crate::files::{access_of, files_at, own_status};
-use crate::remotes::{Named, bundle_at, log_at, named_by, pipe_at, remotes_of};
+use crate::remotes::{mirrors_of, remotes_of};
 use crate::words::{log_of, mode_of};
 use dag_run::top;
 use disk_trait::Disk;
@@ -176,8 +177,7 @@ fn is_run(alloc: Global, words: &[String]) -> bool
     }
 }
 
-/// The same beside the remotes that these words name: bundles, where `bundle:` stands in front of the path, mirrors behind pipes, where
-/// `pipe:` does, and else logs.
+/// The same beside the mirrors that these words name.
 fn run_beside(
     rt: &HostRuntime,
     words: &[String],
@@ -188,17 +188,8 @@ fn run_beside(
     requires words { length words.now < 2 ^ 32 }
     requires remotes { length remotes.now < 2 ^ 32 }
 {
-    let is_run = is_run(rt.alloc(), words);
-    let mut list: Vec<Box<dyn Remote>> = Vec::with_capacity(rt.alloc(), remotes.len())?;
-    'remotes: for word in remotes {
-        match named_by(word.as_str(), is_run) {
-            Named::Log(path) => list.push_reserved(log_at(rt, path)?),
-            Named::Bundle(path) => list.push_reserved(bundle_at(rt, path)?),
-            Named::Pipe(to, from) => list.push_reserved(pipe_at(rt, to, from)?),
-            Named::Unasked => {}
-        }
-    }
-    run_over(rt, words, path, access, &mut Mirrors::new(list))
+    let mirrors = mirrors_of(rt, remotes, is_run(rt.alloc(), words))?;
+    run_over(rt, words, path, access, &mut Mirrors::new(mirrors))
 }
 
 /// Answers the lines of standard input on standard output, and gives the status.

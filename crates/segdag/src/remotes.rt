@@ -1,10 +1,12 @@
 //! The remotes that the words of the command line name.
 
-ghost use Rattle.std.specs.Prelude.{◌≡◌, ◌<◌, ◌≤◌, ◌-◌, ◌^◌, ◌++◌, ◌∷◌, ℕ, Bool, List, codes, length, map, take, drop, string_bytes, IfOk, IfSome, IfNone};
+ghost use Rattle.std.specs.Prelude.{◌≡◌, ◌<◌, ◌≤◌, ◌+◌, ◌-◌, ◌^◌, ◌++◌, ◌∷◌, ℕ, Bool, List, [], codes, length, map, take, drop, string_bytes, IfOk, IfSome, IfNone};
 ghost use Rattle.change_rules.specs.Standard.{standard};
 ghost use Rattle.outside.specs.Parts.{HasNone};
+ghost use Rattle.segdag.specs.Mirrors.{IsMadeOf, AreMadeOf};
 ghost use Rattle.segdag.specs.Remotes.{remote_words, IsBundleWord, IsPipeWord, NamesSo};
 
+use crate::mirror::Mirror;
 use dag_run::split_words;
 use file_disk::{Access, FileDisk};
 use pipe_files::{PipeSink, PipeSource};
@@ -26,39 +28,82 @@ fn file_at(rt: &HostRuntime, path: &str) -> Result<FileDisk<HostRuntime>, AllocE
 }
 
 /// The log at this path as a remote. It may have as many bytes as the program's own log.
-pub fn log_at(
+fn log_at(
     rt: &HostRuntime,
     path: &str,
-) -> Result<Box<StoreRemote<FileDisk<HostRuntime>>>, AllocError>
-    ensures { IfOk result (λ remote. remote.value.limit ≡ standard.log) }
+) -> Result<StoreRemote<FileDisk<HostRuntime>>, AllocError>
+    ensures { IfOk result (λ remote. remote.limit ≡ standard.log) }
 {
     let disk = file_at(rt, path)?;
-    let remote = Box::new(rt.alloc(), StoreRemote::new(disk, Limits::standard()))?;
-    Ok(remote)
+    Ok(StoreRemote::new(disk, Limits::standard()))
 }
 
 /// The bundle at this path as a remote. It may have 2^30 bytes.
-pub fn bundle_at(
+fn bundle_at(
     rt: &HostRuntime,
     path: &str,
-) -> Result<Box<BundleRemote<FileDisk<HostRuntime>>>, AllocError>
-    ensures { IfOk result (λ remote. remote.value.limit ≡ 2 ^ 30) }
+) -> Result<BundleRemote<FileDisk<HostRuntime>>, AllocError>
+    ensures { IfOk result (λ remote. remote.limit ≡ 2 ^ 30) }
 {
     let disk = file_at(rt, path)?;
-    let remote = Box::new(rt.alloc(), BundleRemote::new(disk, BUNDLE_LIMIT))?;
-    Ok(remote)
+    Ok(BundleRemote::new(disk, BUNDLE_LIMIT))
 }
 
 /// The mirror behind the pipe of which the first path is written and the second read. Neither is opened yet.
-pub fn pipe_at(
+fn pipe_at(
     rt: &HostRuntime,
     to: &str,
     from: &str,
-) -> Result<Box<PipeRemote<Ends<PipeSource, PipeSink>>>, AllocError> {
+) -> Result<PipeRemote<Ends<PipeSource, PipeSink>>, AllocError> {
     let input = source_at(rt, from)?;
     let output = sink_at(rt, to)?;
-    let remote = Box::new(rt.alloc(), PipeRemote::new(Ends::new(input, output)))?;
-    Ok(remote)
+    Ok(PipeRemote::new(Ends::new(input, output)))
+}
+
+/// The mirror of which the word speaks; none where it is a pipe that isn't asked.
+fn mirror_of(rt: &HostRuntime, named: Named) -> Result<Option<Mirror>, AllocError>
+    ensures { IfOk result (λ made. IsMadeOf named made) }
+{
+    match named {
+        Named::Log(path) => Ok(Some(Mirror::Log(log_at(rt, path)?))),
+        Named::Bundle(path) => Ok(Some(Mirror::Bundle(bundle_at(rt, path)?))),
+        Named::Pipe(to, from) => Ok(Some(Mirror::Pipe(pipe_at(rt, to, from)?))),
+        Named::Unasked => Ok(None),
+    }
+}
+
+/// Puts the mirror that the word names behind the others; none where it is a pipe that isn't asked.
+fn add_mirror(
+    rt: &HostRuntime,
+    word: &str,
+    is_run: bool,
+    list: &mut Vec<Mirror>,
+) -> Result<(), AllocError>
+    ensures few { IfOk result (λ _. length list.new.items ≤ length list.old.items + 1) }
+    ensures added { IfOk result (λ _. (words : List (List ℕ)) → AreMadeOf is_run words list.old.items → AreMadeOf is_run (words ++ word.now ∷ []) list.new.items) }
+{
+    if let Some(mirror) = mirror_of(rt, named_by(word, is_run))? {
+        list.push(mirror)?;
+    }
+    Ok(())
+}
+
+/// The mirrors that the words of remotes name, in their order: bundles, where `bundle:` stands in front of the path, mirrors behind pipes,
+/// where `pipe:` does, and else logs. A pipe is none where this isn't a run, which alone asks who is behind it.
+pub fn mirrors_of(
+    rt: &HostRuntime,
+    remotes: &[String],
+    is_run: bool,
+) -> Result<Vec<Mirror>, AllocError>
+    requires { length remotes.now < 2 ^ 32 }
+    ensures few { IfOk result (λ list. length list.items < 2 ^ 32) }
+    ensures made { IfOk result (λ list. AreMadeOf is_run (map string_bytes remotes.now) list.items) }
+{
+    let mut list = Vec::new(rt.alloc());
+    'remotes: for word in remotes {
+        add_mirror(rt, word.as_str(), is_run, &mut list)?;
+    }
+    Ok(list)
 }
 
 /// The end at this path that is read.
@@ -91,7 +136,7 @@ pub enum Named<'a> {
 }
 
 /// What the word names.
-pub fn named_by<'a>(word: &'a str, is_run: bool) -> Named<'a>
+fn named_by<'a>(word: &'a str, is_run: bool) -> Named<'a>
     ensures { NamesSo is_run word.now result }
 {
     match pipe_paths(word) {
@@ -114,7 +159,7 @@ fn kept_by<'a>(word: &'a str) -> Named<'a>
 
 /// The paths of the pipe that the word of a remote names: what stands behind `pipe:`, up to the next colon and behind it. `None` where it
 /// names no pipe.
-pub fn pipe_paths<'a>(word: &'a str) -> Option<(&'a str, &'a str)>
+fn pipe_paths<'a>(word: &'a str) -> Option<(&'a str, &'a str)>
     ensures some { IfSome result (λ paths. IsPipeWord paths.0.now paths.1.now word.now) }
     ensures none { IfNone result ((to from : List ℕ) → IsPipeWord to from word.now → ⊥) }
 {
@@ -139,7 +184,7 @@ fn split_at_colon<'a>(text: &'a str) -> Option<(&'a str, &'a str)>
 }
 
 /// The path of the bundle that the word of a remote names: what stands behind `bundle:`. `None` where it names a log.
-pub fn bundle_path<'a>(word: &'a str) -> Option<&'a str>
+fn bundle_path<'a>(word: &'a str) -> Option<&'a str>
     ensures some { IfSome result (λ path. IsBundleWord path.now word.now) }
     ensures none { IfNone result ((path : List ℕ) → IsBundleWord path word.now → ⊥) }
 {

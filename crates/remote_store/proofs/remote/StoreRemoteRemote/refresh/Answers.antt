@@ -1,12 +1,12 @@
-use Rattle.std.proofs.Common.{false, subst}
+use Rattle.std.proofs.Common.{None, subst}
 use Rattle.remote_store.specs.Remote.{PlainStore, KeepsStore}
 use Rattle.remote_store.proofs.Mirroring.{kept-reads, reads-refresh}
 use Rattle.remote_store.proofs.remote.StoreRemoteRemote.refresh.Goals as goal
 
 pub returns-clause-left : goal.returns-clause-left
 returns-clause-left g c =
-    let old = c.args.self.now in
-    let before : PlainStore = record { limit = old.limit; told = old.told; disk_faults = old.disk_faults; faults = old.faults; asked = old.asked; is_kept = false } in
-    let now = c.peek.new.self in
-    let r = kept-reads before now c.peek.result (subst (λ (b : PlainStore). KeepsStore b now c.peek.result) c.let_go.ensures c.peek.ensures) in
+    let old = c.args.self.now.log in
+    let before : PlainStore = record { limit = old.limit; told = old.told; disk_faults = old.disk_faults; faults = old.faults; asked = old.asked; kept = None } in
+    let now = c.peek.new.self.log in
+    let r = kept-reads before now c.peek.result (subst (λ (b : PlainStore). KeepsStore b now c.peek.result) (ap (λ z. z.log) c.let_go.ensures) c.peek.ensures.left) in
     reads-refresh before now r.0.limit r.0.told r.1 r.0.asked
