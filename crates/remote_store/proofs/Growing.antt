@@ -1,11 +1,11 @@
 -- What a reading answers of a log to which another process adds payloads meanwhile.
-use Rattle.std.proofs.Common.{◌≡◌, ◌≤◌, ℕ, inl, inr, List, [], Option, Some, None, Result, Ok, Err, refl, sym, subst, ◌∙◌}
+use Rattle.std.proofs.Common.{◌≡◌, ℕ, inl, inr, List, Option, Result, Ok, Err, refl, sym, subst, ◌∙◌}
 use Rattle.std.specs.Prelude.{◌↔◌, ◌⊎◌}
 use Rattle.outside.specs.Counts.{Rose}
 use Rattle.outside.specs.Told.{WhereTold}
 use Rattle.outside.proofs.ToldLemmas.{WhereTold-map}
 use Rattle.disk_trait.specs.Meanwhile.{Meanwhile, Lasts}
-use Rattle.gated_log.specs.Growing.{IsGrowing, ReadsGrown}
+use Rattle.gated_log.specs.Growing.{ReadsGrown}
 use Rattle.gated_log.specs.Held.{Held}
 use Rattle.gated_log.specs.declared.LoadLog.{LoadLog}
 use Rattle.gated_log.specs.declared.LoadLog.TheVariants as logs

@@ -3,7 +3,7 @@ use Rattle.std.specs.Prelude.{◌≡◌, ◌≤◌, ◌<◌, ◌⊎◌, ℕ, Lis
 use Rattle.id_groups.specs.Name.{Name}
 use Rattle.outside.specs.Counts.{Rose}
 use Rattle.commit_graph.specs.World.{World, IsNamedWorld}
-use Rattle.disk_trait.specs.Meanwhile.{Meanwhile, Lasts}
+use Rattle.disk_trait.specs.Meanwhile.{Meanwhile}
 use Rattle.gated_log.specs.Log.{IsDamaged}
 use Rattle.gated_log.specs.Load.{IsLogOf}
 use Rattle.gated_log.specs.Growing.{IsGrowing, AreOfMoment}

@@ -28,7 +28,7 @@ returns-in-Ok-clause-left g c =
     let d = c.self.inside.disk in
     let limit = c.self.inside.limits.log in
     let now : PlainStore = record { limit = limit; told = g.D.Disk.told c.peek.new.disk; disk_faults = g.D.Disk.faults c.peek.new.disk; faults = c.self.inside.faults; asked = c.self.inside.asked; kept = c.replace.new.dest } in
-    subst (λ (old : PlainStore). Reads old now × (c.self.inside.faults ≡ old.faults) × IfSome (bytes_in old.told) (λ bytes. IsUnfit old.limit bytes → ⊥)) (ap (λ z. z.log) c.self.view_is) (
+    subst (λ (old : PlainRemote g.row.D.Denot). Reads old.log now × (c.self.inside.faults ≡ old.log.faults) × IfSome (bytes_in old.log.told) (λ bytes. IsUnfit old.log.limit bytes → ⊥)) c.self.view_is (
       record { limit = refl; told = c.peek.ensures.reads; disk_faults = c.peek.ensures.later; asked = refl },
       refl,
       told-bytes (g.D.Disk.told d) (g.D.Disk.bytes d) (λ bytes. IsUnfit limit bytes → ⊥) (g.met.D.Disk.tells d)
@@ -41,7 +41,7 @@ returns-in-Err-Failed-clause-left g c =
     let limit = c.self.inside.limits.log in
     let rose = c.saturating_add-self-inside.ensures in
     let now : PlainStore = record { limit = limit; told = g.D.Disk.told c.peek.new.disk; disk_faults = g.D.Disk.faults c.peek.new.disk; faults = c.saturating_add-self-inside.result; asked = c.self.inside.asked; kept = c.self.inside.kept } in
-    subst (λ (old : PlainStore). Reads old now × Rose old.faults c.saturating_add-self-inside.result × (old.faults ≤ c.saturating_add-self-inside.result) × IsCause old now) (ap (λ z. z.log) c.self.view_is) (
+    subst (λ (old : PlainRemote g.row.D.Denot). Reads old.log now × Rose old.log.faults c.saturating_add-self-inside.result × (old.log.faults ≤ c.saturating_add-self-inside.result) × IsCause old.log now) c.self.view_is (
       record { limit = refl; told = c.peek.ensures.reads; disk_faults = c.peek.ensures.later; asked = refl },
       omega (arith, rose),
       (let f = c.self.ranges.1.1.1.0.1 in omega (arith, rose, f)),
@@ -56,7 +56,7 @@ returns-in-Ok-clause-anew g c =
       disk = c.peek.new.disk;
     } in
     subst (λ (old : PlainRemote g.row.D.Denot). WhereTold (g.D.Disk.meanwhile old.disk) (g.D.Disk.meanwhile c.peek.new.disk) Lasts
-      × ((texts : List (List ℕ)) × (c.replace.new.dest ≡ Some texts) × HasRead g.D.Disk.meanwhile old now texts)) c.self.view_is (
+    × ((texts : List (List ℕ)) × (c.replace.new.dest ≡ Some texts) × HasRead g.D.Disk.meanwhile old now texts)) c.self.view_is (
       c.in-Ok.ensures.lasts,
       (c.in-Ok.loaded, c.replace.ensures.after, record { calls = c.in-Ok.ensures.done; moment = c.in-Ok.ensures.grown }),
     )
@@ -70,9 +70,11 @@ returns-in-Err-Memory-clause-anew g c = (
 pub returns-in-Err-Failed-clause-anew : goal.returns-in-Err-Failed-clause-anew
 returns-in-Err-Failed-clause-anew g c = (
   subst (λ (old : PlainRemote g.row.D.Denot). WhereTold (g.D.Disk.meanwhile old.disk) (g.D.Disk.meanwhile c.peek.new.disk) Lasts) c.self.view_is c.peek.ensures.lasts,
-  (ap (λ (z : PlainRemote g.row.D.Denot). z.log.kept) c.self.view_is ∙ c.requires,
-  λ payloads. subst (λ (old : PlainRemote g.row.D.Denot). WhereTold (g.D.Disk.meanwhile old.disk) (g.D.Disk.meanwhile c.peek.new.disk) (λ x y. IsGrowing x.film payloads x.now
-    → Rose old.log.disk_faults (g.D.Disk.faults c.peek.new.disk) ⊎ IsUnfitMeanwhile old.log.limit x.film payloads x.now y.now)) c.self.view_is
-  (subst (λ f. WhereTold (g.D.Disk.meanwhile c.self.inside.disk) (g.D.Disk.meanwhile c.peek.new.disk)
-    (PeeksGrown c.self.inside.limits.log payloads (g.D.Disk.faults c.self.inside.disk) (g.D.Disk.faults c.peek.new.disk) (Err f))) c.in-Err-Failed.field-0-is (c.in-Err-Failed.ensures.grown payloads))),
+  (
+    ap (λ (z : PlainRemote g.row.D.Denot). z.log.kept) c.self.view_is ∙ c.requires,
+    λ payloads. subst (λ (old : PlainRemote g.row.D.Denot). WhereTold (g.D.Disk.meanwhile old.disk) (g.D.Disk.meanwhile c.peek.new.disk) (λ x y. IsGrowing x.film payloads x.now
+        → Rose old.log.disk_faults (g.D.Disk.faults c.peek.new.disk) ⊎ IsUnfitMeanwhile old.log.limit x.film payloads x.now y.now)) c.self.view_is
+        (subst (λ f. WhereTold (g.D.Disk.meanwhile c.self.inside.disk) (g.D.Disk.meanwhile c.peek.new.disk)
+        (PeeksGrown c.self.inside.limits.log payloads (g.D.Disk.faults c.self.inside.disk) (g.D.Disk.faults c.peek.new.disk) (Err f))) c.in-Err-Failed.field-0-is (c.in-Err-Failed.ensures.grown payloads)),
+  ),
 )
