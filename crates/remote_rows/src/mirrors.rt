@@ -59,7 +59,11 @@ fn last_id(alloc: Global, mirrors: &mut Mirrors<Box<dyn Remote>>) -> Result<u64,
 }
 
 /// Which mirror answers, the first being 1: one less than its chain is long.
-fn answer(alloc: Global, mirrors: &mut Mirrors<Box<dyn Remote>>, way: Way) -> Result<u64, MirrorFault> {
+fn answer(
+    alloc: Global,
+    mirrors: &mut Mirrors<Box<dyn Remote>>,
+    way: Way,
+) -> Result<u64, MirrorFault> {
     match way {
         Way::Names => {
             let mut out = [name(0); 5];
@@ -78,7 +82,12 @@ fn answer(alloc: Global, mirrors: &mut Mirrors<Box<dyn Remote>>, way: Way) -> Re
 type Turns = [Result<u64, MirrorFault>; 3];
 
 /// Whether three asks in turn come to this.
-fn are_turns(alloc: Global, mirrors: &mut Mirrors<Box<dyn Remote>>, way: Way, want: &Turns) -> bool {
+fn are_turns(
+    alloc: Global,
+    mirrors: &mut Mirrors<Box<dyn Remote>>,
+    way: Way,
+    want: &Turns,
+) -> bool {
     for wanted in want {
         if answer(alloc, mirrors, way) != *wanted {
             return false;

@@ -175,7 +175,11 @@ fn brought(alloc: Global, mirrors: &mut Mirrors<Box<dyn Remote>>) -> Result<u32,
 }
 
 /// Whether three pulls come to this, and a fourth one finds no mirror.
-fn are_pulled(alloc: Global, mirrors: &mut Mirrors<Box<dyn Remote>>, want: &[Result<u32, FreshFault>; 3]) -> bool {
+fn are_pulled(
+    alloc: Global,
+    mirrors: &mut Mirrors<Box<dyn Remote>>,
+    want: &[Result<u32, FreshFault>; 3],
+) -> bool {
     for wanted in want {
         if brought(alloc, mirrors) != *wanted {
             return false;
