@@ -10,6 +10,7 @@ use Rattle.disk_trait.proofs.Telling.{if_forth}
 use Rattle.gated_log.specs.Holding.{IsOnDisk}
 use Rattle.line_io.specs.Memory.{MemoryOutput}
 use Rattle.line_io.specs.Lines.{is_silent, is_empty_or_comment}
+use Rattle.change_rules.specs.declared.Limits.{Limits}
 use Rattle.change_rules.specs.Standard.{AreLimits, standard}
 use Rattle.change_rules.specs.Holding.{HoldAs}
 use Rattle.step_rules.specs.State.{State, at_start, start}

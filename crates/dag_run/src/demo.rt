@@ -36,8 +36,8 @@ fn new_store<D: Disk>(alloc: Global, log: &mut D) -> Result<Store, Stop>
     }
 }
 
-/// Executes a line, and keeps its reply.
-fn answer<D: Disk>(
+/// Executes a line beside no mirrors, of whatever kind, and keeps its reply.
+fn answer<D: Disk, R: Remote>(
     alloc: Global,
     store: Store,
     log: &mut D,
@@ -49,7 +49,7 @@ fn answer<D: Disk>(
     ensures ready { IfOk result (λ next. IsReady next (D.told log.new)) }
     ensures leads { IfOk result (λ next. LeadsOn line.now store next replies.old.taken replies.new.taken) }
 {
-    let mut mirrors: Mirrors<Box<dyn Remote>> = Mirrors::new(Vec::new(alloc));
+    let mut mirrors: Mirrors<R> = Mirrors::new(Vec::new(alloc));
     let mut changes = Vec::new(alloc);
     execute(
         alloc,
@@ -64,7 +64,7 @@ fn answer<D: Disk>(
 }
 
 /// Executes all the lines of commits. Nobody hears their replies.
-fn answer_commits<D: Disk>(
+fn answer_commits<D: Disk, R: Remote>(
     alloc: Global,
     store: Store,
     log: &mut D,
@@ -78,13 +78,18 @@ fn answer_commits<D: Disk>(
 {
     let mut store = store;
     'commits: while let Some(line) = lines.next_line(alloc)? {
-        store = answer(alloc, store, log, &line, unheard)?;
+        store = answer::<D, R>(alloc, store, log, &line, unheard)?;
     }
     Ok(store)
 }
 
 /// The store behind the lines that add and flush so many commits, over a new log.
-fn add_commits<D: Disk>(alloc: Global, log: &mut D, size: u32, start: u64) -> Result<Store, Stop>
+fn add_commits<D: Disk, R: Remote>(
+    alloc: Global,
+    log: &mut D,
+    size: u32,
+    start: u64,
+) -> Result<Store, Stop>
     requires { D.told log.old ≡ Some (fresh_disk []) }
     ensures ready { IfOk result (λ store. IsReady store (D.told log.new)) }
     ensures behind { IfOk result (λ store. (earlier : List Reply) × IsBehind (commit_lines size start) earlier store) }
@@ -92,11 +97,11 @@ fn add_commits<D: Disk>(alloc: Global, log: &mut D, size: u32, start: u64) -> Re
     let mut unheard = MemorySink::new(alloc, &[])?;
     let mut lines = CommitLines::new(size, start);
     let store = new_store(alloc, log)?;
-    answer_commits(alloc, store, log, &mut lines, &mut unheard)
+    answer_commits::<D, R>(alloc, store, log, &mut lines, &mut unheard)
 }
 
 /// Executes lines that each get a reply, which goes to this sink.
-fn ask_all<D: Disk>(
+fn ask_all<D: Disk, R: Remote>(
     alloc: Global,
     store: Store,
     log: &mut D,
@@ -110,13 +115,13 @@ fn ask_all<D: Disk>(
 {
     let mut store = store;
     'lines: for line in lines {
-        store = answer(alloc, store, log, line, replies)?;
+        store = answer::<D, R>(alloc, store, log, line, replies)?;
     }
     Ok(())
 }
 
 /// Executes lines that each get a reply, and gives these.
-fn ask<D: Disk>(
+fn ask<D: Disk, R: Remote>(
     alloc: Global,
     store: Store,
     log: &mut D,
@@ -127,12 +132,12 @@ fn ask<D: Disk>(
     ensures { IfOk result (λ sink. AllAnswered (map (λ line. line.items) lines.now) store sink.taken) }
 {
     let mut replies = MemorySink::new(alloc, &[])?;
-    ask_all(alloc, store, log, lines, &mut replies)?;
+    ask_all::<D, R>(alloc, store, log, lines, &mut replies)?;
     Ok(replies)
 }
 
 /// The replies to the last four lines of a demonstration over a new log.
-fn replies_over<D: Disk>(
+fn replies_over<D: Disk, R: Remote>(
     alloc: Global,
     log: &mut D,
     size: u32,
@@ -142,30 +147,30 @@ fn replies_over<D: Disk>(
     requires new { D.told log.old ≡ Some (fresh_disk []) }
     ensures { IfOk result (λ sink. (replies : List Reply) × AreLastReplies size start replies × (sink.taken ≡ output_of replies)) }
 {
-    let store = add_commits(alloc, log, size, start)?;
+    let store = add_commits::<D, R>(alloc, log, size, start)?;
     let lines = last_lines(alloc, size)?;
-    ask(alloc, store, log, &lines)
+    ask::<D, R>(alloc, store, log, &lines)
 }
 
 /// The replies to the last four lines of a demonstration in memory.
-fn last_replies(alloc: Global, size: u32, start: u64) -> Result<MemorySink, Stop>
+fn last_replies<R: Remote>(alloc: Global, size: u32, start: u64) -> Result<MemorySink, Stop>
     requires { 1 ≤ size }
     ensures { IfOk result (λ sink. (replies : List Reply) × AreLastReplies size start replies × (sink.taken ≡ output_of replies)) }
 {
     let mut log = MemoryDisk::new(alloc, &[], &[], None)?;
-    replies_over(alloc, &mut log, size, start)
+    replies_over::<MemoryDisk, R>(alloc, &mut log, size, start)
 }
 
 /// Answers the lines of so many commits, whose parents are drawn from this number on, in memory, and puts the replies to the last
 /// four. The status: 0 where they were put, 6 where the sink failed, and 7 where memory was wanting, with nothing put.
-pub(crate) fn demo<O: Sink>(alloc: Global, size: u32, start: u64, output: &mut O) -> u8
+pub(crate) fn demo<O: Sink, R: Remote>(alloc: Global, size: u32, start: u64, output: &mut O) -> u8
     requires { 1 ≤ size }
     ensures known { IsDemoStatus result }
     ensures means { WhereTold (O.taken output.old) (O.taken output.new) (DemoMeans size start result) }
     ensures quiet { result ≡ 7 → output.new ≡ output.old }
     ensures sink { result ≡ 6 → Rose (O.faults output.old) (O.faults output.new) }
 {
-    let Ok(replies) = last_replies(alloc, size, start) else {
+    let Ok(replies) = last_replies::<R>(alloc, size, start) else {
         return 7;
     };
     match output.put(replies.bytes()) {

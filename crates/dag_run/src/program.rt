@@ -376,7 +376,7 @@ fn run_mode<D: Disk, I: Source, O: Sink, R: Remote>(
 {
     match usage.mode {
         Mode::Run => run_lines(alloc, limits, usage.cache, log, mirrors, input, output),
-        Mode::Demo => Report::idle(alloc, demo(alloc, usage.size, usage.start, output)),
+        Mode::Demo => Report::idle(alloc, demo::<O, R>(alloc, usage.size, usage.start, output)),
         Mode::Serve => {
             Report::idle(
                 alloc,
