@@ -15,7 +15,7 @@ use Rattle.change_rules.specs.Standard.{AreLimits, standard}
 use Rattle.change_rules.specs.Holding.{HoldAs}
 use Rattle.step_rules.specs.State.{State, at_start, start}
 use Rattle.step_rules.specs.Reply.{Reply, reply_text}
-use Rattle.run_rules.specs.Run.{Step, output_of}
+use Rattle.run_rules.specs.Run.{Run, Step, output_of}
 use Rattle.run_rules.proofs.Starts.{from-start}
 use Rattle.run_rules.proofs.Matched.{run-matched}
 use Rattle.step_rules.specs.Rises.{EachWas}
