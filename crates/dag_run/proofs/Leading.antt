@@ -10,11 +10,12 @@ use Rattle.disk_trait.proofs.Telling.{if_forth}
 use Rattle.gated_log.specs.Holding.{IsOnDisk}
 use Rattle.line_io.specs.Memory.{MemoryOutput}
 use Rattle.line_io.specs.Lines.{is_silent, is_empty_or_comment}
+use Rattle.change_rules.specs.declared.Limits.{Limits}
 use Rattle.change_rules.specs.Standard.{AreLimits, standard}
 use Rattle.change_rules.specs.Holding.{HoldAs}
 use Rattle.step_rules.specs.State.{State, at_start, start}
 use Rattle.step_rules.specs.Reply.{Reply, reply_text}
-use Rattle.run_rules.specs.Run.{Step, output_of}
+use Rattle.run_rules.specs.Run.{Run, Step, output_of}
 use Rattle.run_rules.proofs.Starts.{from-start}
 use Rattle.run_rules.proofs.Matched.{run-matched}
 use Rattle.step_rules.specs.Rises.{EachWas}
