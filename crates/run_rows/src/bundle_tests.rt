@@ -89,7 +89,7 @@ fn bundled(
 }
 
 /// The same for the log's bytes, where this call of its disk fails.
-fn bundled_of(
+pub(crate) fn bundled_of(
     alloc: Global,
     bytes: &[u8],
     fails: u64,

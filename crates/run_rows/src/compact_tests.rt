@@ -83,11 +83,11 @@ const CASES: [Case; 8] = [
 
 /// Both disks, the sink, and the status of the last run over them, where one ended as it may.
 #[derive(Drop)]
-struct Places {
+pub(crate) struct Places {
     log: MemoryDisk,
-    spare: MemoryDisk,
-    output: MemorySink,
-    status: Option<u8>,
+    pub(crate) spare: MemoryDisk,
+    pub(crate) output: MemorySink,
+    pub(crate) status: Option<u8>,
 }
 
 /// Those of these bytes, of which these calls fail.
@@ -134,7 +134,7 @@ fn again(alloc: Global, places: Places) -> Result<Places, AllocError> {
 }
 
 /// They behind the first run.
-fn ran(
+pub(crate) fn ran(
     alloc: Global,
     log: &[u8],
     spare: &[u8],

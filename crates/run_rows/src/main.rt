@@ -23,11 +23,15 @@ mod bundle_tests;
 #[cfg(test)]
 mod compact_tests;
 #[cfg(test)]
+mod long_tests;
+#[cfg(test)]
 mod look_ups;
 #[cfg(test)]
 mod mirror_tests;
 #[cfg(test)]
 mod tests;
+#[cfg(test)]
+mod version_tests;
 
 /// For how many names that mirrors gave there is room.
 const CACHE: u32 = 4096;

@@ -212,7 +212,7 @@ const LOADED: [Loaded; 6] = [
 ];
 
 /// Answers lines over a disk, without mirrors. The status, and how many changes are stored.
-fn run_on(
+pub(crate) fn run_on(
     alloc: Global,
     limits: Limits,
     disk: &mut MemoryDisk,
