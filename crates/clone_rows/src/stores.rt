@@ -50,10 +50,10 @@ fn chain_mirror(alloc: Global, fails: u32) -> Result<MemoryRemote, AllocError> {
 }
 
 /// Mirrors of the chain, which fail at so many first calls each.
-fn chain_list(alloc: Global, fails: &[u32]) -> Result<Vec<Box<dyn Remote>>, AllocError> {
-    let mut list: Vec<Box<dyn Remote>> = Vec::new(alloc);
+fn chain_list(alloc: Global, fails: &[u32]) -> Result<Vec<MemoryRemote>, AllocError> {
+    let mut list = Vec::new(alloc);
     for count in fails {
-        list.push(Box::new(alloc, chain_mirror(alloc, *count)?)?)?;
+        list.push(chain_mirror(alloc, *count)?)?;
     }
     Ok(list)
 }
@@ -63,24 +63,24 @@ fn liar_list(
     alloc: Global,
     told: CloneData,
     path: Option<(u8, u64)>,
-) -> Result<Vec<Box<dyn Remote>>, AllocError> {
+) -> Result<Vec<FixedRemote>, AllocError> {
     let path = path.map(|(last, n)| Path { x: name(last), n });
     let remote = FixedRemote::new(told, path, Vec::new(alloc));
-    let mut list: Vec<Box<dyn Remote>> = Vec::new(alloc);
-    list.push(Box::new(alloc, remote)?)?;
+    let mut list = Vec::new(alloc);
+    list.push(remote)?;
     Ok(list)
 }
 
 /// A mirror of a drawn world of so many commits.
-fn drawn_list(alloc: Global, start: u64, commits: u64) -> Result<Vec<Box<dyn Remote>>, AllocError> {
+fn drawn_list(alloc: Global, start: u64, commits: u64) -> Result<Vec<MemoryRemote>, AllocError> {
     let mirror = mirror_of(alloc, draw_world(alloc, start, commits)?, &[])?;
-    let mut list: Vec<Box<dyn Remote>> = Vec::new(alloc);
-    list.push(Box::new(alloc, mirror)?)?;
+    let mut list = Vec::new(alloc);
+    list.push(mirror)?;
     Ok(list)
 }
 
 /// The mirrors of a list that isn't long.
-fn mirrors_of(list: Vec<Box<dyn Remote>>) -> Result<Mirrors<Box<dyn Remote>>, AllocError> {
+fn mirrors_of<R: Remote>(list: Vec<R>) -> Result<Mirrors<R>, AllocError> {
     if list.len() > 8 {
         return Err(AllocError);
     }
@@ -88,10 +88,10 @@ fn mirrors_of(list: Vec<Box<dyn Remote>>) -> Result<Mirrors<Box<dyn Remote>>, Al
 }
 
 /// Runs lines over a disk beside mirrors.
-fn run(
+fn run<R: Remote>(
     alloc: Global,
     disk: &mut MemoryDisk,
-    mirrors: &mut Mirrors<Box<dyn Remote>>,
+    mirrors: &mut Mirrors<R>,
     lines: &str,
     output: &mut MemorySink,
 ) -> Result<Report, AllocError> {
@@ -101,10 +101,10 @@ fn run(
 }
 
 /// The same beside the mirrors of a list.
-fn run_beside(
+fn run_beside<R: Remote>(
     alloc: Global,
     disk: &mut MemoryDisk,
-    list: Vec<Box<dyn Remote>>,
+    list: Vec<R>,
     lines: &str,
     output: &mut MemorySink,
 ) -> Result<Report, AllocError> {
@@ -113,10 +113,10 @@ fn run_beside(
 }
 
 /// The same, of which nobody reads the replies.
-fn run_unheard(
+fn run_unheard<R: Remote>(
     alloc: Global,
     disk: &mut MemoryDisk,
-    list: Vec<Box<dyn Remote>>,
+    list: Vec<R>,
     lines: &str,
 ) -> Result<Report, AllocError> {
     let mut unheard = MemorySink::new(alloc, &[])?;
@@ -127,9 +127,9 @@ fn run_unheard(
 type Answered = (&'static str, &'static str, usize);
 
 /// How many bytes the log has behind the lines over an empty log.
-fn size_behind(
+fn size_behind<R: Remote>(
     alloc: Global,
-    list: Vec<Box<dyn Remote>>,
+    list: Vec<R>,
     lines: &str,
     output: &mut MemorySink,
 ) -> Result<usize, AllocError> {
@@ -139,9 +139,9 @@ fn size_behind(
 }
 
 /// Whether the lines are answered so over an empty log.
-fn are_answered(
+fn are_answered<R: Remote>(
     alloc: Global,
-    list: Vec<Box<dyn Remote>>,
+    list: Vec<R>,
     wanted: &Answered,
 ) -> Result<bool, AllocError> {
     let mut output = MemorySink::new(alloc, &[])?;
@@ -349,7 +349,8 @@ fn answer_alone(
     lines: &str,
     output: &mut MemorySink,
 ) -> Result<bool, AllocError> {
-    let report = run_beside(alloc, disk, Vec::new(alloc), lines, output)?;
+    let none: Vec<FixedRemote> = Vec::new(alloc);
+    let report = run_beside(alloc, disk, none, lines, output)?;
     Ok(report.status == 0)
 }
 

@@ -4,7 +4,8 @@ use dag_run::{Limits, run_lines};
 use disk_memory::MemoryDisk;
 use line_io::{MemorySink, MemorySource};
 use mirror_set::Mirrors;
-use remote_trait::Remote;
+use remote_memory::MemoryRemote;
+use remote_trait::{FixedRemote, Remote};
 use std::alloc::{AllocError, Global};
 
 /// Two commits, and a flush of them, in 110 bytes of a log.
@@ -22,10 +23,10 @@ pub(crate) const LOG: [u8; 110] = [
 ];
 
 /// Answers lines over a disk, beside mirrors. The status, and how many changes were acknowledged.
-fn run_beside(
+fn run_beside<R: Remote>(
     alloc: Global,
     disk: &mut MemoryDisk,
-    mirrors: &mut Mirrors<Box<dyn Remote>>,
+    mirrors: &mut Mirrors<R>,
     lines: &str,
     output: &mut MemorySink,
 ) -> Result<(u8, usize), AllocError> {
@@ -42,7 +43,7 @@ fn run_on(
     lines: &str,
     output: &mut MemorySink,
 ) -> Result<(u8, usize), AllocError> {
-    let mut none: Mirrors<Box<dyn Remote>> = Mirrors::new(Vec::new(alloc));
+    let mut none: Mirrors<FixedRemote> = Mirrors::new(Vec::new(alloc));
     run_beside(alloc, disk, &mut none, lines, output)
 }
 
@@ -63,7 +64,7 @@ pub(crate) fn are_answered(
 pub(crate) fn are_answered_beside(
     alloc: Global,
     disk: &mut MemoryDisk,
-    list: Vec<Box<dyn Remote>>,
+    list: Vec<MemoryRemote>,
     lines: &str,
     wanted: (u8, usize),
     replies: &str,

@@ -9,7 +9,6 @@ use disk_memory::{Choice, Fill, MemoryDisk};
 use disk_trait::Disk;
 use id_groups::Name;
 use remote_memory::MemoryRemote;
-use remote_trait::Remote;
 use std::alloc::{AllocError, Global};
 
 /// What asks for a whole world.
@@ -141,11 +140,11 @@ impl Change {
 }
 
 /// The mirrors beside a change: a pull and a clone have one, whose master is the first commit.
-fn beside(alloc: Global, change: Change) -> Result<Vec<Box<dyn Remote>>, AllocError> {
-    let mut list: Vec<Box<dyn Remote>> = Vec::new(alloc);
+fn beside(alloc: Global, change: Change) -> Result<Vec<MemoryRemote>, AllocError> {
+    let mut list = Vec::new(alloc);
     match change {
         Change::Flush | Change::Strip => {}
-        Change::Pull | Change::Clone => list.push(Box::new(alloc, mirror(alloc)?)?)?,
+        Change::Pull | Change::Clone => list.push(mirror(alloc)?)?,
     }
     Ok(list)
 }

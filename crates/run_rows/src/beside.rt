@@ -3,7 +3,7 @@
 use commit_graph::{Row, World};
 use id_groups::Name;
 use remote_memory::{MemoryRemote, clone_of};
-use remote_trait::{CloneData, FixedRemote, Path};
+use remote_trait::{CloneData, FixedRemote, Path, Remote, RemoteFault};
 use std::alloc::{AllocError, Global};
 
 /// A row of a master: the last byte of its name, and those of its parents. All other bytes are 0.
@@ -204,6 +204,51 @@ fn too_far() -> Path {
 pub enum Beside {
     Honest(MemoryRemote),
     Liar(FixedRemote),
+}
+
+impl Remote for Beside {
+    ghost use Rattle.run_rows.specs.Beside.{shown_of};
+
+    ghost shown = { λ b. shown_of b };
+
+    fn refresh(&mut self, alloc: Global) -> Result<(), RemoteFault> {
+        match self {
+            Beside::Honest(remote) => remote.refresh(alloc),
+            Beside::Liar(remote) => remote.refresh(alloc),
+        }
+    }
+
+    fn clone_data(&mut self, alloc: Global) -> Result<CloneData, RemoteFault> {
+        match self {
+            Beside::Honest(remote) => remote.clone_data(alloc),
+            Beside::Liar(remote) => remote.clone_data(alloc),
+        }
+    }
+
+    fn names_of(
+        &mut self,
+        alloc: Global,
+        x: &Name,
+        back: u64,
+        out: &mut [Name],
+    ) -> Result<u32, RemoteFault> {
+        match self {
+            Beside::Honest(remote) => remote.names_of(alloc, x, back, out),
+            Beside::Liar(remote) => remote.names_of(alloc, x, back, out),
+        }
+    }
+
+    fn path_of(
+        &mut self,
+        alloc: Global,
+        heads: &[Name],
+        name: &Name,
+    ) -> Result<Option<Path>, RemoteFault> {
+        match self {
+            Beside::Honest(remote) => remote.path_of(alloc, heads, name),
+            Beside::Liar(remote) => remote.path_of(alloc, heads, name),
+        }
+    }
 }
 
 /// The mirror of this word; nothing where there is none.

@@ -6,13 +6,12 @@
 //! any other over a fresh one. Where a case's line ends with ` beside: ` and words, its lines go beside these mirrors, and else beside none.
 //! Reading a case takes one carriage return off the end of each of its lines, and running it the next.
 
-use crate::beside::{Beside, mirrors_of};
+use crate::beside::mirrors_of;
 use dag_run::{Limits, Report, run_lines};
 use disk_memory::MemoryDisk;
 use disk_trait::Disk;
 use line_io::{Line, LineFault, Lines, MemorySource, Sink, SinkFault, Source, StdSink, StdSource};
 use mirror_set::Mirrors;
-use remote_trait::Remote;
 use std::alloc::{AllocError, AllocFailed, Global};
 use std::process::ExitCode;
 use std::{io, str};
@@ -85,13 +84,7 @@ fn run_beside<D: Disk, I: Source, O: Sink>(
     input: &mut I,
     output: &mut O,
 ) -> Result<Report, Stop> {
-    let mut list: Vec<Box<dyn Remote>> = Vec::new(alloc);
-    for one in mirrors_of(alloc, title)? {
-        match one {
-            Beside::Honest(remote) => list.push(Box::new(alloc, remote)?)?,
-            Beside::Liar(remote) => list.push(Box::new(alloc, remote)?)?,
-        }
-    }
+    let list = mirrors_of(alloc, title)?;
     if list.len() > 8 {
         return Err(Stop::Memory);
     }
