@@ -1,5 +1,5 @@
 -- The mirrors that the words of remotes make.
-use Rattle.std.specs.Prelude.{ℕ, Bool, ◌≡◌, ◌^◌, List, [], ◌∷◌, ◌++◌, Option, Some, None, ⊤, ⊥}
+use Rattle.std.specs.Prelude.{ℕ, Bool, ◌≡◌, ◌^◌, List, [], ◌∷◌, ◌++◌, Option, Some, None, ⊤}
 use Rattle.remote_rules.specs.Mirror.{Mirror as Shown}
 use Rattle.remote_store.specs.Remote.{mirror_of as log_shown}
 use Rattle.remote_bundle.specs.Remote.{mirror_of as bundle_shown}
@@ -13,14 +13,14 @@ use Rattle.segdag.specs.declared.mirror.Mirror.TheVariants.{Log, Bundle, Pipe}
 
 -- a mirror shows what that shows of which it is made
 abbrev pub shown_of : Mirror → Shown
-shown_of (Log r) = log_shown r
+shown_of (Log r) = log_shown r.log
 shown_of (Bundle r) = bundle_shown r
 shown_of (Pipe r) = pipe_shown r
 
 -- Of what a word names this mirror is made: a log within the program's own limit, a bundle of at most 2^30 bytes, or a mirror behind a pipe;
 -- and none of a pipe that isn't asked.
 abbrev pub IsMadeOf : Named → Option Mirror → Type 0
-IsMadeOf (names.Log path) (Some (Log r)) = r.limit ≡ standard.log
+IsMadeOf (names.Log path) (Some (Log r)) = r.log.limit ≡ standard.log
 IsMadeOf (names.Bundle path) (Some (Bundle r)) = r.limit ≡ 2 ^ 30
 IsMadeOf (names.Pipe to from) (Some (Pipe r)) = ⊤
 IsMadeOf names.Unasked None = ⊤

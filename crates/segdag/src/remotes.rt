@@ -28,11 +28,8 @@ fn file_at(rt: &HostRuntime, path: &str) -> Result<FileDisk<HostRuntime>, AllocE
 }
 
 /// The log at this path as a remote. It may have as many bytes as the program's own log.
-fn log_at(
-    rt: &HostRuntime,
-    path: &str,
-) -> Result<StoreRemote<FileDisk<HostRuntime>>, AllocError>
-    ensures { IfOk result (λ remote. remote.limit ≡ standard.log) }
+fn log_at(rt: &HostRuntime, path: &str) -> Result<StoreRemote<FileDisk<HostRuntime>>, AllocError>
+    ensures { IfOk result (λ remote. remote.log.limit ≡ standard.log) }
 {
     let disk = file_at(rt, path)?;
     Ok(StoreRemote::new(disk, Limits::standard()))
@@ -62,7 +59,7 @@ fn pipe_at(
 
 /// The mirror of which the word speaks; none where it is a pipe that isn't asked.
 fn mirror_of(rt: &HostRuntime, named: Named) -> Result<Option<Mirror>, AllocError>
-    ensures { IfOk result (λ made. IsMadeOf named made) }
+    ensures { IfOk result (λ made. IsMadeOf named.entry made) }
 {
     match named {
         Named::Log(path) => Ok(Some(Mirror::Log(log_at(rt, path)?))),
@@ -82,10 +79,13 @@ fn add_mirror(
     ensures few { IfOk result (λ _. length list.new.items ≤ length list.old.items + 1) }
     ensures added { IfOk result (λ _. (words : List (List ℕ)) → AreMadeOf is_run words list.old.items → AreMadeOf is_run (words ++ word.now ∷ []) list.new.items) }
 {
-    if let Some(mirror) = mirror_of(rt, named_by(word, is_run))? {
-        list.push(mirror)?;
+    match mirror_of(rt, named_by(word, is_run))? {
+        Some(mirror) => {
+            list.push(mirror)?;
+            Ok(())
+        }
+        None => Ok(()),
     }
-    Ok(())
 }
 
 /// The mirrors that the words of remotes name, in their order: bundles, where `bundle:` stands in front of the path, mirrors behind pipes,
