@@ -31,7 +31,7 @@ def linear(commits):
 
 
 def by_demo(commits):
-    """The parents that a demonstration draws: one in sixteen is a merge, and one begins a branch that nobody merges."""
+    """The parents that a demonstration draws: one in sixteen is a merge, and one begins a branch, few of which come back."""
     x = 0
     for i in range(commits):
         parents = [i - 1] if i else []
