@@ -301,7 +301,7 @@ def late_is_told(late):
     late.socket.setblocking(True)
     told = whole(late.socket)
     if told != b"err ended 8\n":
-        fail(f"who kept rows pending was told {told!r}")
+        fail(f"a client that kept rows pending was told {told!r}")
     return True
 
 
@@ -345,7 +345,7 @@ def seventeenth():
     sock = raw(served.path)
     sock.sendall(b"nowait\nstatus\n")
     if whole(sock) != b"err busy 16\n":
-        fail("who asks not to wait isn't refused")
+        fail("a client that asks not to wait isn't refused")
     silent = [raw(served.path) for _ in range(40)]  # They say nothing, and are in nobody's way.
     waiting = [raw(served.path) for _ in range(3)]
     for one in waiting:
@@ -358,9 +358,9 @@ def seventeenth():
     for leaves, one in ((7, waiting[0]), (3, waiting[2])):
         held[leaves].close()
         if one.recv(100) != b"ok 0 1 0\n":
-            fail("who waited isn't on the newest version, or has rows of somebody else")
+            fail("a client that waited isn't on the newest version, or has rows of somebody else")
     if select.select(silent, [], [], 0)[0]:
-        fail("who says nothing is told something")
+        fail("a client that says nothing is told something")
     held[0].close()
     held[1].close()
     for _ in range(100):
@@ -372,9 +372,9 @@ def seventeenth():
         time.sleep(0.05)
     got += sock.recv(100) if got == b"ok session\n" else b""
     if got != b"ok session\nok 0 1 0\n":
-        fail(f"who asks not to wait is told {got!r} where a session is free")
+        fail(f"a client that asks not to wait is told {got!r} where a session is free")
     served.end()
-    return "the seventeenth waits in turn or is refused, and finds nothing of who was there before"
+    return "the seventeenth waits in turn or is refused, and finds nothing of the one that was there before"
 
 
 def two():
@@ -744,7 +744,7 @@ def many():
             sizes.append((served.status("VmRSS"), served.descriptors()))
     served.end()
     if sizes[1][1] > sizes[0][1] or sizes[1][0] > sizes[0][0] + 1000:
-        fail(f"kilobytes and descriptors were {sizes[0]} behind a tenth of {count} connections, and {sizes[1]} at the end")
+        fail(f"kilobytes and descriptors were {sizes[0]} after a tenth of {count} connections, and {sizes[1]} at the end")
     return f"{count} connections in a row leave {sizes[1][0] - sizes[0][0]} kB and no descriptor"
 
 
