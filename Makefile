@@ -36,4 +36,5 @@ test:
 	sh tests/serve.sh
 	sh tests/pipes.sh
 	sh tests/guide.sh
+	sh tests/pages.sh
 	@sh tests/skips.sh
