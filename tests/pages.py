@@ -78,6 +78,28 @@ def check_contracts(names):
         wrong("docs/CONTRACTS.md", f"the crate `{crate}` is missing")
 
 
+def check_tables():
+    """The tables of docs/COMMANDS.md have all that the program knows, and nothing else."""
+    page = read(TOP / "docs/COMMANDS.md")
+    literal = lambda place: re.findall(r'text == b"(\w+)"', read(CRATES / place))
+    known = {
+        "Modes": re.findall(r'word == "(\w+)"', read(CRATES / "program_words/src/usage.rt").partition("fn mode_of")[2].partition("\nfn ")[0]),
+        "Lines": literal("command_lines/src/words.rt"),
+        "Expressions": literal("set_expr/src/words.rt"),
+        "Refusals": re.findall(r'codes "(err [a-z -]+)', read(CRATES / "step_rules/specs/Reply.antt") + read(CRATES / "run_rules/specs/Ends.antt")),
+        "Statuses": re.findall(r"\d+", re.search(r"IsStatus status = .*?\((0 .*)\[\]", read(CRATES / "dag_run/specs/Stops.antt"))[1]) + ["9", "16"],
+    }
+    for heading, words in known.items():
+        cells = "\n".join(re.findall(r"^\| (?!---)(.*?) \|", page.partition(f"\n## {heading}\n")[2].partition("\n## ")[0], re.MULTILINE))
+        told = {
+            "Modes": re.findall(r"`([a-z]+)`", cells), "Lines": re.findall(r"`S ([a-z]+)", cells),
+            "Expressions": re.findall(r"`([a-z]+)", cells), "Refusals": [it.strip() for it in re.findall(r"`(err(?: [a-z-]+)+)", cells)],
+            "Statuses": re.findall(r"\d+", cells),
+        }[heading]
+        for word in sorted({word.strip() for word in words} ^ set(told)):
+            wrong("docs/COMMANDS.md", f"{heading}: '{word}' is {'missing' if word not in told else 'nothing that the program knows'}")
+
+
 # Links, sizes, figures, counts.
 
 
@@ -126,10 +148,11 @@ def counted(names):
     code = {crate: "".join(read(path) for path in CRATES.glob(f"{crate}/src/**/*.rt")) for crate in names.sources.below}
     edits = {crate: len(list(CRATES.glob(f"{crate}/must-fail/*.edit"))) for crate in names.sources.below}
     tests = {crate: text.count("#[test]") for crate, text in code.items()}
+    cases = ("\n" + read(CRATES / "run_rows/stdin")).count("\n== ")
     lines = {kind: sum(read(path).count("\n") for path in CRATES.glob(f"*/{kind}/**/*") if path.is_file()) for kind in ("src", "specs", "proofs")}
     return {
         "crates": len(code), "tests": sum(tests.values()), "tested": sum(map(bool, tests.values())), "edits": sum(edits.values()),
-        "edited": sum(map(bool, edits.values())), "runs": read(CRATES / "run_rows/stdin").count("\n== ") + read(CRATES / "run_rows/stdin").startswith("== "),
+        "edited": sum(map(bool, edits.values())), "runs": cases,
         **{kind: f"{round(count, -2):,}" for kind, count in lines.items()},
         **dict(zip(("definitions", "definition_lines", "closed", "closed_lines"), (f"{it:,}" for it in definitions()))),
     }
@@ -162,7 +185,7 @@ def draw(program, folder):
     quiet = {**os.environ, "PYTHONDONTWRITEBYTECODE": "1"}
     subprocess.run([sys.executable, TOP / "docs/pictures/draw.py", program, folder], check=True, env=quiet)
     subprocess.run([sys.executable, TOP / "bench/growth_picture.py", TOP / "bench/README.md", folder / "growth.svg"], check=True, env=quiet)
-    return {folder / name: TOP / "docs/pictures" / name for name in PICTURES} | {folder / "growth.svg": TOP / "bench/growth.svg"}
+    return {folder / "growth.svg": TOP / "bench/growth.svg", **{folder / name: TOP / "docs/pictures" / name for name in PICTURES}}
 
 
 def check_pictures(program, folder):
@@ -179,6 +202,7 @@ def main():
         return
     names = Names()
     check_names(names)
+    check_tables()
     check_links()
     check_sizes()
     check_figures()

@@ -11,10 +11,12 @@ CRATES = TOP / "crates"
 
 # Names that stand in no source of this repository, by the reason.
 ELSEWHERE = {
-    "Rattle, its std and its kit's crates": """abbrev as assert! bool Box const Copy derive drop dyn enum fn for if impl len let loop match None Ok
-        Option Rc Result Some struct trait u64 u128 unreachable! usize Vec where as_slice clamp contains const get get_or is_ascii_digit is_err
-        push_reserved split_at use env::args AllocError AllocFailed Ok(None) Ok(Added::New(id)) partition_point unwrap assert_eq! return ensures.ok Prelude IfOk IfSome MatchOption OnOk IsPermutation IsPartitionPoint-from_clause Nat.Bits
-        ArgAction::Set decimal yielded strip_prefix_is option_map_or err_from_is_err_and lt-ltb ne_eqb cases_lt cases_eq truncate overflow_cast""",
+    "Rattle, its std and its kit's crates": """
+        abbrev as assert! bool Box const Copy derive drop dyn enum fn for if impl len let loop match None Ok Option Rc Result Some
+        struct trait u64 u128 unreachable! usize Vec where as_slice clamp contains const get get_or is_ascii_digit is_err
+        push_reserved split_at use env::args AllocError AllocFailed Ok(None) Ok(Added::New(id)) partition_point unwrap assert_eq!
+        return ensures.ok Prelude IfOk IfSome MatchOption OnOk IsPermutation IsPartitionPoint-from_clause Nat.Bits ArgAction::Set
+        decimal yielded strip_prefix_is option_map_or err_from_is_err_and lt-ltb ne_eqb cases_lt cases_eq truncate overflow_cast""",
     "antt and its tactics": "cc omega rw search subst unfoldable unfolding ap refl open in yes no .antt",
     "the kit: its programs, files, options": """rt rattle clap hex itoa arrayvec memchr lru rattle-kit-13f met-1 Kept.key Kept.give RT_JOBS out/rlib proofs/Lib.antt
         ./proofs/ --allow-holes --incremental --statements --only --start --fix-imports""",
@@ -73,7 +75,7 @@ class Sources:
 
     def add_crate(self, crate):
         own, files, specs, calls = set(), set(), set(), set()
-        for path in [*CRATES.glob(f"{crate}/*/**/*.rt"), *CRATES.glob(f"{crate}/*/**/*.antt"), *CRATES.glob(f"{crate}/must-fail/*.edit")]:
+        for path in (path for kind in ("src", "specs", "proofs") for path in CRATES.glob(f"{crate}/{kind}/**/*.*") if path.is_file()):
             files |= {path.stem, path.name}
             names = rust_names(read(path)) if path.suffix == ".rt" else antt_names(read(path)) if path.suffix == ".antt" else set()
             own |= names
@@ -111,7 +113,7 @@ def commands():
 
 def is_path(word):
     """Whether the path is there: from the top, or from crates/, docs/ or tools/, with or without its ending. `*` stands for any part."""
-    word = word.removeprefix("./").rstrip("/")
+    word = re.sub(r"^\./|/$", "", word)
     places = [TOP, CRATES, CRATES / "segdag", TOP / "docs", TOP / "tools", TOP / "tools/segdag_git", TOP / "tests", TOP / "bench"]
     return any(next(place.glob(word + ending), None) for place in places for ending in ("", ".antt", ".rt", ".md"))
 

@@ -54,9 +54,9 @@ def line(x1, y1, x2, y2, colour=LINE):
 
 
 def commit(x, y, words, fill, dash=""):
-    inside = "white" if not dash else PENDING
+    edge, inside, dashed = (PENDING, PENDING, f' stroke-dasharray="{dash}"') if dash else (fill, "white", "")
     return [
-        f'<circle cx="{x:g}" cy="{y:g}" r="13" fill="{fill}" stroke="{PENDING if dash else fill}"{f" stroke-dasharray={chr(34)}{dash}{chr(34)}" if dash else ""}/>',
+        f'<circle cx="{x:g}" cy="{y:g}" r="13" fill="{fill}" stroke="{edge}"{dashed}/>',
         f'<text x="{x:g}" y="{y + 4:g}" font-size="11" fill="{inside}" text-anchor="middle">{words}</text>',
     ]
 
