@@ -100,7 +100,7 @@ fn boxed(alloc: Global, beside: &Beside) -> Result<Option<Box<dyn Remote>>, Allo
 }
 
 /// The mirrors.
-pub fn mirrors(alloc: Global, beside: &Beside) -> Result<Mirrors, AllocError> {
+pub fn mirrors(alloc: Global, beside: &Beside) -> Result<Mirrors<Box<dyn Remote>>, AllocError> {
     let mut list: Vec<Box<dyn Remote>> = Vec::new(alloc);
     if let Some(one) = boxed(alloc, beside)? {
         list.push(one)?;

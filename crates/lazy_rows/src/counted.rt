@@ -111,7 +111,7 @@ fn chain_remote(alloc: Global, commits: u8) -> Result<MemoryRemote, AllocError> 
 }
 
 /// That mirror alone, which may be asked for so many names.
-fn alone(alloc: Global, commits: u8, left: u64) -> Result<Mirrors, AllocError> {
+fn alone(alloc: Global, commits: u8, left: u64) -> Result<Mirrors<Box<dyn Remote>>, AllocError> {
     let remote = chain_remote(alloc, commits)?;
     let mut list: Vec<Box<dyn Remote>> = Vec::new(alloc);
     list.push(Box::new(alloc, Sparing { remote, left })?)?;
@@ -125,7 +125,7 @@ fn alone(alloc: Global, commits: u8, left: u64) -> Result<Mirrors, AllocError> {
 fn run(
     alloc: Global,
     disk: &mut MemoryDisk,
-    mirrors: &mut Mirrors,
+    mirrors: &mut Mirrors<Box<dyn Remote>>,
     lines: &str,
     output: &mut MemorySink,
 ) -> Result<Report, AllocError> {
@@ -254,7 +254,7 @@ fn stored_by(rows: &[Asked]) -> usize {
 fn run_lines_of(
     alloc: Global,
     disk: &mut MemoryDisk,
-    mirrors: &mut Mirrors,
+    mirrors: &mut Mirrors<Box<dyn Remote>>,
     rows: &[Asked],
     output: &mut MemorySink,
 ) -> Result<bool, AllocError> {

@@ -38,7 +38,7 @@ fn push_mirror(
 }
 
 /// The three mirrors. Those that are marked fail at their first call.
-fn three(alloc: Global, marked: [bool; 3]) -> Result<Mirrors, AllocError> {
+fn three(alloc: Global, marked: [bool; 3]) -> Result<Mirrors<Box<dyn Remote>>, AllocError> {
     let mut list: Vec<Box<dyn Remote>> = Vec::new(alloc);
     push_mirror(alloc, &mut list, CHAINS[0], marked[0])?;
     push_mirror(alloc, &mut list, CHAINS[1], marked[1])?;
@@ -50,7 +50,7 @@ fn three(alloc: Global, marked: [bool; 3]) -> Result<Mirrors, AllocError> {
 }
 
 /// The last id of the first segment that the mirrors tell of; 0 where there is none.
-fn last_id(alloc: Global, mirrors: &mut Mirrors) -> Result<u64, MirrorFault> {
+fn last_id(alloc: Global, mirrors: &mut Mirrors<Box<dyn Remote>>) -> Result<u64, MirrorFault> {
     let given = mirrors.fresh_clone(alloc)?;
     if given.segments.len() == 0 {
         return Ok(0);
@@ -59,7 +59,11 @@ fn last_id(alloc: Global, mirrors: &mut Mirrors) -> Result<u64, MirrorFault> {
 }
 
 /// Which mirror answers, the first being 1: one less than its chain is long.
-fn answer(alloc: Global, mirrors: &mut Mirrors, way: Way) -> Result<u64, MirrorFault> {
+fn answer(
+    alloc: Global,
+    mirrors: &mut Mirrors<Box<dyn Remote>>,
+    way: Way,
+) -> Result<u64, MirrorFault> {
     match way {
         Way::Names => {
             let mut out = [name(0); 5];
@@ -78,7 +82,12 @@ fn answer(alloc: Global, mirrors: &mut Mirrors, way: Way) -> Result<u64, MirrorF
 type Turns = [Result<u64, MirrorFault>; 3];
 
 /// Whether three asks in turn come to this.
-fn are_turns(alloc: Global, mirrors: &mut Mirrors, way: Way, want: &Turns) -> bool {
+fn are_turns(
+    alloc: Global,
+    mirrors: &mut Mirrors<Box<dyn Remote>>,
+    way: Way,
+    want: &Turns,
+) -> bool {
     for wanted in want {
         if answer(alloc, mirrors, way) != *wanted {
             return false;

@@ -157,7 +157,7 @@ fn push_mirror(
 }
 
 /// The three mirrors.
-fn three(alloc: Global, fails: [u64; 3]) -> Result<Mirrors, AllocError> {
+fn three(alloc: Global, fails: [u64; 3]) -> Result<Mirrors<Box<dyn Remote>>, AllocError> {
     let mut list: Vec<Box<dyn Remote>> = Vec::new(alloc);
     push_mirror(alloc, &mut list, 9, fails[0])?;
     push_mirror(alloc, &mut list, 8, fails[1])?;
@@ -169,13 +169,17 @@ fn three(alloc: Global, fails: [u64; 3]) -> Result<Mirrors, AllocError> {
 }
 
 /// How many names a pull of all brings.
-fn brought(alloc: Global, mirrors: &mut Mirrors) -> Result<u32, FreshFault> {
+fn brought(alloc: Global, mirrors: &mut Mirrors<Box<dyn Remote>>) -> Result<u32, FreshFault> {
     let fresh = mirrors.fresh_from(alloc, 0)?;
     Ok(fresh.names.len())
 }
 
 /// Whether three pulls come to this, and a fourth one finds no mirror.
-fn are_pulled(alloc: Global, mirrors: &mut Mirrors, want: &[Result<u32, FreshFault>; 3]) -> bool {
+fn are_pulled(
+    alloc: Global,
+    mirrors: &mut Mirrors<Box<dyn Remote>>,
+    want: &[Result<u32, FreshFault>; 3],
+) -> bool {
     for wanted in want {
         if brought(alloc, mirrors) != *wanted {
             return false;
