@@ -360,7 +360,7 @@ def settled():
         busy.must("flush")
         late.socket.settimeout(600)
         if whole(late.socket) != b"err ended 8\n":
-            fail("who kept rows pending was told something else")
+            fail("a client that kept rows pending was told something else")
         if busy.must("status").last != "ok 0 1 0":
             fail("the other client isn't on the newest version")
         served.end()

@@ -1,10 +1,10 @@
 """The parts of guide.sh: guide.py PART PROGRAM FOLDER. Each ends with status 1 where something else was answered.
 
-`guide.py write PROGRAM FOLDER` writes into docs/GUIDE.md and docs/COMMANDS.md what their commands answer now, to be read before it is
-committed.
+`guide.py write PROGRAM FOLDER` writes into the pages what their commands answer now, to be read before it is committed.
 """
 import difflib
 import re
+import shutil
 import subprocess
 import sys
 
@@ -14,8 +14,14 @@ from guide_lib import FOLDER, PROGRAM, TOP, environment, fail
 from guide_log import killed, logs, published
 from guide_refusals import faults, refusals
 
-PAGES = ("docs/GUIDE.md", "docs/COMMANDS.md")
+PAGES = ("docs/GUIDE.md", "docs/COMMANDS.md", "docs/MANY.md")
 SHELL = {"stdout": subprocess.PIPE, "stderr": subprocess.STDOUT, "text": True, "timeout": 600}
+
+
+def is_run(fence):
+    """Whether the commands of a block are run: of one `console` they are, and of one `console with TOOL` where the tool is there."""
+    words = fence[3:].split()
+    return words[:1] == ["console"] and all(shutil.which(tool) for tool in words[2:])
 
 
 def transcripts_of(text):
@@ -25,7 +31,7 @@ def transcripts_of(text):
         if line.startswith("## "):
             sections.append([])
         if line.startswith("```"):
-            inside = line == "```console"
+            inside = is_run(line)
         elif inside and line.startswith("$ "):
             sections[-1].append((at, line[2:], []))
         elif inside and line.startswith("> ") and not sections[-1][-1][2]:

@@ -124,7 +124,7 @@ class Names:
 
     def is_known(self, word, names):
         """Whether a name is one of these, or its parts are, of which some crate has all."""
-        parts = {part for part in re.split(r"::|\.|\(\)|<.*>", word) if part} - WORDS
+        parts = {part for part in re.split(r"::|\.|\(\)|<.*>", word) if len(part) > 1} - WORDS
         return parts <= names and (len(parts) == 1 or any(parts <= own | self.sources.files[crate] | {crate} for crate, own in self.sources.own.items()))
 
     def is_there(self, span, crate=None):
