@@ -1,7 +1,7 @@
 """The pages against the repository: pages.py PROGRAM FOLDER. It tells all that isn't so, and ends with status 1 where there is any.
 
 Names in backquotes are there (pages_names.py), links lead somewhere, counts are those of the sources, figures of README stand in
-bench/README, pages are short, and the pictures are those that are drawn again. `pages.py write PROGRAM FOLDER` draws them.
+bench/README, pages are short, and the pictures are those that are drawn again. `pages.py write PROGRAM FOLDER` writes counts and pictures.
 """
 import os
 import re
@@ -168,13 +168,22 @@ COUNTS = {
 }
 
 
-def check_counts(names):
+def check_counts(names, writes=False):
+    """The sentences have the counts; or they are written into the pages."""
     found = counted(names)
     for page, sentences in COUNTS.items():
-        text = re.sub(r"\s+", " ", read(TOP / page))
+        text = read(TOP / page)
         for sentence in sentences:
-            if sentence.format(**found) not in text:
-                wrong(page, f"it should say: {sentence.format(**found)}")
+            wanted = sentence.format(**found)
+            shape = r"\s+".join(re.sub(r"\\{\w+\\}", r"[\\d,]+", re.escape(word)) for word in sentence.split())
+            here = re.search(shape, text)
+            if not here or here[0].split() != wanted.split():
+                wrong(page, f"it should say: {wanted}")
+            if here and writes:
+                blanks = iter(re.findall(r"\s+", here[0]))
+                text = text.replace(here[0], re.sub(" ", lambda _: next(blanks), wanted))
+        if writes:
+            (TOP / page).write_text(text)
 
 
 # Pictures.
@@ -195,12 +204,12 @@ def check_pictures(program, folder):
 
 
 def main():
-    program, folder = Path(sys.argv[-2]).resolve(), Path(sys.argv[-1])
+    program, folder, names = Path(sys.argv[-2]).resolve(), Path(sys.argv[-1]), Names()
     if sys.argv[1] == "write":
+        check_counts(names, writes=True)
         for drawn, kept in draw(program, folder).items():
             kept.write_text(read(drawn))
         return
-    names = Names()
     check_names(names)
     check_tables()
     check_links()
