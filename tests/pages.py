@@ -154,14 +154,17 @@ def counted(names):
         "crates": len(code), "tests": sum(tests.values()), "tested": sum(map(bool, tests.values())), "edits": sum(edits.values()),
         "edited": sum(map(bool, edits.values())), "runs": cases,
         **{kind: f"{round(count, -2):,}" for kind, count in lines.items()},
-        **{kind: f"{int(count):,}" for kind, count in re.findall(r"(pending|others|master|answer) = (\d+)", read(CRATES / "change_rules/specs/Standard.antt"))},
+        **{kind: f"{int(count):,}" for kind, count in re.findall(r"(\w+) = (\d+);", read(CRATES / "change_rules/specs/Standard.antt"))},
         **dict(zip(("definitions", "definition_lines", "closed", "closed_lines"), (f"{it:,}" for it in definitions()))),
     }
 
 
 # Sentences of pages with counts in them, as {name}.
 COUNTS = {
-    "README.md": ["{master} commits in master, {others} others, {pending} pending in a session", "{tests} tests in Rattle in {tested} crates, {runs} whole runs as data", "{edits} planted bugs"],
+    "README.md": [
+        "{master} commits in master, {others} others, {pending} pending in a session", "{edits} planted bugs",
+        "{tests} tests in Rattle in {tested} crates, {runs} whole runs as data",
+    ],
     "docs/COMMANDS.md": ["more than {answer} names"],
     "docs/TESTED.md": ["{tests} functions in {tested} crates", "{runs} cases as data"],
     "docs/REVIEW.md": ["plants {edits} of them"],
