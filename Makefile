@@ -16,7 +16,7 @@ run:
 try:
 	cd crates/segdag && $(RT) try -- log -- run < stdin
 
-# The gate: each proof, each must-fail edit, each test and each program; hours from nothing (docs/PROVING.md, "Gates and kits"). Behind it
+# The gate: each proof, each must-fail edit, each test and each program; hours from nothing (docs/PROVING.md, "Gates"). Behind it
 # what no contract can say of the compiler, of the built program and of the documents, in some ten minutes. The first failure ends it.
 # A script whose tool is missing is skipped, which is told at the end; with SEGDAG_NO_SKIP=1 that is a failure.
 test: export SKIPPED = $(CURDIR)/tests/out/skipped
@@ -36,4 +36,5 @@ test:
 	sh tests/serve.sh
 	sh tests/pipes.sh
 	sh tests/guide.sh
+	sh tests/pages.sh
 	@sh tests/skips.sh

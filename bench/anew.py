@@ -48,7 +48,7 @@ def measure(kind, history, commits, folder):
     least(f"{kind}: its bundle", [log, "--", "bundle"], bundle, bundle)
     least(f"{kind}: a clone of the log", [new, log, "--", "run"], told, new, b"0 clone\n")
     least(f"{kind}: a clone of the bundle", [new, f"bundle:{bundle}", "--", "run"], told, new, b"0 clone\n")
-    least(f"{kind}: written anew", [log, "--", "compact"], told, f"{log}.new")
+    least(f"{kind}: written again", [log, "--", "compact"], told, f"{log}.new")
 
 
 def main():

@@ -187,7 +187,7 @@ def main():
         daemon = begin(log, path)
         for others in (0, 3, 15):
             middle, late = latency(path, draw, commits, others)
-            print(f"a near merge base beside {others} busy clients: {middle:.3f} ms at the median, {late:.3f} at the 99th", flush=True)
+            print(f"a near merge base with {others} busy clients: {middle:.3f} ms at the median, {late:.3f} at the 99th", flush=True)
         daemon.terminate()
         daemon.wait()
 

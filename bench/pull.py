@@ -82,8 +82,8 @@ def measure(kind, history, commits, folder):
     reading = first - second
     print(f"{kind}: the program's start and a load of the clone: {load:.3f} s")
     print(f"{kind}: the mirror's log read: {reading:.3f} s, a name found then {second * 1e6:.0f} us")
-    print(f"{kind}: a pull of {MORE} commits: {pull:.3f} s, beside the reading {pull - reading:.3f} s; {told[3][1]}")
-    print(f"{kind}: a pull of nothing new: {again:.3f} s, beside the reading {again - reading:.3f} s")
+    print(f"{kind}: a pull of {MORE} commits: {pull:.3f} s, without the reading {pull - reading:.3f} s; {told[3][1]}")
+    print(f"{kind}: a pull of nothing new: {again:.3f} s, without the reading {again - reading:.3f} s")
     print(f"{kind}: {told[5][1]}", flush=True)
 
 

@@ -74,21 +74,21 @@ def writers():
         words = [log, "--", "compact"] if at % 10 == 9 else [log, "--", "run"]
         end = ended(words, added(2) + f"0 flush {name(2)}\n")
         if not is_refused(end):
-            fail(f"writers: beside another one {words[2]} ended with {end}")
+            fail(f"writers: while another one writes {words[2]} ended with {end}")
     if os.path.exists(log + ".new"):
         fail("writers: a compact that was refused made its file")
     with open(log, "rb") as file:
         if file.read() != data:
-            fail("writers: who was refused wrote")
+            fail("writers: a refused writer wrote")
     status, output, _ = ended([fresh("clone"), log, "--", "run"], "0 clone\n")
     if (status, output) != (0, "ok cloned 1\n"):
-        fail(f"writers: a clone beside a writer: {status}, {output}")
+        fail(f"writers: a clone while another writes: {status}, {output}")
     if ended([log, "--", "bundle"])[0] != 0 or ended(["none", log, "--", "serve"])[0] != 0:
-        fail("writers: a bundle or a served mirror was refused beside a writer")
+        fail("writers: a bundle or a served mirror was refused while another writes")
     if writer.ask("0 status\n") != "ok 1 0 0\n" or writer.end() != 0:
         fail("writers: the writer was disturbed")
     if ended([log, "--", "run"], "0 status\n")[:2] != (0, "ok 1 0 0\n"):
-        fail("writers: behind the writer the log isn't free")
+        fail("writers: after the writer the log isn't free")
 
 
 def waits():
@@ -103,7 +103,7 @@ def waits():
     if waiting.process.poll() is not None:
         fail("waits: it didn't wait")
     if ended([log, "--", "compact"])[0] != 16:
-        fail("waits: a compact beside a writer isn't refused")
+        fail("waits: a compact while another writes isn't refused")
     writer.ask(added(2))
     writer.ask(f"0 flush {name(2)}\n")
     # another file takes the log's place before the writer lets it go
@@ -170,7 +170,7 @@ def told_sizes(words, text, wanted, least, busy):
         fail(f"readers: {words[-1]} of {text.split()[-1:]}: status {status}, {output[-200:]!r}, {told}")
     size = int(last[0].split()[2])
     if not least <= size <= busy.sent:
-        fail(f"readers: {last[0]} beside a log that grew from {least} to {busy.sent} meanwhile")
+        fail(f"readers: {last[0]} over a log that grew from {least} to {busy.sent} meanwhile")
     return size
 
 
@@ -202,7 +202,7 @@ def readers():
         busy.join()
     if busy.bad is not None or busy.writer.end() != 0:
         fail(f"readers: the writer failed: {busy.bad}")
-    print(f"beside: readers: {4 * rounds} beside {busy.sent - COMMITS} flushes, {moved} clones with what came meanwhile")
+    print(f"beside: readers: {4 * rounds} during {busy.sent - COMMITS} flushes, {moved} clones with what came meanwhile")
 
 
 PARTS = {part.__name__: part for part in (writers, waits, killed, readers)}

@@ -106,7 +106,7 @@ class Served:
     def seen(self):
         """Waits until the daemon has seen all that came before. All sessions are taken."""
         if told_whole(self.path, b"nowait\n") != b"err busy 16\n":
-            fail("who asks not to wait isn't refused")
+            fail("a client that asks not to wait isn't refused")
 
 
 def moments(text):
@@ -360,7 +360,7 @@ def settled():
         busy.must("flush")
         late.socket.settimeout(600)
         if whole(late.socket) != b"err ended 8\n":
-            fail("who kept rows pending was told something else")
+            fail("a client that kept rows pending was told something else")
         if busy.must("status").last != "ok 0 1 0":
             fail("the other client isn't on the newest version")
         served.end()
@@ -402,7 +402,7 @@ def seventeenth():
     for k, one in enumerate(held):
         one.must(f"add {name(k + 1)}")
     if told_whole(served.path, b"nowait\nstatus\n") != b"err busy 16\n":
-        fail("who asks not to wait isn't refused")
+        fail("a client that asks not to wait isn't refused")
     silent = [raw(served.path) for _ in range(40)]  # They say nothing, and are in nobody's way.
     waiting = [raw(served.path) for _ in range(3)]
     for one in waiting:
@@ -415,9 +415,9 @@ def seventeenth():
     for leaves, one in ((7, waiting[0]), (3, waiting[2])):
         held[leaves].close()
         if one.recv(100) != b"ok 0 1 0\n":
-            fail("who waited isn't on the newest version, or has rows of somebody else")
+            fail("a client that waited isn't on the newest version, or has rows of somebody else")
     if select.select(silent, [], [], 0)[0]:
-        fail("who says nothing is told something")
+        fail("a client that says nothing is told something")
     held[0].close()
     held[1].close()
     for _ in moments("a session that was left isn't free"):
@@ -428,9 +428,9 @@ def seventeenth():
             break
     got += sock.recv(100) if got == b"ok session\n" else b""
     if got != b"ok session\nok 0 1 0\n":
-        fail(f"who asks not to wait is told {got!r} where a session is free")
+        fail(f"a client that asks not to wait is told {got!r} where a session is free")
     served.end()
-    return "the seventeenth waits in turn or is refused, and finds nothing of who was there before"
+    return "the seventeenth waits in turn or is refused, and finds nothing of the one that was there before"
 
 
 def two():
@@ -814,7 +814,7 @@ def many():
             sizes.append((served.status("VmRSS"), descriptors))
     served.end()
     if sizes[1][1] > sizes[0][1] or sizes[1][0] > sizes[0][0] + 1000:
-        fail(f"kilobytes and descriptors were {sizes[0]} behind a tenth of {count} connections, and {sizes[1]} at the end")
+        fail(f"kilobytes and descriptors were {sizes[0]} after a tenth of {count} connections, and {sizes[1]} at the end")
     return f"{count} connections in a row leave {sizes[1][0] - sizes[0][0]} kB and no descriptor"
 
 

@@ -1,9 +1,10 @@
 """The parts of guide.sh: guide.py PART PROGRAM FOLDER. Each ends with status 1 where something else was answered.
 
-`guide.py write PROGRAM FOLDER` writes into docs/GUIDE.md what its commands answer now, to be read before it is committed.
+`guide.py write PROGRAM FOLDER` writes into the pages what their commands answer now, to be read before it is committed.
 """
 import difflib
 import re
+import shutil
 import subprocess
 import sys
 
@@ -13,17 +14,24 @@ from guide_lib import FOLDER, PROGRAM, TOP, environment, fail
 from guide_log import killed, logs, published
 from guide_refusals import faults, refusals
 
-GUIDE = TOP / "docs/GUIDE.md"
+PAGES = ("docs/GUIDE.md", "docs/COMMANDS.md", "docs/MANY.md")
+SHELL = {"stdout": subprocess.PIPE, "stderr": subprocess.STDOUT, "text": True, "timeout": 600}
+
+
+def is_run(fence):
+    """Whether the commands of a block are run: of one `console` they are, and of one `console with TOOL` where the tool is there."""
+    words = fence[3:].split()
+    return words[:1] == ["console"] and all(shutil.which(tool) for tool in words[2:])
 
 
 def transcripts_of(text):
-    """The sections of a guide, each a list of commands with the lines that follow them: where each stands, command, lines."""
+    """The sections of a page, each a list of commands with the lines that follow them: where each stands, command, lines."""
     sections, inside = [], False
     for at, line in enumerate(text.splitlines()):
         if line.startswith("## "):
             sections.append([])
         if line.startswith("```"):
-            inside = line == "```console"
+            inside = is_run(line)
         elif inside and line.startswith("$ "):
             sections[-1].append((at, line[2:], []))
         elif inside and line.startswith("> ") and not sections[-1][-1][2]:
@@ -34,48 +42,57 @@ def transcripts_of(text):
     return [section for section in sections if section]
 
 
-def played(number, section):
+def played(folder, section):
     """What the commands of a section answer, one after another in one shell, over an empty folder."""
-    folder = FOLDER / f"section{number}"
-    folder.mkdir()
+    folder.mkdir(parents=True)
     mark = "== a mark between two commands =="
     script = "".join(f"{command}\necho '{mark}'\n" for _at, command, _lines in section)
-    both = {"stdout": subprocess.PIPE, "stderr": subprocess.STDOUT}
-    done = subprocess.run(["bash"], input=script, cwd=folder, env=environment(), text=True, timeout=600, **both)
+    done = subprocess.run(["bash"], input=script, cwd=folder, env=environment(), **SHELL)
     return [part.splitlines() for part in done.stdout.split(mark + "\n")[:-1]]
 
 
 def session():
-    """The session of README's first screen: a line of the program begins with a session's number and a verb."""
-    block = re.search(r"\n    \$ crates/segdag/out/segdag log -- run\n((?:    .*\n)+)", (TOP / "README.md").read_text())
-    lines = [line[4:] for line in block.group(1).splitlines()]
-    given = "".join(line + "\n" for line in lines if re.match(r"\d+ [a-z]", line))
-    done = subprocess.run([PROGRAM, FOLDER / "readme", "--", "run"], input=given, stdout=subprocess.PIPE, text=True, timeout=60)
-    if done.stdout.splitlines() != [line for line in lines if not re.match(r"\d+ [a-z]", line)]:
-        fail(f"README.md's session is answered by {done.stdout}")
+    """The session of README's first screen, typed after `make build`: a line of the program begins with a session's number and a verb."""
+    block = re.search(r"\n    \$ (out/segdag log -- run)\n((?:    .*\n)+)", (TOP / "README.md").read_text())
+    if not block:
+        fail("README.md has no session that begins with `out/segdag log -- run`")
+    lines = [line[4:] for line in block.group(2).splitlines()]
+    typed, wanted = ([line for line in lines if bool(re.match(r"\d+ [a-z]", line)) == is_typed] for is_typed in (True, False))
+    folder = FOLDER / "readme"
+    (folder / "out").mkdir(parents=True)
+    (folder / "out/segdag").symlink_to(PROGRAM)
+    done = subprocess.run(["bash", "-c", block.group(1)], input="\n".join(typed) + "\n", cwd=folder, env=environment(), **SHELL)
+    if not typed or done.returncode != 0 or done.stdout.splitlines() != wanted:
+        fail(f"README.md's session ends with status {done.returncode} and is answered by {done.stdout}")
 
 
 def transcripts(writes=False):
-    """The commands of docs/GUIDE.md answer what stands there, and README's session too. Each section begins in an empty folder."""
+    """The commands of the pages answer what stands there, and README's session too. Each section begins in an empty folder."""
+    for page in PAGES:
+        print(f"guide: {page_played(page, writes)} commands of {page} are answered as they stand there")
     session()
-    text = GUIDE.read_text()
+
+
+def page_played(page, writes):
+    """How many commands a page has; where something else is answered this ends, or writes that into the page."""
+    text = (TOP / page).read_text()
     lines, count, moved = text.splitlines(), 0, 0
     for number, section in enumerate(transcripts_of(text)):
-        answered = played(number, section)
+        answered = played(FOLDER / f"{page}.{number}", section)
         if len(answered) != len(section):
-            fail(f"docs/GUIDE.md:{section[0][0] + 1}: only {len(answered)} of {len(section)} commands were run")
+            fail(f"{page}:{section[0][0] + 1}: only {len(answered)} of {len(section)} commands were run")
         for (at, command, wanted), given in zip(section, answered):
             first = at + moved + command.count("\n") + 1
             if writes:
                 lines[first : first + len(wanted)] = given
                 moved += len(given) - len(wanted)
             elif given != wanted:
-                told = "\n".join(difflib.unified_diff(wanted, given, "docs/GUIDE.md", "what was answered", lineterm=""))
-                fail(f"docs/GUIDE.md:{at + 1}: {command}\n{told}")
+                told = "\n".join(difflib.unified_diff(wanted, given, page, "what was answered", lineterm=""))
+                fail(f"{page}:{at + 1}: {command}\n{told}")
             count += 1
     if writes:
-        GUIDE.write_text("\n".join(lines) + "\n")
-    print(f"guide: {count} commands of docs/GUIDE.md are answered as they stand there")
+        (TOP / page).write_text("\n".join(lines) + "\n")
+    return count
 
 
 PARTS = {it.__name__: it for it in (answers, octopuses, shapes, refusals, faults, logs, published, killed, daemons, transcripts)}

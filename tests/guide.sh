@@ -1,6 +1,6 @@
 #!/bin/sh
 # The command git-segdag against git's own answers, over drawn repositories whose branches are rewritten between two syncs, and the
-# transcripts of docs/GUIDE.md, word for word. Some minutes; each part can be run by itself.
+# transcripts of docs/GUIDE.md, docs/COMMANDS.md and README.md, word for word. Some minutes; each part can be run by itself.
 #     sh tests/guide.sh [PART]...     the parts are those of tests/guide.py
 . "$(dirname "$0")/lib.sh"
 wants_program

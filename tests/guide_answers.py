@@ -27,7 +27,7 @@ def answers():
             if phase == 0 and taken.split()[0] != repository.must("rev-list", "--count", "--branches").strip():
                 fail(f"{repository.path.name}: the first sync told {taken}")
             if repository.sync().split()[0] != "0":
-                fail(f"{repository.path.name}: a sync behind a sync took commits")
+                fail(f"{repository.path.name}: a second sync took commits")
             ask_all(repository, draw, 2)
             asked += 3
     print(f"guide: {asked} drawn pairs are answered as by git")
@@ -51,12 +51,12 @@ def octopuses():
             repository.sync()
             wanted = repository.must("rev-list", "--count", "--branches", "HEAD").strip()
             if phase == 0 and repository.must("segdag", "sync") != f"0 new, {wanted} commits in the log\n":
-                fail(f"{repository.path.name}: a sync behind a sync counts other commits than {wanted}")
+                fail(f"{repository.path.name}: a second sync counts other commits than {wanted}")
             if phase == 0:
                 structure(repository)
             ask_all(repository, draw, 2)
             asked += 2 + bool(phase)
-    print(f"guide: {asked} drawn pairs beside merges of up to 70 parents are answered as by git")
+    print(f"guide: {asked} drawn pairs near merges of up to 70 parents are answered as git answers them")
 
 
 def structure(repository):

@@ -32,8 +32,8 @@ def refusals():
         refuse(repository, ["log", *words.split()], 128, "bad revision '")
     line_feeds(repository)
     for expression, sentence in (
-        ("walks(main)", "no function 'walks'"), ("ancestors(main", "its end"), ("ancestors(main))", "behind the expression"), ("", "its end"),
-        ("up(main,topic)", "where a number is wanted"), ("only(main)", "',' is wanted"), ('ancestors("main)', "double quote"), (",", "where a revision"),
+        ("walks(main)", "no function 'walks'"), ("ancestors(main", "its end"), ("ancestors(main))", "after the expression"), ("", "its end"),
+        ("up(main,topic)", "where a number is expected"), ("only(main)", "',' is expected"), ('ancestors("main)', "double quote"), (",", "where a revision"),
         ("heads(" * 40 + "main" + ")" * 40, "deep"), ("top(all,-1)", "where a number"), ("up(all,1)", "Not a valid object name all"),
     ):
         refuse(repository, ["query", expression], 128, sentence)

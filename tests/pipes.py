@@ -156,9 +156,9 @@ def one_run(program, draw, folder):
         finally:
             behind.end()
         if found != wanted:
-            fail(f"behind a pipe ({how}) it told\n{found[1]}in place of\n{wanted[1]}for\n" + "\n".join(lines))
+            fail(f"behind a pipe ({how}) it answered\n{found[1]}instead of\n{wanted[1]}to\n" + "\n".join(lines))
         if by_path.read_bytes() != by_pipe.read_bytes():
-            fail(f"behind a pipe ({how}) the log is another")
+            fail(f"behind a pipe ({how}) the log differs")
 
 
 def broken_run(program, draw, folder):
@@ -175,7 +175,7 @@ def broken_run(program, draw, folder):
         finally:
             behind.end()
         if found != wanted:
-            fail(f"beside a pipe that stops ({how}) it told\n{found[1]}in place of\n{wanted[1]}")
+            fail(f"with a pipe that stops ({how}) it answered\n{found[1]}instead of\n{wanted[1]}")
     behind = Behind(program, there, folder, how, draw)
     try:
         found = told(program, alone, [behind.word], lines, cache)
@@ -185,7 +185,7 @@ def broken_run(program, draw, folder):
         fail(f"with a peer that ends ({how}) the status is {found[0]}")
     again = told(program, alone, [], ["0 count all"], cache)
     if again[0] != 0 or not again[1].startswith("ok "):
-        fail(f"behind a peer that ends ({how}) the log doesn't open")
+        fail(f"after a peer that ends ({how}) the log doesn't open")
     if how["end"] == "stop":
         behind = Behind(program, there, folder)
         try:

@@ -143,9 +143,9 @@ def main():
         return 1
     print(f"random_runs: {cloned} lines over clones are answered as by stores with all names")
     if random_anew.is_known:
-        print(f"random_runs: {anew} lines over logs, over them written anew, and over clones of their bundles are answered alike")
+        print(f"random_runs: {anew} lines over logs, over the same logs written again, and over clones of their bundles are answered alike")
     else:
-        print(f"random_runs: {program} doesn't know compact, so logs written anew and bundles are left out")
+        print(f"random_runs: {program} doesn't know compact, so logs written again and bundles are left out")
     if not Lines.pulls:
         print(f"random_runs: {program} doesn't know pull, so pulls are left out")
         return 0

@@ -113,7 +113,7 @@ def places():
     os.chmod(log, 0o644)
     stored(log, 2, 2, "places: a file that was read-only")
     if os.path.exists(log + ".new"):
-        fail("places: a file beside the log was made")
+        fail("places: a file next to the log was made")
 
 
 def out_of_room(log, part, **options):
@@ -182,7 +182,7 @@ def kill():
         cut += child.wait() == -signal.SIGKILL and done > 0
         count = stored(log, count + done, count + min(done + 1, 40), f"kill, round {rounds} of SEED={seed}")
         rounds += 1
-    print(f"real_files: kill: {rounds} processes were killed, {cut} of them behind a reply to a flush")
+    print(f"real_files: kill: {rounds} processes were killed, {cut} of them after a reply to a flush")
 
 
 def counted_calls(trace):

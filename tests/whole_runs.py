@@ -270,7 +270,7 @@ def anew():
     ends("a log written anew", "compact", 0, b"ok compacted 2 2 269 179\n")
     ends("a second time", "compact", 14, b"")
     if content(LOG) != data or os.path.getsize(new) != 179:
-        sys.exit("whole_runs: a log written anew: the files are others")
+        sys.exit("whole_runs: a log written again: the files differ")
     os.rename(LOG, apart)
     os.rename(new, LOG)
     check("the run over it", "0 query all; 0 levels; 0 add [e1] [d1]; 0 flush", "[d1]; [b1]; [c1]; [a1]; ok 4; ok 1; ok added N2; ok flushed 2 3")
@@ -379,7 +379,7 @@ if knows_bundles():
     anew()
     bundles()
 else:
-    print("whole_runs: the program doesn't know bundles, so they and logs written anew are left out")
+    print("whole_runs: the program doesn't know bundles, so they and logs written again are left out")
 for size, start in [(1, 0), (2, 0), (3, 0), (3, 5), (3, 10), (64, 3), (999, 10), (1000, 0), (1001, (1 << 64) - 1)]:
     demonstrate(size, start, plainly(drawn(size, start), by_lines=True))
 many = plainly(drawn(20_000, 5), by_lines=False)

@@ -34,7 +34,7 @@ class Parser:
         self.words.reverse()
         self.tree = self.part("S", 0)
         if self.words:
-            raise Refused(f"behind the expression stands {' '.join(reversed(self.words))[:200]}")
+            raise Refused(f"after the expression comes {' '.join(reversed(self.words))[:200]}")
 
     def next(self):
         return self.words.pop() if self.words else ""
@@ -42,17 +42,17 @@ class Parser:
     def must(self, wanted):
         word = self.next()
         if word != wanted:
-            raise Refused(f"the expression has {repr(word) if word else 'its end'} where '{wanted}' is wanted")
+            raise Refused(f"the expression has {repr(word) if word else 'its end'} where '{wanted}' is expected")
 
     def part(self, kind, depth):
         word = self.next()
         if not word or word in "(),":
-            raise Refused(f"the expression has {repr(word) if word else 'its end'} where a revision or a set is wanted")
+            raise Refused(f"the expression has {repr(word) if word else 'its end'} where a revision or a set is expected")
         if depth > DEEP:
             raise Refused(f"the expression is more than {DEEP} deep")
         if kind == "n":
             if not word.isdigit() or not word.isascii():
-                raise Refused(f"the expression has '{word}' where a number is wanted")
+                raise Refused(f"the expression has '{word}' where a number is expected")
             return ("number", word)
         if self.words and self.words[-1] == "(" and word[0] != '"':
             return self.call(word, depth)
@@ -68,7 +68,7 @@ class Parser:
 
     def call(self, word, depth):
         if word not in FUNCTIONS:
-            raise Refused(f"there is no function '{word}'; a revision with a bracket or a comma stands in double quotes")
+            raise Refused(f"there is no function '{word}'; a revision with a bracket or a comma must be in double quotes")
         arguments = []
         for kind in FUNCTIONS[word]:
             self.must("," if arguments else "(")
