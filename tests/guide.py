@@ -9,7 +9,7 @@ import sys
 
 from guide_answers import answers, octopuses, shapes
 from guide_daemon import daemons
-from guide_lib import FOLDER, PROGRAM, TOP, environment, fail
+from guide_lib import FOLDER, HANGS, PROGRAM, TOP, environment, fail
 from guide_log import killed, logs, published
 from guide_refusals import faults, refusals
 
@@ -41,7 +41,7 @@ def played(number, section):
     mark = "== a mark between two commands =="
     script = "".join(f"{command}\necho '{mark}'\n" for _at, command, _lines in section)
     both = {"stdout": subprocess.PIPE, "stderr": subprocess.STDOUT}
-    done = subprocess.run(["bash"], input=script, cwd=folder, env=environment(), text=True, timeout=600, **both)
+    done = subprocess.run(["bash"], input=script, cwd=folder, env=environment(), text=True, timeout=HANGS, **both)
     return [part.splitlines() for part in done.stdout.split(mark + "\n")[:-1]]
 
 
@@ -50,7 +50,7 @@ def session():
     block = re.search(r"\n    \$ crates/segdag/out/segdag log -- run\n((?:    .*\n)+)", (TOP / "README.md").read_text())
     lines = [line[4:] for line in block.group(1).splitlines()]
     given = "".join(line + "\n" for line in lines if re.match(r"\d+ [a-z]", line))
-    done = subprocess.run([PROGRAM, FOLDER / "readme", "--", "run"], input=given, stdout=subprocess.PIPE, text=True, timeout=60)
+    done = subprocess.run([PROGRAM, FOLDER / "readme", "--", "run"], input=given, stdout=subprocess.PIPE, text=True, timeout=HANGS)
     if done.stdout.splitlines() != [line for line in lines if not re.match(r"\d+ [a-z]", line)]:
         fail(f"README.md's session is answered by {done.stdout}")
 

@@ -9,6 +9,7 @@ FOLDER = Path(sys.argv[3]).resolve()
 TOP = Path(__file__).resolve().parent.parent
 # Another command may be tried by these tests, such as one of an older version, which must fail.
 TOOL = Path(os.environ.get("GIT_SEGDAG") or TOP / "tools/git-segdag").resolve()
+HANGS = 600  # seconds behind which something is taken to hang
 BEGIN = 100_000_000  # the first commit's date, in seconds
 
 
@@ -61,7 +62,7 @@ class Repository:
         """The status, what is put, and what is told."""
         done = subprocess.run(
             ["git", *words], cwd=self.path, env=environment(**more), input=text, capture_output=True, text=True,
-            errors="surrogateescape", timeout=300,
+            errors="surrogateescape", timeout=HANGS,
         )
         return done.returncode, done.stdout, done.stderr
 
@@ -180,7 +181,7 @@ def ask_expressions(repository, a, b, c, steps):
 def refuse(repository, words, status, sentence, command=("git", "segdag"), **more):
     """The command ends with this status and a sentence like this, puts nothing, and shows no traceback."""
     words = [*command, *words]
-    ended = subprocess.run(words, cwd=repository.path, env=environment(**more), capture_output=True, text=True, errors="replace", timeout=120)
+    ended = subprocess.run(words, cwd=repository.path, env=environment(**more), capture_output=True, text=True, errors="replace", timeout=HANGS)
     lines = ended.stderr.strip().split("\n")
     if ended.returncode != status or sentence not in ended.stderr or ended.stdout or status == 128 and len(lines) != 1:
         fail(f"{words} in {repository.path.name} ended with {ended}, and {status}, '{sentence}' was wanted")
