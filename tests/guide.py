@@ -9,9 +9,11 @@ import sys
 
 from guide_answers import answers, octopuses, shapes
 from guide_daemon import daemons
+from guide_large import kernel, large
 from guide_lib import FOLDER, HANGS, PROGRAM, TOP, environment, fail
 from guide_log import killed, logs, published
 from guide_refusals import faults, refusals
+from guide_shared import shared
 
 GUIDE = TOP / "docs/GUIDE.md"
 
@@ -78,6 +80,6 @@ def transcripts(writes=False):
     print(f"guide: {count} commands of docs/GUIDE.md are answered as they stand there")
 
 
-PARTS = {it.__name__: it for it in (answers, octopuses, shapes, refusals, faults, logs, published, killed, daemons, transcripts)}
+PARTS = {it.__name__: it for it in (answers, octopuses, shapes, refusals, faults, logs, published, shared, killed, daemons, transcripts, large, kernel)}
 PARTS["write"] = lambda: transcripts(writes=True)
 PARTS[sys.argv[1]]()

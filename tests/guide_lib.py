@@ -58,16 +58,16 @@ class Repository:
         other.__dict__.update(self.__dict__, path=path)
         return other
 
-    def git(self, *words, text=None, **more):
-        """The status, what is put, and what is told."""
+    def git(self, *words, text=None, stdin=None, **more):
+        """The status, what is put, and what is told. It reads a text or a file."""
+        given = {"input": text} if stdin is None else {"stdin": stdin}
         done = subprocess.run(
-            ["git", *words], cwd=self.path, env=environment(**more), input=text, capture_output=True, text=True,
-            errors="surrogateescape", timeout=HANGS,
+            ["git", *words], cwd=self.path, env=environment(**more), capture_output=True, text=True, errors="surrogateescape", timeout=HANGS, **given
         )
         return done.returncode, done.stdout, done.stderr
 
-    def must(self, *words, text=None, **more):
-        status, out, told = self.git(*words, text=text, **more)
+    def must(self, *words, text=None, stdin=None, **more):
+        status, out, told = self.git(*words, text=text, stdin=stdin, **more)
         if status != 0:
             fail(f"git {' '.join(words)[:80]} in {self.path.name} ended with {status}: {told}")
         return out

@@ -27,6 +27,17 @@ def git(*words, given=None):
     return os.fsdecode(put).split("\n")[:-1] if child.returncode == 0 else None
 
 
+def config(path, key):
+    """The last value of a key in a file of configuration alone, `true` where it stands without one; None where it doesn't stand there."""
+    words = ["git", "config", "--null", "--file", path, "--get-regexp", f"^{re.escape(key)}$"]
+    with Popen(words, stdin=DEVNULL, stdout=PIPE, stderr=DEVNULL) as child:
+        found = os.fsdecode(child.communicate()[0]).split("\0")[:-1]
+    if not found:
+        return None
+    _, has_value, value = found[-1].partition("\n")
+    return value if has_value else "true"
+
+
 def must(*words, given=None):
     """The same lines of a git that has no reason to refuse."""
     put = git(*words, given=given)
