@@ -9,6 +9,7 @@ import sys
 
 from guide_answers import answers, octopuses, shapes
 from guide_daemon import daemons
+from guide_enemies import enemies
 from guide_large import kernel, large
 from guide_lib import FOLDER, HANGS, PROGRAM, TOP, environment, fail
 from guide_log import killed, logs, published
@@ -80,6 +81,6 @@ def transcripts(writes=False):
     print(f"guide: {count} commands of docs/GUIDE.md are answered as they stand there")
 
 
-PARTS = {it.__name__: it for it in (answers, octopuses, shapes, refusals, faults, logs, published, shared, killed, daemons, transcripts, large, kernel)}
+PARTS = {it.__name__: it for it in (answers, octopuses, shapes, refusals, faults, logs, published, shared, killed, enemies, daemons, transcripts, large, kernel)}
 PARTS["write"] = lambda: transcripts(writes=True)
 PARTS[sys.argv[1]]()

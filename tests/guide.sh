@@ -5,7 +5,7 @@
 . "$(dirname "$0")/lib.sh"
 wants_program
 wants git python3
-[ $# -gt 0 ] || set -- answers octopuses shapes refusals faults logs published shared killed daemons transcripts
+[ $# -gt 0 ] || set -- answers octopuses shapes refusals faults logs published shared killed enemies daemons transcripts
 wants_folder
 for part in "$@"; do
     python tests/guide.py "$part" "$program" "$folder"

@@ -14,6 +14,7 @@ SETTLING = (b"flush", b"discard")  # lines behind which there may be nothing pen
 STORING = (b"flush", b"strip", b"clone", b"pull")  # lines that may make a new version, on which the session is then
 MOVING = (*STORING, b"reload")  # all behind which it is on the newest version
 HEAVY = (b"query", b"count", b"pull", b"clone", b"strip")  # lines that may take long, or have large replies
+LETTERS = (b"u", b"o", b"p")  # each of these words has one of them, and no name and no `add` has: to look for a letter takes no time
 AHEAD = 32  # such lines of one client under way at most, where their replies are small
 SMALL, LARGE = 1 << 12, 1 << 16  # replies below the one let more heavy lines go ahead, those above the other one alone
 
@@ -154,8 +155,10 @@ class Client:
             lines = [line for line in lines if line != b""]
         if not lines:
             return
-        self.is_mixed = self.is_mixed or None in lines or any(word in data for word in HEAVY)
-        self.is_moving = self.is_moving or any(word in data for word in MOVING)
+        self.is_mixed = self.is_mixed or None in lines
+        if any(letter in data for letter in LETTERS):
+            self.is_mixed = self.is_mixed or any(word in data for word in HEAVY)
+            self.is_moving = self.is_moving or any(word in data for word in MOVING)
         self.queued += len(data)
         self.lines = self.lines[self.at :] + lines
         self.at = 0

@@ -80,8 +80,7 @@ class Place:
     def changing(self):
         """The descriptor of the lock, for who changes the log. A log of the old place has been moved, and there is one."""
         if not os.path.isdir(self.folder):
-            with suppress(FileExistsError):
-                os.mkdir(self.folder)
+            os.makedirs(self.folder, exist_ok=True)
             share(self.folder, rights(self.common))
         with self.locked(fcntl.LOCK_EX) as lock:
             self._take_over()
