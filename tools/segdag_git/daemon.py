@@ -47,9 +47,10 @@ def start(place, idle=None):
 
 
 def group(place):
-    """Who may write the log may ask its daemon: the log's group too, where that may."""
+    """Who may write the log may ask its daemon: the log's group too, where that may, and whoever starts it is of it."""
     found = os.stat(place.log)
-    return ["--group", str(found.st_gid)] if found.st_mode & stat.S_IWGRP else []
+    is_member = os.geteuid() == 0 or found.st_gid in (os.getegid(), *os.getgroups())
+    return ["--group", str(found.st_gid)] if found.st_mode & stat.S_IWGRP and is_member else []
 
 
 def stop(place):
