@@ -17,6 +17,7 @@ def lends():
     held = [Socket(served.path) for _ in range(16)]
     for one in held[:12]:
         one.must("status")
+    held[0].socket.send(b"sta")  # Half a line keeps no session.
     for k, one in enumerate(held[12:]):
         one.must(f"add {name(100 + k)}")
     late = Socket(served.path)
@@ -26,7 +27,7 @@ def lends():
             hasty.sendall(b"nowait\n")
             if hasty.recv(100) == b"ok session\n":
                 break
-    found = [one.must("status").last for one in held]
+    found = [held[0].must("tus").last, *(one.must("status").last for one in held[1:])]
     if found != ["ok 0 0 0"] * 12 + ["ok 0 0 1"] * 4:
         fail(f"who lent its session, or had rows pending, was told {found}")
     changed(served, held, late)

@@ -105,8 +105,8 @@ class Client:
         return self.at < len(self.lines)
 
     def is_quiet(self):
-        """Nothing of it is under way in either direction."""
-        return not (self.afloat or self.has_lines() or self.part or self.is_skipping or self.outbox or self.is_told)
+        """Nothing of it is under way in either direction. Half a line is none yet."""
+        return not (self.afloat or self.has_lines() or self.outbox or self.is_told)
 
     def since(self):
         """The moment from which on it is quiet."""
