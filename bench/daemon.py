@@ -3,7 +3,8 @@
 
 Usage: bench/daemon.py [COMMITS [LINES]], behind `make run`; SEGDAG may say where the program is. Each client is a
 process that sends as far ahead as its socket takes, and the same process measures the pipe. What a kind of line is
-answered through the pipe, and through the daemon by each number of clients, stands in one row; each is the best of three.
+answered through the pipe, and through the daemon by each number of clients, stands in one row; each is the better of two. Two minutes with
+50,000 lines.
 """
 import os
 import random
@@ -22,6 +23,8 @@ from history import lines, name
 TOP = Path(__file__).resolve().parent.parent
 PROGRAM = os.environ.get("SEGDAG") or str(TOP / "crates/segdag/out/segdag")
 SEGDAGD = TOP / "tools/segdagd"
+SHARE, LATENCY = 0.5, 0.2  # the aims: of the pipe's lines a second, and milliseconds
+TURNS = 2  # of which each number of lines is the best
 
 
 def carry(to, back, text, count):
@@ -160,7 +163,7 @@ def throughput(log, path, folder, make):
     for k, file in enumerate(files):
         Path(file).write_text("".join(line + "\n" for line in make(k)))
     rows = []
-    for _ in range(3):
+    for _ in range(TURNS):
         shutil.copyfile(log, copy)
         row = [by_pipe(copy, Path(files[0]).read_bytes())]
         for clients in (1, 4, 16):
@@ -181,13 +184,17 @@ def main():
         log, path = os.path.join(folder, "log"), os.path.join(folder, "socket")
         text = "".join(line + "\n" for line in lines(commits, 1000)).encode()
         subprocess.run([PROGRAM, log, "--", "run"], input=text, stdout=subprocess.DEVNULL, check=True)
-        print(f"lines a second over {commits} commits: by the program's pipe; by 1, 4 and 16 clients (load {os.getloadavg()[0]:.1f})", flush=True)
+        print(f"Lines a second over {commits:,} commits, and the share of the pipe's (aim: {SHARE:.0%}; load {os.getloadavg()[0]:.1f}).\n")
+        print("| Line | the program's pipe | 1 client | 4 clients | 16 clients |\n|---|---|---|---|---|", flush=True)
         for kind, make in kinds(draw, commits, count):
-            print(f"{kind}: " + ", ".join(f"{number:,.0f}" for number in throughput(log, path, folder, make)), flush=True)
+            pipe, *shared = throughput(log, path, folder, make)
+            print(f"| {kind} | {pipe:,.0f} | " + " | ".join(f"{number:,.0f}, {number / pipe:.0%}" for number in shared) + " |", flush=True)
+        print(f"\nA near merge base, from its line to its reply (aim: {LATENCY} ms at the median, alone).\n")
+        print("| Beside | median, ms | 99th of a hundred, ms |\n|---|---|---|", flush=True)
         daemon = begin(log, path)
         for others in (0, 3, 15):
             middle, late = latency(path, draw, commits, others)
-            print(f"a near merge base with {others} busy clients: {middle:.3f} ms at the median, {late:.3f} at the 99th", flush=True)
+            print(f"| {others} busy clients | {middle:.3f} | {late:.3f} |", flush=True)
         daemon.terminate()
         daemon.wait()
 

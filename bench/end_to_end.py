@@ -6,6 +6,7 @@ from pathlib import Path
 
 TOOLS = Path(__file__).resolve().parent.parent / "tools"
 TIMES = 9
+AIM = 15  # milliseconds that a question with a daemon may take more than git's own start
 
 
 class Command:
@@ -70,3 +71,6 @@ def table(folder, program, near, far, stop):
     for at, (what, _) in enumerate(asked):
         quick = f"{kept[at][1]:.1f}" if kept else "-"
         print(f"| {what} | {quick} | {alone[at][1]:.1f} | {theirs[at][1]:.1f} |")
+    if kept:
+        most = max(taken for _, taken in kept) - start
+        print(f"\nWith its daemon a question takes {most:.1f} ms more than `git version`, or less (aim: {AIM} ms; load {os.getloadavg()[0]:.1f}).")

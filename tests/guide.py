@@ -10,12 +10,15 @@ import sys
 
 from guide_answers import answers, octopuses, shapes
 from guide_daemon import daemons
-from guide_lib import FOLDER, PROGRAM, TOP, environment, fail
+from guide_enemies import enemies
+from guide_large import kernel, large
+from guide_lib import FOLDER, HANGS, PROGRAM, TOP, environment, fail
 from guide_log import killed, logs, published
 from guide_refusals import faults, refusals
+from guide_shared import shared
 
 PAGES = ("docs/GUIDE.md", "docs/COMMANDS.md", "docs/MANY.md")
-SHELL = {"stdout": subprocess.PIPE, "stderr": subprocess.STDOUT, "text": True, "timeout": 600}
+SHELL = {"stdout": subprocess.PIPE, "stderr": subprocess.STDOUT, "text": True, "timeout": HANGS}
 
 
 def is_run(fence):
@@ -95,6 +98,6 @@ def page_played(page, writes):
     return count
 
 
-PARTS = {it.__name__: it for it in (answers, octopuses, shapes, refusals, faults, logs, published, killed, daemons, transcripts)}
+PARTS = {it.__name__: it for it in (answers, octopuses, shapes, refusals, faults, logs, published, shared, killed, enemies, daemons, transcripts, large, kernel)}
 PARTS["write"] = lambda: transcripts(writes=True)
 PARTS[sys.argv[1]]()

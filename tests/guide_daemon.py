@@ -1,6 +1,7 @@
 """A part of guide.sh: the commands answer the same where a daemon keeps the log."""
 import os
 import random
+import sys
 
 from guide_lib import TOOL, Repository, ask_all, fail, refuse, same
 
@@ -26,6 +27,7 @@ def daemons():
     repository.must("segdag", "daemon", "start", "600")
     try:
         asked(repository, draw)
+        crowded(repository, draw)
     finally:
         repository.must("segdag", "daemon", "stop")
     if repository.git("segdag", "daemon", "status")[0] != 1:
@@ -33,6 +35,28 @@ def daemons():
     repository.must("segdag", "compact")
     ask_all(repository, draw, 1)
     print("guide: a daemon is asked as the log is")
+
+
+def crowded(repository, draw):
+    """Sixteen others have the sessions: where they are idle one is lent, and where all have rows pending a copy of the log is asked."""
+    sys.path.insert(0, str(TOOL.parent))
+    from segdag_lines import Socket
+
+    held = [Socket(str(repository.common / "segdag/socket")) for _ in range(16)]
+    for one in held:
+        one.must("status")
+    ask_all(repository, draw, 1)
+    # A sync waits for a session, which one who is idle lends.
+    repository.sync()
+    for one in held:
+        one.close()
+    held = [Socket(str(repository.common / "segdag/socket")) for _ in range(16)]
+    for number, one in enumerate(held):
+        one.must(f"add {number:040x}")
+    ask_all(repository, draw, 1)
+    refuse(repository, ["log", "main..nosuch"], 128, "bad revision 'main..nosuch'")
+    for one in held:
+        one.close()
 
 
 def asked(repository, draw):

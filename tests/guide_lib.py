@@ -9,6 +9,7 @@ FOLDER = Path(sys.argv[3]).resolve()
 TOP = Path(__file__).resolve().parent.parent
 # Another command may be tried by these tests, such as one of an older version, which must fail.
 TOOL = Path(os.environ.get("GIT_SEGDAG") or TOP / "tools/git-segdag").resolve()
+HANGS = 600  # seconds behind which something is taken to hang
 BEGIN = 100_000_000  # the first commit's date, in seconds
 
 
@@ -57,16 +58,16 @@ class Repository:
         other.__dict__.update(self.__dict__, path=path)
         return other
 
-    def git(self, *words, text=None, **more):
-        """The status, what is put, and what is told."""
+    def git(self, *words, text=None, stdin=None, **more):
+        """The status, what is put, and what is told. It reads a text or a file."""
+        given = {"input": text} if stdin is None else {"stdin": stdin}
         done = subprocess.run(
-            ["git", *words], cwd=self.path, env=environment(**more), input=text, capture_output=True, text=True,
-            errors="surrogateescape", timeout=300,
+            ["git", *words], cwd=self.path, env=environment(**more), capture_output=True, text=True, errors="surrogateescape", timeout=HANGS, **given
         )
         return done.returncode, done.stdout, done.stderr
 
-    def must(self, *words, text=None, **more):
-        status, out, told = self.git(*words, text=text, **more)
+    def must(self, *words, text=None, stdin=None, **more):
+        status, out, told = self.git(*words, text=text, stdin=stdin, **more)
         if status != 0:
             fail(f"git {' '.join(words)[:80]} in {self.path.name} ended with {status}: {told}")
         return out
@@ -180,7 +181,7 @@ def ask_expressions(repository, a, b, c, steps):
 def refuse(repository, words, status, sentence, command=("git", "segdag"), **more):
     """The command ends with this status and a sentence like this, puts nothing, and shows no traceback."""
     words = [*command, *words]
-    ended = subprocess.run(words, cwd=repository.path, env=environment(**more), capture_output=True, text=True, errors="replace", timeout=120)
+    ended = subprocess.run(words, cwd=repository.path, env=environment(**more), capture_output=True, text=True, errors="replace", timeout=HANGS)
     lines = ended.stderr.strip().split("\n")
     if ended.returncode != status or sentence not in ended.stderr or ended.stdout or status == 128 and len(lines) != 1:
         fail(f"{words} in {repository.path.name} ended with {ended}, and {status}, '{sentence}' was wanted")

@@ -10,7 +10,7 @@ import subprocess
 import sys
 import time
 
-from guide_lib import FOLDER, PROGRAM, TOOL, Repository, ask_all, ask_pair, environment, fail, refuse, same, script
+from guide_lib import FOLDER, HANGS, PROGRAM, TOOL, Repository, ask_all, ask_pair, environment, fail, refuse, same, script
 
 KILLED = 30
 OLD = "objects/info/segdag"
@@ -24,7 +24,7 @@ def limited(name, **limits):
 
 
 def run(command, repository, *words, **more):
-    done = subprocess.run([command, *words], cwd=repository.path, env=environment(**more), capture_output=True, text=True, timeout=300)
+    done = subprocess.run([command, *words], cwd=repository.path, env=environment(**more), capture_output=True, text=True, timeout=HANGS)
     if done.returncode != 0 or "Traceback" in done.stderr:
         fail(f"{command.name} {words} in {repository.path.name} ended with {done}")
     return done.stdout
@@ -132,7 +132,7 @@ def locks(repository):
         if not waits(child):
             fail(f"logs: {words} goes on with the lock that was moved")
         held.file.close()
-        if child.wait(60) != 0:
+        if child.wait(HANGS) != 0:
             fail(f"logs: {words} ended with {child.returncode}")
         child.stdout.close()
         os.close(back)

@@ -16,6 +16,7 @@ from pathlib import Path
 import serve_client
 
 TOOL = Path(__file__).resolve().parent.parent / "tools/segdag-ssh"
+HANGS = 600  # seconds behind which something is taken to hang
 
 
 def fail(text):
@@ -111,7 +112,7 @@ class Behind:
 
 def told(program, log, mirrors, lines, cache):
     words = [program, log, *mirrors, "--", "run", "--cache", str(cache)]
-    done = subprocess.run(words, input="".join(line + "\n" for line in lines), text=True, capture_output=True, timeout=120)
+    done = subprocess.run(words, input="".join(line + "\n" for line in lines), text=True, capture_output=True, timeout=HANGS)
     return done.returncode, done.stdout
 
 
@@ -208,7 +209,7 @@ def words_run(program, draw, folder):
     if there.read_bytes() != before:
         fail("a log was written over")
     for mode in ("serve", "bundle", "compact", "demo"):
-        found = subprocess.run([program, here, f"pipe:{folder}/to:{folder}/from", "--", mode], input=b"", capture_output=True, timeout=60)
+        found = subprocess.run([program, here, f"pipe:{folder}/to:{folder}/from", "--", mode], input=b"", capture_output=True, timeout=HANGS)
         if mode == "serve" and found.returncode != 11:
             fail(f"a pipe is served: status {found.returncode}")
 
@@ -223,7 +224,7 @@ def tool_run(program, draw, folder):
     rooms.mkdir()
     env = {**os.environ, "SEGDAG": str(program), "TMPDIR": str(rooms)}
     serve = f"exec '{program}' none '{there}' -- serve"
-    done = subprocess.run([TOOL, "--command", serve, here, "--", "run"], input="".join(line + "\n" for line in lines), text=True, capture_output=True, env=env, timeout=120)
+    done = subprocess.run([TOOL, "--command", serve, here, "--", "run"], input="".join(line + "\n" for line in lines), text=True, capture_output=True, env=env, timeout=HANGS)
     if (done.returncode, done.stdout) != wanted:
         fail(f"segdag-ssh told {done.returncode}\n{done.stdout}{done.stderr}in place of\n{wanted[1]}")
     begun = subprocess.Popen([TOOL, "--command", serve, here, "--", "run"], stdin=subprocess.PIPE, stdout=subprocess.PIPE, env=env)
@@ -231,25 +232,29 @@ def tool_run(program, draw, folder):
     begun.stdin.flush()
     begun.stdout.readline()
     begun.terminate()
-    if begun.wait(timeout=60) != 143:
+    if begun.wait(timeout=HANGS) != 143:
         fail(f"segdag-ssh ended by a signal with {begun.returncode}")
     begun.stdin.close()
-    bad = subprocess.run([TOOL, "--command", serve, here, "--", "walk"], input=b"", capture_output=True, env=env, timeout=60)
+    bad = subprocess.run([TOOL, "--command", serve, here, "--", "walk"], input=b"", capture_output=True, env=env, timeout=HANGS)
     if bad.returncode != 2:
         fail(f"segdag-ssh ended with {bad.returncode} for words that are no usage")
-    time.sleep(0.3)
-    if list(rooms.iterdir()):
-        fail(f"segdag-ssh left {list(rooms.iterdir())}")
+    if left := stays(lambda: list(rooms.iterdir())):
+        fail(f"segdag-ssh left {left}")
 
 
 def left_behind(folder):
-    """Processes that speak of the folder, five seconds later still: one whose input has ended takes a moment to end."""
-    for _ in range(100):
-        found = speaking_of(folder)
-        if not found:
-            break
+    """Processes that speak of the folder, and go on to: one whose input has ended takes a moment to end."""
+    return stays(lambda: speaking_of(folder))
+
+
+def stays(found):
+    """What is found, where it is still there when it should long be gone."""
+    began = time.monotonic()
+    while left := found():
+        if time.monotonic() - began > HANGS:
+            return left
         time.sleep(0.05)
-    return found
+    return None
 
 
 def speaking_of(folder):

@@ -11,9 +11,15 @@ FIRST = 1 << 12  # the same of a client without a session
 UNREAD = 1 << 16  # with so many bytes of replies not taken, no line of the client is sent on
 KEPT = 1 << 20  # bytes of replies that are kept in memory; what is more goes to a file
 SETTLING = (b"flush", b"discard")  # lines behind which there may be nothing pending
+STORING = (b"flush", b"strip", b"clone", b"pull")  # lines that may make a new version, on which the session is then
+MOVING = (*STORING, b"reload")  # all behind which it is on the newest version
 HEAVY = (b"query", b"count", b"pull", b"clone", b"strip")  # lines that may take long, or have large replies
+LETTERS = (b"u", b"o", b"p")  # each of these words has one of them, and no name and no `add` has: to look for a letter takes no time
 AHEAD = 32  # such lines of one client under way at most, where their replies are small
 SMALL, LARGE = 1 << 12, 1 << 16  # replies below the one let more heavy lines go ahead, those above the other one alone
+
+
+STORES = 2  # of a group: its last line may make a new version
 
 
 class Full(Exception):
@@ -81,16 +87,34 @@ class Client:
         self.sock, self.number = sock, number
         self.session, self.prefix = None, b""
         self.is_ready = self.is_known = self.is_over = self.is_told = self.is_gone = False
+        # It asked not to wait. Its session was lent to another one; whether it may be is being asked; something is pending in it.
+        self.is_hasty = self.is_lent = self.is_asked = self.is_keeping = False
+        # Which version its session is on, by a number of the daemon's own, and when a line of it was answered.
+        self.base, self.active = None, 0.0
         # Whole lines, of which the first `at` were sent on; one that is too long is None. `part` is what stands behind the last line feed.
         self.lines, self.at, self.queued = [], 0, 0
         self.part, self.is_skipping = b"", False
         # A line among these may be heavy, or None. No line that adds may be sent on, or none behind the next one that stores or lets go.
         self.is_mixed = self.holds_adds = self.is_settling = False
+        # One among them may move the session.
+        self.is_moving = False
         self.afloat, self.heavy, self.ahead = 0, 0, 1
         self.outbox, self.moved, self.mask = Outbox(limit), 0.0, 0
 
     def has_lines(self):
         return self.at < len(self.lines)
+
+    def is_quiet(self):
+        """Nothing of it is under way in either direction. Half a line is none yet."""
+        return not (self.afloat or self.has_lines() or self.outbox or self.is_told)
+
+    def since(self):
+        """The moment from which on it is quiet."""
+        return max(self.active, self.moved)
+
+    def is_idle(self, before):
+        """It is quiet since before this moment, and its session may be lent, as far as one knows."""
+        return self.is_ready and not self.is_asked and not self.is_keeping and self.since() <= before and self.is_quiet()
 
     def is_done(self):
         """It sends nothing more and has all replies, or it had its last word."""
@@ -131,7 +155,10 @@ class Client:
             lines = [line for line in lines if line != b""]
         if not lines:
             return
-        self.is_mixed = self.is_mixed or None in lines or any(word in data for word in HEAVY)
+        self.is_mixed = self.is_mixed or None in lines
+        if any(letter in data for letter in LETTERS):
+            self.is_mixed = self.is_mixed or any(word in data for word in HEAVY)
+            self.is_moving = self.is_moving or any(word in data for word in MOVING)
         self.queued += len(data)
         self.lines = self.lines[self.at :] + lines
         self.at = 0
@@ -174,20 +201,31 @@ class Client:
         return count
 
     def next_lines(self, count):
-        """The next lines, which are now under way, and how many of them are heavy."""
+        """The next lines, which are now under way, and the groups that they make."""
         lines = self.lines[self.at : self.at + count]
-        heavy = sum(line.startswith(HEAVY) for line in lines) if self.is_mixed else 0
+        groups = list(self.groups(lines)) if self.is_mixed or self.is_moving else [(self, count, 0, False)]
         if self.is_settling and lines[-1].startswith(SETTLING):
             self.holds_adds, self.is_settling = True, False
+        self.is_keeping = False
         self.afloat += count
-        self.heavy += heavy
+        self.heavy += sum(heavy for _, _, heavy, _ in groups)
         self.passed(count)
-        return lines, heavy
+        return lines, groups
+
+    def groups(self, lines):
+        """These lines in groups, of which none but the last line may move the session."""
+        begin = 0
+        ends = [end for end, line in enumerate(lines, 1) if line.startswith(MOVING)] if self.is_moving else []
+        for end in ends if ends[-1:] == [len(lines)] else [*ends, len(lines)]:
+            some = lines[begin:end]
+            heavy = sum(line.startswith(HEAVY) for line in some) if self.is_mixed else 0
+            yield self, len(some), heavy, STORES if some[-1].startswith(STORING) else some[-1].startswith(MOVING)
+            begin = end
 
     def passed(self, count):
         self.at += count
         if not self.has_lines():
-            self.lines, self.at, self.queued, self.is_mixed = [], 0, 0, False
+            self.lines, self.at, self.queued, self.is_mixed, self.is_moving = [], 0, 0, False, False
 
     def take(self, data):
         """Bytes of its replies."""
@@ -201,6 +239,7 @@ class Client:
         """All replies to lines that were sent on at once were taken: of so many lines and heavy ones, and bytes."""
         self.afloat -= count
         self.heavy -= heavy
+        self.active = monotonic()
         if size > LARGE:
             self.ahead = 1
         elif heavy and size < SMALL * heavy:

@@ -30,6 +30,7 @@ ENDS = {
     8: "the program has read as many bytes as one run may",
     9: "it can't be opened",
     16: "another program works on the log",
+    17: "the connection was idle and its session was lent, and the store has changed since: connect again",
 }
 
 

@@ -5,14 +5,14 @@ from contextlib import suppress
 
 from segdag_lines import DEVNULL, PIPE, Popen, Refused, end_of
 
-from .daemon import serves
 from .place import patient, program
+from .shared import as_
 
 
 def compact(place):
     place.must_have_commits()
     with place.changing() as held:
-        if serves(place):
+        if place.is_served():
             raise Refused("a daemon has the log: `git segdag daemon stop` ends it")
         fresh = place.log + ".new"
         # Who was killed behind the writing left one.
@@ -30,7 +30,8 @@ def compact(place):
 
 def written(log, more, held):
     """The words of the program's reply, when the new log is whole."""
-    child = Popen([program(), log, "--", "compact", *more], stdin=DEVNULL, stdout=PIPE, stderr=DEVNULL, pass_fds=(held,))
+    with as_(log):
+        child = Popen([program(), log, "--", "compact", *more], stdin=DEVNULL, stdout=PIPE, stderr=DEVNULL, pass_fds=(held,))
     told = child.communicate()[0].split()
     if child.returncode != 0 or told[:2] != [b"ok", b"compacted"]:
         raise Refused(f"{log}: {end_of(child.returncode)}", child.returncode)

@@ -13,6 +13,8 @@ from contextlib import contextmanager, suppress
 
 from segdag_lines import Program, Refused, Socket
 
+from .shared import made, rights, share
+
 BUSY, OLDER = 16, 2  # statuses of the program: another one has the log; it doesn't know these words
 
 
@@ -34,7 +36,7 @@ class Place:
     """The log of a repository. `common` is the folder that its worktrees share."""
 
     def __init__(self, common):
-        self.folder = os.path.join(common, "segdag")
+        self.common, self.folder = common, os.path.join(common, "segdag")
         self.log = os.path.join(self.folder, "log")
         self.socket = os.path.join(self.folder, "socket")
         # It stood here, where a clone of the same machine links it.
@@ -54,7 +56,9 @@ class Place:
         path, alone = os.path.join(self.folder, "lock"), how == fcntl.LOCK_EX
         while True:
             try:
-                lock = os.open(path, os.O_RDWR | os.O_CREAT | os.O_CLOEXEC, 0o666)
+                if not os.path.exists(path):
+                    made(path, rights(self.common))
+                lock = os.open(path, os.O_RDWR | os.O_CLOEXEC)
             except OSError:
                 if alone:
                     raise
@@ -74,10 +78,14 @@ class Place:
 
     @contextmanager
     def changing(self):
-        """The descriptor of the lock, for who changes the log. A log of the old place has been moved."""
-        os.makedirs(self.folder, exist_ok=True)
+        """The descriptor of the lock, for who changes the log. A log of the old place has been moved, and there is one."""
+        if not os.path.isdir(self.folder):
+            os.makedirs(self.folder, exist_ok=True)
+            share(self.folder, rights(self.common))
         with self.locked(fcntl.LOCK_EX) as lock:
             self._take_over()
+            if not os.path.exists(self.log):
+                made(self.log, rights(self.common))
             yield lock
 
     def _take_over(self):
@@ -95,6 +103,7 @@ class Place:
                 copy.flush()
                 os.fsync(copy.fileno())
             shutil.copymode(self.old, copy.name)
+            share(copy.name, rights(self.common))
             os.replace(copy.name, self.log)
             os.unlink(self.old)
 
@@ -106,28 +115,46 @@ class Place:
         if not os.path.exists(self.log) or os.path.getsize(self.log) < 2:
             raise Refused("the log has no commits yet: `git segdag sync` takes them")
 
-    def daemon(self):
-        """A connection to the daemon that has the log; None where none answers."""
+    def daemon(self, first="reload"):
+        """A connection to the daemon that has the log, which has answered this line; None where none answers."""
         if os.path.exists(self.socket):
             with suppress(Refused):
                 lines = Socket(self.socket)
-                lines.must("reload")
+                lines.must(first)
                 return lines
         return None
+
+    def is_served(self):
+        """Whether a daemon listens."""
+        with suppress(Refused), Socket(self.socket):
+            return True
+        return False
 
     def connect(self, held=()):
         """A connection to the program that has the log: the daemon's, or a run of its own. It has loaded the log."""
         return self.daemon() or begun(self.log, held)
 
+    def _alone(self):
+        """A run over the log for questions; None for who may not write it, and where another process has it."""
+        if not os.access(self.log, os.W_OK):
+            return None
+        try:
+            return loaded([program(), self.log, "--", "run"], ())
+        except Refused as refused:
+            if refused.status != BUSY:
+                raise
+            return None
+
     @contextmanager
     def asked(self):
-        """A connection for questions. Who may not write the log asks a copy of it."""
-        lines = self.daemon()
+        """A connection for questions. Who may not write the log asks a copy of it, and so does who would wait for a daemon that has no session
+        to give."""
+        lines = self.daemon("nowait")
         if lines is None:
             self.must_have_commits()
-            if os.access(self.log, os.W_OK):
-                with self.locked(fcntl.LOCK_SH):
-                    lines = begun(self.log)
+            with self.locked(fcntl.LOCK_SH):
+                # Who had the lock until now may have begun a daemon.
+                lines = self.daemon("nowait") or self._alone()
         if lines is not None:
             with lines:
                 yield lines

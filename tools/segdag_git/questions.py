@@ -11,6 +11,8 @@ from .repository import git, must, rows
 from .store import BLOCK, Store, union
 
 NAME = re.compile(r"\^?[0-9a-f]{40}")
+MANY = re.compile(r"--(all|branches|tags|remotes)|--(branches|tags|remotes|glob)=.*")
+TAKEN = "--all, --branches, --tags, --remotes and --glob="
 
 
 class Asked:
@@ -68,12 +70,14 @@ class Revisions:
     def __init__(self, objects, words):
         self.objects, self.wanted, self.left_out, self.pairs = objects, [], [], []
         for word in words:
-            if not self.range(word) and not self.one(word):
+            if word[:1] == "-":
+                self.many(word)
+            elif not self.range(word) and not self.one(word):
                 self.by_git(word)
 
     def one(self, word):
         """Whether this is a commit, or one with a ^ before it."""
-        name = self.objects.commit(word[word[:1] == "^" :]) if word[:1] != "-" else None
+        name = self.objects.commit(word[word[:1] == "^" :])
         if name:
             (self.left_out if word[0] == "^" else self.wanted).append(name)
         return bool(name)
@@ -81,7 +85,7 @@ class Revisions:
     def range(self, word):
         """Whether this is A..B or A...B, where either may be missing for HEAD. Git looks at the first two dots."""
         one, dots, other = word.partition("..")
-        if not dots or word == ".." or word[:1] in "-^":
+        if not dots or word == ".." or word[:1] == "^":
             return False
         both = other[:1] == "."
         names = [self.objects.commit(part or "HEAD") for part in (one, other[both:])]
@@ -95,17 +99,22 @@ class Revisions:
             self.wanted.append(names[1])
         return True
 
+    def many(self, word):
+        """An option that names many: what is no commit is left out. One that changes what stands behind it isn't taken."""
+        if not MANY.fullmatch(word):
+            raise Refused(f"bad revision {word!r}: of git's options {TAKEN} are taken")
+        self.wanted += must("rev-list", "--no-walk", word)
+
     def by_git(self, word):
-        """What else git takes: A^!, A^@, A^-, and options that name many, of which what is no commit is left out."""
+        """What else git takes: A^!, A^@ and A^-."""
         found = None if "\n" in word else git("rev-parse", word, "--")
         if not found or found.pop() != "--" or not all(map(NAME.fullmatch, found)):
             raise Refused(f"bad revision {word!r}" if "\n" in word else f"bad revision '{word}'")
         commits = self.objects.commits(name.lstrip("^") for name in found)
-        if None in commits and word[:1] != "-":
+        if None in commits:
             raise Refused(f"bad revision '{word}'")
         for name, commit in zip(found, commits):
-            if commit:
-                (self.left_out if name[0] == "^" else self.wanted).append(commit)
+            (self.left_out if name[0] == "^" else self.wanted).append(commit)
 
 
 def log(place, objects, words):

@@ -1,6 +1,7 @@
 """The quick way of a question where a daemon has the log: one process of git, one exchange with the daemon, and no module of Python that takes
-milliseconds to load. What isn't plain (a revision that isn't there, a commit that the log lacks) is left to the ordinary way."""
-import os
+milliseconds to load: `posix` and `_socket` are in the interpreter, and `os` and `socket` are more than it takes to answer. What isn't
+plain (a revision that isn't there, a commit that the log lacks) is left to the ordinary way."""
+import posix
 import sys
 
 import _socket
@@ -8,25 +9,34 @@ import _socket
 from .names import MARK, STAND_INS
 
 FEW = 50  # revisions of one question
+CODE = sys.getfilesystemencoding(), "surrogateescape"
 SIGPIPE = 13  # Python ignores it, and git is to heed it
 ABOUT = ("--git-common-dir", "--show-object-format", "--is-shallow-repository", "--git-path", "info/grafts")
 
 
 def git(*words):
     """The lines that git puts; None where it refuses or isn't there."""
-    back, to = os.pipe()
-    actions = [(os.POSIX_SPAWN_DUP2, to, 1), (os.POSIX_SPAWN_OPEN, 2, "/dev/null", os.O_WRONLY, 0)]
+    back, to = posix.pipe()
+    actions = [(posix.POSIX_SPAWN_DUP2, to, 1), (posix.POSIX_SPAWN_OPEN, 2, "/dev/null", posix.O_WRONLY, 0)]
     try:
-        child = os.posix_spawnp("git", ["git", *words], os.environ, file_actions=actions, setsigdef=[SIGPIPE])
+        child = posix.posix_spawnp("git", ["git", *words], posix.environ, file_actions=actions, setsigdef=[SIGPIPE])
     except OSError:
         return None
-    os.close(to)
+    posix.close(to)
     put = b""
-    piece = os.read(back, 1 << 16)
+    piece = posix.read(back, 1 << 16)
     while piece:
         put += piece
-        piece = os.read(back, 1 << 16)
-    return os.fsdecode(put).split("\n")[:-1] if os.waitpid(child, 0)[1] == 0 else None
+        piece = posix.read(back, 1 << 16)
+    return put.decode(*CODE).split("\n")[:-1] if posix.waitpid(child, 0)[1] == 0 else None
+
+
+def is_there(path):
+    try:
+        posix.stat(path)
+    except OSError:
+        return False
+    return True
 
 
 def is_plain(word):
@@ -50,23 +60,24 @@ def revisions(words):
 
 def replaces(folder):
     """Whether commits are replaced, or it takes more than a look at files to tell."""
-    if os.path.exists(os.path.join(folder, "reftable")) or os.path.exists(os.path.join(folder, "refs/replace")):
+    if is_there(folder + "/reftable") or is_there(folder + "/refs/replace"):
         return True
     try:
-        with open(os.path.join(folder, "packed-refs"), "rb") as packed:
+        with open(folder + "/packed-refs", "rb") as packed:
             return b" refs/replace/" in packed.read()
     except FileNotFoundError:
         return False
 
 
 def told(folder, lines):
-    """The daemon's reply to each of these lines, as the lines that it has; None where nobody gives all of them."""
+    """The daemon's reply to each of these lines, as the lines that it has; None where nobody gives all of them, or one would have to wait for
+    others to leave."""
     door = _socket.socket(_socket.AF_UNIX, _socket.SOCK_STREAM)
     replies, reply, came = [], [], b""
     try:
-        door.connect(os.path.join(folder, "segdag/socket"))
-        door.sendall("".join(line + "\n" for line in lines).encode())
-        while len(replies) < len(lines):
+        door.connect(folder + "/segdag/socket")
+        door.sendall("".join(line + "\n" for line in ["nowait", *lines]).encode())
+        while len(replies) <= len(lines):
             piece = door.recv(1 << 16)
             if not piece:
                 return None
@@ -76,7 +87,7 @@ def told(folder, lines):
                 if line[:2] == b"ok" or line[:3] == b"err":
                     replies.append(reply)
                     reply = []
-        return replies
+        return replies[1:]
     except OSError:
         return None
     finally:
@@ -106,7 +117,7 @@ def answer(words):
     if not found or len(found) != 4 + len(given) or found[1:3] != ["sha1", "false"]:
         return None
     folder, names = found[0], found[4:]
-    if os.path.exists(found[3]) or replaces(folder) or any(len(name) != 40 for name in names):
+    if is_there(found[3]) or replaces(folder) or any(len(name) != 40 for name in names):
         return None
     one, other = names[0], names[-1]
     if words[0] == "merge-base":
@@ -121,7 +132,7 @@ def answer(words):
         if counts is None:
             return None
         lines = [f"{word} {counts[2 * at]} {counts[2 * at + 1]}\n" for at, word in enumerate(given[1:])]
-        sys.stdout.buffer.write(os.fsencode("".join(lines)))
+        sys.stdout.buffer.write("".join(lines).encode(*CODE))
         return 0
     is_log = words[0] == "log"
     counts = counted(folder, [f"only({other},{one})" if is_log else f"inter({one},ancestors({other}))"])

@@ -27,6 +27,17 @@ def git(*words, given=None):
     return os.fsdecode(put).split("\n")[:-1] if child.returncode == 0 else None
 
 
+def config(path, key):
+    """The last value of a key in a file of configuration alone, `true` where it stands without one; None where it doesn't stand there."""
+    words = ["git", "config", "--null", "--file", path, "--get-regexp", f"^{re.escape(key)}$"]
+    with Popen(words, stdin=DEVNULL, stdout=PIPE, stderr=DEVNULL) as child:
+        found = os.fsdecode(child.communicate()[0]).split("\0")[:-1]
+    if not found:
+        return None
+    _, has_value, value = found[-1].partition("\n")
+    return value if has_value else "true"
+
+
 def must(*words, given=None):
     """The same lines of a git that has no reason to refuse."""
     put = git(*words, given=given)
@@ -64,11 +75,12 @@ class Objects(Process):
 
 def common_folder():
     """The folder that all worktrees of the repository share; refused where the history is none that can be held."""
-    asked = ("--git-common-dir", "--show-object-format", "--is-shallow-repository", "--git-path", "info/grafts")
-    told = git("rev-parse", *asked)
-    if told is None or len(told) != 4:
+    told = git("rev-parse", "--show-object-format", "--is-shallow-repository", "--git-common-dir")
+    if told is None or len(told) < 3:
         raise Refused("not a git repository (or any of the parent directories): .git")
-    folder, kind, shallow, grafts = told
+    # The folder's name may have line feeds.
+    kind, shallow, folder = told[0], told[1], "\n".join(told[2:])
+    grafts = os.environ.get("GIT_GRAFT_FILE") or os.path.join(folder, "info/grafts")
     if kind == "sha256":
         raise Refused("this repository has names of 32 bytes (SHA-256), and a log holds names of 20 bytes (SHA-1)")
     if shallow == "true":
