@@ -14,99 +14,13 @@ import time
 from pathlib import Path
 
 import serve_client
+from pipe_peers import Behind
 
 TOOL = Path(__file__).resolve().parent.parent / "tools/segdag-ssh"
 
 
 def fail(text):
     sys.exit(f"pipes: {text}")
-
-
-def relay(to, come, command, how, draw):
-    """Passes requests from one pipe to a server and answers to another, as it is told; a process of its own."""
-    asked = os.open(to, os.O_RDONLY)
-    server = subprocess.Popen(command, stdin=subprocess.PIPE, stdout=subprocess.PIPE)
-    told, passed, limit = None, 0, how.get("limit")
-
-    def exactly(count):
-        data = b""
-        while len(data) < count:
-            more = os.read(asked, count - len(data))
-            if not more:
-                return None
-            data += more
-        return data
-
-    def give(data):
-        step = 1 if how.get("ones") else len(data)
-        for at in range(0, len(data), max(step, 1)):
-            os.write(told, data[at : at + step])
-
-    try:
-        while (head := exactly(4)) is not None:
-            body = exactly(int.from_bytes(head, "big"))
-            if body is None:
-                break
-            if told is None:
-                told = os.open(come, os.O_WRONLY)
-            server.stdin.write(head + body)
-            server.stdin.flush()
-            size = server.stdout.read(4)
-            answer = size + server.stdout.read(int.from_bytes(size, "big"))
-            if how.get("late"):
-                time.sleep(0.02)
-            if limit is not None and passed + len(answer) > limit:
-                cut = max(limit - passed, 0)
-                if how["end"] == "lie":
-                    place = min(cut, len(answer) - 1)
-                    answer = answer[:place] + bytes([answer[place] ^ draw.randrange(1, 256)]) + answer[place + 1 :]
-                    limit = None
-                    if place < 4:  # A length that is too great would be waited for.
-                        give(answer)
-                        break
-                else:
-                    give(answer[:cut])
-                    break
-            give(answer)
-            passed += len(answer)
-    except BrokenPipeError:
-        pass
-    finally:
-        server.kill()
-        server.wait()
-
-
-class Behind:
-    """A server behind two named pipes in a folder, and a relay between where one is asked for."""
-
-    def __init__(self, program, remote, folder, how=None, draw=None):
-        self.to, self.come = Path(folder, "to"), Path(folder, "from")
-        for pipe in (self.to, self.come):
-            pipe.unlink(missing_ok=True)
-            os.mkfifo(pipe)
-        command = [program, "none", remote, "--", "serve"]
-        if how is None:
-            script = 'exec "$0" none "$1" -- serve < "$2" > "$3"'
-            self.child = subprocess.Popen(["sh", "-c", script, program, remote, self.to, self.come])
-            self.pid = None
-        else:
-            self.pid = os.fork()
-            if self.pid == 0:
-                signal.signal(signal.SIGPIPE, signal.SIG_IGN)
-                try:
-                    relay(self.to, self.come, command, how, draw)
-                finally:
-                    os._exit(0)
-        self.word = f"pipe:{self.to}:{self.come}"
-
-    def end(self):
-        """Ends it, whether it was asked or not."""
-        if self.pid is None:
-            self.child.terminate()
-            self.child.wait()
-        else:
-            os.kill(self.pid, signal.SIGTERM)
-            os.waitpid(self.pid, 0)
 
 
 def told(program, log, mirrors, lines, cache):
@@ -142,7 +56,7 @@ def one_run(program, draw, folder):
     """A clone and a pull beside a path and beside a pipe."""
     there, by_path, by_pipe = (Path(folder, name) for name in ("there", "path", "pipe"))
     rows = serve_client.draw_log(program, draw, there, draw.choice([1, 8, 60, 300]))
-    how = draw.choice([None, None, {}, {"ones": True}, {"late": True}])
+    how = draw.choice([None, None, {}, {"ones": True}, {"late": 0.02}])
     cache = draw.choice([1, 3, 4096])
     for lines in (asks(draw, rows), [*(grown(draw, rows)), None], ["0 pull", "0 query all", "0 levels"]):
         if lines[-1] is None:

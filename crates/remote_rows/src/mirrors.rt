@@ -1,7 +1,9 @@
 //! Three mirrors, of which any may fail at their next call, asked in each of the three ways.
 
 use crate::cloned::{chain_remote, name};
+use crate::reached::push;
 use mirror_set::{MirrorFault, Mirrors};
+use remote_memory::MemoryRemote;
 use remote_trait::Remote;
 use std::alloc::{AllocError, Global};
 use std::test::Fail;
@@ -24,25 +26,18 @@ enum Way {
 /// Each way.
 const WAYS: [Way; 3] = [Way::Names, Way::Path, Way::Clone];
 
-/// Adds a mirror of the chain, which fails at its first call if it is marked.
-fn push_mirror(
-    alloc: Global,
-    list: &mut Vec<Box<dyn Remote>>,
-    chain: &[u8],
-    marked: bool,
-) -> Result<(), AllocError> {
+/// A mirror of the chain, which fails at its first call if it is marked.
+fn mirror_of(alloc: Global, chain: &[u8], marked: bool) -> Result<MemoryRemote, AllocError> {
     let calls: &[u64] = if marked { &[1] } else { &[] };
-    let mirror = chain_remote(alloc, chain, calls)?;
-    list.push(Box::new(alloc, mirror)?)?;
-    Ok(())
+    chain_remote(alloc, chain, calls)
 }
 
-/// The three mirrors. Those that are marked fail at their first call.
-fn three(alloc: Global, marked: [bool; 3]) -> Result<Mirrors, AllocError> {
+/// The three mirrors, at their paths or behind pipes. Those that are marked fail at their first call.
+fn three(alloc: Global, marked: [bool; 3], are_piped: bool) -> Result<Mirrors, AllocError> {
     let mut list: Vec<Box<dyn Remote>> = Vec::new(alloc);
-    push_mirror(alloc, &mut list, CHAINS[0], marked[0])?;
-    push_mirror(alloc, &mut list, CHAINS[1], marked[1])?;
-    push_mirror(alloc, &mut list, CHAINS[2], marked[2])?;
+    push(alloc, &mut list, mirror_of(alloc, CHAINS[0], marked[0])?, are_piped)?;
+    push(alloc, &mut list, mirror_of(alloc, CHAINS[1], marked[1])?, are_piped)?;
+    push(alloc, &mut list, mirror_of(alloc, CHAINS[2], marked[2])?, are_piped)?;
     if list.len() > 3 {
         return Err(AllocError);
     }
@@ -94,10 +89,11 @@ fn are_turns(alloc: Global, mirrors: &mut Mirrors, way: Way, want: &Turns) -> bo
 fn turns_hold(
     alloc: Global,
     marked: [bool; 3],
+    are_piped: bool,
     way: Way,
     want: &Turns,
 ) -> Result<bool, AllocError> {
-    let mut mirrors = three(alloc, marked)?;
+    let mut mirrors = three(alloc, marked, are_piped)?;
     Ok(
         are_turns(alloc, &mut mirrors, way, want)
             && answer(alloc, &mut mirrors, way) == Err(MirrorFault::NoRemote),
@@ -126,10 +122,12 @@ const PATTERNS: [([bool; 3], Turns); 8] = [
     ),
 ];
 
-/// The first pattern that comes to something else when the mirrors are asked this way.
+/// The first pattern that comes to something else when the mirrors are asked this way, at their paths or behind pipes.
 fn wrong_pattern(alloc: Global, way: Way) -> Result<Option<[bool; 3]>, AllocError> {
     for (marked, want) in &PATTERNS {
-        if !turns_hold(alloc, *marked, way, want)? {
+        if !turns_hold(alloc, *marked, false, way, want)?
+            || !turns_hold(alloc, *marked, true, way, want)?
+        {
             return Ok(Some(*marked));
         }
     }
