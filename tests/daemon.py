@@ -28,6 +28,7 @@ PART, PROGRAM, FOLDER = sys.argv[1], os.path.abspath(sys.argv[2]), Path(sys.argv
 COUNT = int(sys.argv[4])
 SEGDAGD = str(TOP / "tools/segdagd")
 LINE = 16_384 - 3
+HANGS = 600  # seconds behind which something is taken to hang: no demand here is nearer to what a machine takes
 TOO_LONG = b"err line 16384\n"
 
 
@@ -47,33 +48,36 @@ class Served:
     all = []
 
     def __init__(self, *options, log="log", path="socket", program=PROGRAM, waits=True, launcher=(), **others):
-        self.path, self.log, self.order = str(FOLDER / path), str(FOLDER / log), FOLDER / "order"
+        self.path, self.log, self.order = str(FOLDER / path), str(FOLDER / log), FOLDER / f"{log}.order"
         words = [sys.executable, SEGDAGD, self.log, "--order", str(self.order), *options]
-        words += [] if launcher else ["--socket", self.path]
-        self.said = FOLDER / f"said{len(list(FOLDER.glob('said*')))}"
-        with open(self.said, "wb") as said:
-            others.setdefault("stderr", said)
-            self.process = subprocess.Popen([*launcher, *words], env=dict(os.environ, SEGDAG=str(program)), **others)
+        self.words = [*launcher, *words, *([] if launcher else ["--socket", self.path])]
+        self.others = {"env": dict(os.environ, SEGDAG=str(program)), **others}
+        self.said = FOLDER / f"said{len(Served.all)}"
+        self.start()
         Served.all.append(self)
         if waits:
-            self.wait()
+            self.first().close()
 
-    def wait(self):
-        """Waits until somebody can come in."""
-        for _ in range(1200):
+    def start(self):
+        with open(self.said, "wb") as said:
+            self.process = subprocess.Popen(self.words, **{"stderr": said, **self.others})
+
+    def first(self, again=()):
+        """The first who comes in, as soon as somebody listens. Where the daemon ended with one of these statuses it is begun again."""
+        for _ in moments("nobody listens"):
             with suppress(Refused):
-                Socket(self.path).close()
-                return
-            if self.process.poll() is not None:
-                fail(f"the daemon ended with {self.process.returncode}: {self.said.read_text()}")
-            time.sleep(0.05)
-        fail("nobody listens")
+                return Socket(self.path)
+            status = self.process.poll()
+            if status in again:
+                self.start()
+            elif status is not None:
+                fail(f"the daemon ended with {status}: {self.said.read_text()}")
 
     def end(self, number=signal.SIGTERM, wanted=0):
         if number:
             self.process.send_signal(number)
         try:
-            status = self.process.wait(60)
+            status = self.process.wait(HANGS)
         except subprocess.TimeoutExpired:
             fail("the daemon doesn't end")
         if status != wanted:
@@ -88,15 +92,47 @@ class Served:
     def descriptors(self):
         return len(os.listdir(f"/proc/{self.process.pid}/fd"))
 
+    def alone(self):
+        """Waits until nobody is connected; how many descriptors the daemon has then."""
+        for _ in moments("a client that is gone is still there"):
+            if sum(to.startswith("socket:") for to in self.links()) <= 1:
+                return self.descriptors()
+
+    def links(self):
+        for entry in Path(f"/proc/{self.process.pid}/fd").iterdir():
+            with suppress(OSError):
+                yield os.readlink(entry)
+
+    def seen(self):
+        """Waits until the daemon has seen all that came before. All sessions are taken."""
+        if told_whole(self.path, b"nowait\n") != b"err busy 16\n":
+            fail("who asks not to wait isn't refused")
+
+
+def moments(text):
+    """Goes on and on, twenty times a second, for as long as nothing is taken to hang."""
+    began = time.monotonic()
+    while time.monotonic() - began < HANGS:
+        yield
+        time.sleep(0.05)
+    fail(text)
+
 
 # Clients as they come: processes that send bytes, and keep what they are answered.
 
 
 def raw(path):
     sock = socket.socket(socket.AF_UNIX, socket.SOCK_STREAM)
-    sock.settimeout(60)
+    sock.settimeout(HANGS)
     sock.connect(path)
     return sock
+
+
+def told_whole(path, text):
+    """All that who sends this is told, up to the end of the connection."""
+    with raw(path) as sock:
+        sock.sendall(text)
+        return whole(sock)
 
 
 def whole(sock):
@@ -119,9 +155,9 @@ def talk(path, text, out, draw):
     waiting.register(sock, select.POLLIN | select.POLLOUT)
     with open(out, "wb", buffering=0) as kept:
         while True:
-            (_, event), *_ = waiting.poll(120_000) or [(0, select.POLLNVAL)]
+            (_, event), *_ = waiting.poll(1000 * HANGS) or [(0, select.POLLNVAL)]
             if event & select.POLLNVAL:
-                sys.exit("a client waits for two minutes")
+                sys.exit("a client waits and waits")
             if event & select.POLLOUT and at < len(text):
                 with suppress(BlockingIOError):
                     at += sock.send(text[at : at + size])
@@ -207,9 +243,9 @@ def compare(texts, outs, order, is_whole=True):
 
 def drawn_text(lines, draw, number, count, settles=False):
     """Lines of one client: mostly commands, and some that are none, or get no reply, or are too long or almost so. One that settles
-    lets go of what a flush didn't store, and has no long lines."""
+    lets go of what a flush didn't store, every twenty lines at least, and has no long lines."""
     made = [f"id {name((1 << 100) + number)}".encode()]
-    for _ in range(count):
+    for place in range(count):
         line = lines.command().encode()
         kind = draw.random()
         if kind < 0.02:
@@ -219,7 +255,7 @@ def drawn_text(lines, draw, number, count, settles=False):
         elif kind < 0.05:
             line += b"\r"
         made.append(line)
-        if settles and line.startswith(b"flush"):
+        if settles and line.startswith(b"flush") or settles and place % 20 == 19:
             made.append(b"discard")
     return b"".join(line + b"\n" for line in made)
 
@@ -266,43 +302,72 @@ def drawn():
     return f"{count} lines of sixteen clients at once are answered as by the definitions, over {len(store.worlds)} versions"
 
 
+def stretch(text, is_end):
+    """The most bytes of lines in a row, with a session's number each, of which none but the last is such an end."""
+    most = since = 0
+    for line in text.split(b"\n"):
+        since += len(line) + 4
+        most = max(most, since)
+        if is_end(line):
+            since = 0
+    return most
+
+
+def run_sizes(order):
+    """How many bytes each run was given."""
+    sizes = [0]
+    for line in order.read_bytes().split(b"\n")[:-1]:
+        if line == b"new run":
+            sizes.append(0)
+        else:
+            sizes[-1] += len(line.split(b" ", 1)[1]) + 1
+    return sizes
+
+
 def runs():
-    """The same while the daemon goes over to new runs, and a client that has rows pending when all others have none."""
+    """The same while the daemon goes over to new runs. In the part of a run that is kept for it each client has room to settle, so none
+    is let go of, however fast or slow anything here is."""
     draw = random.Random(12)
     lines = drawn_lines(draw, 40)
-    texts = [drawn_text(lines, draw, k, COUNT // 2, settles=True) for k in range(16)]
-    limit = max(250_000, sum(map(len, texts)) // 5)
-    served = Served("--run-bytes", str(limit))
+    texts = [drawn_text(lines, draw, k, max(500, COUNT // 2), settles=True) for k in range(16)]
+    settling = sum(stretch(text, lambda line: line.startswith((b"flush", b"discard"))) for text in texts)
+    holding = sum(stretch(text, lambda line: line.startswith(b"add")) for text in texts)
+    limit = max(1 << 16, (settling + holding + 10_000) * 16 // 3)
+    served = Served("--run-bytes", str(limit), "--slow", "3600")
     outs = at_once(served, texts, 2)
     served.end()
     count, store = compare(texts, outs, served.order)
     same_store(served.log, store)
-    begun = served.order.read_bytes().count(b"new run\n")
-    if begun < sum(map(len, texts)) // limit:
-        fail(f"there were {begun} new runs")
-    served = Served("--run-bytes", "4000", "--slow", "1", log="other", path="idle")
-    late, busy = Socket(served.path), Socket(served.path)
-    late.must(f"add {name(1)}")
-    began = time.monotonic()
-    while not late_is_told(late):
+    *ended, last = run_sizes(served.order)
+    if max(last, *ended, 0) > limit or min(ended, default=limit) < limit // 2:
+        fail(f"a run has {limit} bytes, and these had {ended}, the last one {last}")
+    if not ended:
+        fail("there was no new run, so this tries nothing")
+    return f"{count} lines are answered so over {len(ended)} new runs under load, none of which was given more than {limit} bytes"
+
+
+def settled():
+    """A client that has rows pending when all others have none is let go of, behind the time of --slow or where the run has no more room."""
+    size, line = 1 << 16, "x" * 5000
+    for slow, log, count in ((1, "slow", 10), (3600, "spent", 14)):
+        served = Served("--run-bytes", str(size), "--slow", str(slow), log=log, path=f"{log}.socket")
+        late, busy, asking = (Socket(served.path) for _ in range(3))
+        late.must(f"add {name(1)}")
+        for _ in range(count):
+            asking.ask(line)
+        # This waits for the new run, and the one who keeps the others from it is told before it begins.
         busy.must(f"add {name(2)}")
         busy.must("flush")
-        if time.monotonic() - began > 30:
-            fail("a client with pending rows keeps the others from a new run")
-    if busy.must("status").last != "ok 0 1 0":
-        fail("the other client isn't on the newest version")
-    served.end()
-    return f"{count} lines are answered so over {begun} new runs under load; who keeps rows pending is told and let go"
-
-
-def late_is_told(late):
-    if not select.select([late.socket], [], [], 0)[0]:
-        return False
-    late.socket.setblocking(True)
-    told = whole(late.socket)
-    if told != b"err ended 8\n":
-        fail(f"who kept rows pending was told {told!r}")
-    return True
+        late.socket.settimeout(600)
+        if whole(late.socket) != b"err ended 8\n":
+            fail("who kept rows pending was told something else")
+        if busy.must("status").last != "ok 0 1 0":
+            fail("the other client isn't on the newest version")
+        served.end()
+        sizes = run_sizes(served.order)
+        if len(sizes) != 2 or max(sizes) > size:
+            fail(f"a run has {size} bytes, and these had {sizes}")
+    return "who keeps rows pending is told and let go, behind some time or where a run has no more room"
 
 
 def wrong():
@@ -316,18 +381,12 @@ def wrong():
     fine, bad, long = b"ok 0 0 0\n", b"err syntax\n", TOO_LONG
     replies = [fine, long, bad, bad, bad, bad, long, bad, bad, fine, bad, bad, bad, bad, bad, long, fine]
     for size in (1, 1000, 1 << 20):
-        sock, got = raw(served.path), b""
-        sock.setblocking(False)
+        sock = raw(served.path)
         for at in range(0, len(text), size):
-            select.select([], [sock], [])
-            while not sock.send(text[at : at + size]):
-                pass
-            with suppress(BlockingIOError):
-                got += sock.recv(1 << 16)
-        sock.setblocking(True)
+            sock.sendall(text[at : at + size])
         sock.sendall(b"add " + name(1).encode())  # No line: nothing ends it.
         sock.shutdown(socket.SHUT_WR)
-        got += whole(sock)
+        got = whole(sock)
         if got != b"".join(replies):
             fail(f"in pieces of {size}: {got!r}")
     served.end()
@@ -342,15 +401,13 @@ def seventeenth():
     held = [Socket(served.path) for _ in range(16)]
     for k, one in enumerate(held):
         one.must(f"add {name(k + 1)}")
-    sock = raw(served.path)
-    sock.sendall(b"nowait\nstatus\n")
-    if whole(sock) != b"err busy 16\n":
+    if told_whole(served.path, b"nowait\nstatus\n") != b"err busy 16\n":
         fail("who asks not to wait isn't refused")
     silent = [raw(served.path) for _ in range(40)]  # They say nothing, and are in nobody's way.
     waiting = [raw(served.path) for _ in range(3)]
     for one in waiting:
         one.sendall(b"status\n")
-        time.sleep(0.05)
+        served.seen()
     if select.select(waiting, [], [], 0.3)[0]:
         fail("there are seventeen sessions")
     held[7].must("flush")
@@ -363,13 +420,12 @@ def seventeenth():
         fail("who says nothing is told something")
     held[0].close()
     held[1].close()
-    for _ in range(100):
+    for _ in moments("a session that was left isn't free"):
         sock = raw(served.path)
         sock.sendall(b"nowait\nstatus\n")
         got = sock.recv(100)
         if got != b"err busy 16\n":
             break
-        time.sleep(0.05)
     got += sock.recv(100) if got == b"ok session\n" else b""
     if got != b"ok session\nok 0 1 0\n":
         fail(f"who asks not to wait is told {got!r} where a session is free")
@@ -406,14 +462,18 @@ def two():
     foreign.close()
     served = Served(log="slow", program=stand_in())
     sock = raw(served.path)
-    sock.sendall(b"status\npull\n")
+    sock.sendall(b"status\npull\n")  # Both are sent on at once, and the pull isn't done before there is a file.
     sock.recv(100)
-    time.sleep(0.2)
     served.end(signal.SIGKILL, -signal.SIGKILL)
-    began = time.monotonic()
-    Served(log="slow").end()
-    if time.monotonic() - began < 1.5:
+    served = Served(log="slow", program=stand_in(), waits=False)
+    time.sleep(0.5)
+    with suppress(Refused):
+        Socket(served.path)
         fail("a new daemon doesn't wait for the run of one that was killed")
+    PULLED.touch()
+    # It waits for five seconds; where this process has slept for longer, it is begun again.
+    served.first(again=(16,)).close()
+    served.end()
     return "a log and a socket have one daemon, and what a killed one left is taken over"
 
 
@@ -470,22 +530,23 @@ def activated():
 
 def idle():
     """A daemon that nobody uses ends; one that somebody uses doesn't."""
-    served = Served("--idle", "1")
-    one = Socket(served.path)
-    one.must("status")
-    time.sleep(2.5)
-    one.must("status")
-    one.close()
+    served = Served("--idle", "1", waits=False)
+    with served.first(again=(0,)) as one:
+        one.must("status")
+        time.sleep(2.5)
+        one.must("status")
     served.end(None)
     ours, theirs = os.openpty()
-    served = Served("--idle", "1", stderr=theirs)
-    with Socket(served.path) as one:
+    served, shown = Served("--idle", "1", waits=False, stderr=theirs), b""
+    with served.first(again=(0,)) as one:
         one.must("status")
-        time.sleep(2.2)
+        while b"segdagd: 1 clients, 0 lines a second, 0 waiting" not in shown:
+            if not select.select([ours], [], [], HANGS)[0]:
+                fail(f"the terminal shows {shown!r}")
+            shown += os.read(ours, 1 << 16)
     served.end(None)
-    shown = os.read(ours, 1 << 16)
-    if not re.search(rb"segdagd: 1 clients, 0 lines a second, 0 waiting", shown) or not shown.endswith(b"\n"):
-        fail(f"the terminal shows {shown!r}")
+    if not os.read(ours, 1 << 16).endswith(b"\n"):
+        fail("the terminal's line isn't ended")
     return "it ends when nobody was there for the time of --idle, and shows a terminal who is there"
 
 
@@ -493,8 +554,8 @@ STAND_IN = """#!{python}
 import os, sys, time
 for line in sys.stdin.buffer:
     word = line.split()[1]
-    if word == b"pull":
-        time.sleep(2)
+    while word == b"pull" and not os.path.exists("{pulled}"):
+        time.sleep(0.01)
     reply = {{b"status": b"ok 0 0 0", b"reload": b"ok reloaded 0", b"discard": b"ok discarded 0"}}.get(word, b"err syntax")
     if word == b"fail":
         os.write(1, b"err disk\\n")
@@ -506,12 +567,13 @@ for line in sys.stdin.buffer:
     sys.stdout.buffer.flush()
 """
 MANY = 500_000
+PULLED = FOLDER / "pulled"
 
 
 def stand_in():
-    """A program whose disk fails when it is told so, whose queries have many members, and whose pulls take two seconds."""
+    """A program whose disk fails when it is told so, whose queries have many members, and whose pulls take until there is a file."""
     path = FOLDER / "program"
-    path.write_text(STAND_IN.format(python=sys.executable, name=name(1), many=MANY))
+    path.write_text(STAND_IN.format(python=sys.executable, name=name(1), many=MANY, pulled=PULLED))
     path.chmod(0o755)
     return path
 
@@ -579,10 +641,10 @@ def spilled():
     reply = f"{name(1)}\n".encode() * MANY + b"ok %d\n" % MANY
     program, worst, kilobytes = stand_in(), 0.0, 0
     for options in ([], ["--spill", "1"]):
-        served = Served(*options, program=program)
+        served = Served("--slow", "3600", *options, program=program)
         late, other = raw(served.path), Socket(served.path)
         other.must("status")
-        before, until = served.status("VmRSS"), time.monotonic() + 60
+        before, until = served.status("VmRSS"), time.monotonic() + HANGS
         late.sendall(b"query all\n" * 2)
         while not options and kept_file(served) < len(reply) - 3_000_000:
             asked = time.monotonic()
@@ -591,6 +653,9 @@ def spilled():
             if time.monotonic() > until:
                 fail(f"{kept_file(served)} bytes are kept in a file")
             time.sleep(0.01)
+        for _ in moments("who has more to come than there is room for is there still") if options else ():
+            if sum(to.startswith("socket:") for to in served.links()) <= 2:
+                break
         kilobytes = max(kilobytes, served.status("VmHWM") - before)
         got = whole(late) if options else b"".join(exactly(late, 2 * len(reply)))
         if options and len(got) >= len(reply) or not options and got != reply * 2:
@@ -618,7 +683,7 @@ def unread():
     """A client that never reads is let go of, and nobody else waits for it, nor is its memory everybody's."""
     served = Served("--slow", "3")
     fill(served, 4000)
-    before, descriptors = served.status("VmRSS"), served.descriptors()
+    descriptors, before = served.alone(), served.status("VmRSS")
     rude = raw(served.path)
     rude.sendall(b"query all\n" * 400)
     ruder = raw(served.path)
@@ -626,28 +691,27 @@ def unread():
     with suppress(BlockingIOError):
         while True:
             ruder.send(b"status\n" * 1000)
-    one, began, worst = Socket(served.path), time.monotonic(), 0.0
-    while time.monotonic() - began < 8:
+    one, worst = Socket(served.path), 0.0
+    for _ in moments("clients that don't read are still there"):
         asked = time.monotonic()
         one.must(f"id {name(7)}")
         if kept_file(served):
             fail("lines of a client that doesn't read are sent on")
         worst = max(worst, time.monotonic() - asked)
-    if worst > 5:
-        fail(f"another client waited {worst:.1f} s")
+        if served.descriptors() <= descriptors + 1:
+            break
     kilobytes = served.status("VmHWM") - before
     if kilobytes > 20_000:
         fail(f"clients that don't read take {kilobytes} kB")
     one.close()
-    for _ in range(100):
-        if served.descriptors() <= descriptors:
-            break
-        time.sleep(0.05)
-    else:
-        fail("clients that don't read are still there")
+    if served.alone() > descriptors:
+        fail("what clients that don't read had is still there")
     if whole(rude).count(b"\n") >= 400 * 4001:
         fail("nothing was kept back, so this tries nothing")
     served.end()
+    sent = [line.split(b" ")[2] for line in served.order.read_bytes().splitlines() if line[:2] != b"0 "]
+    if sent.count(b"query") > 20 or sent.count(b"status") > 200_000:
+        fail(f"of clients that don't read {sent.count(b'query')} queries and {sent.count(b'status')} short lines were sent on")
     return f"who never reads is let go of; meanwhile another one waited {1000 * worst:.0f} ms at most, and it took {kilobytes} kB"
 
 
@@ -702,20 +766,26 @@ def crashed():
     kept, out = FOLDER / "kept", FOLDER / "out"
     kept.touch()
     for round_ in range(rounds):
-        served, first = Served(*(["--run-bytes", "30000"] if round_ % 2 else [])), round_ << 60
+        served, first = Served(*(["--run-bytes", "65536"] if round_ % 2 else []), waits=False), round_ << 60
+        # It waits five seconds for the run of the one that was killed.
+        served.first(again=(16,)).close()
         ahead = "".join(f"add {name(first + i)}\nflush\n" for i in range(1, 2000)).encode()
         out.write_bytes(b"")
         pids = [forked(storing, served.path, first + (k << 40), kept) for k in range(1, 4)]
         pids.append(forked(talk, served.path, ahead, out, random.Random(round_)))
-        time.sleep(0.1 + draw.random() * 0.7)
+        before = kept.stat().st_size
+        for _ in moments("nothing is acknowledged"):
+            if kept.stat().st_size > before:
+                break
+        time.sleep(draw.random() * 0.7)
         served.end(signal.SIGKILL, -signal.SIGKILL)
         for pid in pids:
             os.waitpid(pid, 0)
         with open(kept, "a", encoding="ascii") as file:
             file.writelines(name(first + i) + "\n" for i in range(1, out.read_bytes().count(b"ok flushed") + 1))
-    served = Served()
+    served = Served(waits=False)
     names = kept.read_text().split()
-    with Socket(served.path) as one:
+    with served.first(again=(16,)) as one:
         lost = [reply.last for reply in one.ask_all(f"id {word}" for word in names) if not reply.ok]
     served.end()
     if lost or not names:
@@ -740,15 +810,15 @@ def many():
             with Socket(served.path) as one:
                 if one.must("status").last != "ok 0 0 0":
                     fail("rows of clients that left are there")
-            time.sleep(0.3)
-            sizes.append((served.status("VmRSS"), served.descriptors()))
+            descriptors = served.alone()
+            sizes.append((served.status("VmRSS"), descriptors))
     served.end()
     if sizes[1][1] > sizes[0][1] or sizes[1][0] > sizes[0][0] + 1000:
         fail(f"kilobytes and descriptors were {sizes[0]} behind a tenth of {count} connections, and {sizes[1]} at the end")
     return f"{count} connections in a row leave {sizes[1][0] - sizes[0][0]} kB and no descriptor"
 
 
-PARTS = [wrong, seventeenth, two, rights, activated, idle, ends, unread, spilled, drawn, runs, killed, crashed, many]
+PARTS = [wrong, seventeenth, two, rights, activated, idle, ends, unread, spilled, drawn, runs, settled, killed, crashed, many]
 
 if __name__ == "__main__":
     FOLDER.mkdir()

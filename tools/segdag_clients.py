@@ -163,6 +163,16 @@ class Client:
                 return place + 1
         return count
 
+    def fitting(self, count, room):
+        """How many of so many next lines have room in these bytes, each with its session's number and its line feed."""
+        if count * (LINE + 5) <= room:
+            return count
+        for place in range(count):
+            room -= len(self.prefix) + len(self.lines[self.at + place]) + 1
+            if room < 0:
+                return place
+        return count
+
     def next_lines(self, count):
         """The next lines, which are now under way, and how many of them are heavy."""
         lines = self.lines[self.at : self.at + count]

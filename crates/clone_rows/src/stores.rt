@@ -80,7 +80,7 @@ fn drawn_list(alloc: Global, start: u64, commits: u64) -> Result<Vec<Box<dyn Rem
 }
 
 /// The mirrors of a list that isn't long.
-fn mirrors_of(list: Vec<Box<dyn Remote>>) -> Result<Mirrors, AllocError> {
+fn mirrors_of(list: Vec<Box<dyn Remote>>) -> Result<Mirrors<Box<dyn Remote>>, AllocError> {
     if list.len() > 8 {
         return Err(AllocError);
     }
@@ -91,7 +91,7 @@ fn mirrors_of(list: Vec<Box<dyn Remote>>) -> Result<Mirrors, AllocError> {
 fn run(
     alloc: Global,
     disk: &mut MemoryDisk,
-    mirrors: &mut Mirrors,
+    mirrors: &mut Mirrors<Box<dyn Remote>>,
     lines: &str,
     output: &mut MemorySink,
 ) -> Result<Report, AllocError> {

@@ -21,6 +21,7 @@ use disk_memory::MemoryDisk;
 use disk_trait::Disk;
 use line_io::{Line, MemorySink, Sink};
 use mirror_set::Mirrors;
+use remote_trait::Remote;
 use std::alloc::Global;
 
 /// The store of a new log.
@@ -48,7 +49,7 @@ fn answer<D: Disk>(
     ensures ready { IfOk result (λ next. IsReady next (D.told log.new)) }
     ensures leads { IfOk result (λ next. LeadsOn line.now store next replies.old.taken replies.new.taken) }
 {
-    let mut mirrors = Mirrors::new(Vec::new(alloc));
+    let mut mirrors: Mirrors<Box<dyn Remote>> = Mirrors::new(Vec::new(alloc));
     let mut changes = Vec::new(alloc);
     execute(
         alloc,

@@ -53,10 +53,10 @@ fn note(changes: &mut Vec<u64>, clock: Option<u64>)
 }
 
 /// Flushes a session. The memory for the change's moment is taken before.
-fn flush<D: Disk, O: Sink>(
+fn flush<D: Disk, O: Sink, R: Remote>(
     store: Store,
     log: &mut D,
-    mirrors: &mut Mirrors,
+    mirrors: &mut Mirrors<R>,
     changes: &mut Vec<u64>,
     s: u8,
     heads: &[Name],
@@ -64,7 +64,7 @@ fn flush<D: Disk, O: Sink>(
 ) -> Result<Store, Stop>
     requires session { s < 16 }
     requires begins { IfSome (D.told log.old) (IsOnDisk store.log) }
-    ensures step { let first = map (λ b. (⟦<dyn Remote as Remote>⟧ b.vtable).shown b.value) mirrors.old.list.items in let left = map (λ b. (⟦<dyn Remote as Remote>⟧ b.vtable).shown b.value) mirrors.new.list.items in
+    ensures step { let first = map R.shown mirrors.old.list.items in let left = map R.shown mirrors.new.list.items in
         (payload : List ℕ) × (clock : Option ℕ) × (changes.new.items ≡ changes_with changes.old.items clock)
         × Goes (LineLeaves store payload clock result) (D.told log.old) (D.told log.new)
         × WhereTold (O.taken output.old) (O.taken output.new) (CommandReplies first left (Rose (O.faults output.old) (O.faults output.new)) store s (ToFlush heads.now) payload clock result) }
@@ -93,10 +93,10 @@ fn flush<D: Disk, O: Sink>(
 }
 
 /// Takes commits out of what is stored. The memory for the change's moment is taken before.
-fn strip<D: Disk, O: Sink>(
+fn strip<D: Disk, O: Sink, R: Remote>(
     store: Store,
     log: &mut D,
-    mirrors: &mut Mirrors,
+    mirrors: &mut Mirrors<R>,
     changes: &mut Vec<u64>,
     s: u8,
     names: &[Name],
@@ -105,7 +105,7 @@ fn strip<D: Disk, O: Sink>(
     requires session { s < 16 }
     requires names { names.now ≢ [] }
     requires begins { IfSome (D.told log.old) (IsOnDisk store.log) }
-    ensures step { let first = map (λ b. (⟦<dyn Remote as Remote>⟧ b.vtable).shown b.value) mirrors.old.list.items in let left = map (λ b. (⟦<dyn Remote as Remote>⟧ b.vtable).shown b.value) mirrors.new.list.items in
+    ensures step { let first = map R.shown mirrors.old.list.items in let left = map R.shown mirrors.new.list.items in
         (payload : List ℕ) × (clock : Option ℕ) × (changes.new.items ≡ changes_with changes.old.items clock)
         × Goes (LineLeaves store payload clock result) (D.told log.old) (D.told log.new)
         × WhereTold (O.taken output.old) (O.taken output.new) (CommandReplies first left (Rose (O.faults output.old) (O.faults output.new)) store s (ToStrip names.now) payload clock result) }
@@ -134,17 +134,17 @@ fn strip<D: Disk, O: Sink>(
 }
 
 /// Stores the master of a mirror. The memory for the change's moment is taken before.
-fn take_clone<D: Disk, O: Sink>(
+fn take_clone<D: Disk, O: Sink, R: Remote>(
     store: Store,
     log: &mut D,
-    mirrors: &mut Mirrors,
+    mirrors: &mut Mirrors<R>,
     changes: &mut Vec<u64>,
     s: u8,
     output: &mut O,
 ) -> Result<Store, Stop>
     requires session { s < 16 }
     requires begins { IfSome (D.told log.old) (IsOnDisk store.log) }
-    ensures step { let first = map (λ b. (⟦<dyn Remote as Remote>⟧ b.vtable).shown b.value) mirrors.old.list.items in let left = map (λ b. (⟦<dyn Remote as Remote>⟧ b.vtable).shown b.value) mirrors.new.list.items in
+    ensures step { let first = map R.shown mirrors.old.list.items in let left = map R.shown mirrors.new.list.items in
         (payload : List ℕ) × (clock : Option ℕ) × (changes.new.items ≡ changes_with changes.old.items clock)
         × Goes (LineLeaves store payload clock result) (D.told log.old) (D.told log.new)
         × WhereTold (O.taken output.old) (O.taken output.new) (CommandReplies first left (Rose (O.faults output.old) (O.faults output.new)) store s ToClone payload clock result) }
@@ -173,17 +173,17 @@ fn take_clone<D: Disk, O: Sink>(
 }
 
 /// Stores the new rows of a mirror's master. The memory for the change's moment is taken before.
-fn take_pull<D: Disk, O: Sink>(
+fn take_pull<D: Disk, O: Sink, R: Remote>(
     store: Store,
     log: &mut D,
-    mirrors: &mut Mirrors,
+    mirrors: &mut Mirrors<R>,
     changes: &mut Vec<u64>,
     s: u8,
     output: &mut O,
 ) -> Result<Store, Stop>
     requires session { s < 16 }
     requires begins { IfSome (D.told log.old) (IsOnDisk store.log) }
-    ensures step { let first = map (λ b. (⟦<dyn Remote as Remote>⟧ b.vtable).shown b.value) mirrors.old.list.items in let left = map (λ b. (⟦<dyn Remote as Remote>⟧ b.vtable).shown b.value) mirrors.new.list.items in
+    ensures step { let first = map R.shown mirrors.old.list.items in let left = map R.shown mirrors.new.list.items in
         (payload : List ℕ) × (clock : Option ℕ) × (changes.new.items ≡ changes_with changes.old.items clock)
         × Goes (LineLeaves store payload clock result) (D.told log.old) (D.told log.new)
         × WhereTold (O.taken output.old) (O.taken output.new) (CommandReplies first left (Rose (O.faults output.old) (O.faults output.new)) store s ToPull payload clock result) }
@@ -212,8 +212,8 @@ fn take_pull<D: Disk, O: Sink>(
 }
 
 /// Drops the mirror at this place, and gives the reply.
-fn drop_mirror(mirrors: &mut Mirrors, place: u64) -> Reply
-    ensures { DropsAt place (map (λ b. (⟦<dyn Remote as Remote>⟧ b.vtable).shown b.value) mirrors.old.list.items) (map (λ b. (⟦<dyn Remote as Remote>⟧ b.vtable).shown b.value) mirrors.new.list.items) (told result) }
+fn drop_mirror<R: Remote>(mirrors: &mut Mirrors<R>, place: u64) -> Reply
+    ensures { DropsAt place (map R.shown mirrors.old.list.items) (map R.shown mirrors.new.list.items) (told result) }
 {
     if place >= u64::from(mirrors.len()) {
         return Reply::Refused(Refusal::NoRemote);
@@ -223,11 +223,11 @@ fn drop_mirror(mirrors: &mut Mirrors, place: u64) -> Reply
 }
 
 /// Does what a command asks for that neither stores nor lists, and gives the reply.
-fn reply_of(store: &mut Store, mirrors: &mut Mirrors, s: u8, verb: &Verb) -> Reply
+fn reply_of<R: Remote>(store: &mut Store, mirrors: &mut Mirrors<R>, s: u8, verb: &Verb) -> Reply
     requires session { s < 16 }
     requires counted { HasRightCount (meant verb.now) }
     requires brief { IsBrief (meant verb.now) }
-    ensures does { DoesBeside (map (λ b. (⟦<dyn Remote as Remote>⟧ b.vtable).shown b.value) mirrors.old.list.items) (map (λ b. (⟦<dyn Remote as Remote>⟧ b.vtable).shown b.value) mirrors.new.list.items) store.old store.new s (meant verb.now) (told result) }
+    ensures does { DoesBeside (map R.shown mirrors.old.list.items) (map R.shown mirrors.new.list.items) store.old store.new s (meant verb.now) (told result) }
     ensures room { HasRoom store.old.log store.new.log }
     ensures limits { store.new.limits ≡ store.old.limits }
 {
@@ -248,9 +248,9 @@ fn reply_of(store: &mut Store, mirrors: &mut Mirrors, s: u8, verb: &Verb) -> Rep
 }
 
 /// Does what a command asks for that neither stores nor lists, and puts the reply.
-fn tell_brief<O: Sink>(
+fn tell_brief<O: Sink, R: Remote>(
     store: Store,
-    mirrors: &mut Mirrors,
+    mirrors: &mut Mirrors<R>,
     s: u8,
     verb: &Verb,
     output: &mut O,
@@ -258,7 +258,7 @@ fn tell_brief<O: Sink>(
     requires session { s < 16 }
     requires counted { HasRightCount (meant verb.now) }
     requires brief { IsBrief (meant verb.now) }
-    ensures told { let first = map (λ b. (⟦<dyn Remote as Remote>⟧ b.vtable).shown b.value) mirrors.old.list.items in let left = map (λ b. (⟦<dyn Remote as Remote>⟧ b.vtable).shown b.value) mirrors.new.list.items in
+    ensures told { let first = map R.shown mirrors.old.list.items in let left = map R.shown mirrors.new.list.items in
         WhereTold (O.taken output.old) (O.taken output.new) (CommandReplies first left (Rose (O.faults output.old) (O.faults output.new)) store s (meant verb.now) [] None result) }
     ensures room { IfOk result (λ next. HasRoom store.log next.log) }
     ensures limits { IfOk result (λ next. next.limits ≡ store.limits) }
@@ -271,10 +271,10 @@ fn tell_brief<O: Sink>(
 }
 
 /// Does what a command asks for that may store, and puts the reply.
-fn tell_change<D: Disk, O: Sink>(
+fn tell_change<D: Disk, O: Sink, R: Remote>(
     store: Store,
     log: &mut D,
-    mirrors: &mut Mirrors,
+    mirrors: &mut Mirrors<R>,
     changes: &mut Vec<u64>,
     s: u8,
     verb: &Verb,
@@ -284,7 +284,7 @@ fn tell_change<D: Disk, O: Sink>(
     requires counted { HasRightCount (meant verb.now) }
     requires stores { MayStore (meant verb.now) }
     requires begins { IfSome (D.told log.old) (IsOnDisk store.log) }
-    ensures step { let first = map (λ b. (⟦<dyn Remote as Remote>⟧ b.vtable).shown b.value) mirrors.old.list.items in let left = map (λ b. (⟦<dyn Remote as Remote>⟧ b.vtable).shown b.value) mirrors.new.list.items in
+    ensures step { let first = map R.shown mirrors.old.list.items in let left = map R.shown mirrors.new.list.items in
         (payload : List ℕ) × (clock : Option ℕ) × (changes.new.items ≡ changes_with changes.old.items clock)
         × Goes (LineLeaves store payload clock result) (D.told log.old) (D.told log.new)
         × WhereTold (O.taken output.old) (O.taken output.new) (CommandReplies first left (Rose (O.faults output.old) (O.faults output.new)) store s (meant verb.now) payload clock result) }
@@ -305,10 +305,10 @@ fn tell_change<D: Disk, O: Sink>(
 }
 
 /// Executes a command and puts its reply.
-fn execute_command<D: Disk, O: Sink>(
+fn execute_command<D: Disk, O: Sink, R: Remote>(
     store: Store,
     log: &mut D,
-    mirrors: &mut Mirrors,
+    mirrors: &mut Mirrors<R>,
     changes: &mut Vec<u64>,
     command: &Command,
     output: &mut O,
@@ -316,7 +316,7 @@ fn execute_command<D: Disk, O: Sink>(
     requires session { command.now.session < 16 }
     requires counted { HasRightCount (meant command.now.verb) }
     requires begins { IfSome (D.told log.old) (IsOnDisk store.log) }
-    ensures step { let first = map (λ b. (⟦<dyn Remote as Remote>⟧ b.vtable).shown b.value) mirrors.old.list.items in let left = map (λ b. (⟦<dyn Remote as Remote>⟧ b.vtable).shown b.value) mirrors.new.list.items in
+    ensures step { let first = map R.shown mirrors.old.list.items in let left = map R.shown mirrors.new.list.items in
         (payload : List ℕ) × (clock : Option ℕ) × (changes.new.items ≡ changes_with changes.old.items clock)
         × Goes (LineLeaves store payload clock result) (D.told log.old) (D.told log.new)
         × WhereTold (O.taken output.old) (O.taken output.new) (CommandReplies first left (Rose (O.faults output.old) (O.faults output.new)) store command.now.session (meant command.now.verb) payload clock result) }
@@ -338,10 +338,10 @@ fn execute_command<D: Disk, O: Sink>(
 }
 
 /// Executes what was read of a line that gets a reply.
-fn execute_parsed<D: Disk, O: Sink>(
+fn execute_parsed<D: Disk, O: Sink, R: Remote>(
     store: Store,
     log: &mut D,
-    mirrors: &mut Mirrors,
+    mirrors: &mut Mirrors<R>,
     changes: &mut Vec<u64>,
     parsed: &Result<Command, CommandFault>,
     output: &mut O,
@@ -349,7 +349,7 @@ fn execute_parsed<D: Disk, O: Sink>(
     requires session { IfOk parsed.now (λ command. command.session < 16) }
     requires counted { IfOk parsed.now (λ command. HasRightCount (meant command.verb)) }
     requires begins { IfSome (D.told log.old) (IsOnDisk store.log) }
-    ensures step { let first = map (λ b. (⟦<dyn Remote as Remote>⟧ b.vtable).shown b.value) mirrors.old.list.items in let left = map (λ b. (⟦<dyn Remote as Remote>⟧ b.vtable).shown b.value) mirrors.new.list.items in
+    ensures step { let first = map R.shown mirrors.old.list.items in let left = map R.shown mirrors.new.list.items in
         (payload : List ℕ) × (clock : Option ℕ) × (changes.new.items ≡ changes_with changes.old.items clock)
         × Goes (LineLeaves store payload clock result) (D.told log.old) (D.told log.new)
         × WhereTold (O.taken output.old) (O.taken output.new) (λ before now. (text : List ℕ) → is_empty_or_comment text ≡ false → length text ≤ 16384
@@ -372,18 +372,18 @@ fn execute_parsed<D: Disk, O: Sink>(
 fn let_go(_parsed: Result<Command, CommandFault>) {}
 
 /// Executes a line that isn't too long and gets a reply.
-fn execute_text<D: Disk, O: Sink>(
+fn execute_text<D: Disk, O: Sink, R: Remote>(
     alloc: Global,
     store: Store,
     log: &mut D,
-    mirrors: &mut Mirrors,
+    mirrors: &mut Mirrors<R>,
     changes: &mut Vec<u64>,
     text: &[u8],
     output: &mut O,
 ) -> Result<Store, Stop>
     requires begins { IfSome (D.told log.old) (IsOnDisk store.log) }
     requires heard { is_empty_or_comment text.now ≡ false }
-    ensures step { let first = map (λ b. (⟦<dyn Remote as Remote>⟧ b.vtable).shown b.value) mirrors.old.list.items in let left = map (λ b. (⟦<dyn Remote as Remote>⟧ b.vtable).shown b.value) mirrors.new.list.items in
+    ensures step { let first = map R.shown mirrors.old.list.items in let left = map R.shown mirrors.new.list.items in
         (payload : List ℕ) × (clock : Option ℕ) × (changes.new.items ≡ changes_with changes.old.items clock)
         × Goes (LineLeaves store payload clock result) (D.told log.old) (D.told log.new)
         × WhereTold (O.taken output.old) (O.taken output.new) (λ before now. length text.now ≤ 16384
@@ -402,18 +402,18 @@ fn execute_text<D: Disk, O: Sink>(
 }
 
 /// Executes a line, puts its reply, if it gets one, and hands the store back. Where the disk failed the line that tells of it is put.
-pub(crate) fn execute<D: Disk, O: Sink>(
+pub(crate) fn execute<D: Disk, O: Sink, R: Remote>(
     alloc: Global,
     store: Store,
     log: &mut D,
-    mirrors: &mut Mirrors,
+    mirrors: &mut Mirrors<R>,
     changes: &mut Vec<u64>,
     kind: Line,
     text: &[u8],
     output: &mut O,
 ) -> Result<Store, Stop>
     requires { IfSome (D.told log.old) (IsOnDisk store.log) }
-    ensures step { let first = map (λ b. (⟦<dyn Remote as Remote>⟧ b.vtable).shown b.value) mirrors.old.list.items in let left = map (λ b. (⟦<dyn Remote as Remote>⟧ b.vtable).shown b.value) mirrors.new.list.items in
+    ensures step { let first = map R.shown mirrors.old.list.items in let left = map R.shown mirrors.new.list.items in
         (payload : List ℕ) × (clock : Option ℕ) × (changes.new.items ≡ changes_with changes.old.items clock)
         × Goes (LineLeaves store payload clock result) (D.told log.old) (D.told log.new)
         × WhereTold (O.taken output.old) (O.taken output.new) (λ before now. (line : List ℕ) → IsLine kind text.now line

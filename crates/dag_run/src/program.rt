@@ -102,18 +102,18 @@ fn fail_run(_store: Store, fault: LineFault) -> Result<Option<Store>, Stop>
 }
 
 /// Reads a line, answers it and hands the store back; or `None` where the input is at its end.
-fn answer_next<D: Disk, I: Source, O: Sink>(
+fn answer_next<D: Disk, I: Source, O: Sink, R: Remote>(
     alloc: Global,
     store: Store,
     log: &mut D,
-    mirrors: &mut Mirrors,
+    mirrors: &mut Mirrors<R>,
     lines: &mut Lines,
     input: &mut I,
     output: &mut O,
     changes: &mut Vec<u64>,
 ) -> Result<Option<Store>, Stop>
     requires ready { IfSome (D.told log.old) (IsOnDisk store.log) }
-    ensures means { let here = map (λ b. (⟦<dyn Remote as Remote>⟧ b.vtable).shown b.value) mirrors.old.list.items in let left = map (λ b. (⟦<dyn Remote as Remote>⟧ b.vtable).shown b.value) mirrors.new.list.items in
+    ensures means { let here = map R.shown mirrors.old.list.items in let left = map R.shown mirrors.new.list.items in
         (limits : OfRun) (w : World Name) (payloads : List Payload) (room : ℕ) (first : List Mirror) (faults : ℕ) → AreLimits limits → store.limits ≡ limits → faults ≤ O.faults output.old
         → WhereTold (seen (D.told log.old) (I.left input.old) (O.taken output.old)) (seen (D.told log.new) (I.left input.new) (O.taken output.new))
         (λ now after. (before : Seen) → Begins limits w payloads first before
@@ -153,18 +153,18 @@ fn answer_next<D: Disk, I: Source, O: Sink>(
 }
 
 /// Answers all lines over the store. The reply to each is put before the next is read.
-fn answer_lines<D: Disk, I: Source, O: Sink>(
+fn answer_lines<D: Disk, I: Source, O: Sink, R: Remote>(
     alloc: Global,
     store: Store,
     log: &mut D,
-    mirrors: &mut Mirrors,
+    mirrors: &mut Mirrors<R>,
     lines: &mut Lines,
     input: &mut I,
     output: &mut O,
     changes: &mut Vec<u64>,
 ) -> Result<(), Stop>
     requires ready { IfSome (D.told log.old) (IsOnDisk store.log) }
-    ensures means { let here = map (λ b. (⟦<dyn Remote as Remote>⟧ b.vtable).shown b.value) mirrors.old.list.items in let left = map (λ b. (⟦<dyn Remote as Remote>⟧ b.vtable).shown b.value) mirrors.new.list.items in
+    ensures means { let here = map R.shown mirrors.old.list.items in let left = map R.shown mirrors.new.list.items in
         (limits : OfRun) (w : World Name) (payloads : List Payload) (room : ℕ) (first : List Mirror) (faults : ℕ) → AreLimits limits → store.limits ≡ limits → faults ≤ O.faults output.old
         → WhereTold (seen (D.told log.old) (I.left input.old) (O.taken output.old)) (seen (D.told log.new) (I.left input.new) (O.taken output.new))
         (λ now after. (before : Seen) → Begins limits w payloads first before
@@ -189,12 +189,12 @@ fn answer_lines<D: Disk, I: Source, O: Sink>(
 }
 
 /// Loads the store, and answers all lines.
-fn answer_all<D: Disk, I: Source, O: Sink>(
+fn answer_all<D: Disk, I: Source, O: Sink, R: Remote>(
     alloc: Global,
     limits: Limits,
     cache: u32,
     log: &mut D,
-    mirrors: &mut Mirrors,
+    mirrors: &mut Mirrors<R>,
     lines: &mut Lines,
     input: &mut I,
     output: &mut O,
@@ -204,7 +204,7 @@ fn answer_all<D: Disk, I: Source, O: Sink>(
     requires cache { 0 < cache }
     requires none { changes.old.items ≡ [] }
     requires new { lines.old ≡ new_reading limits.input }
-    ensures means { let first = map (λ b. (⟦<dyn Remote as Remote>⟧ b.vtable).shown b.value) mirrors.old.list.items in let left = map (λ b. (⟦<dyn Remote as Remote>⟧ b.vtable).shown b.value) mirrors.new.list.items in
+    ensures means { let first = map R.shown mirrors.old.list.items in let left = map R.shown mirrors.new.list.items in
         (w : World Name) (payloads : List Payload) → WhereTold (seen (D.told log.old) (I.left input.old) (O.taken output.old)) (seen (D.told log.new) (I.left input.new) (O.taken output.new))
         (λ before after. Begins limits w payloads first before
         → Means limits w payloads cache first left (streams before after) (Rose (O.faults output.old) (O.faults output.new)) before.disk after.disk (end_of result) changes.new.items) }
@@ -224,12 +224,12 @@ fn answer_all<D: Disk, I: Source, O: Sink>(
 }
 
 /// Answers the lines of the input, with room to read them.
-fn run<D: Disk, I: Source, O: Sink>(
+fn run<D: Disk, I: Source, O: Sink, R: Remote>(
     alloc: Global,
     limits: Limits,
     cache: u32,
     log: &mut D,
-    mirrors: &mut Mirrors,
+    mirrors: &mut Mirrors<R>,
     input: &mut I,
     output: &mut O,
     changes: &mut Vec<u64>,
@@ -237,7 +237,7 @@ fn run<D: Disk, I: Source, O: Sink>(
     requires limits { AreLimits limits }
     requires cache { 0 < cache }
     requires none { changes.old.items ≡ [] }
-    ensures means { let first = map (λ b. (⟦<dyn Remote as Remote>⟧ b.vtable).shown b.value) mirrors.old.list.items in let left = map (λ b. (⟦<dyn Remote as Remote>⟧ b.vtable).shown b.value) mirrors.new.list.items in
+    ensures means { let first = map R.shown mirrors.old.list.items in let left = map R.shown mirrors.new.list.items in
         (w : World Name) (payloads : List Payload) → WhereTold (seen (D.told log.old) (I.left input.old) (O.taken output.old)) (seen (D.told log.new) (I.left input.new) (O.taken output.new))
         (λ before after. Begins limits w payloads first before
         → Means limits w payloads cache first left (streams before after) (Rose (O.faults output.old) (O.faults output.new)) before.disk after.disk (end_of result) changes.new.items) }
@@ -276,19 +276,19 @@ fn status(end: Result<(), Stop>) -> u8
 
 /// Answers the lines of the input over the log, within these limits and with room for so many names that mirrors gave. A reply is put
 /// before the next line is read. The mirrors are asked, counted and dropped as the lines say, and the caller keeps those that are left.
-pub fn run_lines<D: Disk, I: Source, O: Sink>(
+pub fn run_lines<D: Disk, I: Source, O: Sink, R: Remote>(
     alloc: Global,
     limits: Limits,
     cache: u32,
     log: &mut D,
-    mirrors: &mut Mirrors,
+    mirrors: &mut Mirrors<R>,
     input: &mut I,
     output: &mut O,
 ) -> Report
     requires limits { AreLimits limits }
     requires cache { 0 < cache }
     ensures known { IsRunStatus result.status }
-    ensures means { let first = map (λ b. (⟦<dyn Remote as Remote>⟧ b.vtable).shown b.value) mirrors.old.list.items in let left = map (λ b. (⟦<dyn Remote as Remote>⟧ b.vtable).shown b.value) mirrors.new.list.items in
+    ensures means { let first = map R.shown mirrors.old.list.items in let left = map R.shown mirrors.new.list.items in
         (w : World Name) (payloads : List Payload) → WhereTold (seen (D.told log.old) (I.left input.old) (O.taken output.old)) (seen (D.told log.new) (I.left input.new) (O.taken output.new))
         (λ before after. Begins limits w payloads first before → StatusMeans limits w payloads cache first left
         (Rose (D.faults log.old) (D.faults log.new)) (Rose (I.faults input.old) (I.faults input.new)) (Rose (O.faults output.old) (O.faults output.new)) result.status result.changes before after) }
@@ -330,13 +330,13 @@ fn usage_of(alloc: Global, words: &[String]) -> Result<Usage, u8>
 }
 
 /// Does what the usage's mode says, within these limits.
-fn run_mode<D: Disk, I: Source, O: Sink>(
+fn run_mode<D: Disk, I: Source, O: Sink, R: Remote>(
     alloc: Global,
     limits: Limits,
     usage: Usage,
     log: &mut D,
     spare: &mut D,
-    mirrors: &mut Mirrors,
+    mirrors: &mut Mirrors<R>,
     input: &mut I,
     output: &mut O,
 ) -> Report
@@ -344,7 +344,7 @@ fn run_mode<D: Disk, I: Source, O: Sink>(
     requires cache { 0 < usage.cache }
     requires size { 1 ≤ usage.size }
     ensures known { IsModeStatus usage.mode result.status }
-    ensures means { let first = map (λ b. (⟦<dyn Remote as Remote>⟧ b.vtable).shown b.value) mirrors.old.list.items in let left = map (λ b. (⟦<dyn Remote as Remote>⟧ b.vtable).shown b.value) mirrors.new.list.items in
+    ensures means { let first = map R.shown mirrors.old.list.items in let left = map R.shown mirrors.new.list.items in
         (w : World Name) (payloads : List Payload) → usage.mode ≡ Mode.Run → WhereTold (seen (D.told log.old) (I.left input.old) (O.taken output.old)) (seen (D.told log.new) (I.left input.new) (O.taken output.new))
         (λ before after. Begins limits w payloads first before → StatusMeans limits w payloads usage.cache first left
         (Rose (D.faults log.old) (D.faults log.new)) (Rose (I.faults input.old) (I.faults input.new)) (Rose (O.faults output.old) (O.faults output.new)) result.status result.changes before after) }
@@ -352,7 +352,7 @@ fn run_mode<D: Disk, I: Source, O: Sink>(
     ensures refuses { (usage.mode ≡ Mode.Run) ⊎ (usage.mode ≡ Mode.Bundle) → IfSome (D.bytes log.old) (λ bytes. StatusRefuses limits.log bytes result.status) }
     ensures no_log { usage.mode ≡ Mode.Run → WhereTold (seen (D.told log.old) (I.left input.old) (O.taken output.old)) (seen (D.told log.new) (I.left input.new) (O.taken output.new)) (EndRefuses limits result.status) }
     ensures demo { usage.mode ≡ Mode.Demo → WhereTold (O.taken output.old) (O.taken output.new) (DemoMeans usage.size usage.start result.status) }
-    ensures serves { let first = map (λ b. (⟦<dyn Remote as Remote>⟧ b.vtable).shown b.value) mirrors.old.list.items in let left = map (λ b. (⟦<dyn Remote as Remote>⟧ b.vtable).shown b.value) mirrors.new.list.items in
+    ensures serves { let first = map R.shown mirrors.old.list.items in let left = map R.shown mirrors.new.list.items in
         usage.mode ≡ Mode.Serve → length mirrors.old.list.items ≡ 1 → WhereTold (ports (I.left input.old) (O.taken output.old)) (ports (I.left input.new) (O.taken output.new))
         (λ before after. ServeMeans limits.input result.status (served_streams before after) first left) }
     ensures one { usage.mode ≡ Mode.Serve → WantsOne (length mirrors.old.list.items) result.status }
@@ -394,19 +394,19 @@ fn run_mode<D: Disk, I: Source, O: Sink>(
 /// as many of the names that they give are kept as the words say. Only writing a log anew touches the spare disk: no run does. A
 /// demonstration and serving don't touch the log, and all but the run and serving leave the mirrors and the input alone. Only a run tells
 /// changes.
-pub fn top<D: Disk, I: Source, O: Sink>(
+pub fn top<D: Disk, I: Source, O: Sink, R: Remote>(
     alloc: Global,
     words: &[String],
     log: &mut D,
     spare: &mut D,
-    mirrors: &mut Mirrors,
+    mirrors: &mut Mirrors<R>,
     input: &mut I,
     output: &mut O,
 ) -> Report
     ensures known { IsStatus result.status }
     ensures modes { HasModeStatus (map string_bytes words.now) result.status }
     ensures usage { RefusesWords (map string_bytes words.now) result.status }
-    ensures means { let first = map (λ b. (⟦<dyn Remote as Remote>⟧ b.vtable).shown b.value) mirrors.old.list.items in let left = map (λ b. (⟦<dyn Remote as Remote>⟧ b.vtable).shown b.value) mirrors.new.list.items in
+    ensures means { let first = map R.shown mirrors.old.list.items in let left = map R.shown mirrors.new.list.items in
         (cache : ℕ) (w : World Name) (payloads : List Payload) → IsRunOf cache (map string_bytes words.now)
         → WhereTold (seen (D.told log.old) (I.left input.old) (O.taken output.old)) (seen (D.told log.new) (I.left input.new) (O.taken output.new))
         (λ before after. Begins standard w payloads first before → StatusMeans standard w payloads cache first left
@@ -419,7 +419,7 @@ pub fn top<D: Disk, I: Source, O: Sink>(
         → WhereTold (O.taken output.old) (O.taken output.new) (DemoMeans size start result.status) }
     ensures aside { IsUsageOf Mode.Demo (map string_bytes words.now)
         → IsDemoStatus result.status × (log.new ≡ log.old) × (mirrors.new ≡ mirrors.old) × (input.new ≡ input.old) × (result.changes ≡ []) }
-    ensures serves { let first = map (λ b. (⟦<dyn Remote as Remote>⟧ b.vtable).shown b.value) mirrors.old.list.items in let left = map (λ b. (⟦<dyn Remote as Remote>⟧ b.vtable).shown b.value) mirrors.new.list.items in
+    ensures serves { let first = map R.shown mirrors.old.list.items in let left = map R.shown mirrors.new.list.items in
         IsUsageOf Mode.Serve (map string_bytes words.now) → length mirrors.old.list.items ≡ 1 → WhereTold (ports (I.left input.old) (O.taken output.old)) (ports (I.left input.new) (O.taken output.new))
         (λ before after. ServeMeans standard.input result.status (served_streams before after) first left) }
     ensures one { IsUsageOf Mode.Serve (map string_bytes words.now) → WantsOne (length mirrors.old.list.items) result.status }

@@ -124,15 +124,15 @@ fn list_names<O: Sink>(store: Store, s: u8, found: &Found, output: &mut O) -> Re
 }
 
 /// Puts the answer of an expression, and hands the store back.
-pub(crate) fn list<O: Sink>(
+pub(crate) fn list<O: Sink, R: Remote>(
     store: Store,
-    mirrors: &mut Mirrors,
+    mirrors: &mut Mirrors<R>,
     s: u8,
     expr: &Expr,
     output: &mut O,
 ) -> Result<Store, Stop>
     requires { s < 16 }
-    ensures told { let first = map (λ b. (⟦<dyn Remote as Remote>⟧ b.vtable).shown b.value) mirrors.old.list.items in let left = map (λ b. (⟦<dyn Remote as Remote>⟧ b.vtable).shown b.value) mirrors.new.list.items in
+    ensures told { let first = map R.shown mirrors.old.list.items in let left = map R.shown mirrors.new.list.items in
         WhereTold (O.taken output.old) (O.taken output.new) (CommandReplies first left (Rose (O.faults output.old) (O.faults output.new)) store s (Query (tree_of expr.now)) [] None result) }
     ensures kept { IfOk result (KeepsAll store) }
     ensures stop { IfErr result (λ stop. stop ≡ Stop.Sink) }

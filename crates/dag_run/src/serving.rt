@@ -34,15 +34,15 @@ fn status(end: Served) -> u8
 
 /// Answers the framed requests of the input, of which `limit` bytes count, over the one mirror, and gives the status: 11, with
 /// nothing read, where the mirrors aren't one. Each answer is put before the next frame is read.
-pub fn serve_mirror<I: Source, O: Sink>(
+pub fn serve_mirror<I: Source, O: Sink, R: Remote>(
     alloc: Global,
     limit: u64,
-    mirrors: &mut Mirrors,
+    mirrors: &mut Mirrors<R>,
     input: &mut I,
     output: &mut O,
 ) -> u8
     ensures known { IsServeStatus result }
-    ensures means { let first = map (λ b. (⟦<dyn Remote as Remote>⟧ b.vtable).shown b.value) mirrors.old.list.items in let left = map (λ b. (⟦<dyn Remote as Remote>⟧ b.vtable).shown b.value) mirrors.new.list.items in
+    ensures means { let first = map R.shown mirrors.old.list.items in let left = map R.shown mirrors.new.list.items in
         length mirrors.old.list.items ≡ 1 → WhereTold (ports (I.left input.old) (O.taken output.old)) (ports (I.left input.new) (O.taken output.new))
         (λ before after. ServeMeans limit result (served_streams before after) first left) }
     ensures one { WantsOne (length mirrors.old.list.items) result }

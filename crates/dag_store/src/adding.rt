@@ -295,18 +295,18 @@ impl Store {
     /// `Unknown` for the first parent that the session doesn't see, `Twice` for the first parent that equals an earlier one, `Differs`
     /// where the commit is there with other parents, and `Full` where the session has as many rows as it may. Where a name has to be
     /// asked, `NoRemote` where there is no mirror, `Remote` where all failed, and `MismatchPath` where the answer disagrees with the log.
-    pub fn add(
+    pub fn add<R: Remote>(
         &mut self,
         s: u8,
-        mirrors: &mut Mirrors,
+        mirrors: &mut Mirrors<R>,
         name: &Name,
         parents: &[Name],
     ) -> Result<Added, Refusal>
         requires session { s < 16 }
         requires few { length parents.now ≤ 8 }
-        ensures step { let first = map (λ b. (⟦<dyn Remote as Remote>⟧ b.vtable).shown b.value) mirrors.old.list.items in let left = map (λ b. (⟦<dyn Remote as Remote>⟧ b.vtable).shown b.value) mirrors.new.list.items in
+        ensures step { let first = map R.shown mirrors.old.list.items in let left = map R.shown mirrors.new.list.items in
             (began : ℕ) (st : State) → StandsBeside began self.old first st → IsAnswerable st → Leads began self.old.limits st s (ToAdd name.now parents.now) (add_reply result) self.new left }
-        ensures asks { let first = map (λ b. (⟦<dyn Remote as Remote>⟧ b.vtable).shown b.value) mirrors.old.list.items in let left = map (λ b. (⟦<dyn Remote as Remote>⟧ b.vtable).shown b.value) mirrors.new.list.items in
+        ensures asks { let first = map R.shown mirrors.old.list.items in let left = map R.shown mirrors.new.list.items in
             (began : ℕ) (st : Stored) → Stands began self.old st
             → AsksAlike (take (began + (session st s).base) st.payloads) (base_of st s) (tests self.old.limits st s (ToAdd name.now parents.now)) first left (refusal_in result) }
         ensures alone { OnOk result (ChangesOnly s self.old self.new) }
@@ -330,11 +330,11 @@ impl Store {
 
     /// The id of a commit that a session sees. `Unknown` where the session doesn't see it. Where the name has to be asked, `NoRemote`
     /// where there is no mirror, `Remote` where all failed, and `MismatchPath` where the answer disagrees with the log.
-    pub fn id(&mut self, s: u8, mirrors: &mut Mirrors, name: &Name) -> Result<Id, Refusal>
+    pub fn id<R: Remote>(&mut self, s: u8, mirrors: &mut Mirrors<R>, name: &Name) -> Result<Id, Refusal>
         requires { s < 16 }
-        ensures step { let first = map (λ b. (⟦<dyn Remote as Remote>⟧ b.vtable).shown b.value) mirrors.old.list.items in let left = map (λ b. (⟦<dyn Remote as Remote>⟧ b.vtable).shown b.value) mirrors.new.list.items in
+        ensures step { let first = map R.shown mirrors.old.list.items in let left = map R.shown mirrors.new.list.items in
             (began : ℕ) (st : State) → StandsBeside began self.old first st → IsAnswerable st → Leads began self.old.limits st s (IdOf name.now) (id_reply result) self.new left }
-        ensures asks { let first = map (λ b. (⟦<dyn Remote as Remote>⟧ b.vtable).shown b.value) mirrors.old.list.items in let left = map (λ b. (⟦<dyn Remote as Remote>⟧ b.vtable).shown b.value) mirrors.new.list.items in
+        ensures asks { let first = map R.shown mirrors.old.list.items in let left = map R.shown mirrors.new.list.items in
             (began : ℕ) (st : Stored) → Stands began self.old st
             → AsksAlike (take (began + (session st s).base) st.payloads) (base_of st s) (tests self.old.limits st s (IdOf name.now)) first left (refusal_in result) }
         ensures kept { KeepsAll self.old self.new }

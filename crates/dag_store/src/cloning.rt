@@ -26,11 +26,11 @@ impl Store {
     ///
     /// All memory is taken before the first call of the disk. At each moment a crash leaves the payloads from before or, from the
     /// opening of the gate on, those with the new one.
-    pub fn take_clone<D: Disk>(self, disk: &mut D, s: u8, mirrors: &mut Mirrors) -> Flushed
+    pub fn take_clone<D: Disk, R: Remote>(self, disk: &mut D, s: u8, mirrors: &mut Mirrors<R>) -> Flushed
         requires session { s < 16 }
         requires begins { IfSome (D.told disk.old) (IsOnDisk self.log) }
-        ensures step { let first = map (λ b. (⟦<dyn Remote as Remote>⟧ b.vtable).shown b.value) mirrors.old.list.items in
-            let left = map (λ b. (⟦<dyn Remote as Remote>⟧ b.vtable).shown b.value) mirrors.new.list.items in
+        ensures step { let first = map R.shown mirrors.old.list.items in
+            let left = map R.shown mirrors.new.list.items in
             (payload : List ℕ) × Goes (FlushLeaves self payload result) (D.told disk.old) (D.told disk.new)
             × ((began : ℕ) (st : State) → StandsBeside began self first st → (length (rows_of st.store.stored) ≡ 0 → IsServed st) → CloneStep began self left st s payload result)
             × ((began : ℕ) (st : Stored) → Stands began self st → CloneAnswers self.limits st s (length (log_bytes self.log)) first left payload result) }

@@ -28,11 +28,11 @@ impl Store {
     /// `Conflict` for the first row that is stored with other parents; else `Lost` for the first parent of a row that is left which
     /// the newest world doesn't have. Where the name of a row has to be asked, `NoRemote` where there is no mirror, `Remote` where all
     /// failed, and `MismatchPath` where the answer disagrees with the log.
-    pub fn reload(&mut self, s: u8, mirrors: &mut Mirrors) -> Result<u32, Refusal>
+    pub fn reload<R: Remote>(&mut self, s: u8, mirrors: &mut Mirrors<R>) -> Result<u32, Refusal>
         requires { s < 16 }
-        ensures step { let first = map (λ b. (⟦<dyn Remote as Remote>⟧ b.vtable).shown b.value) mirrors.old.list.items in let left = map (λ b. (⟦<dyn Remote as Remote>⟧ b.vtable).shown b.value) mirrors.new.list.items in
+        ensures step { let first = map R.shown mirrors.old.list.items in let left = map R.shown mirrors.new.list.items in
             (began : ℕ) (st : State) → StandsBeside began self.old first st → IsAnswerable st → Leads began self.old.limits st s ToReload (reload_reply result) self.new left }
-        ensures asks { let first = map (λ b. (⟦<dyn Remote as Remote>⟧ b.vtable).shown b.value) mirrors.old.list.items in let left = map (λ b. (⟦<dyn Remote as Remote>⟧ b.vtable).shown b.value) mirrors.new.list.items in
+        ensures asks { let first = map R.shown mirrors.old.list.items in let left = map R.shown mirrors.new.list.items in
             (began : ℕ) (st : Stored) → Stands began self.old st → AsksAlike st.payloads st.stored (tests self.old.limits st s ToReload) first left (refusal_in result) }
         ensures alone { OnOk result (ChangesOnly s self.old self.new) }
         ensures refused { OnErr result (KeepsAll self.old self.new) }
@@ -57,19 +57,19 @@ impl Store {
     ///
     /// All memory is taken before the first call of the disk. At each moment a crash leaves the payloads from before or, from the
     /// opening of the gate on, those with the new one.
-    pub fn flush<D: Disk>(
+    pub fn flush<D: Disk, R: Remote>(
         self,
         disk: &mut D,
         s: u8,
-        mirrors: &mut Mirrors,
+        mirrors: &mut Mirrors<R>,
         heads: &[Name],
     ) -> Flushed
         requires session { s < 16 }
         requires begins { IfSome (D.told disk.old) (IsOnDisk self.log) }
-        ensures step { let first = map (λ b. (⟦<dyn Remote as Remote>⟧ b.vtable).shown b.value) mirrors.old.list.items in let left = map (λ b. (⟦<dyn Remote as Remote>⟧ b.vtable).shown b.value) mirrors.new.list.items in
+        ensures step { let first = map R.shown mirrors.old.list.items in let left = map R.shown mirrors.new.list.items in
             (payload : List ℕ) × Goes (FlushLeaves self payload result) (D.told disk.old) (D.told disk.new)
             × ((began : ℕ) (st : State) → StandsBeside began self first st → IsAnswerable st → FlushStep began self st s heads.now left payload result) }
-        ensures asks { let first = map (λ b. (⟦<dyn Remote as Remote>⟧ b.vtable).shown b.value) mirrors.old.list.items in let left = map (λ b. (⟦<dyn Remote as Remote>⟧ b.vtable).shown b.value) mirrors.new.list.items in
+        ensures asks { let first = map R.shown mirrors.old.list.items in let left = map R.shown mirrors.new.list.items in
             (began : ℕ) (st : Stored) → Stands began self st → AsksAlike st.payloads st.stored (tests self.limits st s (ToFlush heads.now)) first left (refused_flush result) }
         ensures leaves { LeavesStore self s result }
         ensures quiet { IsQuiet result → disk.new ≡ disk.old }

@@ -27,11 +27,11 @@ impl Store {
     ///
     /// All memory is taken before the first call of the disk. At each moment a crash leaves the payloads from before or, from the
     /// opening of the gate on, those with the new one.
-    pub fn take_pull<D: Disk>(self, disk: &mut D, s: u8, mirrors: &mut Mirrors) -> Flushed
+    pub fn take_pull<D: Disk, R: Remote>(self, disk: &mut D, s: u8, mirrors: &mut Mirrors<R>) -> Flushed
         requires session { s < 16 }
         requires begins { IfSome (D.told disk.old) (IsOnDisk self.log) }
-        ensures step { let first = map (λ b. (⟦<dyn Remote as Remote>⟧ b.vtable).shown b.value) mirrors.old.list.items in
-            let left = map (λ b. (⟦<dyn Remote as Remote>⟧ b.vtable).shown b.value) mirrors.new.list.items in
+        ensures step { let first = map R.shown mirrors.old.list.items in
+            let left = map R.shown mirrors.new.list.items in
             (payload : List ℕ) × Goes (FlushLeaves self payload result) (D.told disk.old) (D.told disk.new)
             × ((began : ℕ) (st : State) → StandsBeside began self first st → AllBeginWith st.store first → PullStep began self left st s payload result)
             × ((began : ℕ) (st : Stored) → Stands began self st → PullAnswers self.limits st s first left payload result) }

@@ -217,17 +217,17 @@ impl Store {
     /// For `ancestors` of one name the answer takes at most eight look-ups more than eight for each flat segment of the session's
     /// base and each pending row that it has, and at most eight where a segment of master without parents, of any level, ends at
     /// the name's id.
-    pub fn query(&mut self, s: u8, mirrors: &mut Mirrors, expr: &Expr) -> Result<Found, Refusal>
+    pub fn query<R: Remote>(&mut self, s: u8, mirrors: &mut Mirrors<R>, expr: &Expr) -> Result<Found, Refusal>
         requires { s < 16 }
-        ensures step { let first = map (λ b. (⟦<dyn Remote as Remote>⟧ b.vtable).shown b.value) mirrors.old.list.items in let left = map (λ b. (⟦<dyn Remote as Remote>⟧ b.vtable).shown b.value) mirrors.new.list.items in
+        ensures step { let first = map R.shown mirrors.old.list.items in let left = map R.shown mirrors.new.list.items in
             (began : ℕ) (st : State) → StandsBeside began self.old first st → IsAnswerable st → QueryStep began self.old.limits st s (tree_of expr.now) result self.new left }
-        ensures asks { let first = map (λ b. (⟦<dyn Remote as Remote>⟧ b.vtable).shown b.value) mirrors.old.list.items in let left = map (λ b. (⟦<dyn Remote as Remote>⟧ b.vtable).shown b.value) mirrors.new.list.items in
+        ensures asks { let first = map R.shown mirrors.old.list.items in let left = map R.shown mirrors.new.list.items in
             (began : ℕ) (st : Stored) → Stands began self.old st
             → AsksQuery self.old.limits.answer (take (began + (session st s).base) st.payloads) (base_of st s) (tests self.old.limits st s (ToQuery (tree_of expr.now))) first left result }
         ensures kept { KeepsAll self.old self.new }
         ensures few { (began : ℕ) (st : Stored) (name : NameBytes) → Stands began self.old st → tree_of expr.now ≡ ancestors_of name
             → IfOk result (λ found. found.answer.steps ≤ most_looks (base_of st s) (pending_of st s) found.answer.set) }
-        ensures one { let first = map (λ b. (⟦<dyn Remote as Remote>⟧ b.vtable).shown b.value) mirrors.old.list.items in
+        ensures one { let first = map R.shown mirrors.old.list.items in
             (began : ℕ) (st : State) (name : NameBytes) → StandsBeside began self.old first st → IsAnswerable st → tree_of expr.now ≡ ancestors_of name
             → EndsWithoutParents (base_of st.store s) (id_in same_name (view_of st.store s) name) → IfOk result (λ found. found.answer.steps ≤ 8) }
     {
@@ -245,17 +245,17 @@ impl Store {
 
     /// How many members an expression has in a session's view. It is refused for the names of the expression as a query is, and takes
     /// as few look-ups.
-    pub fn count(&mut self, s: u8, mirrors: &mut Mirrors, expr: &Expr) -> Result<Answer, Refusal>
+    pub fn count<R: Remote>(&mut self, s: u8, mirrors: &mut Mirrors<R>, expr: &Expr) -> Result<Answer, Refusal>
         requires { s < 16 }
-        ensures step { let first = map (λ b. (⟦<dyn Remote as Remote>⟧ b.vtable).shown b.value) mirrors.old.list.items in let left = map (λ b. (⟦<dyn Remote as Remote>⟧ b.vtable).shown b.value) mirrors.new.list.items in
+        ensures step { let first = map R.shown mirrors.old.list.items in let left = map R.shown mirrors.new.list.items in
             (began : ℕ) (st : State) → StandsBeside began self.old first st → IsAnswerable st → CountStep began self.old.limits st s (tree_of expr.now) result self.new left }
-        ensures asks { let first = map (λ b. (⟦<dyn Remote as Remote>⟧ b.vtable).shown b.value) mirrors.old.list.items in let left = map (λ b. (⟦<dyn Remote as Remote>⟧ b.vtable).shown b.value) mirrors.new.list.items in
+        ensures asks { let first = map R.shown mirrors.old.list.items in let left = map R.shown mirrors.new.list.items in
             (began : ℕ) (st : Stored) → Stands began self.old st
             → AsksAlike (take (began + (session st s).base) st.payloads) (base_of st s) (tests self.old.limits st s (ToCount (tree_of expr.now))) first left (refusal_in result) }
         ensures kept { KeepsAll self.old self.new }
         ensures few { (began : ℕ) (st : Stored) (name : NameBytes) → Stands began self.old st → tree_of expr.now ≡ ancestors_of name
             → IfOk result (λ answer. answer.steps ≤ most_looks (base_of st s) (pending_of st s) answer.set) }
-        ensures one { let first = map (λ b. (⟦<dyn Remote as Remote>⟧ b.vtable).shown b.value) mirrors.old.list.items in
+        ensures one { let first = map R.shown mirrors.old.list.items in
             (began : ℕ) (st : State) (name : NameBytes) → StandsBeside began self.old first st → IsAnswerable st → tree_of expr.now ≡ ancestors_of name
             → EndsWithoutParents (base_of st.store s) (id_in same_name (view_of st.store s) name) → IfOk result (λ answer. answer.steps ≤ 8) }
     {

@@ -30,20 +30,20 @@ impl Store {
     ///
     /// All memory is taken before the first call of the disk. At each moment a crash leaves the payloads from before or, from the
     /// opening of the gate on, those with the new one.
-    pub fn strip<D: Disk>(
+    pub fn strip<D: Disk, R: Remote>(
         self,
         disk: &mut D,
         s: u8,
-        mirrors: &mut Mirrors,
+        mirrors: &mut Mirrors<R>,
         names: &[Name],
     ) -> Flushed
         requires session { s < 16 }
         requires names { names.now ≢ [] }
         requires begins { IfSome (D.told disk.old) (IsOnDisk self.log) }
-        ensures step { let first = map (λ b. (⟦<dyn Remote as Remote>⟧ b.vtable).shown b.value) mirrors.old.list.items in let left = map (λ b. (⟦<dyn Remote as Remote>⟧ b.vtable).shown b.value) mirrors.new.list.items in
+        ensures step { let first = map R.shown mirrors.old.list.items in let left = map R.shown mirrors.new.list.items in
             (payload : List ℕ) × Goes (FlushLeaves self payload result) (D.told disk.old) (D.told disk.new)
             × ((began : ℕ) (st : State) → StandsBeside began self first st → IsAnswerable st → StripStep began self st s names.now left payload result) }
-        ensures asks { let first = map (λ b. (⟦<dyn Remote as Remote>⟧ b.vtable).shown b.value) mirrors.old.list.items in let left = map (λ b. (⟦<dyn Remote as Remote>⟧ b.vtable).shown b.value) mirrors.new.list.items in
+        ensures asks { let first = map R.shown mirrors.old.list.items in let left = map R.shown mirrors.new.list.items in
             (began : ℕ) (st : Stored) → Stands began self st → AsksAlike st.payloads st.stored (tests self.limits st s (ToStrip names.now)) first left (refused_flush result) }
         ensures leaves { LeavesStore self s result }
         ensures quiet { IsQuiet result → disk.new ≡ disk.old }

@@ -25,7 +25,7 @@ pub(crate) const LOG: [u8; 110] = [
 fn run_beside(
     alloc: Global,
     disk: &mut MemoryDisk,
-    mirrors: &mut Mirrors,
+    mirrors: &mut Mirrors<Box<dyn Remote>>,
     lines: &str,
     output: &mut MemorySink,
 ) -> Result<(u8, usize), AllocError> {
@@ -42,7 +42,7 @@ fn run_on(
     lines: &str,
     output: &mut MemorySink,
 ) -> Result<(u8, usize), AllocError> {
-    let mut none = Mirrors::new(Vec::new(alloc));
+    let mut none: Mirrors<Box<dyn Remote>> = Mirrors::new(Vec::new(alloc));
     run_beside(alloc, disk, &mut none, lines, output)
 }
 

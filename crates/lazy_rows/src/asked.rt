@@ -6,6 +6,7 @@ use dag_run::{Limits, run_lines};
 use disk_memory::MemoryDisk;
 use line_io::{MemorySink, MemorySource};
 use mirror_set::Mirrors;
+use remote_trait::Remote;
 use std::alloc::{AllocError, Global};
 
 /// Beside which mirrors lines go, the lines, and what they are answered.
@@ -159,7 +160,7 @@ const CASES: [Case; 7] = [CASE_1, CASE_2, CASE_3, CASE_4, CASE_5, CASE_6, CASE_7
 fn run(
     alloc: Global,
     disk: &mut MemoryDisk,
-    mirrors: &mut Mirrors,
+    mirrors: &mut Mirrors<Box<dyn Remote>>,
     lines: &str,
     output: &mut MemorySink,
 ) -> Result<bool, AllocError> {
@@ -172,7 +173,7 @@ fn run(
 /// The same over the clone's log.
 fn run_over(
     alloc: Global,
-    mirrors: &mut Mirrors,
+    mirrors: &mut Mirrors<Box<dyn Remote>>,
     lines: &str,
     output: &mut MemorySink,
 ) -> Result<bool, AllocError> {

@@ -113,7 +113,7 @@ fn chain_remote(alloc: Global, commits: u8) -> Result<MemoryRemote, AllocError> 
 }
 
 /// That mirror alone, which may be asked for so many names, reached so.
-fn alone(alloc: Global, commits: u8, left: u64, reach: Reach) -> Result<Mirrors, AllocError> {
+fn alone(alloc: Global, commits: u8, left: u64, reach: Reach) -> Result<Mirrors<Box<dyn Remote>>, AllocError> {
     let remote = chain_remote(alloc, commits)?;
     let mut list: Vec<Box<dyn Remote>> = Vec::new(alloc);
     push(alloc, &mut list, Sparing { remote, left }, reach)?;
@@ -127,7 +127,7 @@ fn alone(alloc: Global, commits: u8, left: u64, reach: Reach) -> Result<Mirrors,
 fn run(
     alloc: Global,
     disk: &mut MemoryDisk,
-    mirrors: &mut Mirrors,
+    mirrors: &mut Mirrors<Box<dyn Remote>>,
     lines: &str,
     output: &mut MemorySink,
 ) -> Result<Report, AllocError> {
@@ -256,7 +256,7 @@ fn stored_by(rows: &[Asked]) -> usize {
 fn run_lines_of(
     alloc: Global,
     disk: &mut MemoryDisk,
-    mirrors: &mut Mirrors,
+    mirrors: &mut Mirrors<Box<dyn Remote>>,
     rows: &[Asked],
     output: &mut MemorySink,
 ) -> Result<bool, AllocError> {

@@ -95,7 +95,7 @@ fn mirrors_of(
     reach: Reach,
     whole: &[u8],
     clone: &[u8],
-) -> Result<Mirrors, AllocError> {
+) -> Result<Mirrors<Box<dyn Remote>>, AllocError> {
     let mut list: Vec<Box<dyn Remote>> = Vec::new(alloc);
     push_broken(alloc, &mut list, reach, whole)?;
     for one in made {
@@ -113,7 +113,7 @@ fn run(
     alloc: Global,
     cache: u32,
     disk: &mut MemoryDisk,
-    mirrors: &mut Mirrors,
+    mirrors: &mut Mirrors<Box<dyn Remote>>,
     lines: &str,
     output: &mut MemorySink,
 ) -> Result<bool, AllocError> {
@@ -129,7 +129,7 @@ fn replies(
     alloc: Global,
     cache: u32,
     disk: &mut MemoryDisk,
-    mirrors: &mut Mirrors,
+    mirrors: &mut Mirrors<Box<dyn Remote>>,
     lines: &str,
 ) -> Result<Vec<u8>, AllocError> {
     let mut output = MemorySink::new(alloc, &[])?;
@@ -147,7 +147,7 @@ fn bytes_of(alloc: Global, disk: &MemoryDisk) -> Result<Vec<u8>, AllocError> {
 }
 
 /// The bytes of a log behind these lines over a fresh one, beside mirrors.
-fn log_behind(alloc: Global, mirrors: &mut Mirrors, lines: &str) -> Result<Vec<u8>, AllocError> {
+fn log_behind(alloc: Global, mirrors: &mut Mirrors<Box<dyn Remote>>, lines: &str) -> Result<Vec<u8>, AllocError> {
     let mut disk = MemoryDisk::new(alloc, &[], &[], None)?;
     let _said = replies(alloc, 1, &mut disk, mirrors, lines)?;
     bytes_of(alloc, &disk)
@@ -158,7 +158,7 @@ fn said_over(
     alloc: Global,
     cache: u32,
     log: &[u8],
-    mirrors: &mut Mirrors,
+    mirrors: &mut Mirrors<Box<dyn Remote>>,
     lines: &str,
 ) -> Result<Vec<u8>, AllocError> {
     let mut disk = MemoryDisk::new(alloc, log, &[], None)?;
@@ -168,7 +168,7 @@ fn said_over(
 /// The drawn log that is cloned.
 fn drawn_log(alloc: Global, draws: &mut Draws) -> Result<Vec<u8>, AllocError> {
     let stored = stored_lines(alloc, draws, COMMITS)?;
-    let mut nobody = Mirrors::new(Vec::new(alloc));
+    let mut nobody: Mirrors<Box<dyn Remote>> = Mirrors::new(Vec::new(alloc));
     log_behind(alloc, &mut nobody, stored.as_str())
 }
 
@@ -180,7 +180,7 @@ fn cloned_log(alloc: Global, whole: &[u8]) -> Result<Vec<u8>, AllocError> {
 
 /// The replies to lines over the log itself, which has each name.
 fn said_by_whole(alloc: Global, whole: &[u8], lines: &str) -> Result<Vec<u8>, AllocError> {
-    let mut nobody = Mirrors::new(Vec::new(alloc));
+    let mut nobody: Mirrors<Box<dyn Remote>> = Mirrors::new(Vec::new(alloc));
     said_over(alloc, 1, whole, &mut nobody, lines)
 }
 

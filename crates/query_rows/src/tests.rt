@@ -12,6 +12,7 @@ use dag_run::{Limits, run_lines};
 use disk_memory::MemoryDisk;
 use line_io::{MemorySink, MemorySource};
 use mirror_set::Mirrors;
+use remote_trait::Remote;
 use sample_tables::{LevelSample, OtherSample, Sample};
 use segment_codec::SegmentTable;
 use set_query::ExprFault;
@@ -137,7 +138,7 @@ fn wrong_over_levels(alloc: Global, graph: &Graph, more: u64) -> Result<Wrong, F
 fn status_of(alloc: Global, lines: &[u8], output: &mut MemorySink) -> Result<u8, AllocError> {
     let mut disk = MemoryDisk::new(alloc, &[], &[], None)?;
     let mut input = MemorySource::new(alloc, lines, 65_536, &[])?;
-    let mut none = Mirrors::new(Vec::new(alloc));
+    let mut none: Mirrors<Box<dyn Remote>> = Mirrors::new(Vec::new(alloc));
     let limits = Limits::standard();
     Ok(run_lines(alloc, limits, 1, &mut disk, &mut none, &mut input, output).status)
 }

@@ -33,7 +33,7 @@ fn mirror_of(alloc: Global, chain: &[u8], marked: bool) -> Result<MemoryRemote, 
 }
 
 /// The three mirrors, at their paths or behind pipes. Those that are marked fail at their first call.
-fn three(alloc: Global, marked: [bool; 3], are_piped: bool) -> Result<Mirrors, AllocError> {
+fn three(alloc: Global, marked: [bool; 3], are_piped: bool) -> Result<Mirrors<Box<dyn Remote>>, AllocError> {
     let mut list: Vec<Box<dyn Remote>> = Vec::new(alloc);
     push(alloc, &mut list, mirror_of(alloc, CHAINS[0], marked[0])?, are_piped)?;
     push(alloc, &mut list, mirror_of(alloc, CHAINS[1], marked[1])?, are_piped)?;
@@ -45,7 +45,7 @@ fn three(alloc: Global, marked: [bool; 3], are_piped: bool) -> Result<Mirrors, A
 }
 
 /// The last id of the first segment that the mirrors tell of; 0 where there is none.
-fn last_id(alloc: Global, mirrors: &mut Mirrors) -> Result<u64, MirrorFault> {
+fn last_id(alloc: Global, mirrors: &mut Mirrors<Box<dyn Remote>>) -> Result<u64, MirrorFault> {
     let given = mirrors.fresh_clone(alloc)?;
     if given.segments.len() == 0 {
         return Ok(0);
@@ -54,7 +54,7 @@ fn last_id(alloc: Global, mirrors: &mut Mirrors) -> Result<u64, MirrorFault> {
 }
 
 /// Which mirror answers, the first being 1: one less than its chain is long.
-fn answer(alloc: Global, mirrors: &mut Mirrors, way: Way) -> Result<u64, MirrorFault> {
+fn answer(alloc: Global, mirrors: &mut Mirrors<Box<dyn Remote>>, way: Way) -> Result<u64, MirrorFault> {
     match way {
         Way::Names => {
             let mut out = [name(0); 5];
@@ -73,7 +73,7 @@ fn answer(alloc: Global, mirrors: &mut Mirrors, way: Way) -> Result<u64, MirrorF
 type Turns = [Result<u64, MirrorFault>; 3];
 
 /// Whether three asks in turn come to this.
-fn are_turns(alloc: Global, mirrors: &mut Mirrors, way: Way, want: &Turns) -> bool {
+fn are_turns(alloc: Global, mirrors: &mut Mirrors<Box<dyn Remote>>, way: Way, want: &Turns) -> bool {
     for wanted in want {
         if answer(alloc, mirrors, way) != *wanted {
             return false;

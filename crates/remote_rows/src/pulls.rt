@@ -158,7 +158,7 @@ const MORE_FAIL: [Failing; 5] = [
 ];
 
 /// The three mirrors, at their paths or behind pipes.
-fn three(alloc: Global, fails: [u64; 3], are_piped: bool) -> Result<Mirrors, AllocError> {
+fn three(alloc: Global, fails: [u64; 3], are_piped: bool) -> Result<Mirrors<Box<dyn Remote>>, AllocError> {
     let mut list: Vec<Box<dyn Remote>> = Vec::new(alloc);
     push(alloc, &mut list, fork_mirror(alloc, 9, fails[0])?, are_piped)?;
     push(alloc, &mut list, fork_mirror(alloc, 8, fails[1])?, are_piped)?;
@@ -170,13 +170,13 @@ fn three(alloc: Global, fails: [u64; 3], are_piped: bool) -> Result<Mirrors, All
 }
 
 /// How many names a pull of all brings.
-fn brought(alloc: Global, mirrors: &mut Mirrors) -> Result<u32, FreshFault> {
+fn brought(alloc: Global, mirrors: &mut Mirrors<Box<dyn Remote>>) -> Result<u32, FreshFault> {
     let fresh = mirrors.fresh_from(alloc, 0)?;
     Ok(fresh.names.len())
 }
 
 /// Whether three pulls come to this, and a fourth one finds no mirror.
-fn are_pulled(alloc: Global, mirrors: &mut Mirrors, want: &[Result<u32, FreshFault>; 3]) -> bool {
+fn are_pulled(alloc: Global, mirrors: &mut Mirrors<Box<dyn Remote>>, want: &[Result<u32, FreshFault>; 3]) -> bool {
     for wanted in want {
         if brought(alloc, mirrors) != *wanted {
             return false;

@@ -6,6 +6,7 @@ use disk_memory::MemoryDisk;
 use disk_trait::Disk;
 use line_io::{MemorySink, MemorySource};
 use mirror_set::Mirrors;
+use remote_trait::Remote;
 use std::alloc::{AllocError, Global};
 
 /// Two flushes: of two commits into master with one outside, and of one more.
@@ -110,7 +111,7 @@ fn places_of(
 /// The status of the program's run over them, beside no mirrors, where no more of the input was read and nothing else was stored.
 fn ended(alloc: Global, words: &[String], places: &mut Places) -> Result<Option<u8>, AllocError> {
     let mut input = MemorySource::new(alloc, b"0 status\n", 1, &[])?;
-    let mut none = Mirrors::new(Vec::new(alloc));
+    let mut none: Mirrors<Box<dyn Remote>> = Mirrors::new(Vec::new(alloc));
     let report = top(
         alloc,
         words,

@@ -5,6 +5,7 @@ use dag_store::{Expr, Store};
 use disk_memory::MemoryDisk;
 use line_io::{MemorySink, MemorySource};
 use mirror_set::Mirrors;
+use remote_trait::Remote;
 use std::alloc::{AllocError, Global};
 
 /// The name of 38 zeros and the two digits of this number.
@@ -51,7 +52,7 @@ fn ladder(alloc: Global) -> Result<Vec<u8>, AllocError> {
 fn run(alloc: Global, lines: &[u8], disk: &mut MemoryDisk) -> Result<bool, AllocError> {
     let mut input = MemorySource::new(alloc, lines, 65_536, &[])?;
     let mut output = MemorySink::new(alloc, &[])?;
-    let mut none = Mirrors::new(Vec::new(alloc));
+    let mut none: Mirrors<Box<dyn Remote>> = Mirrors::new(Vec::new(alloc));
     let report = run_lines(
         alloc,
         Limits::standard(),
@@ -79,7 +80,7 @@ fn counted(alloc: Global, store: &mut Store, text: &[u8]) -> Option<(u64, u64)> 
     let Ok(expr) = Expr::parse(alloc, text) else {
         return None;
     };
-    let mut none = Mirrors::new(Vec::new(alloc));
+    let mut none: Mirrors<Box<dyn Remote>> = Mirrors::new(Vec::new(alloc));
     let Ok(answer) = store.count(0, &mut none, &expr) else {
         return None;
     };

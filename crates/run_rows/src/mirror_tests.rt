@@ -36,7 +36,7 @@ fn mirror(alloc: Global, last: u8, marked: bool) -> Result<MemoryRemote, AllocEr
 const MIRRORS: [(u8, bool); 3] = [(0xa1, false), (0xb1, true), (0xc1, false)];
 
 /// The three mirrors.
-fn three(alloc: Global) -> Result<Mirrors, AllocError> {
+fn three(alloc: Global) -> Result<Mirrors<Box<dyn Remote>>, AllocError> {
     let mut list: Vec<Box<dyn Remote>> = Vec::new(alloc);
     for (last, marked) in &MIRRORS {
         let one = mirror(alloc, *last, *marked)?;
@@ -75,7 +75,7 @@ ok 1
 ";
 
 /// Whether the mirror that answers has this commit as a head.
-fn answers_with(alloc: Global, mirrors: &mut Mirrors, last: u8) -> bool {
+fn answers_with(alloc: Global, mirrors: &mut Mirrors<Box<dyn Remote>>, last: u8) -> bool {
     match mirrors.fresh_clone(alloc) {
         Ok(given) => given.heads.len() > 0 && given.heads.at(0).is(&name(last)),
         Err(_) => false,
@@ -85,7 +85,7 @@ fn answers_with(alloc: Global, mirrors: &mut Mirrors, last: u8) -> bool {
 /// Answers the lines over an empty log beside the mirrors. The status, and how many changes are stored.
 fn run(
     alloc: Global,
-    mirrors: &mut Mirrors,
+    mirrors: &mut Mirrors<Box<dyn Remote>>,
     output: &mut MemorySink,
 ) -> Result<(u8, usize), AllocError> {
     let mut disk = MemoryDisk::new(alloc, &[], &[], None)?;
@@ -96,7 +96,7 @@ fn run(
 }
 
 /// Whether the lines are answered so, and one change is stored.
-fn are_answered(alloc: Global, mirrors: &mut Mirrors) -> Result<bool, AllocError> {
+fn are_answered(alloc: Global, mirrors: &mut Mirrors<Box<dyn Remote>>) -> Result<bool, AllocError> {
     let mut output = MemorySink::new(alloc, &[])?;
     let ended = run(alloc, mirrors, &mut output)?;
     Ok(ended == (0, 1) && output.bytes() == REPLIES.as_bytes())

@@ -8,6 +8,7 @@ use disk_memory::{Choice, Fill, MemoryDisk};
 use disk_trait::Disk;
 use line_io::{MemorySink, MemorySource, Sink, Source};
 use mirror_set::Mirrors;
+use remote_trait::Remote;
 use std::alloc::{AllocError, Global};
 
 /// Answers the lines of an input over a disk, without mirrors.
@@ -20,7 +21,7 @@ fn run_alone<D: Disk, I: Source, O: Sink>(
 ) -> Report
     requires { AreLimits limits }
 {
-    let mut none = Mirrors::new(Vec::new(alloc));
+    let mut none: Mirrors<Box<dyn Remote>> = Mirrors::new(Vec::new(alloc));
     run_lines(alloc, limits, crate::CACHE, disk, &mut none, input, output)
 }
 
@@ -575,7 +576,7 @@ pub(crate) fn ended(
     output: &mut MemorySink,
 ) -> Result<(u8, usize), AllocError> {
     let mut spare = MemoryDisk::new(alloc, &[], &[], None)?;
-    let mut none = Mirrors::new(Vec::new(alloc));
+    let mut none: Mirrors<Box<dyn Remote>> = Mirrors::new(Vec::new(alloc));
     let report = top(alloc, words, log, &mut spare, &mut none, input, output);
     Ok((report.status, report.changes.len()))
 }

@@ -55,12 +55,12 @@ const NOT_OURS: u8 = 16;
 /// Answers the lines of the input over the log, or those of a demonstration, or serves the one mirror, or puts the log's bundle, or
 /// writes the log anew to the spare disk, where the words, the program's own name in front, are a usage, and gives the status. The mirrors
 /// are asked as the lines say, and the caller keeps those that are left.
-fn answer<D: Disk, I: Source, O: Sink>(
+fn answer<D: Disk, I: Source, O: Sink, R: Remote>(
     alloc: Global,
     words: &[String],
     log: &mut D,
     spare: &mut D,
-    mirrors: &mut Mirrors,
+    mirrors: &mut Mirrors<R>,
     input: &mut I,
     output: &mut O,
 ) -> u8
@@ -68,7 +68,7 @@ fn answer<D: Disk, I: Source, O: Sink>(
     ensures known { IsStatus result }
     ensures modes { HasStatus (map string_bytes words.now) result }
     ensures usage { Refuses (map string_bytes words.now) result }
-    ensures means { let first = map (λ b. (⟦<dyn Remote as Remote>⟧ b.vtable).shown b.value) mirrors.old.list.items in let left = map (λ b. (⟦<dyn Remote as Remote>⟧ b.vtable).shown b.value) mirrors.new.list.items in
+    ensures means { let first = map R.shown mirrors.old.list.items in let left = map R.shown mirrors.new.list.items in
         (cache : ℕ) (w : World Name) (payloads : List Payload) → IsRun cache (map string_bytes words.now)
         → WhereTold (seen (D.told log.old) (I.left input.old) (O.taken output.old)) (seen (D.told log.new) (I.left input.new) (O.taken output.new))
         (λ before after. Begins standard w payloads first before → (changes : List ℕ) × StatusMeans standard w payloads cache first left
@@ -80,7 +80,7 @@ fn answer<D: Disk, I: Source, O: Sink>(
     ensures unwritten { result ≡ 4 → Goes IsUntouched (D.told log.old) (D.told log.new) × (input.new ≡ input.old) × (output.new ≡ output.old) × (mirrors.new ≡ mirrors.old) }
     ensures demo { (size start : ℕ) → IsDemo size start (map string_bytes words.now) → WhereTold (O.taken output.old) (O.taken output.new) (DemoMeans size start result) }
     ensures aside { IsUsage Mode.Demo (map string_bytes words.now) → IsDemoStatus result × (log.new ≡ log.old) × (mirrors.new ≡ mirrors.old) × (input.new ≡ input.old) }
-    ensures serves { let first = map (λ b. (⟦<dyn Remote as Remote>⟧ b.vtable).shown b.value) mirrors.old.list.items in let left = map (λ b. (⟦<dyn Remote as Remote>⟧ b.vtable).shown b.value) mirrors.new.list.items in
+    ensures serves { let first = map R.shown mirrors.old.list.items in let left = map R.shown mirrors.new.list.items in
         IsUsage Mode.Serve (map string_bytes words.now) → length mirrors.old.list.items ≡ 1 → WhereTold (ports (I.left input.old) (O.taken output.old)) (ports (I.left input.new) (O.taken output.new))
         (λ before after. ServeMeans standard.input result (served_streams before after) first left) }
     ensures one { IsUsage Mode.Serve (map string_bytes words.now) → WantsOne (length mirrors.old.list.items) result }
@@ -123,12 +123,12 @@ fn words_of(rt: &HostRuntime) -> Result<Vec<String>, u8> {
 }
 
 /// Answers the lines of standard input on standard output over this log, beside these mirrors, and gives the status.
-fn run_on(
+fn run_on<R: Remote>(
     rt: &HostRuntime,
     words: &[String],
     log: &mut FileDisk<HostRuntime>,
     spare: &mut FileDisk<HostRuntime>,
-    mirrors: &mut Mirrors,
+    mirrors: &mut Mirrors<R>,
 ) -> u8
     requires { length words.now < 2 ^ 32 }
 {
@@ -146,12 +146,12 @@ fn run_on(
 }
 
 /// The same over the log at this path, which is used so. Where another process has it the status says so, and nothing is done.
-fn run_over(
+fn run_over<R: Remote>(
     rt: &HostRuntime,
     words: &[String],
     path: &str,
     access: Access,
-    mirrors: &mut Mirrors,
+    mirrors: &mut Mirrors<R>,
 ) -> Result<u8, AllocError>
     requires { length words.now < 2 ^ 32 }
 {

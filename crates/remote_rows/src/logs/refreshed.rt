@@ -7,7 +7,7 @@ use std::alloc::{AllocError, Global};
 use std::test::Fail;
 
 /// How many commits the mirrors tell at a clone; `None` where it is refused.
-fn cloned(alloc: Global, mirrors: &mut Mirrors) -> Option<u64> {
+fn cloned(alloc: Global, mirrors: &mut Mirrors<Box<dyn Remote>>) -> Option<u64> {
     let Ok(told) = mirrors.fresh_clone(alloc) else {
         return None;
     };
