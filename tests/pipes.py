@@ -127,33 +127,164 @@ def words_run(program, draw, folder):
             fail(f"a pipe is served: status {found.returncode}")
 
 
-def tool_run(program, draw, folder):
-    """A clone by tools/segdag-ssh, with its status; ended by a signal too it leaves nothing behind."""
+def is_read(pipe):
+    """Whether somebody has opened the pipe for reading, or waits to."""
+    try:
+        os.close(os.open(pipe, os.O_WRONLY | os.O_NONBLOCK))
+        return True
+    except OSError:
+        return False
+
+
+def quiet_run(program, draw, folder):
+    """The pipes of a mirror that isn't asked aren't opened. When it is, the one is opened and the request put before the other is."""
+    to, come, here = (Path(folder, name) for name in ("to", "from", "here"))
+    for pipe in (to, come):
+        os.mkfifo(pipe)
+    word = f"pipe:{to}:{come}"
+    if told(program, here, [word], ["0 status", "0 query all", "0 drop 0"], 4096) != (0, "ok 0 0 0\nok 0\nok dropped 0\n"):
+        fail("beside a mirror that nobody asks")
+    with subprocess.Popen([program, here, word, "--", "run"], stdin=subprocess.PIPE, stdout=subprocess.PIPE) as child:
+        child.stdin.write(b"0 clone\n")
+        child.stdin.flush()
+        time.sleep(0.2)
+        if is_read(come):
+            fail("the pipe of the answers is opened before that of the requests")
+        asked = os.open(to, os.O_RDONLY)
+        if os.read(asked, 100) != b"\0\0\0\1\1":
+            fail("the first request is no refresh")
+        with open(come, "wb"):
+            os.close(asked)
+        if child.communicate()[0] != b"err remote 1\n":
+            fail("a peer that closes its ends")
+
+
+def lazy_names(program, log, rows):
+    """Names of a clone that it doesn't store."""
+    lines = [f"0 id {hexed(name)}" for name, _ in rows]
+    replies = told(program, log, [], lines, 4096)[1].splitlines()
+    return [hexed(name) for (name, _), reply in zip(rows, replies) if reply == "err no-remote"]
+
+
+def closed_run(program, draw, folder):
+    """A peer that closes its ends behind three answers: a request that nobody reads fails, no signal ends the run, and nothing is lost."""
     there, here = Path(folder, "there"), Path(folder, "here")
+    rows = serve_client.draw_log(program, draw, there, 300)
+    told(program, here, [there], ["0 clone"], 4096)
+    a, b, c = lazy_names(program, here, rows)[:3]
+    new, tip = "f" * 40, hexed(rows[-1][0])
+    lines = [f"0 id {a}", f"0 add {new} {tip}", f"0 id {b}", f"0 id {c}", f"0 id {a}", f"0 flush {new}", "0 count all", "0 mirrors"]
+    for others, wanted in (([], ["err remote 1"] * 2), ([there], ["ok"] * 2)):
+        log = Path(folder, f"log{len(others)}")
+        log.write_bytes(here.read_bytes())
+        behind = Behind(program, there, folder, {"answers": 3}, draw)
+        try:
+            status, text = told(program, log, [behind.word, *others], lines, 4096)
+        finally:
+            behind.end()
+        replies = text.splitlines()
+        if status != 0 or len(replies) != len(lines) or not all(reply.startswith("ok") for reply in replies[:3] + replies[5:]):
+            fail(f"a peer that closes its ends, among {1 + len(others)}: {status}\n{text}")
+        if not all(reply.startswith(want) for reply, want in zip(replies[3:5], wanted)) or replies[6:] != [f"ok {len(rows) + 1}", f"ok {1 + len(others)}"]:
+            fail(f"a peer that closes its ends, among {1 + len(others)}:\n{text}")
+        if told(program, log, [], ["0 count all"], 4096) != (0, f"ok {len(rows) + 1}\n"):
+            fail("what was flushed behind a peer that closed its ends is lost")
+
+
+SSH = """#!/bin/sh
+[ "$1" = -- ] || exit 97
+printf '%s' "$2" > "$TOLD"
+shift 2
+exec sh -c "$*"
+"""
+HOSTS = ["host", "user@host", "-oProxyCommand=touch bad", "--", "a b", "$(touch bad)", "`touch bad`", "'; touch bad; '", "*", "\n"]
+ODD = "it's a \"log\" $(touch bad);\\ `touch bad` *"
+
+
+class Tool:
+    """tools/segdag-ssh in a folder of its own, with a shell in place of ssh."""
+
+    def __init__(self, program, folder):
+        self.rooms, commands = Path(folder, "rooms"), Path(folder, "commands")
+        self.rooms.mkdir()
+        commands.mkdir()
+        (commands / "ssh").write_text(SSH)
+        (commands / "ssh").chmod(0o755)
+        path = f"{commands}:{os.environ['PATH']}"
+        self.told = Path(folder, "told")
+        self.env = {**os.environ, "SEGDAG": str(program), "SEGDAG_THERE": f"'{program}'", "TMPDIR": str(self.rooms), "PATH": path, "TOLD": str(self.told)}
+        self.folder = folder
+
+    def begin(self, *words):
+        """What is begun may be interrupted, whatever this test inherited."""
+
+        def plain():
+            for number in (signal.SIGINT, signal.SIGHUP, signal.SIGTERM):
+                signal.signal(number, signal.SIG_DFL)
+
+        pipes = dict.fromkeys(("stdin", "stdout", "stderr"), subprocess.PIPE)
+        return subprocess.Popen([TOOL, *words], env=self.env, cwd=self.folder, preexec_fn=plain, text=True, **pipes)
+
+    def wants(self, begun, lines, wanted):
+        out, said = begun.communicate("".join(line + "\n" for line in lines), timeout=120)
+        if (begun.returncode, out) != wanted:
+            fail(f"{begun.args} told {begun.returncode}\n{out}{said}in place of\n{wanted}")
+
+    def is_clean(self):
+        if left := [*self.rooms.iterdir(), *Path(self.folder).glob("bad")]:
+            fail(f"segdag-ssh left {left}")
+
+
+def tool_run(program, draw, folder):
+    """Clones by tools/segdag-ssh, with their statuses, two at once, from hosts and logs with odd names."""
+    there, odd = Path(folder, "there"), Path(folder, ODD)
     rows = serve_client.draw_log(program, draw, there, 60)
-    lines = asks(draw, rows)
+    odd.write_bytes(there.read_bytes())
+    lines, tool = asks(draw, rows), Tool(program, folder)
     wanted = told(program, Path(folder, "path"), [there], lines, 4096)
-    rooms = Path(folder, "rooms")
-    rooms.mkdir()
-    env = {**os.environ, "SEGDAG": str(program), "TMPDIR": str(rooms)}
     serve = f"exec '{program}' none '{there}' -- serve"
-    done = subprocess.run([TOOL, "--command", serve, here, "--", "run"], input="".join(line + "\n" for line in lines), text=True, capture_output=True, env=env, timeout=120)
-    if (done.returncode, done.stdout) != wanted:
-        fail(f"segdag-ssh told {done.returncode}\n{done.stdout}{done.stderr}in place of\n{wanted[1]}")
-    begun = subprocess.Popen([TOOL, "--command", serve, here, "--", "run"], stdin=subprocess.PIPE, stdout=subprocess.PIPE, env=env)
-    begun.stdin.write(f"0 id {hexed(rows[0][0])}\n".encode())
-    begun.stdin.flush()
-    begun.stdout.readline()
-    begun.terminate()
-    if begun.wait(timeout=60) != 143:
-        fail(f"segdag-ssh ended by a signal with {begun.returncode}")
-    begun.stdin.close()
-    bad = subprocess.run([TOOL, "--command", serve, here, "--", "walk"], input=b"", capture_output=True, env=env, timeout=60)
-    if bad.returncode != 2:
-        fail(f"segdag-ssh ended with {bad.returncode} for words that are no usage")
-    time.sleep(0.3)
-    if list(rooms.iterdir()):
-        fail(f"segdag-ssh left {list(rooms.iterdir())}")
+    two = [tool.begin("--command", serve, Path(folder, f"here{number}"), "--", "run") for number in range(2)]
+    for begun in two:
+        tool.wants(begun, lines, wanted)
+    tool.wants(tool.begin("--command", f"cat | {{ {serve[5:]}; }} | cat", "piped", "--", "run"), lines, wanted)
+    for number, host in enumerate(HOSTS):
+        tool.wants(tool.begin(f"{host}:{odd}", f"host{number}", "--", "run"), lines, wanted)
+        if tool.told.read_text() != host:
+            fail(f"ssh was given {tool.told.read_text()!r} for {host!r}")
+    tool.wants(tool.begin("host:missing", "none", "--", "run"), ["0 clone"], (0, "err remote 1\n"))
+    tool.wants(tool.begin("--command", "exit 255", "none", "--", "run"), ["0 clone"], (0, "err remote 1\n"))
+    for words in ([], ["host"], [":log", "here", "--", "run"], ["--command", "", "here", "--", "run"], ["--command", serve, "here", "--", "walk"]):
+        tool.wants(tool.begin(*words), [], (2, ""))
+    tool.is_clean()
+    tool.env["TMPDIR"] = str(Path(folder, "a:b"))
+    Path(folder, "a:b").mkdir()
+    tool.wants(tool.begin("--command", serve, "here", "--", "run"), [], (2, ""))
+    if list(Path(folder, "a:b").iterdir()):
+        fail("segdag-ssh left a folder whose path has a colon")
+
+
+def killed_run(program, draw, folder):
+    """What tools/segdag-ssh began ends with it, whatever it waits for: lines, a peer that says nothing, or nothing yet; two at once."""
+    there = Path(folder, "there")
+    rows = serve_client.draw_log(program, draw, there, 60)
+    tool = Tool(program, folder)
+    serve, silent = f"'{program}' none '{there}' -- serve; exit 1", "sleep 1000 | sleep 1000; exit 1"
+    for number, status in ((signal.SIGTERM, 143), (signal.SIGINT, 130), (signal.SIGHUP, 129)):
+        begun = [tool.begin("--command", command, f"{number}.{place}", "--", "run") for place, command in enumerate((serve, silent, serve))]
+        for child, line in zip(begun, (f"0 id {hexed(rows[0][0])}\n0 clone\n", "0 clone\n", "0 status\n")):
+            child.stdin.write(line)
+            child.stdin.flush()
+        begun[0].stdout.readline()
+        begun[2].stdout.readline()
+        time.sleep(draw.choice([0, 0.1, 0.3]))
+        for child in begun:
+            child.send_signal(number)
+        for child in begun:
+            if child.wait(timeout=60) != status:
+                fail(f"segdag-ssh ended by signal {number} with {child.returncode}: {child.stderr.read()}")
+            for pipe in (child.stdin, child.stdout, child.stderr):
+                pipe.close()
+    tool.is_clean()
 
 
 def left_behind(folder):
@@ -167,12 +298,13 @@ def left_behind(folder):
 
 
 def speaking_of(folder):
-    """Processes that speak of the folder."""
+    """Processes that speak of the folder by their words or their environment."""
     found = []
     for entry in Path("/proc").glob("[0-9]*"):
         try:
-            if folder.encode() in (entry / "cmdline").read_bytes() and int(entry.name) != os.getpid():
-                found.append((entry / "cmdline").read_bytes().replace(b"\0", b" "))
+            text = (entry / "cmdline").read_bytes()
+            if folder.encode() in text + (entry / "environ").read_bytes() and int(entry.name) != os.getpid():
+                found.append(text.replace(b"\0", b" "))
         except OSError:
             pass
     return found
@@ -182,7 +314,7 @@ def main():
     program, runs, seed = os.path.abspath(sys.argv[1]), int(sys.argv[2] if len(sys.argv) > 2 else 20), int(sys.argv[3] if len(sys.argv) > 3 else 1)
     for number in range(runs):
         draw = random.Random(f"{seed} {number}")
-        for run in (one_run, broken_run, *((words_run, tool_run) if number % 10 == 0 else ())):
+        for run in (one_run, broken_run, closed_run, *((words_run, quiet_run, tool_run, killed_run) if number % 10 == 0 else ())):
             with tempfile.TemporaryDirectory() as folder:
                 run(program, draw, folder)
                 if left := left_behind(folder):
