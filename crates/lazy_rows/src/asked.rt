@@ -202,9 +202,11 @@ fn is_answered_by(alloc: Global, case: &Case, reach: Reach) -> Result<bool, Allo
 
 /// Whether the lines of a case are answered so, at paths and behind pipes.
 fn is_answered(alloc: Global, case: &Case) -> Result<bool, AllocError> {
-    Ok(is_answered_by(alloc, case, Reach::Paths)?
-        && is_answered_by(alloc, case, Reach::Pipes(4096))?
-        && is_answered_by(alloc, case, Reach::Pipes(1))?)
+    Ok(
+        is_answered_by(alloc, case, Reach::Paths)?
+            && is_answered_by(alloc, case, Reach::Pipes(4096))?
+            && is_answered_by(alloc, case, Reach::Pipes(1))?,
+    )
 }
 
 /// The place of the first case whose lines aren't, if there is one.

@@ -105,7 +105,11 @@ fn push_one(
 }
 
 /// The mirrors, reached so.
-pub fn mirrors(alloc: Global, beside: &Beside, reach: Reach) -> Result<Mirrors<Box<dyn Remote>>, AllocError> {
+pub fn mirrors(
+    alloc: Global,
+    beside: &Beside,
+    reach: Reach,
+) -> Result<Mirrors<Box<dyn Remote>>, AllocError> {
     let mut list: Vec<Box<dyn Remote>> = Vec::new(alloc);
     push_one(alloc, &mut list, beside, reach)?;
     if list.len() > 1 {

@@ -113,7 +113,12 @@ fn chain_remote(alloc: Global, commits: u8) -> Result<MemoryRemote, AllocError> 
 }
 
 /// That mirror alone, which may be asked for so many names, reached so.
-fn alone(alloc: Global, commits: u8, left: u64, reach: Reach) -> Result<Mirrors<Box<dyn Remote>>, AllocError> {
+fn alone(
+    alloc: Global,
+    commits: u8,
+    left: u64,
+    reach: Reach,
+) -> Result<Mirrors<Box<dyn Remote>>, AllocError> {
     let remote = chain_remote(alloc, commits)?;
     let mut list: Vec<Box<dyn Remote>> = Vec::new(alloc);
     push(alloc, &mut list, Sparing { remote, left }, reach)?;

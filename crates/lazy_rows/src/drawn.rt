@@ -147,7 +147,11 @@ fn bytes_of(alloc: Global, disk: &MemoryDisk) -> Result<Vec<u8>, AllocError> {
 }
 
 /// The bytes of a log behind these lines over a fresh one, beside mirrors.
-fn log_behind(alloc: Global, mirrors: &mut Mirrors<Box<dyn Remote>>, lines: &str) -> Result<Vec<u8>, AllocError> {
+fn log_behind(
+    alloc: Global,
+    mirrors: &mut Mirrors<Box<dyn Remote>>,
+    lines: &str,
+) -> Result<Vec<u8>, AllocError> {
     let mut disk = MemoryDisk::new(alloc, &[], &[], None)?;
     let _said = replies(alloc, 1, &mut disk, mirrors, lines)?;
     bytes_of(alloc, &disk)

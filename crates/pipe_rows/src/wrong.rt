@@ -38,10 +38,7 @@ const ANY: [Case; 20] = [
     (Wrong::Differs(2), Some(PipeFault::Ended)),
     (Wrong::Differs(4), Some(PipeFault::NoAnswer)),
     (Wrong::Longer, Some(PipeFault::NoAnswer)),
-    (
-        Wrong::Instead(&[0, 0, 0, 0]),
-        Some(PipeFault::BadLength),
-    ),
+    (Wrong::Instead(&[0, 0, 0, 0]), Some(PipeFault::BadLength)),
     (
         Wrong::Instead(&[0x40, 0, 0, 1, 0x81]),
         Some(PipeFault::BadLength),
@@ -140,10 +137,12 @@ fn comes_out(alloc: Global, asked: Asked, case: &Case, piece: u32) -> Result<boo
         Some(_) => Err(RemoteFault::Failed),
         None => Ok(right(asked)),
     };
-    Ok(is_right
-        && failed
-        && remote.stopped() == stopped
-        && answer(alloc, &mut remote, asked) == again)
+    Ok(
+        is_right
+            && failed
+            && remote.stopped() == stopped
+            && answer(alloc, &mut remote, asked) == again,
+    )
 }
 
 /// The places of the first question and case that come out otherwise.

@@ -33,11 +33,30 @@ fn mirror_of(alloc: Global, chain: &[u8], marked: bool) -> Result<MemoryRemote, 
 }
 
 /// The three mirrors, at their paths or behind pipes. Those that are marked fail at their first call.
-fn three(alloc: Global, marked: [bool; 3], are_piped: bool) -> Result<Mirrors<Box<dyn Remote>>, AllocError> {
+fn three(
+    alloc: Global,
+    marked: [bool; 3],
+    are_piped: bool,
+) -> Result<Mirrors<Box<dyn Remote>>, AllocError> {
     let mut list: Vec<Box<dyn Remote>> = Vec::new(alloc);
-    push(alloc, &mut list, mirror_of(alloc, CHAINS[0], marked[0])?, are_piped)?;
-    push(alloc, &mut list, mirror_of(alloc, CHAINS[1], marked[1])?, are_piped)?;
-    push(alloc, &mut list, mirror_of(alloc, CHAINS[2], marked[2])?, are_piped)?;
+    push(
+        alloc,
+        &mut list,
+        mirror_of(alloc, CHAINS[0], marked[0])?,
+        are_piped,
+    )?;
+    push(
+        alloc,
+        &mut list,
+        mirror_of(alloc, CHAINS[1], marked[1])?,
+        are_piped,
+    )?;
+    push(
+        alloc,
+        &mut list,
+        mirror_of(alloc, CHAINS[2], marked[2])?,
+        are_piped,
+    )?;
     if list.len() > 3 {
         return Err(AllocError);
     }
@@ -54,7 +73,11 @@ fn last_id(alloc: Global, mirrors: &mut Mirrors<Box<dyn Remote>>) -> Result<u64,
 }
 
 /// Which mirror answers, the first being 1: one less than its chain is long.
-fn answer(alloc: Global, mirrors: &mut Mirrors<Box<dyn Remote>>, way: Way) -> Result<u64, MirrorFault> {
+fn answer(
+    alloc: Global,
+    mirrors: &mut Mirrors<Box<dyn Remote>>,
+    way: Way,
+) -> Result<u64, MirrorFault> {
     match way {
         Way::Names => {
             let mut out = [name(0); 5];
@@ -73,7 +96,12 @@ fn answer(alloc: Global, mirrors: &mut Mirrors<Box<dyn Remote>>, way: Way) -> Re
 type Turns = [Result<u64, MirrorFault>; 3];
 
 /// Whether three asks in turn come to this.
-fn are_turns(alloc: Global, mirrors: &mut Mirrors<Box<dyn Remote>>, way: Way, want: &Turns) -> bool {
+fn are_turns(
+    alloc: Global,
+    mirrors: &mut Mirrors<Box<dyn Remote>>,
+    way: Way,
+    want: &Turns,
+) -> bool {
     for wanted in want {
         if answer(alloc, mirrors, way) != *wanted {
             return false;

@@ -158,11 +158,30 @@ const MORE_FAIL: [Failing; 5] = [
 ];
 
 /// The three mirrors, at their paths or behind pipes.
-fn three(alloc: Global, fails: [u64; 3], are_piped: bool) -> Result<Mirrors<Box<dyn Remote>>, AllocError> {
+fn three(
+    alloc: Global,
+    fails: [u64; 3],
+    are_piped: bool,
+) -> Result<Mirrors<Box<dyn Remote>>, AllocError> {
     let mut list: Vec<Box<dyn Remote>> = Vec::new(alloc);
-    push(alloc, &mut list, fork_mirror(alloc, 9, fails[0])?, are_piped)?;
-    push(alloc, &mut list, fork_mirror(alloc, 8, fails[1])?, are_piped)?;
-    push(alloc, &mut list, fork_mirror(alloc, 7, fails[2])?, are_piped)?;
+    push(
+        alloc,
+        &mut list,
+        fork_mirror(alloc, 9, fails[0])?,
+        are_piped,
+    )?;
+    push(
+        alloc,
+        &mut list,
+        fork_mirror(alloc, 8, fails[1])?,
+        are_piped,
+    )?;
+    push(
+        alloc,
+        &mut list,
+        fork_mirror(alloc, 7, fails[2])?,
+        are_piped,
+    )?;
     if list.len() > 3 {
         return Err(AllocError);
     }
@@ -176,7 +195,11 @@ fn brought(alloc: Global, mirrors: &mut Mirrors<Box<dyn Remote>>) -> Result<u32,
 }
 
 /// Whether three pulls come to this, and a fourth one finds no mirror.
-fn are_pulled(alloc: Global, mirrors: &mut Mirrors<Box<dyn Remote>>, want: &[Result<u32, FreshFault>; 3]) -> bool {
+fn are_pulled(
+    alloc: Global,
+    mirrors: &mut Mirrors<Box<dyn Remote>>,
+    want: &[Result<u32, FreshFault>; 3],
+) -> bool {
     for wanted in want {
         if brought(alloc, mirrors) != *wanted {
             return false;

@@ -3,8 +3,8 @@
 use crate::cloned::{Stored, known, remote_of};
 use crate::counted::{Count, Counted, alone, count_of, forget};
 use crate::drawn::{ABSENT, Draws, draw_world, last_of, payload_of, table_of};
-use crate::reached::behind;
 use crate::plain::{Kept, are_names, fetch_due, find_due, is_whole, lazy_ids};
+use crate::reached::behind;
 use lazy_names::LazyNames;
 use remote_memory::MemoryRemote;
 use remote_trait::{CloneData, Remote};
@@ -222,10 +222,7 @@ fn run_holds<T: SegmentTable>(
     let alloc = stored.alloc;
     let mut at_path = Run::new(alloc, drawn.mirror(alloc)?, room)?;
     let mut piped = Run::new(alloc, behind(alloc, drawn.mirror(alloc)?), room)?;
-    Ok(
-        all_hold(stored, given, &mut at_path, drawn)?
-            && all_hold(stored, given, &mut piped, drawn)?,
-    )
+    Ok(all_hold(stored, given, &mut at_path, drawn)? && all_hold(stored, given, &mut piped, drawn)?)
 }
 
 /// Whether all holds with caches for one to five names.
