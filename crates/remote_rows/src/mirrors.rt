@@ -3,7 +3,6 @@
 use crate::cloned::{chain_remote, name};
 use crate::reached::push;
 use mirror_set::{MirrorFault, Mirrors};
-use remote_memory::MemoryRemote;
 use remote_trait::Remote;
 use std::alloc::{AllocError, Global};
 use std::test::Fail;
@@ -26,10 +25,17 @@ enum Way {
 /// Each way.
 const WAYS: [Way; 3] = [Way::Names, Way::Path, Way::Clone];
 
-/// A mirror of the chain, which fails at its first call if it is marked.
-fn mirror_of(alloc: Global, chain: &[u8], marked: bool) -> Result<MemoryRemote, AllocError> {
+/// Adds a mirror of the chain, at its path or behind a pipe, which fails at its first call if it is marked.
+fn push_mirror(
+    alloc: Global,
+    list: &mut Vec<Box<dyn Remote>>,
+    chain: &[u8],
+    marked: bool,
+    is_piped: bool,
+) -> Result<(), AllocError> {
     let calls: &[u64] = if marked { &[1] } else { &[] };
-    chain_remote(alloc, chain, calls)
+    let mirror = chain_remote(alloc, chain, calls)?;
+    push(alloc, list, mirror, is_piped)
 }
 
 /// The three mirrors, at their paths or behind pipes. Those that are marked fail at their first call.
@@ -39,24 +45,9 @@ fn three(
     are_piped: bool,
 ) -> Result<Mirrors<Box<dyn Remote>>, AllocError> {
     let mut list: Vec<Box<dyn Remote>> = Vec::new(alloc);
-    push(
-        alloc,
-        &mut list,
-        mirror_of(alloc, CHAINS[0], marked[0])?,
-        are_piped,
-    )?;
-    push(
-        alloc,
-        &mut list,
-        mirror_of(alloc, CHAINS[1], marked[1])?,
-        are_piped,
-    )?;
-    push(
-        alloc,
-        &mut list,
-        mirror_of(alloc, CHAINS[2], marked[2])?,
-        are_piped,
-    )?;
+    push_mirror(alloc, &mut list, CHAINS[0], marked[0], are_piped)?;
+    push_mirror(alloc, &mut list, CHAINS[1], marked[1], are_piped)?;
+    push_mirror(alloc, &mut list, CHAINS[2], marked[2], are_piped)?;
     if list.len() > 3 {
         return Err(AllocError);
     }

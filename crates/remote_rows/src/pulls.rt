@@ -157,6 +157,18 @@ const MORE_FAIL: [Failing; 5] = [
     ([0, 1, 4], [Ok(9), Err(FreshFault::AllFailed(2)), Ok(7)]),
 ];
 
+/// Adds a mirror of the fork's first rows, at its path or behind a pipe, which fails at this call.
+fn push_mirror(
+    alloc: Global,
+    list: &mut Vec<Box<dyn Remote>>,
+    commits: usize,
+    fails: u64,
+    is_piped: bool,
+) -> Result<(), AllocError> {
+    let mirror = fork_mirror(alloc, commits, fails)?;
+    push(alloc, list, mirror, is_piped)
+}
+
 /// The three mirrors, at their paths or behind pipes.
 fn three(
     alloc: Global,
@@ -164,24 +176,9 @@ fn three(
     are_piped: bool,
 ) -> Result<Mirrors<Box<dyn Remote>>, AllocError> {
     let mut list: Vec<Box<dyn Remote>> = Vec::new(alloc);
-    push(
-        alloc,
-        &mut list,
-        fork_mirror(alloc, 9, fails[0])?,
-        are_piped,
-    )?;
-    push(
-        alloc,
-        &mut list,
-        fork_mirror(alloc, 8, fails[1])?,
-        are_piped,
-    )?;
-    push(
-        alloc,
-        &mut list,
-        fork_mirror(alloc, 7, fails[2])?,
-        are_piped,
-    )?;
+    push_mirror(alloc, &mut list, 9, fails[0], are_piped)?;
+    push_mirror(alloc, &mut list, 8, fails[1], are_piped)?;
+    push_mirror(alloc, &mut list, 7, fails[2], are_piped)?;
     if list.len() > 3 {
         return Err(AllocError);
     }
@@ -267,36 +264,29 @@ const FEW: [(u64, usize, Result<u32, FreshFault>); 8] = [
     (8, 0, Ok(0)),
 ];
 
-/// Adds a mirror with these clone data, which gives so many names at most.
-fn push_liar(
-    alloc: Global,
-    mirrors: &mut Vec<FixedRemote>,
-    given: CloneData,
-    most: usize,
-) -> Result<(), AllocError> {
+/// A mirror with these clone data, which gives so many names at most.
+fn liar_of(alloc: Global, given: CloneData, most: usize) -> Result<FixedRemote, AllocError> {
     let names = vec![in alloc; name(0x33); most.min(16)]?;
-    mirrors.push(FixedRemote::new(given, None, names))?;
-    Ok(())
+    Ok(FixedRemote::new(given, None, names))
 }
 
 /// A mirror with these clone data, which gives so many names at most, and behind it one of the fork that gives all.
 fn liars(alloc: Global, given: CloneData, most: usize) -> Result<Vec<FixedRemote>, AllocError> {
     let mut mirrors = Vec::new(alloc);
-    push_liar(alloc, &mut mirrors, given, most)?;
-    push_liar(alloc, &mut mirrors, fork_data(alloc)?, 16)?;
+    mirrors.push(liar_of(alloc, given, most)?)?;
+    mirrors.push(liar_of(alloc, fork_data(alloc)?, 16)?)?;
     Ok(mirrors)
 }
 
-/// The same behind pipes.
+/// The same, each behind a pipe.
 fn liars_behind(
     alloc: Global,
     given: CloneData,
     most: usize,
 ) -> Result<Vec<Piped<FixedRemote>>, AllocError> {
     let mut mirrors = Vec::new(alloc);
-    for liar in liars(alloc, given, most)? {
-        mirrors.push(behind(alloc, liar))?;
-    }
+    mirrors.push(behind(alloc, liar_of(alloc, given, most)?))?;
+    mirrors.push(behind(alloc, liar_of(alloc, fork_data(alloc)?, 16)?))?;
     Ok(mirrors)
 }
 
@@ -313,15 +303,35 @@ fn brought_from<R: Remote>(
     Ok(fresh.names.len())
 }
 
+/// How many names a pull from this id on brings, from such mirrors.
+fn brought_by(
+    alloc: Global,
+    given: CloneData,
+    from: u64,
+    most: usize,
+) -> Result<Result<u32, FreshFault>, AllocError> {
+    let mut mirrors = liars(alloc, given, most)?;
+    Ok(brought_from(alloc, &mut mirrors, from))
+}
+
+/// The same behind pipes.
+fn brought_behind(
+    alloc: Global,
+    given: CloneData,
+    from: u64,
+    most: usize,
+) -> Result<Result<u32, FreshFault>, AllocError> {
+    let mut mirrors = liars_behind(alloc, given, most)?;
+    Ok(brought_from(alloc, &mut mirrors, from))
+}
+
 /// The number of the first row of too few names that comes to something else.
 fn wrong_few(alloc: Global) -> Result<Option<u64>, AllocError> {
     let mut number = 0u64;
     for (from, most, want) in &FEW {
-        let mut mirrors = liars(alloc, fork_data(alloc)?, *most)?;
-        let mut piped = liars_behind(alloc, fork_data(alloc)?, *most)?;
-        if brought_from(alloc, &mut mirrors, *from) != *want
-            || brought_from(alloc, &mut piped, *from) != *want
-        {
+        let at_paths = brought_by(alloc, fork_data(alloc)?, *from, *most)?;
+        let piped = brought_behind(alloc, fork_data(alloc)?, *from, *most)?;
+        if at_paths != *want || piped != *want {
             return Ok(Some(number));
         }
         number = number.wrapping_add(1);
@@ -329,16 +339,14 @@ fn wrong_few(alloc: Global) -> Result<Option<u64>, AllocError> {
     Ok(None)
 }
 
-/// The number of the item by which a pull of no names is refused from a mirror with these clone data, and another one behind it, be they
-/// at their paths or behind pipes.
+/// The number of the item by which a pull of no names is refused from a mirror with these clone data, and another one behind it, at paths
+/// and behind pipes.
 pub fn refusal_of(alloc: Global, given: CloneData) -> Result<Option<u64>, AllocError> {
-    let mut piped = liars_behind(alloc, given.copied(alloc)?, 0)?;
-    let mut mirrors = liars(alloc, given, 0)?;
-    let brought = brought_from(alloc, &mut mirrors, u64::MAX);
-    if brought_from(alloc, &mut piped, u64::MAX) != brought {
+    let piped = brought_behind(alloc, given.copied(alloc)?, u64::MAX, 0)?;
+    if brought_by(alloc, given, u64::MAX, 0)? != piped {
         return Err(AllocError);
     }
-    match brought {
+    match piped {
         Ok(0) => Ok(None),
         Err(FreshFault::BadClone(at)) => Ok(Some(at)),
         _ => Err(AllocError),
