@@ -77,7 +77,7 @@ failed-since Here SinkFailed since began left st Does payload clock stops.NotLoa
 failed-since Here SinkFailed since began left st Does payload clock stops.Source before now h = absurd h
 failed-since Here SinkFailed since began left st Does payload clock stops.Limit before now h = absurd h
 
-module _ (limits : Limits) (fair : AreLimits limits) (w : World Name) (payloads : List Payload) (room : ℕ) (mirrors : List Mirror) (SinkFailed : Type 0) (before : Seen) (begins : Begins limits w payloads mirrors before) where
+module _ (limits : Limits) (fair : AreLimits limits) (w : World Name) (payloads : List Payload) (room : ℕ) (mirrors : List Mirror) (SinkFailed : Type 0) (before : Seen) (begins : Begins limits w payloads room mirrors before) where
   -- ---- before the first line
   -- there was no memory, and nothing was called
   pub ends-unread : (after : Seen) → after.disk ≡ before.disk → after.left ≡ before.left → after.taken ≡ before.taken → RunMeans limits w payloads room mirrors mirrors SinkFailed (Err stops.Memory) [] before after
@@ -273,7 +273,7 @@ module _ (limits : Limits) (fair : AreLimits limits) (w : World Name) (payloads 
 -- ---- where no store is loaded
 module _ (limits : Limits) (fair : AreLimits limits) (w : World Name) (payloads : List Payload) (room : ℕ) (mirrors : List Mirror) (SinkFailed : Type 0) (d e : Option Told) (i o q : Option (List ℕ)) where
   abbrev pub MeansSo : Result Unit Stop → Seen → Seen → Type 0
-  MeansSo result before after = Begins limits w payloads mirrors before → RunMeans limits w payloads room mirrors mirrors SinkFailed result [] before after
+  MeansSo result before after = Begins limits w payloads room mirrors before → RunMeans limits w payloads room mirrors mirrors SinkFailed result [] before after
 
   abbrev Opening : Stop → Told → Type 0
   Opening stop t = HoldAs limits.log t.bytes payloads w → OpensRun payloads w (Err stop)

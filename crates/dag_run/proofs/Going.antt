@@ -5,8 +5,6 @@ use Rattle.commit_graph.specs.World.{World}
 use Rattle.disk_trait.specs.Images.{Told}
 use Rattle.disk_trait.specs.Since.{SureSince}
 use Rattle.gated_log.specs.Load.{IsSureOf}
-use Rattle.id_groups.specs.Lists.{IsIn}
-use Rattle.commit_graph.proofs.Down.{in-left, in-right}
 use Rattle.line_io.specs.Lines.{is_silent, lines_of}
 use Rattle.line_io.specs.Reading.{Reading, lines_left, new_reading}
 use Rattle.line_io.specs.Next.{NextLine, IsLine, IsReadOut}
@@ -31,7 +29,7 @@ use Rattle.dag_run.specs.Between.{Reads, Stays, Going}
 use Rattle.dag_run.specs.Enough.{IsEnoughOn}
 use Rattle.dag_run.specs.Lines.{changes_with, Changes, Replies, IsPassed, LineReplies, LineLeaves, StoresOn}
 use Rattle.dag_run.proofs.Reading.{reads-start, reads-line}
-use Rattle.dag_run.proofs.Mirrors.{enough-sound, line-begun, line-enough, start-begun, start-beside, start-enough}
+use Rattle.dag_run.proofs.Mirrors.{enough-sound, line-enough, start-beside, start-enough}
 use Rattle.dag_run.proofs.Runs.{output-append, run-silent, run-step}
 use Rattle.dag_run.proofs.Staying.{stays-start, stays-stored, stays-same, log-of}
 
@@ -46,7 +44,7 @@ put-more a b c replies reply e f =
     f ∙ ap (λ t. t ++ reply_text reply) e ∙ append_assoc a (output_of replies) (reply_text reply)
     ∙ ap (λ t. a ++ t) (sym (output-append replies (reply ∷ []) ∙ ap (λ t. output_of replies ++ t) (append-nil (reply_text reply))))
 
-module _ (limits : Limits) (fair : AreLimits limits) (w : World Name) (payloads : List Payload) (room : ℕ) (mirrors : List Mirror) (before : Seen) (begins : Begins limits w payloads mirrors before) where
+module _ (limits : Limits) (fair : AreLimits limits) (w : World Name) (payloads : List Payload) (room : ℕ) (mirrors : List Mirror) (before : Seen) (begins : Begins limits w payloads room mirrors before) where
   pub prefixes : (lines : List (List ℕ)) (replies : List Reply) (last : State) → Run limits (at_start w payloads room mirrors) lines replies last → ArePrefixes payloads last.store
   prefixes lines replies last run = prefixes-sound limits before.disk.bytes w payloads room mirrors lines replies last fair begins.0.read (enough-sound payloads w mirrors begins.1) run
 
@@ -66,7 +64,6 @@ module _ (limits : Limits) (fair : AreLimits limits) (w : World Name) (payloads 
     out = taken ∙ sym (append-nil before.taken);
     stands = start-beside limits.log before.disk.bytes w payloads room mirrors store begins.0.read begins.1 cache stands;
     enough = start-enough limits.log before.disk.bytes w payloads room mirrors begins.0.read begins.1;
-    begun = start-begun limits.log before.disk.bytes w payloads room mirrors (lines_of limits.input before.left) begins.0.read begins.1 begins.2;
     stays = stays-start limits w payloads store before.disk after.disk fresh-prefixes holds (log-of limits.log before.disk.bytes w payloads begins.0.read) is_sure loaded same stands.texts;
   }
 
@@ -92,19 +89,19 @@ on-disk kept store payload None a b h = h.0
 on-disk kept store payload (Some clock) a b h = (h.0, store, h.1)
 
 -- ---- one line
-module _ (limits : Limits) (fair : AreLimits limits) (w : World Name) (payloads : List Payload) (room : ℕ) (mirrors left now : List Mirror) (before mid after : Seen) (begins : Begins limits w payloads mirrors before) (store : PlainStore) (changes : List ℕ) (old new : Reading) (kind : Line)
+module _ (limits : Limits) (fair : AreLimits limits) (w : World Name) (payloads : List Payload) (room : ℕ) (mirrors left now : List Mirror) (before mid after : Seen) (begins : Begins limits w payloads room mirrors before) (store : PlainStore) (changes : List ℕ) (old new : Reading) (kind : Line)
     (payload : List ℕ) (clock : Option ℕ) (same : store.limits ≡ limits) (h : Going limits w payloads room mirrors left store changes old before mid)
     (line : NextLine (Ok (Some kind)) old mid.left new after.left) (read : IsReadOut old mid.left → IsReadOut new after.left) where
   pub read-on : Reads limits.input (h.lines ++ line.0 ∷ []) before.left new after.left
   read-on = reads-line limits.input h.lines before.left old new mid.left after.left kind h.reads line read
 
-  -- the line is one of the input's
-  pub here : IsIn line.0 (lines_of limits.input before.left)
-  here = subst (IsIn line.0) (sym read-on.all) (in-left line.0 (h.lines ++ line.0 ∷ []) (lines_left new after.left) (in-right line.0 h.lines (line.0 ∷ []) (inl refl)))
+  -- where it stands in the input
+  here : lines_of limits.input before.left ≡ h.lines ++ line.0 ∷ lines_left new after.left
+  here = read-on.all ∙ append_assoc h.lines (line.0 ∷ []) (lines_left new after.left)
 
   -- what its step rests on
   pub rests : IsEnoughOn line.0 h.last
-  rests = (h.enough.0, h.enough.1, λ s spells. (h.begun (line.0, s, here, spells)).each)
+  rests = (h.enough.0, h.enough.1, λ s spells. begins.2 h.lines (lines_left new after.left) line.0 s h.replies h.last here spells h.run)
 
   pub step-as : (reply : Reply) (next : State) → Step store.limits h.last line.0 reply next → Step limits h.last line.0 reply next
   step-as reply next step = subst (λ m. Step m h.last line.0 reply next) same step
@@ -126,7 +123,6 @@ module _ (limits : Limits) (fair : AreLimits limits) (w : World Name) (payloads 
         out = p.3 ∙ h.out;
         stands = p.2;
         enough = h.enough;
-        begun = h.begun;
         stays = subst (λ c. Stays limits w payloads (changes_with changes c) h.last.store before.disk after.disk) (sym p.1)
             (subst (λ t. Stays limits w payloads changes h.last.store before.disk t) (sym (subst (λ c. StoresOn store payload c mid.disk after.disk) p.1 (on-disk store next payload clock mid.disk after.disk leaves))) h.stays);
       }
@@ -141,7 +137,6 @@ module _ (limits : Limits) (fair : AreLimits limits) (w : World Name) (payloads 
         out = put-more before.taken mid.taken after.taken h.replies reply h.out put;
         stands = stands;
         enough = line-enough limits (length payloads) store next left now h.last st h.stands stands h.enough line.0 reply (step-as reply st step);
-        begun = λ has. line-begun limits (length payloads) store next left now h.last st h.stands stands h.enough (lines_of limits.input before.left) (h.begun has) line.0 here reply (step-as reply st step);
         stays = stays-line limits fair w payloads room mirrors before begins store changes payload clock h.lines (h.lines ++ line.0 ∷ []) h.replies (h.replies ++ reply ∷ []) h.last st mid.disk after.disk same h.run (run-on reply st silent step) h.stands.stored h.stays changed
             (on-disk store next payload clock mid.disk after.disk leaves);
       }

@@ -71,8 +71,11 @@ none-of Was (m ∷ left) ([], d, z) = absurd z
 none-of Was (m ∷ left) (zero ∷ places, d, z) = absurd (true≢false (sym (ap is_some z.0.1)))
 none-of Was (m ∷ left) (suc p ∷ places, d, z) = absurd (true≢false (sym (ap is_some z.0.1)))
 
+pub none-left : (limits : Limits) (room : ℕ) (lines : List (List ℕ)) (replies : List Reply) (last : State) → Run limits (at_start empty_world [] room []) lines replies last → last.outside.mirrors ≡ []
+none-left limits room lines replies last run = none-of IsLater last.outside.mirrors (run-matched limits lines (at_start empty_world [] room []) last replies run [] ([], tt, tt)).0
+
 afresh-none : (lines : List (List ℕ)) (replies : List Reply) (last : State) → RunsAfresh lines replies last → last.outside.mirrors ≡ []
-afresh-none lines replies last run = none-of IsLater last.outside.mirrors (run-matched standard lines (at_start empty_world [] 1 []) last replies run [] ([], tt, tt)).0
+afresh-none = none-left standard 1
 
 -- the step of a line
 afresh-on : (line : List ℕ) (lines : List (List ℕ)) (replies : List Reply) (last : State) → RunsAfresh lines replies last → IsEnoughOn line last

@@ -2,7 +2,6 @@ pub mod Seeing
 pub mod Reading
 pub mod Runs
 pub mod Named
-pub mod Begun
 pub mod Mirrors
 pub mod Solo
 pub mod Staying

@@ -1,27 +1,23 @@
 -- Which mirrors a run may have, at its start and from line to line.
-use Rattle.std.proofs.Common.{◌≡◌, ◌<◌, ◌≤◌, ◌+◌, ℕ, zero, suc, Bool, true, false, inl, inr, ◌⊎◌, ⊎_elim, List, [], ◌∷◌, ◌++◌, length, take, nat_lt, Option, Some, None, is_some, MatchOption, refl, sym, ap, subst, subst₂, ◌∙◌, arith, zero-le, true≢false, length-append, le_refl, if◌then◌else◌}
+use Rattle.std.proofs.Common.{◌≡◌, ◌<◌, ◌+◌, ℕ, zero, suc, Bool, true, false, inl, inr, ◌⊎◌, List, [], ◌∷◌, ◌++◌, length, take, nat_lt, Option, Some, None, is_some, MatchOption, refl, sym, ap, subst, subst₂, ◌∙◌, arith, zero-le, true≢false, le_refl, if◌then◌else◌}
 use Rattle.std.specs.Prelude.{IsTrue}
 use Rattle.std.specs.Bool.{MatchBool}
 use Rattle.std.specs.List.{AllByRecursion}
 use Rattle.std.proofs.lemmas.Bool.{lt-ltb}
-use Rattle.std.proofs.lemmas.List.{length-map, take_all}
+use Rattle.std.proofs.lemmas.List.{take_all}
 use Rattle.id_groups.specs.Lists.{IsIn}
 use Rattle.id_groups.specs.Name.{Name, same_name}
 use Rattle.commit_graph.specs.World.{Row, World, rows_of}
 use Rattle.line_io.specs.Lines.{is_too_long}
 use Rattle.batch_codec.specs.Payload.{Payload}
-use Rattle.batch_codec.specs.Grammar.{IsPayload, IsFlush, IsClone, IsWholePayload}
 use Rattle.change_rules.specs.declared.Limits.{Limits}
-use Rattle.change_rules.specs.Tables.{cloned_count, other_names_in}
+use Rattle.change_rules.specs.Tables.{cloned_count}
 use Rattle.change_rules.specs.Holding.{HoldAs, HoldPayloads}
-use Rattle.change_rules.specs.Lawful.{AreLawful}
-use Rattle.change_rules.proofs.Changes.{count-last, last-of}
 use Rattle.remote_rules.specs.CloneData.{KnownName}
 use Rattle.remote_rules.specs.Mirror.{Mirror}
 use Rattle.remote_rules.specs.Known.{master_world}
 use Rattle.remote_rules.specs.declared.MirrorFault.{MirrorFault}
 use Rattle.change_rules.specs.Pull.{pulled}
-use Rattle.flush_rebuild.proofs.HonestTold.{cloned-within}
 use Rattle.remote_rules.specs.Honest.{IsSoundMirror}
 use Rattle.step_rules.specs.declared.Refusal.{Refusal}
 use Rattle.step_rules.specs.declared.Refusal.TheVariants as why
@@ -39,15 +35,13 @@ use Rattle.step_rules.proofs.Served.{step-served}
 use Rattle.step_rules.proofs.Kept.{start-is}
 use Rattle.step_rules.proofs.Sessions.{IsPlaced, Shape, command-shape, newest-now}
 use Rattle.run_rules.specs.Built.{is_built}
-use Rattle.run_rules.specs.Grammar.{SpellsCommand}
-use Rattle.run_rules.specs.Premises.{AllBegin, HasCommand}
 use Rattle.run_rules.specs.Run.{Commands, IsNoCommand, IsUnread, Step}
+use Rattle.run_rules.proofs.AtPulls.{holds-some}
 use Rattle.run_rules.proofs.Starts.{served-sound, start-served}
 use Rattle.dag_store.specs.Kept.{PlainStore}
 use Rattle.dag_store.specs.Stands.{Stands, StandsBeside, IsOutsideOf}
-use Rattle.dag_run.specs.Enough.{AreEnough, HasBegun, HasEnough}
+use Rattle.dag_run.specs.Enough.{AreEnough, HasEnough}
 use Rattle.dag_run.proofs.Named.{IsNamed, named-flush, named-session, plain-named}
-use Rattle.dag_run.proofs.Begun.{step-begun}
 
 -- ---- at the start
 pub enough-sound : (payloads : List Payload) (w : World Name) (mirrors : List Mirror) → AreEnough payloads w mirrors → AllByRecursion IsSoundMirror mirrors
@@ -71,24 +65,6 @@ start-beside limit log w payloads room mirrors store hold enough cache stands = 
     outside = (start-is w payloads room mirrors hold.hold.world (enough-sound payloads w mirrors enough)).outside;
   });
 }
-
--- what its lines ask for where they pull
-pub start-begun : (limit : ℕ) (log : List ℕ) (w : World Name) (payloads : List Payload) (room : ℕ) (mirrors : List Mirror) (lines : List (List ℕ)) → HoldAs limit log payloads w → AreEnough payloads w mirrors
-    → (HasCommand Pull lines → AllBegin (cloned_count payloads) w mirrors lines) → HasCommand Pull lines → HasBegun lines (at_start w payloads room mirrors)
-start-begun limit log w payloads room mirrors lines hold enough begin has =
-    let b = begin has in
-    record {
-      cloned = cloned-within payloads w hold.hold;
-      each = b.each;
-      first_clone = λ clones none. ⊎_elim (λ le. inl le) (λ order. ⊎_elim (λ le. inl le) (λ settled. inr (settled, order)) (settled-there enough none)) (b.first_clone clones none);
-    }
-  where
-    no-master : length (rows_of w) ≡ 0 → length w.master ≡ 0
-    no-master none = let l = length-append w.master w.others in omega (arith, none, l)
-
-    settled-there : AreEnough payloads w mirrors → length (rows_of w) ≡ 0 → (length mirrors ≤ 1) ⊎ AllByRecursion (λ (m : Mirror). m.settled ≡ true) mirrors
-    settled-there (inl serve) none = ⊎_elim (λ le. inl le) (λ alike. inr alike.0) (serve.first_clone (no-master none))
-    settled-there (inr (named, some, sound)) none = absurd (omega (arith, some, none))
 
 -- ---- commands that leave what is stored
 abbrev Ends : Limits → State → ℕ → Verb → List Mirror → List KnownName → Reply → State → Option Refusal → Type 0
@@ -149,23 +125,6 @@ pulls-named limits st s reply st' named (verdict, mirrors, found, tries, ends) =
     by_verdict (Some refusal) a = subst IsNamed (sym a.0.1) named
 
 -- ---- the last row never goes
--- what a payload stores has a commit
-payload-some : (p : Payload) → IsPayload p → (0 < p.after) ⊎ (0 < length p.other_names)
-payload-some p h = ⊎_elim (λ (f : IsFlush p). f.something) (λ o. ⊎_elim (λ (c : IsClone p). inl c.something) (λ (w : IsWholePayload p). w.something) o) h.by_kind
-
-last-whole : (before payloads : List Payload) (p : Payload) → AreLawful before (payloads ++ p ∷ []) → IsPayload p
-last-whole before [] p h = h.0.whole
-last-whole before (q ∷ payloads) p h = last-whole (before ++ q ∷ []) payloads p h.1
-
-holds-some : (payloads : List Payload) (p : Payload) (w : World Name) → HoldPayloads (payloads ++ p ∷ []) w → 0 < length (rows_of w)
-holds-some payloads p w h =
-    let master : p.after ≡ length w.master = sym (count-last 0 payloads p) ∙ h.stand.count in
-    let others : length p.other_names ≡ length w.others =
-    ap (λ o. length (other_names_in o)) (sym (last-of None payloads p)) ∙ ap length h.stand.names ∙ length-map w.others (λ (r : Row Name). r.name) in
-    let all = length-append w.master w.others in
-    ⊎_elim (λ some. omega (arith, some, master, all)) (λ some. omega (arith, some, others, all))
-    (payload-some p (last-whole [] payloads p h.lawful))
-
 shape-rows : (began : ℕ) (kept : PlainStore) (st : Stored) (s : ℕ) (now : Stored) → Stands began kept now → Shape st s now → length (rows_of now.stored) ≡ 0 → length (rows_of st.stored) ≡ 0
 shape-rows began kept st s now h (inl e) none = subst (λ (z : Stored). length (rows_of z.stored) ≡ 0) e none
 shape-rows began kept st s now h (inr (inl (x, le, e))) none = subst (λ (z : Stored). length (rows_of z.stored) ≡ 0) e none
@@ -238,22 +197,3 @@ module _ (limits : Limits) (began : ℕ) (old new : PlainStore) (first left : Li
       by_test false (inl c) = command-enough c.0 c.1 reply c.2.1.1 c.3
       by_test false (inr (inl g)) = subst HasEnough (sym g.2) enough
       by_test false (inr (inr u)) = subst HasEnough (sym u.2) enough
-
-  -- what the lines ask for where they pull
-  pub line-begun : (lines : List (List ℕ)) → HasBegun lines st → (line : List ℕ) → IsIn line lines → (reply : Reply) → Step limits st line reply next → HasBegun lines next
-  line-begun lines begun line there reply step = by_test (is_too_long line) step
-    where
-      command : (s : ℕ) (verb : Verb) → SpellsCommand line s verb → CommandStep limits st s verb reply next → HasBegun lines next
-      command s verb spells step =
-          let b = step-begun limits st s state (HasCommand Clone lines) (begun.cloned, begun.each) begun.first_clone verb reply next (λ e. (line, s, there, subst (SpellsCommand line s) e spells)) step in
-          record {
-            cloned = b.0.0;
-            each = b.0.1;
-            first_clone = λ clones none. b.1 clones (shape-rows began new st.store s next.store k.stored (command-shape limits st s placed verb reply next step) none);
-          }
-
-      by_test : (b : Bool) → MatchBool b ((reply ≡ LongLine) × (next ≡ st)) (Commands limits st line reply next ⊎ (IsNoCommand st line reply next ⊎ IsUnread st line reply next)) → HasBegun lines next
-      by_test true g = subst (HasBegun lines) (sym g.1) begun
-      by_test false (inl c) = command c.0 c.1 c.2 c.3
-      by_test false (inr (inl g)) = subst (HasBegun lines) (sym g.2) begun
-      by_test false (inr (inr u)) = subst (HasBegun lines) (sym u.2) begun

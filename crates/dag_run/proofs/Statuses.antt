@@ -141,10 +141,10 @@ complete end limits w payloads room mirrors left io DF SoF SiF old new changes m
 pub run-means : (limits : Limits) (w : World Name) (payloads : List Payload) (room : ℕ) (mirrors left : List Mirror) (DiskFailed SourceFailed SinkFailed : Type 0) (end : Result Unit Stop) (status : ℕ) (changes moments : List ℕ) (a b : Option Seen)
     → status ≡ end_status (end_of end) → moments ≡ changes
     → ((end ≡ Err stops.NotLoaded) ⊎ (end ≡ Err stops.NotStored) → DiskFailed) → (end ≡ Err stops.Source → SourceFailed) → (end ≡ Err stops.Sink → SinkFailed)
-    → WhereTold a b (λ before after. Begins limits w payloads mirrors before → Means limits w payloads room mirrors left (streams before after) SinkFailed before.disk after.disk (end_of end) changes)
-    → WhereTold a b (λ before after. Begins limits w payloads mirrors before → StatusMeans limits w payloads room mirrors left DiskFailed SourceFailed SinkFailed status moments before after)
+    → WhereTold a b (λ before after. Begins limits w payloads room mirrors before → Means limits w payloads room mirrors left (streams before after) SinkFailed before.disk after.disk (end_of end) changes)
+    → WhereTold a b (λ before after. Begins limits w payloads room mirrors before → StatusMeans limits w payloads room mirrors left DiskFailed SourceFailed SinkFailed status moments before after)
 run-means limits w payloads room mirrors left DF SoF SiF end status changes moments a b is same disk source sink told =
-    WhereTold-map a b (λ x y. Begins limits w payloads mirrors x → Means limits w payloads room mirrors left (streams x y) SiF x.disk y.disk (end_of end) changes) _
+    WhereTold-map a b (λ x y. Begins limits w payloads room mirrors x → Means limits w payloads room mirrors left (streams x y) SiF x.disk y.disk (end_of end) changes) _
     (λ x y h begins.
     let m = h begins in
     subst (λ l. StatusMeans limits w payloads room mirrors left DF SoF SiF status l x y) (sym same)

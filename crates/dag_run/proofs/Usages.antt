@@ -31,7 +31,7 @@ only-memory words status usage (inr seven) is = seven
 -- which is an end that a run may have
 pub once-means : (limits : Limits) → AreLimits limits → (words : List (List ℕ)) (status : ℕ) (changes : List ℕ) (cache : ℕ) → EndsAtOnce words status → IsRunOf cache words → changes ≡ []
     → (w : World Name) (payloads : List Payload) (mirrors : List Mirror) (DiskFailed SourceFailed SinkFailed : Type 0) (d : Option Told) (i o : Option (List ℕ))
-    → WhereTold (seen d i o) (seen d i o) (λ before after. Begins limits w payloads mirrors before → StatusMeans limits w payloads cache mirrors mirrors DiskFailed SourceFailed SinkFailed status changes before after)
+    → WhereTold (seen d i o) (seen d i o) (λ before after. Begins limits w payloads cache mirrors before → StatusMeans limits w payloads cache mirrors mirrors DiskFailed SourceFailed SinkFailed status changes before after)
 once-means limits fair words status changes cache once of none w payloads mirrors DiskFailed SourceFailed SinkFailed d i o =
     WhereTold-same (seen d i o) _ (λ x begins.
     let m = ends-unread limits fair w payloads cache mirrors SinkFailed x begins x refl refl refl in

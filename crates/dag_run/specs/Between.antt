@@ -13,9 +13,7 @@ use Rattle.change_rules.specs.Change.{text_of}
 use Rattle.remote_rules.specs.Mirror.{Mirror}
 use Rattle.step_rules.specs.State.{State, Stored, at_start}
 use Rattle.step_rules.specs.Reply.{Reply}
-use Rattle.step_rules.specs.Verb.{Pull}
 use Rattle.run_rules.specs.Run.{Run, output_of}
-use Rattle.run_rules.specs.Premises.{HasCommand}
 use Rattle.run_rules.specs.Ends.{Done}
 use Rattle.run_rules.specs.Stopped.{Stopped}
 use Rattle.run_rules.specs.Means.{AreCommits, Means, last_of, loaded_at}
@@ -23,7 +21,7 @@ use Rattle.dag_store.specs.Kept.{PlainStore}
 use Rattle.dag_store.specs.Stands.{StandsBeside}
 use Rattle.dag_run.specs.Seen.{Seen, streams}
 use Rattle.dag_run.specs.Stops.{end_of}
-use Rattle.dag_run.specs.Enough.{HasBegun, HasEnough}
+use Rattle.dag_run.specs.Enough.{HasEnough}
 use Rattle.dag_run.specs.declared.stops.Stop.{Stop}
 
 -- The lines that were answered, of an input of these bytes: what is left of it gives the lines to come, and, until the
@@ -58,7 +56,6 @@ pub record Going (limits : Limits) (w : World Name) (payloads : List Payload) (r
   pub out : after.taken ≡ before.taken ++ output_of replies
   pub stands : StandsBeside (length payloads) store left last
   pub enough : HasEnough last
-  pub begun : HasCommand Pull (lines_of limits.input before.left) → HasBegun (lines_of limits.input before.left) last
   pub stays : Stays limits w payloads changes last.store before.disk after.disk
 
 -- what a turn over one line means: behind it a run goes on, or has ended so

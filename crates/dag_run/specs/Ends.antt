@@ -8,11 +8,9 @@ use Rattle.change_rules.specs.declared.Limits.{Limits}
 use Rattle.remote_rules.specs.Mirror.{Mirror}
 use Rattle.run_rules.specs.Ends.{End, status_of}
 use Rattle.run_rules.specs.Means.{Means, IsComplete, RefusesLog}
-use Rattle.run_rules.specs.Premises.{AllBegin, HasCommand, Start}
-use Rattle.change_rules.specs.Tables.{cloned_count}
+use Rattle.run_rules.specs.Premises.{BeginAtPulls, Start}
 use Rattle.change_rules.specs.Unlawful.{IsNoLog}
-use Rattle.step_rules.specs.State.{start}
-use Rattle.step_rules.specs.Verb.{Pull}
+use Rattle.step_rules.specs.State.{at_start, start}
 use Rattle.dag_store.specs.Kept.{PlainStore}
 use Rattle.dag_store.specs.Stands.{Stands}
 use Rattle.dag_run.specs.Seen.{Seen, streams}
@@ -21,12 +19,12 @@ use Rattle.dag_run.specs.Enough.{AreEnough}
 use Rattle.dag_run.specs.declared.stops.Stop.{Stop}
 use Rattle.dag_run.specs.declared.stops.Stop.TheVariants.{Memory, NoLog, NotLoaded}
 
--- The disk holds the world, by these payloads, and a run over it may have these mirrors. Where its lines pull, the masters of these
--- begin with the cloned commits.
-abbrev pub Begins : Limits → World Name → List Payload → List Mirror → Seen → Type 0
-Begins limits w payloads mirrors before =
-    Start limits before.disk w payloads [] (lines_of limits.input before.left) × AreEnough payloads w mirrors
-    × (HasCommand Pull (lines_of limits.input before.left) → AllBegin (cloned_count payloads) w mirrors (lines_of limits.input before.left))
+-- The disk holds the world, by these payloads, and a run over it with room for so many names may have these mirrors. Wherever its
+-- lines come to a pull, the masters of those that are left begin with the cloned commits.
+abbrev pub Begins : Limits → World Name → List Payload → ℕ → List Mirror → Seen → Type 0
+Begins limits w payloads room mirrors before =
+    Start limits before.disk w payloads × AreEnough payloads w mirrors
+    × BeginAtPulls limits (at_start w payloads room mirrors) (lines_of limits.input before.left)
 
 -- The status is that of an end of which this run, with these mirrors and those left, means what a run has to, and it is complete.
 abbrev pub StatusMeans : Limits → World Name → List Payload → ℕ → List Mirror → List Mirror → Type 0 → Type 0 → Type 0 → ℕ → List ℕ → Seen → Seen → Type 0

@@ -1,5 +1,5 @@
 -- Which mirrors a run may have.
-use Rattle.std.specs.Prelude.{◌≡◌, ◌<◌, ◌≤◌, ◌⊎◌, ℕ, true, false, List, length}
+use Rattle.std.specs.Prelude.{◌≡◌, ◌<◌, ◌⊎◌, ℕ, false, List, length}
 use Rattle.std.specs.List.{AllByRecursion}
 use Rattle.id_groups.specs.Name.{Name}
 use Rattle.commit_graph.specs.World.{World, rows_of}
@@ -10,9 +10,8 @@ use Rattle.remote_rules.specs.Mirror.{Mirror}
 use Rattle.remote_rules.specs.Honest.{IsSoundMirror}
 use Rattle.remote_rules.specs.Serving.{AllServe}
 use Rattle.run_rules.specs.Grammar.{SpellsCommand}
-use Rattle.run_rules.specs.Premises.{HasCommand, HaveOneOrder}
 use Rattle.step_rules.specs.State.{State}
-use Rattle.step_rules.specs.Verb.{Verb, Clone, Pull}
+use Rattle.step_rules.specs.Verb.{Verb, Pull}
 use Rattle.step_rules.specs.Served.{IsServed}
 use Rattle.dag_store.specs.Stands.{IsAnswerable}
 use Rattle.dag_store.specs.Pulls.{AllBeginWith}
@@ -36,11 +35,3 @@ IsEnoughFor verb st = IsAnswerable st × (length (rows_of st.store.stored) ≡ 0
 -- and the step of a line
 abbrev pub IsEnoughOn : List ℕ → State → Type 0
 IsEnoughOn line st = IsAnswerable st × (length (rows_of st.store.stored) ≡ 0 → IsServed st) × ((s : ℕ) → SpellsCommand line s Pull → AllBeginWith st.store st.outside.mirrors)
-
--- What a state of a run of these lines has, where they pull: the cloned commits are there, each mirror's master begins with them, and
--- where the lines clone, too, and nothing is stored yet, there is at most one mirror, or they are settled and have one order.
-pub record HasBegun (lines : List (List ℕ)) (st : State) : Type 0 where
-  pub cloned : cloned_count st.store.payloads ≤ length st.store.stored.master
-  pub each : AllBeginWith st.store st.outside.mirrors
-  pub first_clone : HasCommand Clone lines → length (rows_of st.store.stored) ≡ 0
-      → (length st.outside.mirrors ≤ 1) ⊎ (AllByRecursion (λ (m : Mirror). m.settled ≡ true) st.outside.mirrors × HaveOneOrder st.outside.mirrors)

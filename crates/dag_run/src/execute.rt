@@ -402,7 +402,7 @@ fn execute_text<D: Disk, O: Sink, R: Remote>(
 }
 
 /// Executes a line, puts its reply, if it gets one, and hands the store back. Where the disk failed the line that tells of it is put.
-pub(crate) fn execute<D: Disk, O: Sink, R: Remote>(
+pub fn execute<D: Disk, O: Sink, R: Remote>(
     alloc: Global,
     store: Store,
     log: &mut D,

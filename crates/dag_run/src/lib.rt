@@ -15,7 +15,9 @@ mod stops;
 mod words;
 
 pub use dag_store::Limits;
-pub use laws::{new_disks_begin, words_spelled_out};
+pub use execute::execute as execute_line;
+pub use laws::{new_disks_begin, runs_that_pull_begin, words_spelled_out};
 pub use program::{run_lines, top};
 pub use report::{Moments, Report};
+pub use stops::Stop;
 pub use words::{Split, split_words};

@@ -116,7 +116,7 @@ fn answer_next<D: Disk, I: Source, O: Sink, R: Remote>(
     ensures means { let here = map R.shown mirrors.old.list.items in let left = map R.shown mirrors.new.list.items in
         (limits : OfRun) (w : World Name) (payloads : List Payload) (room : ℕ) (first : List Mirror) (faults : ℕ) → AreLimits limits → store.limits ≡ limits → faults ≤ O.faults output.old
         → WhereTold (seen (D.told log.old) (I.left input.old) (O.taken output.old)) (seen (D.told log.new) (I.left input.new) (O.taken output.new))
-        (λ now after. (before : Seen) → Begins limits w payloads first before
+        (λ now after. (before : Seen) → Begins limits w payloads room first before
         → Going limits w payloads room first here store changes.old.items lines.old before now
         → TurnMeans limits w payloads room first left changes.new.items lines.new (Rose faults (O.faults output.new)) result before after) }
     ensures over { WhereTold (I.left input.old) (I.left input.new) (λ before after. GoesOver result (is_over lines.old before) (is_over lines.new after)) }
@@ -167,7 +167,7 @@ fn answer_lines<D: Disk, I: Source, O: Sink, R: Remote>(
     ensures means { let here = map R.shown mirrors.old.list.items in let left = map R.shown mirrors.new.list.items in
         (limits : OfRun) (w : World Name) (payloads : List Payload) (room : ℕ) (first : List Mirror) (faults : ℕ) → AreLimits limits → store.limits ≡ limits → faults ≤ O.faults output.old
         → WhereTold (seen (D.told log.old) (I.left input.old) (O.taken output.old)) (seen (D.told log.new) (I.left input.new) (O.taken output.new))
-        (λ now after. (before : Seen) → Begins limits w payloads first before
+        (λ now after. (before : Seen) → Begins limits w payloads room first before
         → Going limits w payloads room first here store changes.old.items lines.old before now
         → Means limits w payloads room first left (streams before after) (Rose faults (O.faults output.new)) before.disk after.disk (end_of result) changes.new.items) }
     ensures over { WhereTold (I.left input.old) (I.left input.new) (λ before after. IsOverAt result (is_over lines.old before)) }
@@ -206,7 +206,7 @@ fn answer_all<D: Disk, I: Source, O: Sink, R: Remote>(
     requires new { lines.old ≡ new_reading limits.input }
     ensures means { let first = map R.shown mirrors.old.list.items in let left = map R.shown mirrors.new.list.items in
         (w : World Name) (payloads : List Payload) → WhereTold (seen (D.told log.old) (I.left input.old) (O.taken output.old)) (seen (D.told log.new) (I.left input.new) (O.taken output.new))
-        (λ before after. Begins limits w payloads first before
+        (λ before after. Begins limits w payloads cache first before
         → Means limits w payloads cache first left (streams before after) (Rose (O.faults output.old) (O.faults output.new)) before.disk after.disk (end_of result) changes.new.items) }
     ensures over { WhereTold (I.left input.old) (I.left input.new) (λ before after. IsOverAt result (is_over lines.old before)) }
     ensures refuses { IfSome (D.bytes log.old) (λ bytes. RunRefuses limits.log bytes result) }
@@ -239,7 +239,7 @@ fn run<D: Disk, I: Source, O: Sink, R: Remote>(
     requires none { changes.old.items ≡ [] }
     ensures means { let first = map R.shown mirrors.old.list.items in let left = map R.shown mirrors.new.list.items in
         (w : World Name) (payloads : List Payload) → WhereTold (seen (D.told log.old) (I.left input.old) (O.taken output.old)) (seen (D.told log.new) (I.left input.new) (O.taken output.new))
-        (λ before after. Begins limits w payloads first before
+        (λ before after. Begins limits w payloads cache first before
         → Means limits w payloads cache first left (streams before after) (Rose (O.faults output.old) (O.faults output.new)) before.disk after.disk (end_of result) changes.new.items) }
     ensures over { WhereTold (I.left input.old) (I.left input.new) (λ before after. IsOverAt result (is_over (new_reading limits.input) before)) }
     ensures refuses { IfSome (D.bytes log.old) (λ bytes. RunRefuses limits.log bytes result) }
@@ -290,7 +290,7 @@ pub fn run_lines<D: Disk, I: Source, O: Sink, R: Remote>(
     ensures known { IsRunStatus result.status }
     ensures means { let first = map R.shown mirrors.old.list.items in let left = map R.shown mirrors.new.list.items in
         (w : World Name) (payloads : List Payload) → WhereTold (seen (D.told log.old) (I.left input.old) (O.taken output.old)) (seen (D.told log.new) (I.left input.new) (O.taken output.new))
-        (λ before after. Begins limits w payloads first before → StatusMeans limits w payloads cache first left
+        (λ before after. Begins limits w payloads cache first before → StatusMeans limits w payloads cache first left
         (Rose (D.faults log.old) (D.faults log.new)) (Rose (I.faults input.old) (I.faults input.new)) (Rose (O.faults output.old) (O.faults output.new)) result.status result.changes before after) }
     ensures over { WhereTold (I.left input.old) (I.left input.new) (λ before after. IsOverBy limits.input result.status (length before)) }
     ensures refuses { IfSome (D.bytes log.old) (λ bytes. StatusRefuses limits.log bytes result.status) }
@@ -346,7 +346,7 @@ fn run_mode<D: Disk, I: Source, O: Sink, R: Remote>(
     ensures known { IsModeStatus usage.mode result.status }
     ensures means { let first = map R.shown mirrors.old.list.items in let left = map R.shown mirrors.new.list.items in
         (w : World Name) (payloads : List Payload) → usage.mode ≡ Mode.Run → WhereTold (seen (D.told log.old) (I.left input.old) (O.taken output.old)) (seen (D.told log.new) (I.left input.new) (O.taken output.new))
-        (λ before after. Begins limits w payloads first before → StatusMeans limits w payloads usage.cache first left
+        (λ before after. Begins limits w payloads usage.cache first before → StatusMeans limits w payloads usage.cache first left
         (Rose (D.faults log.old) (D.faults log.new)) (Rose (I.faults input.old) (I.faults input.new)) (Rose (O.faults output.old) (O.faults output.new)) result.status result.changes before after) }
     ensures over { usage.mode ≡ Mode.Run → WhereTold (I.left input.old) (I.left input.new) (λ before after. IsOverBy limits.input result.status (length before)) }
     ensures refuses { (usage.mode ≡ Mode.Run) ⊎ (usage.mode ≡ Mode.Bundle) → IfSome (D.bytes log.old) (λ bytes. StatusRefuses limits.log bytes result.status) }
@@ -409,7 +409,7 @@ pub fn top<D: Disk, I: Source, O: Sink, R: Remote>(
     ensures means { let first = map R.shown mirrors.old.list.items in let left = map R.shown mirrors.new.list.items in
         (cache : ℕ) (w : World Name) (payloads : List Payload) → IsRunOf cache (map string_bytes words.now)
         → WhereTold (seen (D.told log.old) (I.left input.old) (O.taken output.old)) (seen (D.told log.new) (I.left input.new) (O.taken output.new))
-        (λ before after. Begins standard w payloads first before → StatusMeans standard w payloads cache first left
+        (λ before after. Begins standard w payloads cache first before → StatusMeans standard w payloads cache first left
         (Rose (D.faults log.old) (D.faults log.new)) (Rose (I.faults input.old) (I.faults input.new)) (Rose (O.faults output.old) (O.faults output.new)) result.status result.changes before after) }
     ensures over { IsUsageOf Mode.Run (map string_bytes words.now) → WhereTold (I.left input.old) (I.left input.new) (λ before after. IsOverBy standard.input result.status (length before)) }
     ensures refuses { IsUsageOf Mode.Run (map string_bytes words.now) → IfSome (D.bytes log.old) (λ bytes. StatusRefuses standard.log bytes result.status) }

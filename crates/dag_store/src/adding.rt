@@ -330,7 +330,12 @@ impl Store {
 
     /// The id of a commit that a session sees. `Unknown` where the session doesn't see it. Where the name has to be asked, `NoRemote`
     /// where there is no mirror, `Remote` where all failed, and `MismatchPath` where the answer disagrees with the log.
-    pub fn id<R: Remote>(&mut self, s: u8, mirrors: &mut Mirrors<R>, name: &Name) -> Result<Id, Refusal>
+    pub fn id<R: Remote>(
+        &mut self,
+        s: u8,
+        mirrors: &mut Mirrors<R>,
+        name: &Name,
+    ) -> Result<Id, Refusal>
         requires { s < 16 }
         ensures step { let first = map R.shown mirrors.old.list.items in let left = map R.shown mirrors.new.list.items in
             (began : ℕ) (st : State) → StandsBeside began self.old first st → IsAnswerable st → Leads began self.old.limits st s (IdOf name.now) (id_reply result) self.new left }

@@ -27,7 +27,12 @@ impl Store {
     ///
     /// All memory is taken before the first call of the disk. At each moment a crash leaves the payloads from before or, from the
     /// opening of the gate on, those with the new one.
-    pub fn take_pull<D: Disk, R: Remote>(self, disk: &mut D, s: u8, mirrors: &mut Mirrors<R>) -> Flushed
+    pub fn take_pull<D: Disk, R: Remote>(
+        self,
+        disk: &mut D,
+        s: u8,
+        mirrors: &mut Mirrors<R>,
+    ) -> Flushed
         requires session { s < 16 }
         requires begins { IfSome (D.told disk.old) (IsOnDisk self.log) }
         ensures step { let first = map R.shown mirrors.old.list.items in

@@ -217,7 +217,12 @@ impl Store {
     /// For `ancestors` of one name the answer takes at most eight look-ups more than eight for each flat segment of the session's
     /// base and each pending row that it has, and at most eight where a segment of master without parents, of any level, ends at
     /// the name's id.
-    pub fn query<R: Remote>(&mut self, s: u8, mirrors: &mut Mirrors<R>, expr: &Expr) -> Result<Found, Refusal>
+    pub fn query<R: Remote>(
+        &mut self,
+        s: u8,
+        mirrors: &mut Mirrors<R>,
+        expr: &Expr,
+    ) -> Result<Found, Refusal>
         requires { s < 16 }
         ensures step { let first = map R.shown mirrors.old.list.items in let left = map R.shown mirrors.new.list.items in
             (began : ℕ) (st : State) → StandsBeside began self.old first st → IsAnswerable st → QueryStep began self.old.limits st s (tree_of expr.now) result self.new left }
@@ -245,7 +250,12 @@ impl Store {
 
     /// How many members an expression has in a session's view. It is refused for the names of the expression as a query is, and takes
     /// as few look-ups.
-    pub fn count<R: Remote>(&mut self, s: u8, mirrors: &mut Mirrors<R>, expr: &Expr) -> Result<Answer, Refusal>
+    pub fn count<R: Remote>(
+        &mut self,
+        s: u8,
+        mirrors: &mut Mirrors<R>,
+        expr: &Expr,
+    ) -> Result<Answer, Refusal>
         requires { s < 16 }
         ensures step { let first = map R.shown mirrors.old.list.items in let left = map R.shown mirrors.new.list.items in
             (began : ℕ) (st : State) → StandsBeside began self.old first st → IsAnswerable st → CountStep began self.old.limits st s (tree_of expr.now) result self.new left }

@@ -6,3 +6,5 @@ pub mod GoesOn
 pub mod Matched
 pub mod Reopening
 pub mod Alone
+pub mod Begun
+pub mod AtPulls

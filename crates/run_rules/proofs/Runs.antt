@@ -39,7 +39,7 @@ spelled-names (word ∷ words) [] h = absurd h
 spelled-names (word ∷ words) (name ∷ names) h = (spelled-name word name h.0, spelled-names words names h.1)
 
 -- what a line spells has names of 20 bytes
-spelled-verb : (text : List ℕ) (verb : Verb) → SpellsVerb text verb → IsVerb verb
+pub spelled-verb : (text : List ℕ) (verb : Verb) → SpellsVerb text verb → IsVerb verb
 spelled-verb text (Add name parents) h = (spelled-names h.1.0 (name ∷ parents) h.1.1, h.0)
 spelled-verb text (Flush heads) h = spelled-names h.0 heads h.1
 spelled-verb text (Strip names) h = h.0

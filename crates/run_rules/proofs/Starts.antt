@@ -14,7 +14,7 @@ use Rattle.change_rules.specs.declared.Limits.{Limits}
 use Rattle.change_rules.specs.Standard.{AreLimits}
 use Rattle.change_rules.specs.Change.{text_of}
 use Rattle.change_rules.specs.Tables.{cloned_count}
-use Rattle.change_rules.specs.Holding.{HoldAs}
+use Rattle.change_rules.specs.Holding.{HoldAs, HoldPayloads}
 use Rattle.change_rules.proofs.Changes.{count-last}
 use Rattle.remote_rules.specs.Mirror.{Mirror}
 use Rattle.remote_rules.specs.Honest.{IsHonest, IsSoundMirror}
@@ -79,10 +79,14 @@ start-held limits log w payloads fair hold =
     let texts = same-texts hold.texts payloads hold.spelled in
     record { hold = hold.hold; within = subst (λ t. log_length t ≤ limits.log) texts (log-within limits.log log hold.texts one hold.within hold.log) }
 
+-- no more was cloned than the world has
+pub cloned-least : (payloads : List Payload) (w : World Name) → HoldPayloads payloads w → cloned_count payloads ≤ length w.master
+cloned-least payloads w hold = subst (λ n. cloned_count payloads ≤ n) hold.stand.count (clone-bound payloads hold.lawful)
+
 -- where nothing was cloned yet, and later, no more was cloned than there is
 pub start-served : (limit : ℕ) (log : List ℕ) (w : World Name) (payloads : List Payload) (room : ℕ) (mirrors : List Mirror) → HoldAs limit log payloads w → AllServe (cloned_count payloads) w mirrors → IsServed (at_start w payloads room mirrors)
 start-served limit log w payloads room mirrors hold serve = record {
-  cloned = subst (λ n. cloned_count payloads ≤ n) hold.hold.stand.count (clone-bound payloads hold.hold.lawful);
+  cloned = cloned-least payloads w hold.hold;
   mirrors = serve;
 }
 

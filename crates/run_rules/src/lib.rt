@@ -12,6 +12,7 @@ ghost use Rattle.change_rules.specs.Standard.{AreLimits};
 ghost use Rattle.change_rules.specs.Tables.{cloned_count};
 ghost use Rattle.remote_rules.specs.Serving.{AllServe, NeverFail};
 ghost use Rattle.step_rules.specs.Reply.{Reply, Refused};
+ghost use Rattle.step_rules.specs.Verb.{Pull};
 ghost use Rattle.step_rules.specs.declared.Refusal.TheVariants.{Remote};
 ghost use Rattle.step_rules.specs.Rises.{EachWas, HasFailed};
 ghost use Rattle.id_groups.specs.Lists.{IsIn};
@@ -19,13 +20,13 @@ ghost use Rattle.run_rules.specs.Run.{Run, output_of};
 ghost use Rattle.run_rules.specs.Ends.{End, Done, NoMemory, NoLog};
 ghost use Rattle.run_rules.specs.Means.{Means, RefusesLog};
 ghost use Rattle.run_rules.specs.Stopped.{Stopped, ArePrefixes, acknowledged};
-ghost use Rattle.run_rules.specs.Premises.{Start};
+ghost use Rattle.run_rules.specs.Premises.{AllBegin, BeginAtPulls, HasCommand, Start};
 ghost use Rattle.line_io.specs.Lines.{lines_of};
 ghost use Rattle.gated_log.specs.Holding.{HasPayloads, KeepsOldOrNew};
 ghost use Rattle.gated_log.specs.Held.{Held};
 ghost use Rattle.change_rules.specs.Change.{text_of};
 ghost use Rattle.id_groups.specs.Name.{Name};
-ghost use Rattle.commit_graph.specs.World.{World};
+ghost use Rattle.commit_graph.specs.World.{World, rows_of};
 ghost use Rattle.batch_codec.specs.Payload.{Payload};
 ghost use Rattle.remote_rules.specs.Mirror.{Mirror};
 ghost use Rattle.disk_trait.specs.Images.{Told, LeftAt, fresh_disk, moment_of};
@@ -100,12 +101,19 @@ pub fn stopped_cut_short()
 /// from then on the world that was stored by the last of the changes acknowledged up to then, or by one more.
 pub fn stopped_runs_begin()
     ensures loading { (limits : Limits) (w : World Name) (payloads : List Payload) (changes : List ℕ) (final : Stored) (old new : Told) (s : Stopped limits.log w payloads changes final old new)
-        (moment : ℕ) (image : List ℕ) (lines : List (List ℕ)) → moment_of old ≤ moment → moment < s.sure → moment ≤ moment_of new → LeftAt new moment image
-        → (others : List Payload) × Start limits (fresh_disk image) w others [] lines }
+        (moment : ℕ) (image : List ℕ) → moment_of old ≤ moment → moment < s.sure → moment ≤ moment_of new → LeftAt new moment image
+        → (others : List Payload) × Start limits (fresh_disk image) w others }
     ensures loaded { (limits : Limits) (w : World Name) (payloads : List Payload) (changes : List ℕ) (final : Stored) (old new : Told) (s : Stopped limits.log w payloads changes final old new)
-        (moment : ℕ) (image : List ℕ) (lines : List (List ℕ)) → moment_of old ≤ moment → s.sure ≤ moment → moment ≤ moment_of new → LeftAt new moment image
+        (moment : ℕ) (image : List ℕ) → moment_of old ≤ moment → s.sure ≤ moment → moment ≤ moment_of new → LeftAt new moment image
         → (count : ℕ) × (count ≤ length final.past) × ((count ≡ acknowledged changes moment) ⊎ (count ≡ acknowledged changes moment + 1))
-        × Start limits (fresh_disk image) (world_at final count) (take (length payloads + count) final.payloads) [] lines }
+        × Start limits (fresh_disk image) (world_at final count) (take (length payloads + count) final.payloads) }
+{}
+
+/// What a run asks of its mirrors at each pull is met where the masters of all begin so from the start.
+pub fn mirrors_begin_at_pulls()
+    ensures { (limits : Limits) (log : List ℕ) (w : World Name) (payloads : List Payload) (room : ℕ) (mirrors : List Mirror) (lines : List (List ℕ))
+        → AreLimits limits → HoldAs limits.log log payloads w → (length (rows_of w) ≡ 0 → AllServe (cloned_count payloads) w mirrors)
+        → (HasCommand Pull lines → AllBegin (cloned_count payloads) w mirrors lines) → BeginAtPulls limits (at_start w payloads room mirrors) lines }
 {}
 
 /// A disk that holds a world is never refused.

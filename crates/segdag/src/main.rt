@@ -71,7 +71,7 @@ fn answer<D: Disk, I: Source, O: Sink, R: Remote>(
     ensures means { let first = map R.shown mirrors.old.list.items in let left = map R.shown mirrors.new.list.items in
         (cache : ℕ) (w : World Name) (payloads : List Payload) → IsRun cache (map string_bytes words.now)
         → WhereTold (seen (D.told log.old) (I.left input.old) (O.taken output.old)) (seen (D.told log.new) (I.left input.new) (O.taken output.new))
-        (λ before after. Begins standard w payloads first before → (changes : List ℕ) × StatusMeans standard w payloads cache first left
+        (λ before after. Begins standard w payloads cache first before → (changes : List ℕ) × StatusMeans standard w payloads cache first left
         (Rose (D.faults log.old) (D.faults log.new)) (Rose (I.faults input.old) (I.faults input.new)) (Rose (O.faults output.old) (O.faults output.new)) result changes before after) }
     ensures over { IsUsage Mode.Run (map string_bytes words.now) → WhereTold (I.left input.old) (I.left input.new) (λ before after. IsOverBy standard.input result (length before)) }
     ensures refuses { IsUsage Mode.Run (map string_bytes words.now) → IfSome (D.bytes log.old) (λ bytes. StatusRefuses standard.log bytes result) }

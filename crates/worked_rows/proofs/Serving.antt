@@ -1,5 +1,5 @@
 -- Mirrors of small worlds serve them.
-use Rattle.std.proofs.Common.{◌≡◌, ◌≤◌, ◌<◌, ◌⊎◌, ℕ, Bool, true, false, not, ◌&&◌, inl, inr, List, [], ◌∷◌, ◌++◌, length, refl, sym, ap, ◌∙◌, Some, leb, arith, lit<, lit≤}
+use Rattle.std.proofs.Common.{◌≡◌, ◌<◌, ℕ, Bool, true, not, ◌&&◌, inl, inr, List, [], ◌∷◌, ◌++◌, length, refl, sym, ap, ◌∙◌, Some, leb, arith, lit<, lit≤}
 use Rattle.std.specs.Prelude.{unwrap_or}
 use Rattle.std.proofs.lemmas.Bool.{leb-true}
 use Rattle.std.specs.List.{AllByRecursion}
@@ -7,13 +7,13 @@ use Rattle.id_groups.specs.Lists.{IsIn, AreAllIn, AreDistinct, is_in}
 use Rattle.id_groups.specs.Name.{Name, IsName, same_name}
 use Rattle.id_groups.proofs.Names.{same_name-exact, same_name-self}
 use Rattle.id_groups.proofs.Listing.{found, there, and_true, not_true}
-use Rattle.commit_graph.specs.World.{Row, World, IsNext, IsHistory, IsNamedWorld, empty_world}
+use Rattle.commit_graph.specs.World.{Row, IsNext, IsHistory, IsNamedWorld, empty_world}
 use Rattle.commit_graph.proofs.Down.{in-left}
 use Rattle.remote_rules.specs.Mirror.{Mirror}
 use Rattle.remote_rules.specs.Honest.{IsHonest}
-use Rattle.remote_rules.specs.Serving.{IsServing, BeginsWith, AllServe}
+use Rattle.remote_rules.specs.Serving.{AllServe}
 use Rattle.run_rules.specs.Premises.{AllBegin, HaveOneOrder}
-use Rattle.worked_rows.specs.Worlds.{n, ns, on, ten, twelve}
+use Rattle.worked_rows.specs.Worlds.{n, on, ten, twelve, aside}
 use Rattle.worked_rows.specs.Remotes.{steady}
 
 -- a world by tests
@@ -130,11 +130,17 @@ twelve-named = record {
   );
 }
 
-ten-honest : IsHonest (steady ten).cloned ten.master
+aside-named : IsNamedWorld aside
+aside-named = record { world = history-by [] aside.master refl; names = (named 0x10 (lit< tt), (named 0x20 (lit< tt), (named 0x11 (lit< tt), (named 0x12 (lit< tt), (named 0x13 (lit< tt), (named 0x14 (lit< tt), (named 0x15 (lit< tt), (named 0x16 (lit< tt), (named 0x17 (lit< tt), (named 0x18 (lit< tt), (named 0x19 (lit< tt), tt))))))))))) }
+
+pub ten-honest : IsHonest (steady ten).cloned ten.master
 ten-honest = record { world = ten-named; clone = refl }
 
-twelve-honest : IsHonest (steady twelve).cloned twelve.master
+pub twelve-honest : IsHonest (steady twelve).cloned twelve.master
 twelve-honest = record { world = twelve-named; clone = refl }
+
+aside-honest : IsHonest (steady aside).cloned aside.master
+aside-honest = record { world = aside-named; clone = refl }
 
 pub serves-fresh : AllServe 0 empty_world (steady ten ∷ [])
 serves-fresh = record { each = ((ten.master, refl, ten-honest, λ row i. absurd i), tt); first_clone = λ e. inl (lit≤ tt) }
@@ -164,3 +170,14 @@ begin-cloned lines = record {
 
     one-order : HaveOneOrder (steady ten ∷ steady ten ∷ [])
     one-order m k q r i j a b = sym (its m q i a) ∙ its k r j b
+
+-- a row of the ten is one of those with another root
+aside-has : (row : Row Name) → IsIn row ten.master → IsIn row aside.master
+aside-has row (inl e) = inl e
+aside-has row (inr i) = inr (inr i)
+
+pub serve-aside : AllServe 10 ten (steady ten ∷ steady aside ∷ [])
+serve-aside = record {
+  each = ((ten.master, refl, ten-honest, λ row i. i), ((aside.master, refl, aside-honest, aside-has), tt));
+  first_clone = λ e. absurd (omega (arith, e));
+}

@@ -15,8 +15,8 @@ ghost use Rattle.set_expr.specs.Expr.{One};
 ghost use Rattle.step_rules.specs.Verb.{Query, Pull};
 ghost use Rattle.step_rules.specs.Reply.{Listed, Pulled};
 ghost use Rattle.worked_rows.specs.Remotes.{steady, over, asked_counts, lazy_names_said, after_clone, stumbling, failing_said, crossed_world, crossed};
-ghost use Rattle.remote_rules.specs.Serving.{AllServe};
-ghost use Rattle.run_rules.specs.Premises.{AllBegin};
+ghost use Rattle.remote_rules.specs.Serving.{AllServe, BeginsWith};
+ghost use Rattle.run_rules.specs.Premises.{AllBegin, BeginAtPulls, HaveOneOrder};
 ghost use Rattle.segment_rules.specs.Flat.{flat_segments_of};
 ghost use Rattle.segment_rules.specs.NewLevels.{new_levels};
 ghost use Rattle.remote_rules.specs.CloneData.{first_broken};
@@ -27,7 +27,7 @@ ghost use Rattle.change_rules.specs.Disagree.{first_unlike, first_bad_row};
 ghost use Rattle.change_rules.specs.Flush.{flushed};
 ghost use Rattle.change_rules.specs.Pull.{pulled};
 ghost use Rattle.change_rules.specs.Rebase.{first_conflict};
-ghost use Rattle.worked_rows.specs.Worlds.{n, ns, on, ten, day, twelve, with_two, span, crossing, in_master};
+ghost use Rattle.worked_rows.specs.Worlds.{n, ns, on, ten, day, twelve, aside, with_two, span, crossing, in_master};
 ghost use Rattle.worked_rows.specs.Rows.{fresh, two_sessions_said, a_flush_on_others_said, an_older_session_said, strips_said, strips_refused_said, a_small_graph_said};
 
 /// Another session's commits make a conflict.
@@ -123,6 +123,20 @@ pub fn mirrors_that_serve()
     ensures two { AllServe 10 ten (steady ten ∷ steady twelve ∷ []) }
     ensures pulled { (lines : List (List ℕ)) → AllBegin 10 ten (steady twelve ∷ []) lines }
     ensures cloned { (lines : List (List ℕ)) → AllBegin 0 empty_world (steady ten ∷ steady ten ∷ []) lines }
+{}
+
+/// A run that drops a mirror of another order and then pulls asks nothing of that mirror's order: what the pull asks is met, though not by
+/// all mirrors of the start.
+pub fn pulls_behind_a_drop()
+    ensures serve { AllServe 10 ten (steady ten ∷ steady aside ∷ []) }
+    ensures pulled { BeginAtPulls standard (after_clone (steady ten ∷ steady aside ∷ [])) (codes "0 drop 1" ∷ codes "0 pull" ∷ []) }
+    ensures unlike { BeginsWith 10 ten (steady aside) → ⊥ }
+{}
+
+/// One that clones and then pulls finds it met beside a mirror with a longer copy, too, though the two have no one order.
+pub fn pulls_behind_a_clone()
+    ensures pulled { BeginAtPulls standard (over (steady ten ∷ steady twelve ∷ [])) (codes "0 clone" ∷ codes "0 pull" ∷ []) }
+    ensures unlike { HaveOneOrder (steady ten ∷ steady twelve ∷ []) → ⊥ }
 {}
 
 /// The level segments that come with three roots behind sixteen: two more groups are decided.

@@ -49,7 +49,7 @@ told-on b None r h = absurd h
 told-on true (Some q) r h = (q, refl, [], h ∙ sym (append-nil r))
 told-on false (Some q) r h = (q, refl, h.0, h.1)
 
-begins-on : (cloned : ℕ) (w : World Name) (k m : Mirror) → GoesTo k m → BeginsWith cloned w k → BeginsWith cloned w m
+pub begins-on : (cloned : ℕ) (w : World Name) (k m : Mirror) → GoesTo k m → BeginsWith cloned w k → BeginsWith cloned w m
 begins-on cloned w k m g (r, told, honest, more, begins) =
     let on = told-on k.settled m.master r (subst (λ o. MasterGoesOn k.settled o m.master) told g.master) in
     let sound : IsSoundMirror m = g.sound (subst (λ o. MatchOption o (Unit {0}) (IsHonest k.cloned)) (sym told) honest) in
