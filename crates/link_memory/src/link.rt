@@ -93,7 +93,10 @@ impl<R: Remote> Link for MemoryLink<R> {
             self.take_faults = self.take_faults.saturating_add(1);
             return Err(LinkFault);
         }
-        let left = self.to_come.len().saturating_sub(self.at);
+        if self.at >= self.to_come.len() {
+            return Ok(0);
+        }
+        let left = self.to_come.len() - self.at;
         let count = left.min(out.len()).min(self.way.piece as usize);
         out[..count].copy_from_slice(&self.to_come[self.at..self.at + count]);
         self.at += count;
