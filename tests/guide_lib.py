@@ -21,6 +21,7 @@ def environment(**more):
         commands.mkdir()
         (commands / "segdag").symlink_to(PROGRAM)
         (commands / "git-segdag").symlink_to(TOOL)
+        (commands / "segdag-ssh").symlink_to(TOP / "tools/segdag-ssh")
     kept["PATH"] = f"{commands}:{kept['PATH']}"
     # What Python makes of the command's modules is kept, as a user's is, and not in the checkout.
     kept.pop("PYTHONDONTWRITEBYTECODE", None)

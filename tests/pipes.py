@@ -14,105 +14,18 @@ import time
 from pathlib import Path
 
 import serve_client
+from pipe_peers import Behind
 
 TOOL = Path(__file__).resolve().parent.parent / "tools/segdag-ssh"
-HANGS = 600  # seconds behind which something is taken to hang
 
 
 def fail(text):
     sys.exit(f"pipes: {text}")
 
 
-def relay(to, come, command, how, draw):
-    """Passes requests from one pipe to a server and answers to another, as it is told; a process of its own."""
-    asked = os.open(to, os.O_RDONLY)
-    server = subprocess.Popen(command, stdin=subprocess.PIPE, stdout=subprocess.PIPE)
-    told, passed, limit = None, 0, how.get("limit")
-
-    def exactly(count):
-        data = b""
-        while len(data) < count:
-            more = os.read(asked, count - len(data))
-            if not more:
-                return None
-            data += more
-        return data
-
-    def give(data):
-        step = 1 if how.get("ones") else len(data)
-        for at in range(0, len(data), max(step, 1)):
-            os.write(told, data[at : at + step])
-
-    try:
-        while (head := exactly(4)) is not None:
-            body = exactly(int.from_bytes(head, "big"))
-            if body is None:
-                break
-            if told is None:
-                told = os.open(come, os.O_WRONLY)
-            server.stdin.write(head + body)
-            server.stdin.flush()
-            size = server.stdout.read(4)
-            answer = size + server.stdout.read(int.from_bytes(size, "big"))
-            if how.get("late"):
-                time.sleep(0.02)
-            if limit is not None and passed + len(answer) > limit:
-                cut = max(limit - passed, 0)
-                if how["end"] == "lie":
-                    place = min(cut, len(answer) - 1)
-                    answer = answer[:place] + bytes([answer[place] ^ draw.randrange(1, 256)]) + answer[place + 1 :]
-                    limit = None
-                    if place < 4:  # A length that is too great would be waited for.
-                        give(answer)
-                        break
-                else:
-                    give(answer[:cut])
-                    break
-            give(answer)
-            passed += len(answer)
-    except BrokenPipeError:
-        pass
-    finally:
-        server.kill()
-        server.wait()
-
-
-class Behind:
-    """A server behind two named pipes in a folder, and a relay between where one is asked for."""
-
-    def __init__(self, program, remote, folder, how=None, draw=None):
-        self.to, self.come = Path(folder, "to"), Path(folder, "from")
-        for pipe in (self.to, self.come):
-            pipe.unlink(missing_ok=True)
-            os.mkfifo(pipe)
-        command = [program, "none", remote, "--", "serve"]
-        if how is None:
-            script = 'exec "$0" none "$1" -- serve < "$2" > "$3"'
-            self.child = subprocess.Popen(["sh", "-c", script, program, remote, self.to, self.come])
-            self.pid = None
-        else:
-            self.pid = os.fork()
-            if self.pid == 0:
-                signal.signal(signal.SIGPIPE, signal.SIG_IGN)
-                try:
-                    relay(self.to, self.come, command, how, draw)
-                finally:
-                    os._exit(0)
-        self.word = f"pipe:{self.to}:{self.come}"
-
-    def end(self):
-        """Ends it, whether it was asked or not."""
-        if self.pid is None:
-            self.child.terminate()
-            self.child.wait()
-        else:
-            os.kill(self.pid, signal.SIGTERM)
-            os.waitpid(self.pid, 0)
-
-
 def told(program, log, mirrors, lines, cache):
     words = [program, log, *mirrors, "--", "run", "--cache", str(cache)]
-    done = subprocess.run(words, input="".join(line + "\n" for line in lines), text=True, capture_output=True, timeout=HANGS)
+    done = subprocess.run(words, input="".join(line + "\n" for line in lines), text=True, capture_output=True, timeout=600)
     return done.returncode, done.stdout
 
 
@@ -143,7 +56,7 @@ def one_run(program, draw, folder):
     """A clone and a pull beside a path and beside a pipe."""
     there, by_path, by_pipe = (Path(folder, name) for name in ("there", "path", "pipe"))
     rows = serve_client.draw_log(program, draw, there, draw.choice([1, 8, 60, 300]))
-    how = draw.choice([None, None, {}, {"ones": True}, {"late": True}])
+    how = draw.choice([None, None, {}, {"ones": True}, {"late": 0.02}])
     cache = draw.choice([1, 3, 4096])
     for lines in (asks(draw, rows), [*(grown(draw, rows)), None], ["0 pull", "0 query all", "0 levels"]):
         if lines[-1] is None:
@@ -157,9 +70,9 @@ def one_run(program, draw, folder):
         finally:
             behind.end()
         if found != wanted:
-            fail(f"behind a pipe ({how}) it answered\n{found[1]}instead of\n{wanted[1]}to\n" + "\n".join(lines))
+            fail(f"behind a pipe ({how}) it told\n{found[1]}in place of\n{wanted[1]}for\n" + "\n".join(lines))
         if by_path.read_bytes() != by_pipe.read_bytes():
-            fail(f"behind a pipe ({how}) the log differs")
+            fail(f"behind a pipe ({how}) the log is another")
 
 
 def broken_run(program, draw, folder):
@@ -176,7 +89,7 @@ def broken_run(program, draw, folder):
         finally:
             behind.end()
         if found != wanted:
-            fail(f"with a pipe that stops ({how}) it answered\n{found[1]}instead of\n{wanted[1]}")
+            fail(f"beside a pipe that stops ({how}) it told\n{found[1]}in place of\n{wanted[1]}")
     behind = Behind(program, there, folder, how, draw)
     try:
         found = told(program, alone, [behind.word], lines, cache)
@@ -186,7 +99,7 @@ def broken_run(program, draw, folder):
         fail(f"with a peer that ends ({how}) the status is {found[0]}")
     again = told(program, alone, [], ["0 count all"], cache)
     if again[0] != 0 or not again[1].startswith("ok "):
-        fail(f"after a peer that ends ({how}) the log doesn't open")
+        fail(f"behind a peer that ends ({how}) the log doesn't open")
     if how["end"] == "stop":
         behind = Behind(program, there, folder)
         try:
@@ -209,61 +122,189 @@ def words_run(program, draw, folder):
     if there.read_bytes() != before:
         fail("a log was written over")
     for mode in ("serve", "bundle", "compact", "demo"):
-        found = subprocess.run([program, here, f"pipe:{folder}/to:{folder}/from", "--", mode], input=b"", capture_output=True, timeout=HANGS)
+        found = subprocess.run([program, here, f"pipe:{folder}/to:{folder}/from", "--", mode], input=b"", capture_output=True, timeout=600)
         if mode == "serve" and found.returncode != 11:
             fail(f"a pipe is served: status {found.returncode}")
 
 
-def tool_run(program, draw, folder):
-    """A clone by tools/segdag-ssh, with its status; ended by a signal too it leaves nothing behind."""
+def is_read(pipe):
+    """Whether somebody has opened the pipe for reading, or waits to."""
+    try:
+        os.close(os.open(pipe, os.O_WRONLY | os.O_NONBLOCK))
+        return True
+    except OSError:
+        return False
+
+
+def quiet_run(program, draw, folder):
+    """The pipes of a mirror that isn't asked aren't opened. When it is, the one is opened and the request put before the other is."""
+    to, come, here = (Path(folder, name) for name in ("to", "from", "here"))
+    for pipe in (to, come):
+        os.mkfifo(pipe)
+    word = f"pipe:{to}:{come}"
+    if told(program, here, [word], ["0 status", "0 query all", "0 drop 0"], 4096) != (0, "ok 0 0 0\nok 0\nok dropped 0\n"):
+        fail("beside a mirror that nobody asks")
+    with subprocess.Popen([program, here, word, "--", "run"], stdin=subprocess.PIPE, stdout=subprocess.PIPE) as child:
+        child.stdin.write(b"0 clone\n")
+        child.stdin.flush()
+        time.sleep(0.2)
+        if is_read(come):
+            fail("the pipe of the answers is opened before that of the requests")
+        asked = os.open(to, os.O_RDONLY)
+        if os.read(asked, 100) != b"\0\0\0\1\1":
+            fail("the first request is no refresh")
+        with open(come, "wb"):
+            os.close(asked)
+        if child.communicate()[0] != b"err remote 1\n":
+            fail("a peer that closes its ends")
+
+
+def lazy_names(program, log, rows):
+    """Names of a clone that it doesn't store."""
+    lines = [f"0 id {hexed(name)}" for name, _ in rows]
+    replies = told(program, log, [], lines, 4096)[1].splitlines()
+    return [hexed(name) for (name, _), reply in zip(rows, replies) if reply == "err no-remote"]
+
+
+def closed_run(program, draw, folder):
+    """A peer that closes its ends behind three answers: a request that nobody reads fails, no signal ends the run, and nothing is lost."""
     there, here = Path(folder, "there"), Path(folder, "here")
+    rows = serve_client.draw_log(program, draw, there, 300)
+    told(program, here, [there], ["0 clone"], 4096)
+    a, b, c = lazy_names(program, here, rows)[:3]
+    new, tip = "f" * 40, hexed(rows[-1][0])
+    lines = [f"0 id {a}", f"0 add {new} {tip}", f"0 id {b}", f"0 id {c}", f"0 id {a}", f"0 flush {new}", "0 count all", "0 mirrors"]
+    for others, wanted in (([], ["err remote 1"] * 2), ([there], ["ok"] * 2)):
+        log = Path(folder, f"log{len(others)}")
+        log.write_bytes(here.read_bytes())
+        behind = Behind(program, there, folder, {"answers": 3}, draw)
+        try:
+            status, text = told(program, log, [behind.word, *others], lines, 4096)
+        finally:
+            behind.end()
+        replies = text.splitlines()
+        if status != 0 or len(replies) != len(lines) or not all(reply.startswith("ok") for reply in replies[:3] + replies[5:]):
+            fail(f"a peer that closes its ends, among {1 + len(others)}: {status}\n{text}")
+        if not all(reply.startswith(want) for reply, want in zip(replies[3:5], wanted)) or replies[6:] != [f"ok {len(rows) + 1}", f"ok {1 + len(others)}"]:
+            fail(f"a peer that closes its ends, among {1 + len(others)}:\n{text}")
+        if told(program, log, [], ["0 count all"], 4096) != (0, f"ok {len(rows) + 1}\n"):
+            fail("what was flushed behind a peer that closed its ends is lost")
+
+
+SSH = """#!/bin/sh
+[ "$1" = -- ] || exit 97
+printf '%s' "$2" > "$TOLD"
+shift 2
+exec sh -c "$*"
+"""
+HOSTS = ["host", "user@host", "-oProxyCommand=touch bad", "--", "a b", "$(touch bad)", "`touch bad`", "'; touch bad; '", "*", "\n"]
+ODD = "it's a \"log\" $(touch bad);\\ `touch bad` *"
+
+
+class Tool:
+    """tools/segdag-ssh in a folder of its own, with a shell in place of ssh."""
+
+    def __init__(self, program, folder):
+        self.rooms, commands = Path(folder, "rooms"), Path(folder, "commands")
+        self.rooms.mkdir()
+        commands.mkdir()
+        (commands / "ssh").write_text(SSH)
+        (commands / "ssh").chmod(0o755)
+        path = f"{commands}:{os.environ['PATH']}"
+        self.told = Path(folder, "told")
+        self.env = {**os.environ, "SEGDAG": str(program), "SEGDAG_THERE": f"'{program}'", "TMPDIR": str(self.rooms), "PATH": path, "TOLD": str(self.told)}
+        self.folder = folder
+
+    def begin(self, *words):
+        """What is begun may be interrupted, whatever this test inherited."""
+
+        def plain():
+            for number in (signal.SIGINT, signal.SIGHUP, signal.SIGTERM):
+                signal.signal(number, signal.SIG_DFL)
+
+        pipes = dict.fromkeys(("stdin", "stdout", "stderr"), subprocess.PIPE)
+        return subprocess.Popen([TOOL, *words], env=self.env, cwd=self.folder, preexec_fn=plain, text=True, **pipes)
+
+    def wants(self, begun, lines, wanted):
+        out, said = begun.communicate("".join(line + "\n" for line in lines), timeout=600)
+        if (begun.returncode, out) != wanted:
+            fail(f"{begun.args} told {begun.returncode}\n{out}{said}in place of\n{wanted}")
+
+    def is_clean(self):
+        if left := [*self.rooms.iterdir(), *Path(self.folder).glob("bad")]:
+            fail(f"segdag-ssh left {left}")
+
+
+def tool_run(program, draw, folder):
+    """Clones by tools/segdag-ssh, with their statuses, two at once, from hosts and logs with odd names."""
+    there, odd = Path(folder, "there"), Path(folder, ODD)
     rows = serve_client.draw_log(program, draw, there, 60)
-    lines = asks(draw, rows)
+    odd.write_bytes(there.read_bytes())
+    lines, tool = asks(draw, rows), Tool(program, folder)
     wanted = told(program, Path(folder, "path"), [there], lines, 4096)
-    rooms = Path(folder, "rooms")
-    rooms.mkdir()
-    env = {**os.environ, "SEGDAG": str(program), "TMPDIR": str(rooms)}
     serve = f"exec '{program}' none '{there}' -- serve"
-    done = subprocess.run([TOOL, "--command", serve, here, "--", "run"], input="".join(line + "\n" for line in lines), text=True, capture_output=True, env=env, timeout=HANGS)
-    if (done.returncode, done.stdout) != wanted:
-        fail(f"segdag-ssh told {done.returncode}\n{done.stdout}{done.stderr}in place of\n{wanted[1]}")
-    begun = subprocess.Popen([TOOL, "--command", serve, here, "--", "run"], stdin=subprocess.PIPE, stdout=subprocess.PIPE, env=env)
-    begun.stdin.write(f"0 id {hexed(rows[0][0])}\n".encode())
-    begun.stdin.flush()
-    begun.stdout.readline()
-    begun.terminate()
-    if begun.wait(timeout=HANGS) != 143:
-        fail(f"segdag-ssh ended by a signal with {begun.returncode}")
-    begun.stdin.close()
-    bad = subprocess.run([TOOL, "--command", serve, here, "--", "walk"], input=b"", capture_output=True, env=env, timeout=HANGS)
-    if bad.returncode != 2:
-        fail(f"segdag-ssh ended with {bad.returncode} for words that are no usage")
-    if left := stays(lambda: list(rooms.iterdir())):
-        fail(f"segdag-ssh left {left}")
+    two = [tool.begin("--command", serve, Path(folder, f"here{number}"), "--", "run") for number in range(2)]
+    for begun in two:
+        tool.wants(begun, lines, wanted)
+    tool.wants(tool.begin("--command", f"cat | {{ {serve[5:]}; }} | cat", "piped", "--", "run"), lines, wanted)
+    for number, host in enumerate(HOSTS):
+        tool.wants(tool.begin(f"{host}:{odd}", f"host{number}", "--", "run"), lines, wanted)
+        if tool.told.read_text() != host:
+            fail(f"ssh was given {tool.told.read_text()!r} for {host!r}")
+    tool.wants(tool.begin("host:missing", "none", "--", "run"), ["0 clone"], (0, "err remote 1\n"))
+    tool.wants(tool.begin("--command", "exit 255", "none", "--", "run"), ["0 clone"], (0, "err remote 1\n"))
+    for words in ([], ["host"], [":log", "here", "--", "run"], ["--command", "", "here", "--", "run"], ["--command", serve, "here", "--", "walk"]):
+        tool.wants(tool.begin(*words), [], (2, ""))
+    tool.is_clean()
+    tool.env["TMPDIR"] = str(Path(folder, "a:b"))
+    Path(folder, "a:b").mkdir()
+    tool.wants(tool.begin("--command", serve, "here", "--", "run"), [], (2, ""))
+    if list(Path(folder, "a:b").iterdir()):
+        fail("segdag-ssh left a folder whose path has a colon")
+
+
+def killed_run(program, draw, folder):
+    """What tools/segdag-ssh began ends with it, whatever it waits for: lines, a peer that says nothing, or nothing yet; two at once."""
+    there = Path(folder, "there")
+    rows = serve_client.draw_log(program, draw, there, 60)
+    tool = Tool(program, folder)
+    serve, silent = f"'{program}' none '{there}' -- serve; exit 1", "sleep 1000 | sleep 1000; exit 1"
+    for number, status in ((signal.SIGTERM, 143), (signal.SIGINT, 130), (signal.SIGHUP, 129)):
+        begun = [tool.begin("--command", command, f"{number}.{place}", "--", "run") for place, command in enumerate((serve, silent, serve))]
+        for child, line in zip(begun, (f"0 id {hexed(rows[0][0])}\n0 clone\n", "0 clone\n", "0 status\n")):
+            child.stdin.write(line)
+            child.stdin.flush()
+        begun[0].stdout.readline()
+        begun[2].stdout.readline()
+        time.sleep(draw.choice([0, 0.1, 0.3]))
+        for child in begun:
+            child.send_signal(number)
+        for child in begun:
+            if child.wait(timeout=600) != status:
+                fail(f"segdag-ssh ended by signal {number} with {child.returncode}: {child.stderr.read()}")
+            for pipe in (child.stdin, child.stdout, child.stderr):
+                pipe.close()
+    tool.is_clean()
 
 
 def left_behind(folder):
-    """Processes that speak of the folder, and go on to: one whose input has ended takes a moment to end."""
-    return stays(lambda: speaking_of(folder))
-
-
-def stays(found):
-    """What is found, where it is still there when it should long be gone."""
-    began = time.monotonic()
-    while left := found():
-        if time.monotonic() - began > HANGS:
-            return left
+    """Processes that speak of the folder, five seconds later still: one whose input has ended takes a moment to end."""
+    for _ in range(100):
+        found = speaking_of(folder)
+        if not found:
+            break
         time.sleep(0.05)
-    return None
+    return found
 
 
 def speaking_of(folder):
-    """Processes that speak of the folder."""
+    """Processes that speak of the folder by their words or their environment."""
     found = []
     for entry in Path("/proc").glob("[0-9]*"):
         try:
-            if folder.encode() in (entry / "cmdline").read_bytes() and int(entry.name) != os.getpid():
-                found.append((entry / "cmdline").read_bytes().replace(b"\0", b" "))
+            text = (entry / "cmdline").read_bytes()
+            if folder.encode() in text + (entry / "environ").read_bytes() and int(entry.name) != os.getpid():
+                found.append(text.replace(b"\0", b" "))
         except OSError:
             pass
     return found
@@ -273,7 +314,7 @@ def main():
     program, runs, seed = os.path.abspath(sys.argv[1]), int(sys.argv[2] if len(sys.argv) > 2 else 20), int(sys.argv[3] if len(sys.argv) > 3 else 1)
     for number in range(runs):
         draw = random.Random(f"{seed} {number}")
-        for run in (one_run, broken_run, *((words_run, tool_run) if number % 10 == 0 else ())):
+        for run in (one_run, broken_run, closed_run, *((words_run, quiet_run, tool_run, killed_run) if number % 10 == 0 else ())):
             with tempfile.TemporaryDirectory() as folder:
                 run(program, draw, folder)
                 if left := left_behind(folder):

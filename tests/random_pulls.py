@@ -16,6 +16,7 @@ from pathlib import Path
 
 import plain_store
 import random_anew
+from pipe_peers import Peers
 from random_lines import Lines
 
 ENDS = ("ok", "err")
@@ -34,11 +35,12 @@ def knows(program):
 
 
 class Run:
-    """A run of the program beside a plain store. A line is given when the one before it was answered, so that other
-    logs may grow between two."""
+    """A run of the program beside a plain store, some of its mirrors behind pipes. A line is given when the one before it
+    was answered, so that other logs may grow between two."""
 
-    def __init__(self, program, log, mirrors, cache):
-        words = [program, log, *mirrors, "--", "run", "--cache", str(cache)]
+    def __init__(self, program, log, mirrors, cache, draw):
+        self.peers = Peers(program, draw, log.parent, mirrors)
+        words = [program, log, *self.peers.words, "--", "run", "--cache", str(cache)]
         self.log, self.said = log, []
         self.child = subprocess.Popen(words, stdin=subprocess.PIPE, stdout=subprocess.PIPE)
         self.watch = threading.Timer(120, self.child.kill)
@@ -84,6 +86,7 @@ class Run:
         except BrokenPipeError:
             pass
         self.watch.cancel()
+        self.peers.end()
         return self.child.wait()
 
 
@@ -284,7 +287,7 @@ class Scene:
 
     def beside_run(self, mirrors, say):
         """A run over the log beside these mirrors; how many lines it had."""
-        run = Run(self.program, self.here, mirrors, self.draw.choice([1, 2, 5, 1000]))
+        run = Run(self.program, self.here, mirrors, self.draw.choice([1, 2, 5, 1000]), self.draw)
         try:
             say(run)
             run.end()

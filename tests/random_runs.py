@@ -4,7 +4,8 @@
 `random_runs.py PROGRAM [RUNS [SEED]]`. Each run goes over the log of the one before, up to four, so that logs are
 opened again. Between two of them some first payloads become those of version 1, or the logs are written anew. Behind
 them come runs over clones: a drawn log is cloned by a second one, whose lines go beside the first, or its bundle, as a
-mirror, among files that aren't there, with room for few names. Replies are those of a plain store that has all names.
+mirror, at their paths or behind pipes, among files that aren't there and pipes that break off, with room for few names. Replies are those
+of a plain store that has all names.
 The last are runs that pull, drawn by random_pulls.py, where the program knows how. What each run leaves is written anew
 and bundled by random_anew.py, where the program knows how.
 """
@@ -17,6 +18,7 @@ from pathlib import Path
 import plain_store
 import random_anew
 import random_pulls
+from pipe_peers import Peers
 from random_lines import Lines
 
 PLAIN = Path(__file__).with_name("plain_store.py")
@@ -70,15 +72,24 @@ def clone_run(program, draw, folder):
     bundle = random_anew.bundled(program, there, ()) if random_anew.is_known and draw.random() < 0.4 else None
     mirrors = [f"bundle:{bundle}" if bundle else str(there)] + [str(Path(folder, "missing"))] * draw.choice([0, 0, 1, 2])
     draw.shuffle(mirrors)
-    command = [program, str(here), *mirrors, "--", "run", "--cache", str(draw.choice([1, 2, 5, 1000]))]
+    cache, broken = str(draw.choice([1, 2, 5, 1000])), draw.random() < 0.3
+    if broken:
+        mirrors.insert(0, str(there))
+
+    def ran(text):
+        """A run beside the mirrors, of which some are behind pipes; and the first, where one is to break off."""
+        with Peers(program, draw, folder, mirrors) as peers:
+            words = [peers.put_broken(there), *peers.words[1:]] if broken else peers.words
+            return subprocess.run([program, here, *words, "--", "run", "--cache", cache], input=text.encode(), capture_output=True, timeout=600)
+
     text = "".join(line + "\n" for line in lines)
-    done = subprocess.run(command, input=text.encode(), capture_output=True, timeout=600)
+    done = ran(text)
     store = plain_store.Store(b"", plain_store.LIMITS, map(plain_store.mirror_of, mirrors))
     told = [reply for line in lines if line and not line.startswith("#") for reply in store.line(line)]
     wanted = "".join(line + "\n" for line in told)
     if (done.returncode, done.stdout.decode(), here.read_bytes()) != (0, wanted, store.log()):
         return 0, (text, done.stdout.decode(), wanted, "the logs are the same\n" * (here.read_bytes() == store.log()))
-    again = subprocess.run(command, input=b"0 query all\n", capture_output=True, timeout=600).stdout.decode()
+    again = ran("0 query all\n").stdout.decode()
     end = store.worlds[-1].down()
     wanted = "".join(line + "\n" for line in [*end, f"ok {len(end)}"])
     if again != wanted:

@@ -1,6 +1,7 @@
 //! What is asked of mirrors, and what is refused: runs of lines over the log of a clone.
 
 use crate::cloned::{Beside, cloned_disk, mirrors};
+use crate::reached::Reach;
 use dag_run::{Limits, run_lines};
 use disk_memory::MemoryDisk;
 use line_io::{MemorySink, MemorySource};
@@ -180,18 +181,32 @@ fn run_over(
     run(alloc, &mut disk, mirrors, lines, output)
 }
 
-/// The same beside the mirrors of a case.
-fn run_case(alloc: Global, case: &Case, output: &mut MemorySink) -> Result<bool, AllocError> {
+/// The same beside the mirrors of a case, reached so.
+fn run_case(
+    alloc: Global,
+    case: &Case,
+    reach: Reach,
+    output: &mut MemorySink,
+) -> Result<bool, AllocError> {
     let (beside, lines, _) = case;
-    let mut mirrors = mirrors(alloc, beside)?;
+    let mut mirrors = mirrors(alloc, beside, reach)?;
     run_over(alloc, &mut mirrors, lines, output)
 }
 
-/// Whether the lines of a case are answered so.
-fn is_answered(alloc: Global, case: &Case) -> Result<bool, AllocError> {
+/// Whether the lines of a case are answered so where its mirrors are reached so.
+fn is_answered_by(alloc: Global, case: &Case, reach: Reach) -> Result<bool, AllocError> {
     let mut output = MemorySink::new(alloc, &[])?;
     let (_, _, replies) = case;
-    Ok(run_case(alloc, case, &mut output)? && output.bytes() == replies.as_bytes())
+    Ok(run_case(alloc, case, reach, &mut output)? && output.bytes() == replies.as_bytes())
+}
+
+/// Whether the lines of a case are answered so, at paths and behind pipes.
+fn is_answered(alloc: Global, case: &Case) -> Result<bool, AllocError> {
+    Ok(
+        is_answered_by(alloc, case, Reach::Paths)?
+            && is_answered_by(alloc, case, Reach::Pipes(4096))?
+            && is_answered_by(alloc, case, Reach::Pipes(1))?,
+    )
 }
 
 /// The place of the first case whose lines aren't, if there is one.

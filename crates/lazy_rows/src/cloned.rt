@@ -1,5 +1,6 @@
 //! A log with a clone of four commits, and mirrors of them.
 
+use crate::reached::{Reach, push};
 use commit_graph::{Row, World};
 use disk_memory::MemoryDisk;
 use gated_log::{Committed, Log};
@@ -89,22 +90,28 @@ pub enum Beside {
     Liar(u8, u64),
 }
 
-/// The mirror, if there is one.
-fn boxed(alloc: Global, beside: &Beside) -> Result<Option<Box<dyn Remote>>, AllocError> {
-    let one: Box<dyn Remote> = match beside {
-        Beside::Nobody => return Ok(None),
-        Beside::Honest(fails) => Box::new(alloc, honest(alloc, fails)?)?,
-        Beside::Liar(from, back) => Box::new(alloc, liar(alloc, *from, *back))?,
-    };
-    Ok(Some(one))
+/// Adds the mirror, if there is one.
+fn push_one(
+    alloc: Global,
+    list: &mut Vec<Box<dyn Remote>>,
+    beside: &Beside,
+    reach: Reach,
+) -> Result<(), AllocError> {
+    match beside {
+        Beside::Nobody => Ok(()),
+        Beside::Honest(fails) => push(alloc, list, honest(alloc, fails)?, reach),
+        Beside::Liar(from, back) => push(alloc, list, liar(alloc, *from, *back), reach),
+    }
 }
 
-/// The mirrors.
-pub fn mirrors(alloc: Global, beside: &Beside) -> Result<Mirrors<Box<dyn Remote>>, AllocError> {
+/// The mirrors, reached so.
+pub fn mirrors(
+    alloc: Global,
+    beside: &Beside,
+    reach: Reach,
+) -> Result<Mirrors<Box<dyn Remote>>, AllocError> {
     let mut list: Vec<Box<dyn Remote>> = Vec::new(alloc);
-    if let Some(one) = boxed(alloc, beside)? {
-        list.push(one)?;
-    }
+    push_one(alloc, &mut list, beside, reach)?;
     if list.len() > 1 {
         return Err(AllocError);
     }

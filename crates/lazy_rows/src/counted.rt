@@ -1,6 +1,8 @@
-//! For how many names a mirror is asked, line by line, over the clone of a chain of ten commits. A mirror that may be asked for so many
-//! names and no more tells want of memory then, so the least number with which lines are answered is what they ask for.
+//! For how many names a mirror is asked, line by line, over the clone of a chain of ten commits, at its path and behind a pipe. A mirror
+//! that may be asked for so many names and no more tells want of memory then, and behind a pipe that it failed, so the least number with
+//! which lines are answered is what they ask for.
 
+use crate::reached::{Reach, push};
 use commit_graph::{Row, World};
 use dag_run::{Limits, Report, run_lines};
 use disk_memory::MemoryDisk;
@@ -110,11 +112,16 @@ fn chain_remote(alloc: Global, commits: u8) -> Result<MemoryRemote, AllocError> 
     MemoryRemote::new(alloc, world, &[])
 }
 
-/// That mirror alone, which may be asked for so many names.
-fn alone(alloc: Global, commits: u8, left: u64) -> Result<Mirrors<Box<dyn Remote>>, AllocError> {
+/// That mirror alone, which may be asked for so many names, reached so.
+fn alone(
+    alloc: Global,
+    commits: u8,
+    left: u64,
+    reach: Reach,
+) -> Result<Mirrors<Box<dyn Remote>>, AllocError> {
     let remote = chain_remote(alloc, commits)?;
     let mut list: Vec<Box<dyn Remote>> = Vec::new(alloc);
-    list.push(Box::new(alloc, Sparing { remote, left })?)?;
+    push(alloc, &mut list, Sparing { remote, left }, reach)?;
     if list.len() > 1 {
         return Err(AllocError);
     }
@@ -137,7 +144,7 @@ fn run(
 /// Clones the chain of ten commits to a disk.
 fn clone_to(alloc: Global, disk: &mut MemoryDisk) -> Result<(), AllocError> {
     let mut unheard = MemorySink::new(alloc, &[])?;
-    let mut mirrors = alone(alloc, 10, 0)?;
+    let mut mirrors = alone(alloc, 10, 0, Reach::Paths)?;
     let _report = run(alloc, disk, &mut mirrors, "0 clone\n", &mut unheard)?;
     Ok(())
 }
@@ -263,16 +270,17 @@ fn run_lines_of(
     Ok(report.status == 0 && report.changes.len() == stored_by(rows))
 }
 
-/// The same beside a mirror with so many commits, which may be asked for so many names.
+/// The same beside a mirror with so many commits, which may be asked for so many names, reached so.
 fn run_beside(
     alloc: Global,
     disk: &mut MemoryDisk,
     commits: u8,
     rows: &[Asked],
     left: u64,
+    reach: Reach,
     output: &mut MemorySink,
 ) -> Result<bool, AllocError> {
-    let mut mirrors = alone(alloc, commits, left)?;
+    let mut mirrors = alone(alloc, commits, left, reach)?;
     run_lines_of(alloc, disk, &mut mirrors, rows, output)
 }
 
@@ -282,10 +290,11 @@ fn run_over_clone(
     commits: u8,
     rows: &[Asked],
     left: u64,
+    reach: Reach,
     output: &mut MemorySink,
 ) -> Result<bool, AllocError> {
     let mut disk = cloned(alloc)?;
-    run_beside(alloc, &mut disk, commits, rows, left, output)
+    run_beside(alloc, &mut disk, commits, rows, left, reach, output)
 }
 
 /// Whether these are the replies to the lines.
@@ -295,27 +304,41 @@ fn are_replies(alloc: Global, rows: &[Asked], bytes: &[u8]) -> Result<bool, Allo
 }
 
 /// Whether the lines are answered so over the clone, where the mirror may be asked for so many names, and store so many changes.
-fn are_answered(alloc: Global, commits: u8, rows: &[Asked], left: u64) -> Result<bool, AllocError> {
+fn are_answered(
+    alloc: Global,
+    commits: u8,
+    rows: &[Asked],
+    left: u64,
+    reach: Reach,
+) -> Result<bool, AllocError> {
     let mut output = MemorySink::new(alloc, &[])?;
-    let is_run = run_over_clone(alloc, commits, rows, left, &mut output)?;
+    let is_run = run_over_clone(alloc, commits, rows, left, reach, &mut output)?;
     Ok(is_run && are_replies(alloc, rows, output.bytes())?)
 }
 
 /// Whether the lines ask for as many names as they say: these suffice, and one fewer doesn't.
-fn is_counted(alloc: Global, commits: u8, rows: &[Asked]) -> Result<bool, AllocError> {
+fn is_counted(
+    alloc: Global,
+    commits: u8,
+    rows: &[Asked],
+    reach: Reach,
+) -> Result<bool, AllocError> {
     let asked = asked_by(rows);
-    let suffices = are_answered(alloc, commits, rows, asked)?;
+    let suffices = are_answered(alloc, commits, rows, asked, reach)?;
     if asked == 0 {
         return Ok(suffices);
     }
-    Ok(suffices && !are_answered(alloc, commits, rows, asked - 1)?)
+    Ok(suffices && !are_answered(alloc, commits, rows, asked - 1, reach)?)
 }
 
 /// The first number of lines of a case that ask for another number of names, if there is one.
 fn wrong_count(alloc: Global, case: &Case) -> Result<Option<usize>, AllocError> {
     let (commits, rows) = case;
     for count in 0..rows.len() {
-        if !is_counted(alloc, *commits, &rows[..count + 1])? {
+        let front = &rows[..count + 1];
+        if !is_counted(alloc, *commits, front, Reach::Paths)?
+            || !is_counted(alloc, *commits, front, Reach::Pipes(5))?
+        {
             return Ok(Some(count + 1));
         }
     }

@@ -1,10 +1,13 @@
 //! Hundreds of drawn lines of sixteen sessions over the clone of a drawn log, against the same lines over the log itself, which has
-//! each name: the replies are the same to the byte, whichever mirror answers, and with room for one to five names.
+//! each name: the replies are the same to the byte, whichever mirror answers, at its path or behind a pipe, and with room for one to five
+//! names.
 
 use crate::draws::{Draws, drawn_lines, stored_lines};
+use crate::reached::{Reach, push, push_piped};
 use dag_run::{Limits, run_lines};
 use disk_memory::MemoryDisk;
 use line_io::{MemorySink, MemorySource};
+use link_memory::{Way, Wrong};
 use mirror_set::Mirrors;
 use remote_store::StoreRemote;
 use remote_trait::Remote;
@@ -37,6 +40,20 @@ const BESIDE: [&[Made]; 5] = [
     &[Made::Failing, Made::Whole],
 ];
 
+/// How they are reached behind pipes, by seed.
+const REACHES: [Reach; 10] = [
+    Reach::Pipes(1),
+    Reach::Broken(Wrong::NotPut),
+    Reach::Pipes(4096),
+    Reach::Broken(Wrong::Stops(3)),
+    Reach::Pipes(7),
+    Reach::Broken(Wrong::Longer),
+    Reach::Broken(Wrong::Differs(4)),
+    Reach::Broken(Wrong::Instead(&[0, 0, 0, 0])),
+    Reach::Broken(Wrong::Instead(&[0x40, 0, 0, 1])),
+    Reach::Broken(Wrong::Instead(&[0, 0, 0, 2, 0xff, 1])),
+];
+
 /// A disk with what a mirror is made of.
 fn disk_of(
     alloc: Global,
@@ -52,17 +69,38 @@ fn disk_of(
     }
 }
 
-/// The mirrors that are made of these.
+/// A mirror of this log.
+fn store_of(disk: MemoryDisk) -> StoreRemote<MemoryDisk> {
+    StoreRemote::new(disk, Limits::standard())
+}
+
+/// Adds the mirror that stands before the others, where one does.
+fn push_broken(
+    alloc: Global,
+    list: &mut Vec<Box<dyn Remote>>,
+    reach: Reach,
+    whole: &[u8],
+) -> Result<(), AllocError> {
+    let Reach::Broken(wrong) = reach else {
+        return Ok(());
+    };
+    let disk = disk_of(alloc, Made::Whole, whole, &[])?;
+    push_piped(alloc, list, store_of(disk), Way::broken(4096, 5, wrong))
+}
+
+/// The mirrors that are made of these, reached so.
 fn mirrors_of(
     alloc: Global,
     made: &[Made],
+    reach: Reach,
     whole: &[u8],
     clone: &[u8],
 ) -> Result<Mirrors<Box<dyn Remote>>, AllocError> {
     let mut list: Vec<Box<dyn Remote>> = Vec::new(alloc);
+    push_broken(alloc, &mut list, reach, whole)?;
     for one in made {
         let disk = disk_of(alloc, *one, whole, clone)?;
-        list.push(Box::new(alloc, StoreRemote::new(disk, Limits::standard()))?)?;
+        push(alloc, &mut list, store_of(disk), reach)?;
     }
     if list.len() > 8 {
         return Err(AllocError);
@@ -140,7 +178,7 @@ fn drawn_log(alloc: Global, draws: &mut Draws) -> Result<Vec<u8>, AllocError> {
 
 /// The log of a clone of it.
 fn cloned_log(alloc: Global, whole: &[u8]) -> Result<Vec<u8>, AllocError> {
-    let mut origin = mirrors_of(alloc, &[Made::Whole], whole, &[])?;
+    let mut origin = mirrors_of(alloc, &[Made::Whole], Reach::Paths, whole, &[])?;
     log_behind(alloc, &mut origin, "9 clone\n")
 }
 
@@ -150,21 +188,22 @@ fn said_by_whole(alloc: Global, whole: &[u8], lines: &str) -> Result<Vec<u8>, Al
     said_over(alloc, 1, whole, &mut nobody, lines)
 }
 
-/// The replies to lines over the clone, beside the mirrors and with the room of the seed.
+/// The replies to lines over the clone, beside the mirrors, reached so, and with the room of the seed.
 fn said_by_clone(
     alloc: Global,
     seed: u64,
+    reach: Reach,
     whole: &[u8],
     clone: &[u8],
     lines: &str,
 ) -> Result<Vec<u8>, AllocError> {
     let made = BESIDE[(seed % 5) as usize % BESIDE.len()];
-    let mut beside = mirrors_of(alloc, made, whole, clone)?;
+    let mut beside = mirrors_of(alloc, made, reach, whole, clone)?;
     let room = (seed % 5) as u32 + 1;
     said_over(alloc, room, clone, &mut beside, lines)
 }
 
-/// Whether the lines are answered over the clone as over the log, and long.
+/// Whether the lines are answered over the clone as over the log, its mirrors at paths and behind pipes, and long.
 fn are_same(
     alloc: Global,
     seed: u64,
@@ -173,8 +212,10 @@ fn are_same(
     lines: &str,
 ) -> Result<bool, AllocError> {
     let wanted = said_by_whole(alloc, whole, lines)?;
-    let said = said_by_clone(alloc, seed, whole, clone, lines)?;
-    Ok(wanted.len() > 3000 && said == wanted)
+    let at_paths = said_by_clone(alloc, seed, Reach::Paths, whole, clone, lines)?;
+    let reach = REACHES[(seed % 10) as usize % REACHES.len()];
+    let piped = said_by_clone(alloc, seed, reach, whole, clone, lines)?;
+    Ok(wanted.len() > 3000 && at_paths == wanted && piped == wanted)
 }
 
 /// Whether the lines of the seed are answered over the clone as over the log.

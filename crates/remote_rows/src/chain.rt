@@ -2,7 +2,9 @@
 
 use crate::cloned::{Stored, chain_remote, known, name};
 use crate::counted::{Count, Counted, alone, count_of, forget};
+use crate::reached::behind;
 use lazy_names::{LazyFault, LazyNames};
+use remote_trait::Remote;
 use sample_tables::Sample;
 use segment_codec::SegmentTable;
 use std::alloc::{AllocError, Global};
@@ -63,10 +65,10 @@ fn are_names(fetched: Result<Vec<u8>, LazyFault>, want: &[u8], fails: bool) -> b
 }
 
 /// The first of the names that isn't found as its row says.
-fn not_found<T: SegmentTable>(
+fn not_found<T: SegmentTable, R: Remote>(
     stored: &Stored<'_, T>,
     lazy: &mut LazyNames,
-    mirrors: &mut Vec<Counted>,
+    mirrors: &mut Vec<Counted<R>>,
 ) -> Option<u8> {
     for (last, want, asks) in &FINDS {
         forget(mirrors);
@@ -83,10 +85,10 @@ fn not_found<T: SegmentTable>(
 }
 
 /// Whether these ids are fetched so, which asks so much.
-fn is_fetched<T: SegmentTable>(
+fn is_fetched<T: SegmentTable, R: Remote>(
     stored: &Stored<'_, T>,
     lazy: &mut LazyNames,
-    mirrors: &mut Vec<Counted>,
+    mirrors: &mut Vec<Counted<R>>,
     numbers: &[u64],
     want: &[u8],
     fails: bool,
@@ -98,10 +100,10 @@ fn is_fetched<T: SegmentTable>(
 }
 
 /// The number of the first row whose ids aren't fetched as it says.
-fn not_fetched<T: SegmentTable>(
+fn not_fetched<T: SegmentTable, R: Remote>(
     stored: &Stored<'_, T>,
     lazy: &mut LazyNames,
-    mirrors: &mut Vec<Counted>,
+    mirrors: &mut Vec<Counted<R>>,
 ) -> Option<u64> {
     let mut row = 0u64;
     for (numbers, want, fails, calls, names) in &FETCHES {
@@ -117,20 +119,31 @@ fn not_fetched<T: SegmentTable>(
     None
 }
 
-/// The first name that isn't found, and the first row that isn't fetched, as they should be.
-fn first_wrong<T: SegmentTable>(
+/// What is wrong: the first name that isn't found, and the first row that isn't fetched, as they should be.
+type Wrong = (Option<u8>, Option<u64>);
+
+/// What is wrong where this mirror is asked.
+fn wrong_beside<T: SegmentTable, R: Remote>(
     stored: &Stored<'_, T>,
-) -> Result<(Option<u8>, Option<u64>), AllocError> {
-    let alloc = stored.alloc;
-    let mut mirrors = alone(alloc, chain_remote(alloc, &CHAIN, &[7])?)?;
-    let mut lazy = LazyNames::new(alloc, 4)?;
+    mirror: R,
+) -> Result<Wrong, AllocError> {
+    let mut mirrors = alone(stored.alloc, mirror)?;
+    let mut lazy = LazyNames::new(stored.alloc, 4)?;
     let name = not_found(stored, &mut lazy, &mut mirrors);
     let row = not_fetched(stored, &mut lazy, &mut mirrors);
     Ok((name, row))
 }
 
-/// The first name and the first row over the clone that aren't as they should be.
-fn first_wrong_of_clone(alloc: Global) -> Result<(Option<u8>, Option<u64>), AllocError> {
+/// What is wrong where the chain's mirror is asked at its path, and behind a pipe.
+fn first_wrong<T: SegmentTable>(stored: &Stored<'_, T>) -> Result<(Wrong, Wrong), AllocError> {
+    let alloc = stored.alloc;
+    let at_path = wrong_beside(stored, chain_remote(alloc, &CHAIN, &[7])?)?;
+    let piped = behind(alloc, chain_remote(alloc, &CHAIN, &[7])?);
+    Ok((at_path, wrong_beside(stored, piped)?))
+}
+
+/// The same over the clone.
+fn first_wrong_of_clone(alloc: Global) -> Result<(Wrong, Wrong), AllocError> {
     let known = known(alloc, &CLONE).ok_or(AllocError)?;
     let sample = table(alloc)?;
     let view = sample.view(sample.count());
@@ -148,6 +161,6 @@ fn first_wrong_of_clone(alloc: Global) -> Result<(Option<u8>, Option<u64>), Allo
 #[test]
 fn names_are_found_and_fetched(rt: HostRuntime) -> Result<(), Fail> {
     let wrong = first_wrong_of_clone(rt.alloc())?;
-    assert_eq!(rt; wrong, (None, None));
+    assert_eq!(rt; wrong, ((None, None), (None, None)));
     Ok(())
 }

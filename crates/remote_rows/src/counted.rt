@@ -1,7 +1,6 @@
-//! A mirror in memory that counts what it is asked.
+//! A mirror that counts what it is asked.
 
 use id_groups::Name;
-use remote_memory::MemoryRemote;
 use remote_trait::{CloneData, Path, Remote, RemoteFault};
 use std::alloc::{AllocError, Global};
 
@@ -25,15 +24,15 @@ impl Count {
     }
 }
 
-/// A mirror in memory, and what it was asked.
+/// A mirror, and what it was asked.
 #[derive(Drop)]
-pub struct Counted {
-    remote: MemoryRemote,
+pub struct Counted<R: Remote> {
+    remote: R,
     count: Count,
 }
 
 /// This mirror alone, which wasn't asked yet.
-pub fn alone(alloc: Global, remote: MemoryRemote) -> Result<Vec<Counted>, AllocError> {
+pub fn alone<R: Remote>(alloc: Global, remote: R) -> Result<Vec<Counted<R>>, AllocError> {
     let mut mirrors = Vec::new(alloc);
     let count = Count::NONE;
     mirrors.push(Counted { remote, count })?;
@@ -41,7 +40,7 @@ pub fn alone(alloc: Global, remote: MemoryRemote) -> Result<Vec<Counted>, AllocE
 }
 
 /// What these mirrors were asked since the count began, taken together.
-pub fn count_of(mirrors: &[Counted]) -> Count {
+pub fn count_of<R: Remote>(mirrors: &[Counted<R>]) -> Count {
     let mut count = Count::NONE;
     for mirror in mirrors {
         count = count.and(mirror.count);
@@ -50,16 +49,14 @@ pub fn count_of(mirrors: &[Counted]) -> Count {
 }
 
 /// Begins the count anew.
-pub fn forget(mirrors: &mut [Counted]) {
+pub fn forget<R: Remote>(mirrors: &mut [Counted<R>]) {
     for mirror in mirrors {
         mirror.count = Count::NONE;
     }
 }
 
-impl Remote for Counted {
-    ghost use Rattle.remote_memory.specs.Memory.{mirror_of};
-
-    ghost shown = { λ r. mirror_of r.remote };
+impl<R: Remote> Remote for Counted<R> {
+    ghost shown = { λ r. R.shown r.remote };
 
     fn refresh(&mut self, alloc: Global) -> Result<(), RemoteFault> {
         self.remote.refresh(alloc)

@@ -23,4 +23,6 @@ mod plain;
 #[cfg(test)]
 mod pulls;
 #[cfg(test)]
+mod reached;
+#[cfg(test)]
 mod worlds;

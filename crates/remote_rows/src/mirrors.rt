@@ -1,6 +1,7 @@
 //! Three mirrors, of which any may fail at their next call, asked in each of the three ways.
 
 use crate::cloned::{chain_remote, name};
+use crate::reached::push;
 use mirror_set::{MirrorFault, Mirrors};
 use remote_trait::Remote;
 use std::alloc::{AllocError, Global};
@@ -24,25 +25,29 @@ enum Way {
 /// Each way.
 const WAYS: [Way; 3] = [Way::Names, Way::Path, Way::Clone];
 
-/// Adds a mirror of the chain, which fails at its first call if it is marked.
+/// Adds a mirror of the chain, at its path or behind a pipe, which fails at its first call if it is marked.
 fn push_mirror(
     alloc: Global,
     list: &mut Vec<Box<dyn Remote>>,
     chain: &[u8],
     marked: bool,
+    is_piped: bool,
 ) -> Result<(), AllocError> {
     let calls: &[u64] = if marked { &[1] } else { &[] };
     let mirror = chain_remote(alloc, chain, calls)?;
-    list.push(Box::new(alloc, mirror)?)?;
-    Ok(())
+    push(alloc, list, mirror, is_piped)
 }
 
-/// The three mirrors. Those that are marked fail at their first call.
-fn three(alloc: Global, marked: [bool; 3]) -> Result<Mirrors<Box<dyn Remote>>, AllocError> {
+/// The three mirrors, at their paths or behind pipes. Those that are marked fail at their first call.
+fn three(
+    alloc: Global,
+    marked: [bool; 3],
+    are_piped: bool,
+) -> Result<Mirrors<Box<dyn Remote>>, AllocError> {
     let mut list: Vec<Box<dyn Remote>> = Vec::new(alloc);
-    push_mirror(alloc, &mut list, CHAINS[0], marked[0])?;
-    push_mirror(alloc, &mut list, CHAINS[1], marked[1])?;
-    push_mirror(alloc, &mut list, CHAINS[2], marked[2])?;
+    push_mirror(alloc, &mut list, CHAINS[0], marked[0], are_piped)?;
+    push_mirror(alloc, &mut list, CHAINS[1], marked[1], are_piped)?;
+    push_mirror(alloc, &mut list, CHAINS[2], marked[2], are_piped)?;
     if list.len() > 3 {
         return Err(AllocError);
     }
@@ -103,10 +108,11 @@ fn are_turns(
 fn turns_hold(
     alloc: Global,
     marked: [bool; 3],
+    are_piped: bool,
     way: Way,
     want: &Turns,
 ) -> Result<bool, AllocError> {
-    let mut mirrors = three(alloc, marked)?;
+    let mut mirrors = three(alloc, marked, are_piped)?;
     Ok(
         are_turns(alloc, &mut mirrors, way, want)
             && answer(alloc, &mut mirrors, way) == Err(MirrorFault::NoRemote),
@@ -135,10 +141,12 @@ const PATTERNS: [([bool; 3], Turns); 8] = [
     ),
 ];
 
-/// The first pattern that comes to something else when the mirrors are asked this way.
+/// The first pattern that comes to something else when the mirrors are asked this way, at their paths or behind pipes.
 fn wrong_pattern(alloc: Global, way: Way) -> Result<Option<[bool; 3]>, AllocError> {
     for (marked, want) in &PATTERNS {
-        if !turns_hold(alloc, *marked, way, want)? {
+        if !turns_hold(alloc, *marked, false, way, want)?
+            || !turns_hold(alloc, *marked, true, way, want)?
+        {
             return Ok(Some(*marked));
         }
     }

@@ -4,8 +4,10 @@ use crate::broken::{fork_data, given_of};
 use crate::cloned::{name, remote_of, world_of};
 use crate::counted::{Count, Counted, alone, count_of, forget};
 use crate::drawn::{draw_world, last_of, merge};
+use crate::reached::{Piped, behind, push};
 use commit_graph::{Row, World};
 use mirror_set::{Fresh, FreshFault, FreshNames, Mirrors, ask_fresh};
+use remote_memory::MemoryRemote;
 use remote_trait::{CloneData, FixedRemote, Remote};
 use std::alloc::{AllocError, Global};
 use std::test::Fail;
@@ -74,9 +76,9 @@ const PULLS: [(u64, &[u8], u64); 9] = [
 ];
 
 /// Whether a pull gives these names, in so many calls for as many names.
-fn is_pulled(
+fn is_pulled<R: Remote>(
     alloc: Global,
-    mirrors: &mut Vec<Counted>,
+    mirrors: &mut Vec<Counted<R>>,
     from: u64,
     want: &[u8],
     calls: u64,
@@ -97,10 +99,9 @@ fn is_pulled(
     }
 }
 
-/// The first id from which on something else is pulled.
-fn wrong_pull(alloc: Global) -> Result<Option<u64>, AllocError> {
-    let world = fork(alloc, 9)?;
-    let mut mirrors = alone(alloc, remote_of(alloc, world, &[])?)?;
+/// The first id from which on something else is pulled from this mirror.
+fn wrong_pull_from<R: Remote>(alloc: Global, mirror: R) -> Result<Option<u64>, AllocError> {
+    let mut mirrors = alone(alloc, mirror)?;
     for (from, want, calls) in &PULLS {
         if !is_pulled(alloc, &mut mirrors, *from, want, *calls) {
             return Ok(Some(*from));
@@ -109,9 +110,22 @@ fn wrong_pull(alloc: Global) -> Result<Option<u64>, AllocError> {
     Ok(None)
 }
 
+/// A mirror of the fork's first rows, so many, which fails at this call, 0 where it never does.
+fn fork_mirror(alloc: Global, commits: usize, fails: u64) -> Result<MemoryRemote, AllocError> {
+    let world = fork(alloc, commits)?;
+    remote_of(alloc, world, &[fails])
+}
+
+/// The first id from which on something else is pulled from the fork's mirror at its path, and behind a pipe.
+fn wrong_pulls(alloc: Global) -> Result<(Option<u64>, Option<u64>), AllocError> {
+    let at_path = wrong_pull_from(alloc, fork_mirror(alloc, 9, 0)?)?;
+    let piped = behind(alloc, fork_mirror(alloc, 9, 0)?);
+    Ok((at_path, wrong_pull_from(alloc, piped)?))
+}
+
 #[test]
 fn the_names_from_an_id_on_come(rt: HostRuntime) -> Result<(), Fail> {
-    assert_eq!(rt; wrong_pull(rt.alloc())?, None);
+    assert_eq!(rt; wrong_pulls(rt.alloc())?, (None, None));
     Ok(())
 }
 
@@ -143,25 +157,28 @@ const MORE_FAIL: [Failing; 5] = [
     ([0, 1, 4], [Ok(9), Err(FreshFault::AllFailed(2)), Ok(7)]),
 ];
 
-/// Adds a mirror of the fork's first rows, so many, which fails at this call.
+/// Adds a mirror of the fork's first rows, at its path or behind a pipe, which fails at this call.
 fn push_mirror(
     alloc: Global,
     list: &mut Vec<Box<dyn Remote>>,
     commits: usize,
     fails: u64,
+    is_piped: bool,
 ) -> Result<(), AllocError> {
-    let world = fork(alloc, commits)?;
-    let mirror = remote_of(alloc, world, &[fails])?;
-    list.push(Box::new(alloc, mirror)?)?;
-    Ok(())
+    let mirror = fork_mirror(alloc, commits, fails)?;
+    push(alloc, list, mirror, is_piped)
 }
 
-/// The three mirrors.
-fn three(alloc: Global, fails: [u64; 3]) -> Result<Mirrors<Box<dyn Remote>>, AllocError> {
+/// The three mirrors, at their paths or behind pipes.
+fn three(
+    alloc: Global,
+    fails: [u64; 3],
+    are_piped: bool,
+) -> Result<Mirrors<Box<dyn Remote>>, AllocError> {
     let mut list: Vec<Box<dyn Remote>> = Vec::new(alloc);
-    push_mirror(alloc, &mut list, 9, fails[0])?;
-    push_mirror(alloc, &mut list, 8, fails[1])?;
-    push_mirror(alloc, &mut list, 7, fails[2])?;
+    push_mirror(alloc, &mut list, 9, fails[0], are_piped)?;
+    push_mirror(alloc, &mut list, 8, fails[1], are_piped)?;
+    push_mirror(alloc, &mut list, 7, fails[2], are_piped)?;
     if list.len() > 3 {
         return Err(AllocError);
     }
@@ -191,11 +208,12 @@ fn are_pulled(
     brought(alloc, mirrors) == Err(FreshFault::NoRemote)
 }
 
-/// Whether three pulls from mirrors that fail at these calls come to this.
+/// Whether three pulls from mirrors that fail at these calls come to this, at their paths and behind pipes.
 fn failing_holds(alloc: Global, row: &Failing) -> Result<bool, AllocError> {
     let (fails, want) = row;
-    let mut mirrors = three(alloc, *fails)?;
-    Ok(are_pulled(alloc, &mut mirrors, want))
+    let mut at_paths = three(alloc, *fails, false)?;
+    let mut piped = three(alloc, *fails, true)?;
+    Ok(are_pulled(alloc, &mut at_paths, want) && are_pulled(alloc, &mut piped, want))
 }
 
 /// The number of the first row that comes to something else.
@@ -246,30 +264,36 @@ const FEW: [(u64, usize, Result<u32, FreshFault>); 8] = [
     (8, 0, Ok(0)),
 ];
 
-/// Adds a mirror with these clone data, which gives so many names at most.
-fn push_liar(
-    alloc: Global,
-    mirrors: &mut Vec<FixedRemote>,
-    given: CloneData,
-    most: usize,
-) -> Result<(), AllocError> {
+/// A mirror with these clone data, which gives so many names at most.
+fn liar_of(alloc: Global, given: CloneData, most: usize) -> Result<FixedRemote, AllocError> {
     let names = vec![in alloc; name(0x33); most.min(16)]?;
-    mirrors.push(FixedRemote::new(given, None, names))?;
-    Ok(())
+    Ok(FixedRemote::new(given, None, names))
 }
 
 /// A mirror with these clone data, which gives so many names at most, and behind it one of the fork that gives all.
 fn liars(alloc: Global, given: CloneData, most: usize) -> Result<Vec<FixedRemote>, AllocError> {
     let mut mirrors = Vec::new(alloc);
-    push_liar(alloc, &mut mirrors, given, most)?;
-    push_liar(alloc, &mut mirrors, fork_data(alloc)?, 16)?;
+    mirrors.push(liar_of(alloc, given, most)?)?;
+    mirrors.push(liar_of(alloc, fork_data(alloc)?, 16)?)?;
+    Ok(mirrors)
+}
+
+/// The same, each behind a pipe.
+fn liars_behind(
+    alloc: Global,
+    given: CloneData,
+    most: usize,
+) -> Result<Vec<Piped<FixedRemote>>, AllocError> {
+    let mut mirrors = Vec::new(alloc);
+    mirrors.push(behind(alloc, liar_of(alloc, given, most)?))?;
+    mirrors.push(behind(alloc, liar_of(alloc, fork_data(alloc)?, 16)?))?;
     Ok(mirrors)
 }
 
 /// How many names a pull from this id on brings.
-fn brought_from(
+fn brought_from<R: Remote>(
     alloc: Global,
-    mirrors: &mut Vec<FixedRemote>,
+    mirrors: &mut Vec<R>,
     from: u64,
 ) -> Result<u32, FreshFault> {
     if mirrors.len() > 16 {
@@ -279,12 +303,35 @@ fn brought_from(
     Ok(fresh.names.len())
 }
 
+/// How many names a pull from this id on brings, from such mirrors.
+fn brought_by(
+    alloc: Global,
+    given: CloneData,
+    from: u64,
+    most: usize,
+) -> Result<Result<u32, FreshFault>, AllocError> {
+    let mut mirrors = liars(alloc, given, most)?;
+    Ok(brought_from(alloc, &mut mirrors, from))
+}
+
+/// The same behind pipes.
+fn brought_behind(
+    alloc: Global,
+    given: CloneData,
+    from: u64,
+    most: usize,
+) -> Result<Result<u32, FreshFault>, AllocError> {
+    let mut mirrors = liars_behind(alloc, given, most)?;
+    Ok(brought_from(alloc, &mut mirrors, from))
+}
+
 /// The number of the first row of too few names that comes to something else.
 fn wrong_few(alloc: Global) -> Result<Option<u64>, AllocError> {
     let mut number = 0u64;
     for (from, most, want) in &FEW {
-        let mut mirrors = liars(alloc, fork_data(alloc)?, *most)?;
-        if brought_from(alloc, &mut mirrors, *from) != *want {
+        let at_paths = brought_by(alloc, fork_data(alloc)?, *from, *most)?;
+        let piped = brought_behind(alloc, fork_data(alloc)?, *from, *most)?;
+        if at_paths != *want || piped != *want {
             return Ok(Some(number));
         }
         number = number.wrapping_add(1);
@@ -292,10 +339,14 @@ fn wrong_few(alloc: Global) -> Result<Option<u64>, AllocError> {
     Ok(None)
 }
 
-/// The number of the item by which a pull of no names is refused from a mirror with these clone data, and another one behind it.
+/// The number of the item by which a pull of no names is refused from a mirror with these clone data, and another one behind it, at paths
+/// and behind pipes.
 pub fn refusal_of(alloc: Global, given: CloneData) -> Result<Option<u64>, AllocError> {
-    let mut mirrors = liars(alloc, given, 0)?;
-    match brought_from(alloc, &mut mirrors, u64::MAX) {
+    let piped = brought_behind(alloc, given.copied(alloc)?, u64::MAX, 0)?;
+    if brought_by(alloc, given, u64::MAX, 0)? != piped {
+        return Err(AllocError);
+    }
+    match piped {
         Ok(0) => Ok(None),
         Err(FreshFault::BadClone(at)) => Ok(Some(at)),
         _ => Err(AllocError),
@@ -365,7 +416,12 @@ fn is_right(fresh: &Fresh, from: u64, commits: u64, asked: Count) -> bool {
 }
 
 /// Whether a pull from this id on is right.
-fn drawn_pull_holds(alloc: Global, mirrors: &mut Vec<Counted>, from: u64, commits: u64) -> bool {
+fn drawn_pull_holds<R: Remote>(
+    alloc: Global,
+    mirrors: &mut Vec<Counted<R>>,
+    from: u64,
+    commits: u64,
+) -> bool {
     if mirrors.len() > 16 {
         return false;
     }
@@ -376,16 +432,28 @@ fn drawn_pull_holds(alloc: Global, mirrors: &mut Vec<Counted>, from: u64, commit
     }
 }
 
-/// Whether pulls from each id of a drawn world on are right.
-fn drawn_holds(alloc: Global, start: u64, commits: u64) -> Result<bool, AllocError> {
-    let world = draw_world(alloc, start, commits)?;
-    let mut mirrors = alone(alloc, remote_of(alloc, world, &[])?)?;
+/// Whether pulls from each id of a drawn world on are right, of this mirror.
+fn drawn_from<R: Remote>(alloc: Global, mirror: R, commits: u64) -> Result<bool, AllocError> {
+    let mut mirrors = alone(alloc, mirror)?;
     for from in 0..14 {
         if !drawn_pull_holds(alloc, &mut mirrors, from, commits) {
             return Ok(false);
         }
     }
     Ok(true)
+}
+
+/// A mirror of a drawn world.
+fn drawn_mirror(alloc: Global, start: u64, commits: u64) -> Result<MemoryRemote, AllocError> {
+    let world = draw_world(alloc, start, commits)?;
+    remote_of(alloc, world, &[])
+}
+
+/// Whether pulls from each id of a drawn world on are right, of its mirror at its path, and behind a pipe.
+fn drawn_holds(alloc: Global, start: u64, commits: u64) -> Result<bool, AllocError> {
+    let at_path = drawn_mirror(alloc, start, commits)?;
+    let piped = behind(alloc, drawn_mirror(alloc, start, commits)?);
+    Ok(drawn_from(alloc, at_path, commits)? && drawn_from(alloc, piped, commits)?)
 }
 
 #[test]

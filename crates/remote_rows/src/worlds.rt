@@ -4,6 +4,7 @@ use crate::cloned::{Stored, known, remote_of};
 use crate::counted::{Count, Counted, alone, count_of, forget};
 use crate::drawn::{ABSENT, Draws, draw_world, last_of, payload_of, table_of};
 use crate::plain::{Kept, are_names, fetch_due, find_due, is_whole, lazy_ids};
+use crate::reached::behind;
 use lazy_names::LazyNames;
 use remote_memory::MemoryRemote;
 use remote_trait::{CloneData, Remote};
@@ -13,15 +14,15 @@ use std::test::Fail;
 
 /// What finds and fetches in turn change: the mirrors, the cache, and what it should have.
 #[derive(Drop)]
-struct Run {
-    mirrors: Vec<Counted>,
+struct Run<R: Remote> {
+    mirrors: Vec<Counted<R>>,
     lazy: LazyNames,
     kept: Kept,
 }
 
-impl Run {
+impl<R: Remote> Run<R> {
     /// This mirror alone, and room for so many names.
-    fn new(alloc: Global, mirror: MemoryRemote, room: u32) -> Result<Run, AllocError> {
+    fn new(alloc: Global, mirror: R, room: u32) -> Result<Run<R>, AllocError> {
         Ok(Run {
             mirrors: alone(alloc, mirror)?,
             lazy: LazyNames::new(alloc, room.max(1))?,
@@ -55,10 +56,10 @@ impl Drawn {
 }
 
 /// Whether the id of a name is found, and the mirror asked just where the name isn't stored.
-fn is_found<T: SegmentTable>(
+fn is_found<T: SegmentTable, R: Remote>(
     stored: &Stored<'_, T>,
     given: &CloneData,
-    run: &mut Run,
+    run: &mut Run<R>,
     id: u64,
 ) -> Result<bool, AllocError> {
     let due = find_due(given, id);
@@ -71,10 +72,10 @@ fn is_found<T: SegmentTable>(
 }
 
 /// Whether a name that the world hasn't isn't found, and the mirror asked just where some name isn't stored.
-fn is_missed<T: SegmentTable>(
+fn is_missed<T: SegmentTable, R: Remote>(
     stored: &Stored<'_, T>,
     given: &CloneData,
-    run: &mut Run,
+    run: &mut Run<R>,
     commits: u64,
 ) -> bool {
     let asks = if is_whole(given, commits) { 0 } else { 1 };
@@ -89,9 +90,9 @@ fn is_missed<T: SegmentTable>(
 }
 
 /// Whether a fetch of the ids gives the names of these.
-fn gives<T: SegmentTable>(
+fn gives<T: SegmentTable, R: Remote>(
     stored: &Stored<'_, T>,
-    run: &mut Run,
+    run: &mut Run<R>,
     ids: &[u64],
     lazy: &[u64],
 ) -> bool {
@@ -103,10 +104,10 @@ fn gives<T: SegmentTable>(
 
 /// Whether the names come of those of the ids, the greatest first, that aren't stored, and the mirror is asked just for those that
 /// aren't kept.
-fn is_fetched<T: SegmentTable>(
+fn is_fetched<T: SegmentTable, R: Remote>(
     stored: &Stored<'_, T>,
     given: &CloneData,
-    run: &mut Run,
+    run: &mut Run<R>,
     ids: &[u64],
 ) -> Result<bool, AllocError> {
     let lazy = lazy_ids(stored.alloc, given, ids)?;
@@ -118,10 +119,10 @@ fn is_fetched<T: SegmentTable>(
 }
 
 /// Whether each name is found, and one that the world hasn't isn't.
-fn finds_hold<T: SegmentTable>(
+fn finds_hold<T: SegmentTable, R: Remote>(
     stored: &Stored<'_, T>,
     given: &CloneData,
-    run: &mut Run,
+    run: &mut Run<R>,
     commits: u64,
 ) -> Result<bool, AllocError> {
     for id in 0..commits {
@@ -133,10 +134,10 @@ fn finds_hold<T: SegmentTable>(
 }
 
 /// Whether each id is fetched alone, and once more.
-fn fetches_hold<T: SegmentTable>(
+fn fetches_hold<T: SegmentTable, R: Remote>(
     stored: &Stored<'_, T>,
     given: &CloneData,
-    run: &mut Run,
+    run: &mut Run<R>,
     commits: u64,
 ) -> Result<bool, AllocError> {
     for id in 0..commits {
@@ -169,10 +170,10 @@ fn draw_ids(
 }
 
 /// Whether a set of ids is fetched, and a name found behind it.
-fn set_holds<T: SegmentTable>(
+fn set_holds<T: SegmentTable, R: Remote>(
     stored: &Stored<'_, T>,
     given: &CloneData,
-    run: &mut Run,
+    run: &mut Run<R>,
     ids: &[u64],
     found: u64,
 ) -> Result<bool, AllocError> {
@@ -180,10 +181,10 @@ fn set_holds<T: SegmentTable>(
 }
 
 /// Whether sets of ids that are drawn are fetched, and a name is found behind each.
-fn sets_hold<T: SegmentTable>(
+fn sets_hold<T: SegmentTable, R: Remote>(
     stored: &Stored<'_, T>,
     given: &CloneData,
-    run: &mut Run,
+    run: &mut Run<R>,
     drawn: Drawn,
 ) -> Result<bool, AllocError> {
     let mut draws = Draws::of(drawn.start);
@@ -198,10 +199,10 @@ fn sets_hold<T: SegmentTable>(
 }
 
 /// Whether each name is found, and each id and the sets are fetched.
-fn all_hold<T: SegmentTable>(
+fn all_hold<T: SegmentTable, R: Remote>(
     stored: &Stored<'_, T>,
     given: &CloneData,
-    run: &mut Run,
+    run: &mut Run<R>,
     drawn: Drawn,
 ) -> Result<bool, AllocError> {
     Ok(
@@ -211,16 +212,17 @@ fn all_hold<T: SegmentTable>(
     )
 }
 
-/// Whether all holds with one cache for so many names.
+/// Whether all holds with one cache for so many names, where the mirror is asked at its path, and behind a pipe.
 fn run_holds<T: SegmentTable>(
     stored: &Stored<'_, T>,
     given: &CloneData,
     drawn: Drawn,
     room: u32,
 ) -> Result<bool, AllocError> {
-    let mirror = drawn.mirror(stored.alloc)?;
-    let mut run = Run::new(stored.alloc, mirror, room)?;
-    all_hold(stored, given, &mut run, drawn)
+    let alloc = stored.alloc;
+    let mut at_path = Run::new(alloc, drawn.mirror(alloc)?, room)?;
+    let mut piped = Run::new(alloc, behind(alloc, drawn.mirror(alloc)?), room)?;
+    Ok(all_hold(stored, given, &mut at_path, drawn)? && all_hold(stored, given, &mut piped, drawn)?)
 }
 
 /// Whether all holds with caches for one to five names.

@@ -2,6 +2,7 @@
 
 use crate::logs::drawn::{Draws, draw_rows, memory_of, name_of};
 use crate::logs::written::{Versions, log_of};
+use crate::reached::behind;
 use commit_graph::Row;
 use disk_memory::MemoryDisk;
 use id_groups::Name;
@@ -55,7 +56,7 @@ fn same_names(a: &CloneData, b: &CloneData) -> bool {
 }
 
 /// Whether both give the same clone data.
-fn same_clone(alloc: Global, store: &mut Store, memory: &mut MemoryRemote) -> bool {
+fn same_clone<S: Remote>(alloc: Global, store: &mut S, memory: &mut MemoryRemote) -> bool {
     let Ok(a) = store.clone_data(alloc) else {
         return false;
     };
@@ -66,9 +67,9 @@ fn same_clone(alloc: Global, store: &mut Store, memory: &mut MemoryRemote) -> bo
 }
 
 /// Whether both give the same names.
-fn same_line(
+fn same_line<S: Remote>(
     alloc: Global,
-    store: &mut Store,
+    store: &mut S,
     memory: &mut MemoryRemote,
     x: u64,
     back: u64,
@@ -113,9 +114,9 @@ fn is_known(
 }
 
 /// Whether the path is right where there has to be one, and none where there is none.
-fn right_path(
+fn right_path<S: Remote>(
     alloc: Global,
-    store: &mut Store,
+    store: &mut S,
     memory: &mut MemoryRemote,
     rows: &[Row],
     heads: &[Name],
@@ -133,9 +134,9 @@ fn right_path(
 }
 
 /// Whether names are the same for drawn questions.
-fn same_lines(
+fn same_lines<S: Remote>(
     alloc: Global,
-    store: &mut Store,
+    store: &mut S,
     memory: &mut MemoryRemote,
     draws: &mut Draws,
 ) -> bool {
@@ -150,9 +151,9 @@ fn same_lines(
 }
 
 /// Whether paths are right for two drawn heads, one of which may not be there, to each commit and one that isn't there.
-fn right_paths(
+fn right_paths<S: Remote>(
     alloc: Global,
-    store: &mut Store,
+    store: &mut S,
     memory: &mut MemoryRemote,
     rows: &[Row],
     draws: &mut Draws,
@@ -169,9 +170,9 @@ fn right_paths(
 }
 
 /// Whether both answer the same, where the rows are these.
-fn same_answers(
+fn same_answers<S: Remote>(
     alloc: Global,
-    store: &mut Store,
+    store: &mut S,
     memory: &mut MemoryRemote,
     rows: &[Row],
     start: u64,
@@ -183,9 +184,9 @@ fn same_answers(
 }
 
 /// Whether the remote answers as one in memory of so many drawn commits.
-fn answers_as(
+fn answers_as<S: Remote>(
     alloc: Global,
-    store: &mut Store,
+    store: &mut S,
     start: u64,
     commits: u64,
     rows: &[Row],
@@ -194,11 +195,16 @@ fn answers_as(
     Ok(same_answers(alloc, store, &mut memory, rows, start))
 }
 
-/// Whether a log of so many drawn commits, of which these are the rows, answers as they do.
+/// Whether a log of so many drawn commits, of which these are the rows, answers as they do, at its path and behind a pipe.
 fn log_answers(alloc: Global, start: u64, commits: u64, rows: &[Row]) -> Result<bool, AllocError> {
     let mut draws = Draws { state: start };
-    let mut store = store_of(alloc, start, draws.below(commits), commits)?;
-    answers_as(alloc, &mut store, start, commits, rows)
+    let cut = draws.below(commits);
+    let mut store = store_of(alloc, start, cut, commits)?;
+    let mut piped = behind(alloc, store_of(alloc, start, cut, commits)?);
+    Ok(
+        answers_as(alloc, &mut store, start, commits, rows)?
+            && answers_as(alloc, &mut piped, start, commits, rows)?,
+    )
 }
 
 /// Whether a log of so many drawn commits answers as its rows.

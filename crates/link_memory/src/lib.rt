@@ -1,0 +1,11 @@
+#![tactic(auto)]
+
+//! A link in memory, for tests: what is put is served at once, over a remote, and the answers are taken as they are or with something wrong
+//! about one of them.
+
+mod link;
+mod served;
+mod wrong;
+
+pub use link::{MemoryLink, piped};
+pub use wrong::{Way, Wrong};
