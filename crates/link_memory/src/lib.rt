@@ -4,8 +4,10 @@
 //! about one of them.
 
 mod link;
+mod reached;
 mod served;
 mod wrong;
 
 pub use link::{MemoryLink, piped};
+pub use reached::Reached;
 pub use wrong::{Way, Wrong};
