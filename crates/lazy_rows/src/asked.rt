@@ -1,12 +1,12 @@
 //! What is asked of mirrors, and what is refused: runs of lines over the log of a clone.
 
-use crate::cloned::{Beside, cloned_disk, mirrors};
+use crate::cloned::{Beside, alone, cloned_disk, honest, liar};
 use crate::reached::Reach;
 use dag_run::{Limits, run_lines};
 use disk_memory::MemoryDisk;
 use line_io::{MemorySink, MemorySource};
 use mirror_set::Mirrors;
-use remote_trait::Remote;
+use remote_trait::{FixedRemote, Remote};
 use std::alloc::{AllocError, Global};
 
 /// Beside which mirrors lines go, the lines, and what they are answered.
@@ -157,10 +157,10 @@ ok 4 0 0
 const CASES: [Case; 7] = [CASE_1, CASE_2, CASE_3, CASE_4, CASE_5, CASE_6, CASE_7];
 
 /// Answers the lines over the disk beside the mirrors. Whether all were.
-fn run(
+fn run<R: Remote>(
     alloc: Global,
     disk: &mut MemoryDisk,
-    mirrors: &mut Mirrors<Box<dyn Remote>>,
+    mirrors: &mut Mirrors<R>,
     lines: &str,
     output: &mut MemorySink,
 ) -> Result<bool, AllocError> {
@@ -171,14 +171,20 @@ fn run(
 }
 
 /// The same over the clone's log.
-fn run_over(
+fn run_over<R: Remote>(
     alloc: Global,
-    mirrors: &mut Mirrors<Box<dyn Remote>>,
+    mirrors: &mut Mirrors<R>,
     lines: &str,
     output: &mut MemorySink,
 ) -> Result<bool, AllocError> {
     let mut disk = cloned_disk(alloc)?;
     run(alloc, &mut disk, mirrors, lines, output)
+}
+
+/// The same beside no mirrors.
+fn run_alone(alloc: Global, lines: &str, output: &mut MemorySink) -> Result<bool, AllocError> {
+    let mut none: Mirrors<FixedRemote> = Mirrors::new(Vec::new(alloc));
+    run_over(alloc, &mut none, lines, output)
 }
 
 /// The same beside the mirrors of a case, reached so.
@@ -189,8 +195,17 @@ fn run_case(
     output: &mut MemorySink,
 ) -> Result<bool, AllocError> {
     let (beside, lines, _) = case;
-    let mut mirrors = mirrors(alloc, beside, reach)?;
-    run_over(alloc, &mut mirrors, lines, output)
+    match beside {
+        Beside::Nobody => run_alone(alloc, lines, output),
+        Beside::Honest(fails) => {
+            let mut mirrors = alone(alloc, honest(alloc, fails)?, reach)?;
+            run_over(alloc, &mut mirrors, lines, output)
+        }
+        Beside::Liar(from, back) => {
+            let mut mirrors = alone(alloc, liar(alloc, *from, *back), reach)?;
+            run_over(alloc, &mut mirrors, lines, output)
+        }
+    }
 }
 
 /// Whether the lines of a case are answered so where its mirrors are reached so.

@@ -1,10 +1,11 @@
 //! A log with a clone of four commits, and mirrors of them.
 
-use crate::reached::{Reach, push};
+use crate::reached::{Reach, reached};
 use commit_graph::{Row, World};
 use disk_memory::MemoryDisk;
 use gated_log::{Committed, Log};
 use id_groups::Name;
+use link_memory::Reached;
 use mirror_set::Mirrors;
 use remote_memory::MemoryRemote;
 use remote_trait::{CloneData, FixedRemote, Path, Remote};
@@ -62,7 +63,7 @@ fn world(alloc: Global) -> Result<World, AllocError> {
 }
 
 /// A mirror of the clone that fails at these calls.
-fn honest(alloc: Global, fails: &[u64]) -> Result<MemoryRemote, AllocError> {
+pub fn honest(alloc: Global, fails: &[u64]) -> Result<MemoryRemote, AllocError> {
     let world = world(alloc)?;
     if world.master_count() > 4 {
         return Err(AllocError);
@@ -71,7 +72,7 @@ fn honest(alloc: Global, fails: &[u64]) -> Result<MemoryRemote, AllocError> {
 }
 
 /// A mirror that tells this path for each name, and no name.
-fn liar(alloc: Global, from: u8, back: u64) -> FixedRemote {
+pub fn liar(alloc: Global, from: u8, back: u64) -> FixedRemote {
     let path = Path {
         x: name(from),
         n: back,
@@ -90,28 +91,14 @@ pub enum Beside {
     Liar(u8, u64),
 }
 
-/// Adds the mirror, if there is one.
-fn push_one(
+/// The one mirror, reached so.
+pub fn alone<R: Remote>(
     alloc: Global,
-    list: &mut Vec<Box<dyn Remote>>,
-    beside: &Beside,
+    remote: R,
     reach: Reach,
-) -> Result<(), AllocError> {
-    match beside {
-        Beside::Nobody => Ok(()),
-        Beside::Honest(fails) => push(alloc, list, honest(alloc, fails)?, reach),
-        Beside::Liar(from, back) => push(alloc, list, liar(alloc, *from, *back), reach),
-    }
-}
-
-/// The mirrors, reached so.
-pub fn mirrors(
-    alloc: Global,
-    beside: &Beside,
-    reach: Reach,
-) -> Result<Mirrors<Box<dyn Remote>>, AllocError> {
-    let mut list: Vec<Box<dyn Remote>> = Vec::new(alloc);
-    push_one(alloc, &mut list, beside, reach)?;
+) -> Result<Mirrors<Reached<R>>, AllocError> {
+    let mut list = Vec::new(alloc);
+    list.push(reached(alloc, remote, reach))?;
     if list.len() > 1 {
         return Err(AllocError);
     }

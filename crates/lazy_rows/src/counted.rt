@@ -2,12 +2,13 @@
 //! that may be asked for so many names and no more tells want of memory then, and behind a pipe that it failed, so the least number with
 //! which lines are answered is what they ask for.
 
-use crate::reached::{Reach, push};
+use crate::reached::{Reach, reached};
 use commit_graph::{Row, World};
 use dag_run::{Limits, Report, run_lines};
 use disk_memory::MemoryDisk;
 use id_groups::Name;
 use line_io::{MemorySink, MemorySource};
+use link_memory::Reached;
 use mirror_set::Mirrors;
 use remote_memory::MemoryRemote;
 use remote_trait::{CloneData, Path, Remote, RemoteFault};
@@ -118,10 +119,10 @@ fn alone(
     commits: u8,
     left: u64,
     reach: Reach,
-) -> Result<Mirrors<Box<dyn Remote>>, AllocError> {
+) -> Result<Mirrors<Reached<Sparing>>, AllocError> {
     let remote = chain_remote(alloc, commits)?;
-    let mut list: Vec<Box<dyn Remote>> = Vec::new(alloc);
-    push(alloc, &mut list, Sparing { remote, left }, reach)?;
+    let mut list = Vec::new(alloc);
+    list.push(reached(alloc, Sparing { remote, left }, reach))?;
     if list.len() > 1 {
         return Err(AllocError);
     }
@@ -132,7 +133,7 @@ fn alone(
 fn run(
     alloc: Global,
     disk: &mut MemoryDisk,
-    mirrors: &mut Mirrors<Box<dyn Remote>>,
+    mirrors: &mut Mirrors<Reached<Sparing>>,
     lines: &str,
     output: &mut MemorySink,
 ) -> Result<Report, AllocError> {
@@ -261,7 +262,7 @@ fn stored_by(rows: &[Asked]) -> usize {
 fn run_lines_of(
     alloc: Global,
     disk: &mut MemoryDisk,
-    mirrors: &mut Mirrors<Box<dyn Remote>>,
+    mirrors: &mut Mirrors<Reached<Sparing>>,
     rows: &[Asked],
     output: &mut MemorySink,
 ) -> Result<bool, AllocError> {

@@ -3,14 +3,13 @@
 //! names.
 
 use crate::draws::{Draws, drawn_lines, stored_lines};
-use crate::reached::{Reach, push, push_piped};
+use crate::reached::{Reach, reached};
 use dag_run::{Limits, run_lines};
 use disk_memory::MemoryDisk;
 use line_io::{MemorySink, MemorySource};
-use link_memory::{Way, Wrong};
+use link_memory::{Reached, Way, Wrong};
 use mirror_set::Mirrors;
 use remote_store::StoreRemote;
-use remote_trait::Remote;
 use std::alloc::{AllocError, Global};
 
 /// How many commits the log has, and how many lines go over it.
@@ -69,6 +68,9 @@ fn disk_of(
     }
 }
 
+/// A mirror, of a log in memory.
+type Mirror = Reached<StoreRemote<MemoryDisk>>;
+
 /// A mirror of this log.
 fn store_of(disk: MemoryDisk) -> StoreRemote<MemoryDisk> {
     StoreRemote::new(disk, Limits::standard())
@@ -77,7 +79,7 @@ fn store_of(disk: MemoryDisk) -> StoreRemote<MemoryDisk> {
 /// Adds the mirror that stands before the others, where one does.
 fn push_broken(
     alloc: Global,
-    list: &mut Vec<Box<dyn Remote>>,
+    list: &mut Vec<Mirror>,
     reach: Reach,
     whole: &[u8],
 ) -> Result<(), AllocError> {
@@ -85,7 +87,7 @@ fn push_broken(
         return Ok(());
     };
     let disk = disk_of(alloc, Made::Whole, whole, &[])?;
-    push_piped(alloc, list, store_of(disk), Way::broken(4096, 5, wrong))
+    list.push(Reached::over(alloc, store_of(disk), Way::broken(4096, 5, wrong)))
 }
 
 /// The mirrors that are made of these, reached so.
@@ -95,12 +97,12 @@ fn mirrors_of(
     reach: Reach,
     whole: &[u8],
     clone: &[u8],
-) -> Result<Mirrors<Box<dyn Remote>>, AllocError> {
-    let mut list: Vec<Box<dyn Remote>> = Vec::new(alloc);
+) -> Result<Mirrors<Mirror>, AllocError> {
+    let mut list = Vec::new(alloc);
     push_broken(alloc, &mut list, reach, whole)?;
     for one in made {
         let disk = disk_of(alloc, *one, whole, clone)?;
-        push(alloc, &mut list, store_of(disk), reach)?;
+        list.push(reached(alloc, store_of(disk), reach))?;
     }
     if list.len() > 8 {
         return Err(AllocError);
@@ -113,7 +115,7 @@ fn run(
     alloc: Global,
     cache: u32,
     disk: &mut MemoryDisk,
-    mirrors: &mut Mirrors<Box<dyn Remote>>,
+    mirrors: &mut Mirrors<Mirror>,
     lines: &str,
     output: &mut MemorySink,
 ) -> Result<bool, AllocError> {
@@ -129,7 +131,7 @@ fn replies(
     alloc: Global,
     cache: u32,
     disk: &mut MemoryDisk,
-    mirrors: &mut Mirrors<Box<dyn Remote>>,
+    mirrors: &mut Mirrors<Mirror>,
     lines: &str,
 ) -> Result<Vec<u8>, AllocError> {
     let mut output = MemorySink::new(alloc, &[])?;
@@ -149,7 +151,7 @@ fn bytes_of(alloc: Global, disk: &MemoryDisk) -> Result<Vec<u8>, AllocError> {
 /// The bytes of a log behind these lines over a fresh one, beside mirrors.
 fn log_behind(
     alloc: Global,
-    mirrors: &mut Mirrors<Box<dyn Remote>>,
+    mirrors: &mut Mirrors<Mirror>,
     lines: &str,
 ) -> Result<Vec<u8>, AllocError> {
     let mut disk = MemoryDisk::new(alloc, &[], &[], None)?;
@@ -162,7 +164,7 @@ fn said_over(
     alloc: Global,
     cache: u32,
     log: &[u8],
-    mirrors: &mut Mirrors<Box<dyn Remote>>,
+    mirrors: &mut Mirrors<Mirror>,
     lines: &str,
 ) -> Result<Vec<u8>, AllocError> {
     let mut disk = MemoryDisk::new(alloc, log, &[], None)?;
@@ -172,7 +174,7 @@ fn said_over(
 /// The drawn log that is cloned.
 fn drawn_log(alloc: Global, draws: &mut Draws) -> Result<Vec<u8>, AllocError> {
     let stored = stored_lines(alloc, draws, COMMITS)?;
-    let mut nobody: Mirrors<Box<dyn Remote>> = Mirrors::new(Vec::new(alloc));
+    let mut nobody: Mirrors<Mirror> = Mirrors::new(Vec::new(alloc));
     log_behind(alloc, &mut nobody, stored.as_str())
 }
 
@@ -184,7 +186,7 @@ fn cloned_log(alloc: Global, whole: &[u8]) -> Result<Vec<u8>, AllocError> {
 
 /// The replies to lines over the log itself, which has each name.
 fn said_by_whole(alloc: Global, whole: &[u8], lines: &str) -> Result<Vec<u8>, AllocError> {
-    let mut nobody: Mirrors<Box<dyn Remote>> = Mirrors::new(Vec::new(alloc));
+    let mut nobody: Mirrors<Mirror> = Mirrors::new(Vec::new(alloc));
     said_over(alloc, 1, whole, &mut nobody, lines)
 }
 

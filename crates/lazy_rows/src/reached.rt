@@ -1,8 +1,8 @@
 //! Mirrors at paths, and the same ones behind pipes.
 
-use link_memory::{Way, Wrong, piped};
+use link_memory::{Reached, Way, Wrong};
 use remote_trait::Remote;
-use std::alloc::{AllocError, Global};
+use std::alloc::Global;
 
 /// How mirrors are reached.
 #[derive(Clone, Copy)]
@@ -15,31 +15,12 @@ pub enum Reach {
     Broken(Wrong),
 }
 
-/// Adds a mirror that is reached so.
-pub fn push<R: Remote + 'static>(
-    alloc: Global,
-    list: &mut Vec<Box<dyn Remote>>,
-    remote: R,
-    reach: Reach,
-) -> Result<(), AllocError> {
+/// The mirror, reached so.
+pub fn reached<R: Remote>(alloc: Global, remote: R, reach: Reach) -> Reached<R> {
     let piece = match reach {
-        Reach::Paths => {
-            list.push(Box::new(alloc, remote)?)?;
-            return Ok(());
-        }
+        Reach::Paths => return Reached::Near(remote),
         Reach::Pipes(piece) => piece,
         Reach::Broken(_) => 4096,
     };
-    push_piped(alloc, list, remote, Way::whole(piece))
-}
-
-/// Adds a mirror behind a pipe whose answers come so.
-pub fn push_piped<R: Remote + 'static>(
-    alloc: Global,
-    list: &mut Vec<Box<dyn Remote>>,
-    remote: R,
-    way: Way,
-) -> Result<(), AllocError> {
-    list.push(Box::new(alloc, piped(alloc, remote, way))?)?;
-    Ok(())
+    Reached::over(alloc, remote, Way::whole(piece))
 }

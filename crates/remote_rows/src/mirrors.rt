@@ -1,9 +1,10 @@
 //! Three mirrors, of which any may fail at their next call, asked in each of the three ways.
 
 use crate::cloned::{chain_remote, name};
-use crate::reached::push;
+use crate::reached::reached;
+use link_memory::Reached;
 use mirror_set::{MirrorFault, Mirrors};
-use remote_trait::Remote;
+use remote_memory::MemoryRemote;
 use std::alloc::{AllocError, Global};
 use std::test::Fail;
 
@@ -28,14 +29,14 @@ const WAYS: [Way; 3] = [Way::Names, Way::Path, Way::Clone];
 /// Adds a mirror of the chain, at its path or behind a pipe, which fails at its first call if it is marked.
 fn push_mirror(
     alloc: Global,
-    list: &mut Vec<Box<dyn Remote>>,
+    list: &mut Vec<Reached<MemoryRemote>>,
     chain: &[u8],
     marked: bool,
     is_piped: bool,
 ) -> Result<(), AllocError> {
     let calls: &[u64] = if marked { &[1] } else { &[] };
     let mirror = chain_remote(alloc, chain, calls)?;
-    push(alloc, list, mirror, is_piped)
+    list.push(reached(alloc, mirror, is_piped))
 }
 
 /// The three mirrors, at their paths or behind pipes. Those that are marked fail at their first call.
@@ -43,8 +44,8 @@ fn three(
     alloc: Global,
     marked: [bool; 3],
     are_piped: bool,
-) -> Result<Mirrors<Box<dyn Remote>>, AllocError> {
-    let mut list: Vec<Box<dyn Remote>> = Vec::new(alloc);
+) -> Result<Mirrors<Reached<MemoryRemote>>, AllocError> {
+    let mut list = Vec::new(alloc);
     push_mirror(alloc, &mut list, CHAINS[0], marked[0], are_piped)?;
     push_mirror(alloc, &mut list, CHAINS[1], marked[1], are_piped)?;
     push_mirror(alloc, &mut list, CHAINS[2], marked[2], are_piped)?;
@@ -55,7 +56,10 @@ fn three(
 }
 
 /// The last id of the first segment that the mirrors tell of; 0 where there is none.
-fn last_id(alloc: Global, mirrors: &mut Mirrors<Box<dyn Remote>>) -> Result<u64, MirrorFault> {
+fn last_id(
+    alloc: Global,
+    mirrors: &mut Mirrors<Reached<MemoryRemote>>,
+) -> Result<u64, MirrorFault> {
     let given = mirrors.fresh_clone(alloc)?;
     if given.segments.len() == 0 {
         return Ok(0);
@@ -66,7 +70,7 @@ fn last_id(alloc: Global, mirrors: &mut Mirrors<Box<dyn Remote>>) -> Result<u64,
 /// Which mirror answers, the first being 1: one less than its chain is long.
 fn answer(
     alloc: Global,
-    mirrors: &mut Mirrors<Box<dyn Remote>>,
+    mirrors: &mut Mirrors<Reached<MemoryRemote>>,
     way: Way,
 ) -> Result<u64, MirrorFault> {
     match way {
@@ -89,7 +93,7 @@ type Turns = [Result<u64, MirrorFault>; 3];
 /// Whether three asks in turn come to this.
 fn are_turns(
     alloc: Global,
-    mirrors: &mut Mirrors<Box<dyn Remote>>,
+    mirrors: &mut Mirrors<Reached<MemoryRemote>>,
     way: Way,
     want: &Turns,
 ) -> bool {

@@ -4,8 +4,9 @@ use crate::broken::{fork_data, given_of};
 use crate::cloned::{name, remote_of, world_of};
 use crate::counted::{Count, Counted, alone, count_of, forget};
 use crate::drawn::{draw_world, last_of, merge};
-use crate::reached::{Piped, behind, push};
+use crate::reached::{Piped, behind, reached};
 use commit_graph::{Row, World};
+use link_memory::Reached;
 use mirror_set::{Fresh, FreshFault, FreshNames, Mirrors, ask_fresh};
 use remote_memory::MemoryRemote;
 use remote_trait::{CloneData, FixedRemote, Remote};
@@ -160,13 +161,13 @@ const MORE_FAIL: [Failing; 5] = [
 /// Adds a mirror of the fork's first rows, at its path or behind a pipe, which fails at this call.
 fn push_mirror(
     alloc: Global,
-    list: &mut Vec<Box<dyn Remote>>,
+    list: &mut Vec<Reached<MemoryRemote>>,
     commits: usize,
     fails: u64,
     is_piped: bool,
 ) -> Result<(), AllocError> {
     let mirror = fork_mirror(alloc, commits, fails)?;
-    push(alloc, list, mirror, is_piped)
+    list.push(reached(alloc, mirror, is_piped))
 }
 
 /// The three mirrors, at their paths or behind pipes.
@@ -174,8 +175,8 @@ fn three(
     alloc: Global,
     fails: [u64; 3],
     are_piped: bool,
-) -> Result<Mirrors<Box<dyn Remote>>, AllocError> {
-    let mut list: Vec<Box<dyn Remote>> = Vec::new(alloc);
+) -> Result<Mirrors<Reached<MemoryRemote>>, AllocError> {
+    let mut list = Vec::new(alloc);
     push_mirror(alloc, &mut list, 9, fails[0], are_piped)?;
     push_mirror(alloc, &mut list, 8, fails[1], are_piped)?;
     push_mirror(alloc, &mut list, 7, fails[2], are_piped)?;
@@ -186,7 +187,7 @@ fn three(
 }
 
 /// How many names a pull of all brings.
-fn brought(alloc: Global, mirrors: &mut Mirrors<Box<dyn Remote>>) -> Result<u32, FreshFault> {
+fn brought(alloc: Global, mirrors: &mut Mirrors<Reached<MemoryRemote>>) -> Result<u32, FreshFault> {
     let fresh = mirrors.fresh_from(alloc, 0)?;
     Ok(fresh.names.len())
 }
@@ -194,7 +195,7 @@ fn brought(alloc: Global, mirrors: &mut Mirrors<Box<dyn Remote>>) -> Result<u32,
 /// Whether three pulls come to this, and a fourth one finds no mirror.
 fn are_pulled(
     alloc: Global,
-    mirrors: &mut Mirrors<Box<dyn Remote>>,
+    mirrors: &mut Mirrors<Reached<MemoryRemote>>,
     want: &[Result<u32, FreshFault>; 3],
 ) -> bool {
     for wanted in want {

@@ -7,7 +7,7 @@ use std::alloc::{AllocError, Global};
 use std::test::Fail;
 
 /// How many commits the mirrors tell at a clone; `None` where it is refused.
-fn cloned(alloc: Global, mirrors: &mut Mirrors<Box<dyn Remote>>) -> Option<u64> {
+fn cloned<R: Remote>(alloc: Global, mirrors: &mut Mirrors<R>) -> Option<u64> {
     let Ok(told) = mirrors.fresh_clone(alloc) else {
         return None;
     };
@@ -20,8 +20,8 @@ fn cloned(alloc: Global, mirrors: &mut Mirrors<Box<dyn Remote>>) -> Option<u64> 
 
 /// The same of two clones from one mirror, whose log grows between them.
 fn cloned_twice(alloc: Global) -> Result<(Option<u64>, Option<u64>), AllocError> {
-    let mut list: Vec<Box<dyn Remote>> = Vec::new(alloc);
-    list.push(Box::new(alloc, growing(alloc)?)?)?;
+    let mut list = Vec::new(alloc);
+    list.push(growing(alloc)?)?;
     if list.len() > 1 {
         return Err(AllocError);
     }
