@@ -87,7 +87,8 @@ fn push_broken(
         return Ok(());
     };
     let disk = disk_of(alloc, Made::Whole, whole, &[])?;
-    list.push(Reached::over(alloc, store_of(disk), Way::broken(4096, 5, wrong)))
+    list.push(Reached::over(alloc, store_of(disk), Way::broken(4096, 5, wrong)))?;
+    Ok(())
 }
 
 /// The mirrors that are made of these, reached so.

@@ -36,7 +36,8 @@ fn push_mirror(
 ) -> Result<(), AllocError> {
     let calls: &[u64] = if marked { &[1] } else { &[] };
     let mirror = chain_remote(alloc, chain, calls)?;
-    list.push(reached(alloc, mirror, is_piped))
+    list.push(reached(alloc, mirror, is_piped))?;
+    Ok(())
 }
 
 /// The three mirrors, at their paths or behind pipes. Those that are marked fail at their first call.

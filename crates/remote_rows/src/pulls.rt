@@ -167,7 +167,8 @@ fn push_mirror(
     is_piped: bool,
 ) -> Result<(), AllocError> {
     let mirror = fork_mirror(alloc, commits, fails)?;
-    list.push(reached(alloc, mirror, is_piped))
+    list.push(reached(alloc, mirror, is_piped))?;
+    Ok(())
 }
 
 /// The three mirrors, at their paths or behind pipes.
