@@ -50,7 +50,9 @@ def played(number, section):
 
 def session():
     """The session of README's first screen: a line of the program begins with a session's number and a verb."""
-    block = re.search(r"\n    \$ crates/segdag/out/segdag log -- run\n((?:    .*\n)+)", (TOP / "README.md").read_text())
+    block = re.search(r"\n    \$ \S*segdag log -- run\n((?:    .*\n)+)", (TOP / "README.md").read_text())
+    if block is None:
+        fail("README.md has no session of `segdag log -- run`")
     lines = [line[4:] for line in block.group(1).splitlines()]
     given = "".join(line + "\n" for line in lines if re.match(r"\d+ [a-z]", line))
     done = subprocess.run([PROGRAM, FOLDER / "readme", "--", "run"], input=given, stdout=subprocess.PIPE, text=True, timeout=HANGS)
