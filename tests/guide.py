@@ -83,6 +83,7 @@ def transcripts(writes=False):
     print(f"guide: {count} commands of docs/GUIDE.md are answered as they stand there")
 
 
-PARTS = {it.__name__: it for it in (answers, octopuses, shapes, refusals, faults, logs, published, shared, killed, enemies, daemons, transcripts, large, kernel)}
+PARTS = (answers, octopuses, shapes, refusals, faults, logs, published, shared, killed, enemies, daemons, transcripts, large, kernel)
+PARTS = {it.__name__: it for it in PARTS}
 PARTS["write"] = lambda: transcripts(writes=True)
 PARTS[sys.argv[1]]()
