@@ -5,7 +5,7 @@ import resource
 import signal
 import subprocess
 
-from guide_lib import FOLDER, HANGS, TOOL, Repository, ask_all, environment, fail, refuse, same
+from guide_lib import FOLDER, HANGS, TOOL, Repository, ask_all, environment, fail, refuse, same, script
 
 WHO = {f"GIT_{who}_{what}": "d@d" for who in ("AUTHOR", "COMMITTER") for what in ("NAME", "EMAIL")}
 
@@ -16,6 +16,7 @@ def enemies():
     at_once(repository)
     daemons_at_once(repository)
     starved(repository)
+    lies(repository)
     mad_names()
     print("guide: many at once, who is killed, who is starved and mad names get git's answers or a refusal")
 
@@ -128,6 +129,16 @@ def starving(repository, words, way):
     shell = ["sh", "-c", f'exec "$0" "$@"{close}', TOOL, *words]
     done = subprocess.run(shell, cwd=repository.path, capture_output=True, text=True, timeout=HANGS, **way)
     return done.returncode, done.stdout, done.stderr
+
+
+def lies(repository):
+    """Programs whose replies have the form of one and are none to what was asked."""
+    for put in ("ok", "ok x", "ok -1", "\\xff\\xfe\\nok 1", "zzz\\nok 1", "ok " + "9" * 5000):
+        program = script("liar", f"import os, sys\nfor line in sys.stdin.buffer:\n    os.write(1, b'{put}\\n')\n")
+        for words in (["log", "main"], ["merge-base", "main", "topic"], ["is-ancestor", "main", "topic"], ["sync"], ["compact"]):
+            status, _, told = repository.git("segdag", *words, SEGDAG=program)
+            if status not in (0, 1, 128) or "Traceback" in told or status == 128 and told.count("\n") != 1:
+                fail(f"enemies: {words} of a program that puts {put[:20]} ended with {status}, {told}")
 
 
 def mad_names():
