@@ -16,7 +16,7 @@ from pathlib import Path
 import serve_client
 
 TOOL = Path(__file__).resolve().parent.parent / "tools/segdag-ssh"
-HANGS = 600  # seconds behind which something is taken to hang
+HANGS = 1800  # seconds behind which something is taken to hang
 
 
 def fail(text):

@@ -23,7 +23,7 @@ PLAIN = Path(__file__).with_name("plain_store.py")
 
 
 def answers(command, log, text):
-    done = subprocess.run([*command, str(log)] + (["--", "run"] if len(command) == 1 else []), input=text, capture_output=True, timeout=600)
+    done = subprocess.run([*command, str(log)] + (["--", "run"] if len(command) == 1 else []), input=text, capture_output=True, timeout=1800)
     return done.returncode, done.stdout
 
 
@@ -72,13 +72,13 @@ def clone_run(program, draw, folder):
     draw.shuffle(mirrors)
     command = [program, str(here), *mirrors, "--", "run", "--cache", str(draw.choice([1, 2, 5, 1000]))]
     text = "".join(line + "\n" for line in lines)
-    done = subprocess.run(command, input=text.encode(), capture_output=True, timeout=600)
+    done = subprocess.run(command, input=text.encode(), capture_output=True, timeout=1800)
     store = plain_store.Store(b"", plain_store.LIMITS, map(plain_store.mirror_of, mirrors))
     told = [reply for line in lines if line and not line.startswith("#") for reply in store.line(line)]
     wanted = "".join(line + "\n" for line in told)
     if (done.returncode, done.stdout.decode(), here.read_bytes()) != (0, wanted, store.log()):
         return 0, (text, done.stdout.decode(), wanted, "the logs are the same\n" * (here.read_bytes() == store.log()))
-    again = subprocess.run(command, input=b"0 query all\n", capture_output=True, timeout=600).stdout.decode()
+    again = subprocess.run(command, input=b"0 query all\n", capture_output=True, timeout=1800).stdout.decode()
     end = store.worlds[-1].down()
     wanted = "".join(line + "\n" for line in [*end, f"ok {len(end)}"])
     if again != wanted:
