@@ -35,7 +35,7 @@ def added(i):
 
 def ended(words, text=""):
     """The status of a run of the program over this input, its output and what it says on standard error."""
-    done = run([PROGRAM, *words], input=text, stdout=PIPE, stderr=PIPE, encoding="ascii", timeout=600)
+    done = run([PROGRAM, *words], input=text, stdout=PIPE, stderr=PIPE, encoding="ascii", timeout=1800)
     return done.returncode, done.stdout, done.stderr
 
 
@@ -51,7 +51,7 @@ class Writer:
 
     def end(self):
         self.process.stdin.close()
-        status = self.process.wait(600)
+        status = self.process.wait(1800)
         self.process.stdout.close()
         self.process.stderr.close()
         return status
@@ -129,7 +129,7 @@ def killed():
         writer = Writer(log)
         writer.ask("0 status\n")
         writer.process.send_signal(signal.SIGKILL)
-        writer.process.wait(600)
+        writer.process.wait(1800)
         if ended([log, "--", "run"], "0 status\n")[0] != 0:
             fail("killed: the log of a killed run isn't free")
         for stream in (writer.process.stdin, writer.process.stdout, writer.process.stderr):
@@ -190,7 +190,7 @@ def readers():
             pulled = told_sizes([clone, log, "--", "run"], "0 pull\n", "ok pulled ", max(least, pulled), busy)
             least = busy.acknowledged
             with open(fresh("bundle"), "wb") as file:
-                done = run([PROGRAM, log, "--", "bundle"], stdout=file, stderr=PIPE, timeout=600)
+                done = run([PROGRAM, log, "--", "bundle"], stdout=file, stderr=PIPE, timeout=1800)
             if done.returncode != 0:
                 fail(f"readers: a bundle ended with {done.returncode}")
             told_sizes([fresh("cloner"), f"bundle:{file.name}", "--", "run"], "0 clone\n", "ok cloned ", least, busy)

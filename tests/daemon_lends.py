@@ -115,4 +115,4 @@ def shares():
             at = max(0, len(os.path.commonprefix([given, replies])) - 100)
             fail(f"a client that lent its session was answered {given[at : at + 200]!r}, and not {replies[at : at + 200]!r}")
     lent = sum(len(some) > 1 for number, some in sessions(served.order).items() if number)
-    return f"forty clients share sixteen sessions: {count} lines are answered as if each had its own, {lent} had several, {told} were told of a change"
+    return f"forty clients share sixteen sessions: {count} lines are answered as if each had its own; {lent} had several, {told} were told of a change"

@@ -25,7 +25,7 @@ PART, PROGRAM, FOLDER = sys.argv[1], os.path.abspath(sys.argv[2]), Path(sys.argv
 COUNT = int(sys.argv[4])
 SEGDAGD = str(TOP / "tools/segdagd")
 LINE = 16_384 - 3
-HANGS = 600  # seconds behind which something is taken to hang: no demand here is nearer to what a machine takes
+HANGS = 1800  # seconds behind which something is taken to hang: no demand here is nearer to what a machine takes
 TOO_LONG = b"err line 16384\n"
 
 

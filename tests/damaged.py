@@ -330,7 +330,7 @@ def wanted(data):
 def check(program, log, data, kind, seed):
     status, output = wanted(data)
     log.write_bytes(data)
-    ran = subprocess.run([program, log, "--", "run"], input=LINES, stdout=subprocess.PIPE, stderr=subprocess.DEVNULL, timeout=600)
+    ran = subprocess.run([program, log, "--", "run"], input=LINES, stdout=subprocess.PIPE, stderr=subprocess.DEVNULL, timeout=1800)
     if (ran.returncode, ran.stdout) != (status, output):
         kept = Path("damaged.log")
         kept.write_bytes(data)

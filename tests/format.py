@@ -28,7 +28,7 @@ def main():
     for number, ((_, lines), (_, listing)) in enumerate(zip(blocks[::2], blocks[1::2])):
         log = Path(sys.argv[2], f"log{number}")
         text = re.sub(r"\[(\w\w)\]", lambda found: found.group(1).rjust(40, "0"), lines)
-        subprocess.run([sys.argv[1], log, "--", "run"], input=text.encode(), stdout=subprocess.DEVNULL, check=True, timeout=600)
+        subprocess.run([sys.argv[1], log, "--", "run"], input=text.encode(), stdout=subprocess.DEVNULL, check=True, timeout=1800)
         wanted, made = listed(listing), log.read_bytes()
         if made != wanted:
             place = next((at for at, pair in enumerate(zip(wanted, made)) if pair[0] != pair[1]), min(len(wanted), len(made)))

@@ -98,6 +98,7 @@ def page_played(page, writes):
     return count
 
 
-PARTS = {it.__name__: it for it in (answers, octopuses, shapes, refusals, faults, logs, published, shared, killed, enemies, daemons, transcripts, large, kernel)}
+PARTS = (answers, octopuses, shapes, refusals, faults, logs, published, shared, killed, enemies, daemons, transcripts, large, kernel)
+PARTS = {it.__name__: it for it in PARTS}
 PARTS["write"] = lambda: transcripts(writes=True)
 PARTS[sys.argv[1]]()

@@ -5,7 +5,7 @@ import resource
 import signal
 import subprocess
 
-from guide_lib import FOLDER, HANGS, TOOL, Repository, ask_all, environment, fail, refuse, same
+from guide_lib import FOLDER, HANGS, TOOL, Repository, ask_all, environment, fail, refuse, same, script
 
 WHO = {f"GIT_{who}_{what}": "d@d" for who in ("AUTHOR", "COMMITTER") for what in ("NAME", "EMAIL")}
 
@@ -16,6 +16,7 @@ def enemies():
     at_once(repository)
     daemons_at_once(repository)
     starved(repository)
+    lies(repository)
     mad_names()
     print("guide: many at once, who is killed, who is starved and mad names get git's answers or a refusal")
 
@@ -32,8 +33,8 @@ def grown(name, seed):
 
 def options(repository):
     """Options of git that change what stands behind them are refused, and those that name commits are git's: HEADs of no branch too."""
-    for words in (["main", "--not", "topic"], ["--exclude=topic", "--branches"], ["-q", "main"], ["--symbolic", "main"], ["--no-revs", "main"], ["main", "-1"]):
-        refuse(repository, ["log", *words], 128, "bad revision '-")
+    for words in ("main --not topic", "--exclude=topic --branches", "-q main", "--symbolic main", "--no-revs main", "main -1", "--reflog"):
+        refuse(repository, ["log", *words.split()], 128, "bad revision '-")
     tree = FOLDER / "detached"
     repository.must("worktree", "add", "--quiet", "--detach", tree, "topic")
     detached = repository.at(tree)
@@ -45,7 +46,8 @@ def options(repository):
 
 
 def begun(repository, *words, **more):
-    return subprocess.Popen(["git", "segdag", *words], cwd=repository.path, env=environment(), stdout=subprocess.PIPE, stderr=subprocess.PIPE, text=True, **more)
+    sinks = {"stdout": subprocess.PIPE, "stderr": subprocess.PIPE, "text": True}
+    return subprocess.Popen(["git", "segdag", *words], cwd=repository.path, env=environment(), **sinks, **more)
 
 
 def ended(child):
@@ -59,10 +61,11 @@ def at_once(repository):
         repository.grow(20)
         repository.point("main", repository.commit("main^0", repository.commits[-1]))
         wanted = repository.must("rev-list", "--count", "topic..main")
-        children = [begun(repository, *words) for words in (["sync"], ["log", "topic..main"], ["sync"], ["compact"], ["log", "topic..main"], ["sync"], ["compact"])]
-        for child, found in zip(children, map(ended, children)):
-            if found[0] != 0 or found[2] or child.args[2] == "log" and found[1] != wanted:
-                fail(f"enemies: {child.args} beside others ended with {found}")
+        asked = ("sync", "log topic..main", "sync", "compact", "log topic..main", "sync", "compact")
+        children = [begun(repository, *words.split()) for words in asked]
+        for words, found in zip(asked, map(ended, children)):
+            if found[0] != 0 or found[2] or words[:3] == "log" and found[1] != wanted:
+                fail(f"enemies: {words} beside others ended with {found}")
         same(repository, ["segdag", "query", "set:all"], ["rev-list", "--branches", "HEAD", "worktrees/detached/HEAD"], sort=True)
 
 
@@ -95,17 +98,24 @@ def limit(which, most):
 def starved(repository):
     """Without files, memory, processes' input or a folder for temporary files: git's answer or one sentence, and the log stays whole."""
     ways = [
-        {"preexec_fn": limit(resource.RLIMIT_NOFILE, 5)}, {"preexec_fn": limit(resource.RLIMIT_FSIZE, 0)}, {"preexec_fn": limit(resource.RLIMIT_AS, 40 << 20)},
-        {"preexec_fn": limit(resource.RLIMIT_CPU, 0)}, {"stdin": "closed"}, {"stderr": "closed"}, {"stdout": "closed"},
-        {"env": environment(TMPDIR="/nonexistent")}, {"env": environment(PYTHONHOME="")}, {"env": environment(GIT_DIR="/nonexistent")},
+        {"preexec_fn": limit(resource.RLIMIT_NOFILE, 5)},
+        {"preexec_fn": limit(resource.RLIMIT_FSIZE, 0)},
+        {"preexec_fn": limit(resource.RLIMIT_AS, 40 << 20)},
+        {"preexec_fn": limit(resource.RLIMIT_CPU, 0)},
+        {"stdin": "closed"},
+        {"stdout": "closed"},
+        {"stderr": "closed"},
+        {"env": environment(TMPDIR="/nonexistent")},
+        {"env": environment(GIT_DIR="/nonexistent")},
+        {"env": {name: value for name, value in environment().items() if name != "HOME"}},
     ]
-    ways += [{"env": {name: value for name, value in environment().items() if name != "HOME"}}]
     wanted = repository.must("rev-list", "--count", "topic..main")
     for way in ways:
         for words in (["log", "topic..main"], ["sync"]):
             found = starving(repository, words, dict(way))
-            is_right = found[0] == 0 and (words[0] == "sync" or found[1] in (wanted, "") and "stdout" in way or found[1] == wanted)
-            if not is_right and (found[0] == 0 or found[1] or "Traceback" in found[2]):
+            is_right = found[0] == 0 and (words[0] == "sync" or "stdout" in way or found[1] == wanted)
+            is_refused = found[0] != 0 and not found[1] and "Traceback" not in found[2]
+            if not is_right and not is_refused:
                 fail(f"enemies: {words} with {way} ended with {found}")
     repository.sync()
     ask_all(repository, repository.draw, 1)
@@ -119,6 +129,16 @@ def starving(repository, words, way):
     shell = ["sh", "-c", f'exec "$0" "$@"{close}', TOOL, *words]
     done = subprocess.run(shell, cwd=repository.path, capture_output=True, text=True, timeout=HANGS, **way)
     return done.returncode, done.stdout, done.stderr
+
+
+def lies(repository):
+    """Programs whose replies have the form of one and are none to what was asked."""
+    for put in ("ok", "ok x", "ok -1", "\\xff\\xfe\\nok 1", "zzz\\nok 1", "ok " + "9" * 5000):
+        program = script("liar", f"import os, sys\nfor line in sys.stdin.buffer:\n    os.write(1, b'{put}\\n')\n")
+        for words in (["log", "main"], ["merge-base", "main", "topic"], ["is-ancestor", "main", "topic"], ["sync"], ["compact"]):
+            status, _, told = repository.git("segdag", *words, SEGDAG=program)
+            if status not in (0, 1, 128) or "Traceback" in told or status == 128 and told.count("\n") != 1:
+                fail(f"enemies: {words} of a program that puts {put[:20]} ended with {status}, {told}")
 
 
 def mad_names():

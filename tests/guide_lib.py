@@ -9,7 +9,7 @@ FOLDER = Path(sys.argv[3]).resolve()
 TOP = Path(__file__).resolve().parent.parent
 # Another command may be tried by these tests, such as one of an older version, which must fail.
 TOOL = Path(os.environ.get("GIT_SEGDAG") or TOP / "tools/git-segdag").resolve()
-HANGS = 600  # seconds behind which something is taken to hang
+HANGS = 1800  # seconds behind which something is taken to hang
 BEGIN = 100_000_000  # the first commit's date, in seconds
 
 

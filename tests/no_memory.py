@@ -65,7 +65,7 @@ class Runs:
         if self.start is not None:
             self.log.write_bytes(self.start)
         env = {**self.env, "FAIL_ALLOC": str(fails)}
-        done = subprocess.run(self.words, input=text, env=env, stdout=subprocess.PIPE, stderr=subprocess.PIPE, timeout=600)
+        done = subprocess.run(self.words, input=text, env=env, stdout=subprocess.PIPE, stderr=subprocess.PIPE, timeout=1800)
         told = done.stderr.decode(errors="replace").split()
         calls = int(told[-1]) if told and told[-1].isdigit() else 0
         return done.returncode, done.stdout, [path.read_bytes() if path.exists() else b"" for path in (self.log, self.new)], calls

@@ -25,7 +25,7 @@ def fail(text):
 
 def told(program, log, mirrors, lines, cache):
     words = [program, log, *mirrors, "--", "run", "--cache", str(cache)]
-    done = subprocess.run(words, input="".join(line + "\n" for line in lines), text=True, capture_output=True, timeout=600)
+    done = subprocess.run(words, input="".join(line + "\n" for line in lines), text=True, capture_output=True, timeout=1800)
     return done.returncode, done.stdout
 
 
@@ -122,7 +122,7 @@ def words_run(program, draw, folder):
     if there.read_bytes() != before:
         fail("a log was written over")
     for mode in ("serve", "bundle", "compact", "demo"):
-        found = subprocess.run([program, here, f"pipe:{folder}/to:{folder}/from", "--", mode], input=b"", capture_output=True, timeout=600)
+        found = subprocess.run([program, here, f"pipe:{folder}/to:{folder}/from", "--", mode], input=b"", capture_output=True, timeout=1800)
         if mode == "serve" and found.returncode != 11:
             fail(f"a pipe is served: status {found.returncode}")
 
@@ -226,7 +226,7 @@ class Tool:
         return subprocess.Popen([TOOL, *words], env=self.env, cwd=self.folder, preexec_fn=plain, text=True, **pipes)
 
     def wants(self, begun, lines, wanted):
-        out, said = begun.communicate("".join(line + "\n" for line in lines), timeout=600)
+        out, said = begun.communicate("".join(line + "\n" for line in lines), timeout=1800)
         if (begun.returncode, out) != wanted:
             fail(f"{begun.args} told {begun.returncode}\n{out}{said}in place of\n{wanted}")
 
@@ -280,7 +280,7 @@ def killed_run(program, draw, folder):
         for child in begun:
             child.send_signal(number)
         for child in begun:
-            if child.wait(timeout=600) != status:
+            if child.wait(timeout=1800) != status:
                 fail(f"segdag-ssh ended by signal {number} with {child.returncode}: {child.stderr.read()}")
             for pipe in (child.stdin, child.stdout, child.stderr):
                 pipe.close()

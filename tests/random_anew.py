@@ -22,13 +22,13 @@ def knows(program):
     """Whether writing a log anew is a mode of the program."""
     with tempfile.TemporaryDirectory() as folder:
         words = [program, Path(folder, "log"), "--", "compact"]
-        return subprocess.run(words, capture_output=True, timeout=600).returncode == 0
+        return subprocess.run(words, capture_output=True, timeout=1800).returncode == 0
 
 
 def told(program, log, *words, lines=b"", mirrors=()):
     """The status of a run of the program, and what it put."""
     command = [program, log, *mirrors, "--", *words]
-    done = subprocess.run(command, input=lines, capture_output=True, timeout=600)
+    done = subprocess.run(command, input=lines, capture_output=True, timeout=1800)
     return done.returncode, done.stdout
 
 

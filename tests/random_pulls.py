@@ -30,7 +30,7 @@ def knows(program):
     """Whether a pull is a command of the program."""
     with tempfile.TemporaryDirectory() as folder:
         words = [program, Path(folder, "log"), "--", "run"]
-        done = subprocess.run(words, input=b"0 pull\n", capture_output=True, timeout=600)
+        done = subprocess.run(words, input=b"0 pull\n", capture_output=True, timeout=1800)
     return done.stdout != b"err syntax\n"
 
 
@@ -163,7 +163,7 @@ class Scene:
     def run_apart(self, log, lines):
         """A run over one of the remotes, without mirrors."""
         text = "".join(line + "\n" for line in lines).encode()
-        done = subprocess.run([self.program, log, "--", "run"], input=text, capture_output=True, timeout=600)
+        done = subprocess.run([self.program, log, "--", "run"], input=text, capture_output=True, timeout=1800)
         if done.returncode != 0:
             raise Differs(f"a run over {log.name} ended with {done.returncode}")
 

@@ -25,7 +25,7 @@ PLAIN = Path(__file__).with_name("plain_store.py")
 
 
 def answers(command, log, text):
-    done = subprocess.run([*command, str(log)] + (["--", "run"] if len(command) == 1 else []), input=text, capture_output=True, timeout=600)
+    done = subprocess.run([*command, str(log)] + (["--", "run"] if len(command) == 1 else []), input=text, capture_output=True, timeout=1800)
     return done.returncode, done.stdout
 
 
@@ -80,7 +80,7 @@ def clone_run(program, draw, folder):
         """A run beside the mirrors, of which some are behind pipes; and the first, where one is to break off."""
         with Peers(program, draw, folder, mirrors) as peers:
             words = [peers.put_broken(there), *peers.words[1:]] if broken else peers.words
-            return subprocess.run([program, here, *words, "--", "run", "--cache", cache], input=text.encode(), capture_output=True, timeout=600)
+            return subprocess.run([program, here, *words, "--", "run", "--cache", cache], input=text.encode(), capture_output=True, timeout=1800)
 
     text = "".join(line + "\n" for line in lines)
     done = ran(text)

@@ -48,7 +48,7 @@ def commits(first, last):
 def run(log, text, before=(), **options):
     """The status of a run over this input, and its replies."""
     words = [*before, PROGRAM, log, "--", "run"]
-    done = subprocess.run(words, input=text.encode(), stdout=subprocess.PIPE, timeout=600, **options)
+    done = subprocess.run(words, input=text.encode(), stdout=subprocess.PIPE, timeout=1800, **options)
     return done.returncode, done.stdout.decode().splitlines()
 
 
@@ -105,7 +105,7 @@ def places():
     reachable = shutil.copy(PROGRAM, os.path.join(FOLDER, "program"))
     os.chmod(reachable, 0o755)
     if os.getuid() == 0:
-        done = subprocess.run([reachable, log, "--", "run"], input=b"", stdout=subprocess.PIPE, preexec_fn=as_nobody, timeout=600)
+        done = subprocess.run([reachable, log, "--", "run"], input=b"", stdout=subprocess.PIPE, preexec_fn=as_nobody, timeout=1800)
         if (done.returncode, done.stdout) != (9, b"err disk\n"):
             fail(f"places: a read-only file as the log: status {done.returncode}, {done.stdout}")
     else:
@@ -233,7 +233,7 @@ def moments():
 
 def compact(log, before=(), **options):
     """The status of a run that writes the log anew, and what it put."""
-    done = subprocess.run([*before, PROGRAM, log, "--", "compact"], stdout=subprocess.PIPE, timeout=600, **options)
+    done = subprocess.run([*before, PROGRAM, log, "--", "compact"], stdout=subprocess.PIPE, timeout=1800, **options)
     return done.returncode, done.stdout.decode()
 
 

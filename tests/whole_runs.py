@@ -19,7 +19,7 @@ def check(what, lines, replies, status=0, size=None, mirrors=()):
     bytes."""
     lines, replies = ([line.strip() for line in re.split("[;\n]", text) if line.strip()] for text in (lines, replies))
     text = "".join(spelled(line) + "\n" for line in lines)
-    done = subprocess.run([PROGRAM, LOG, *mirrors, "--", "run"], input=text.encode(), stdout=subprocess.PIPE, timeout=600)
+    done = subprocess.run([PROGRAM, LOG, *mirrors, "--", "run"], input=text.encode(), stdout=subprocess.PIPE, timeout=1800)
     given = done.stdout.decode().splitlines()
     if done.returncode != status or given != [spelled(reply) for reply in replies]:
         sys.exit(f"whole_runs: {what}: status {done.returncode}, {given}")
@@ -167,7 +167,7 @@ def clones():
 
 
 def knows_pull():
-    done = subprocess.run([PROGRAM, LOG, "--", "run"], input=b"0 pull\n", stdout=subprocess.PIPE, timeout=600)
+    done = subprocess.run([PROGRAM, LOG, "--", "run"], input=b"0 pull\n", stdout=subprocess.PIPE, timeout=1800)
     os.remove(LOG)
     return done.stdout != b"err syntax\n"
 
@@ -243,7 +243,7 @@ def pulls():
 
 def ends(what, word, status, out, mirrors=()):
     """The program's run over the log by this word ends so, and puts these bytes."""
-    done = subprocess.run([PROGRAM, LOG, *mirrors, "--", word], input=b"0 status\n", stdout=subprocess.PIPE, timeout=600)
+    done = subprocess.run([PROGRAM, LOG, *mirrors, "--", word], input=b"0 status\n", stdout=subprocess.PIPE, timeout=1800)
     if (done.returncode, done.stdout) != (status, out):
         sys.exit(f"whole_runs: {what}: status {done.returncode}, {done.stdout}")
 
@@ -325,7 +325,7 @@ def bundles():
 
 
 def knows_bundles():
-    known = subprocess.run([PROGRAM, LOG, "--", "bundle"], stdout=subprocess.PIPE, stderr=subprocess.PIPE, timeout=600).returncode == 0
+    known = subprocess.run([PROGRAM, LOG, "--", "bundle"], stdout=subprocess.PIPE, stderr=subprocess.PIPE, timeout=1800).returncode == 0
     if known:
         os.remove(LOG)
     return known
@@ -361,7 +361,7 @@ def plainly(rows, by_lines):
 
 def demonstrate(size, start, wanted):
     words = [PROGRAM, LOG, "--", "demo", "--size", str(size), "--start", str(start)]
-    done = subprocess.run(words, input=b"0 status\n", stdout=subprocess.PIPE, timeout=600)
+    done = subprocess.run(words, input=b"0 status\n", stdout=subprocess.PIPE, timeout=1800)
     given = done.stdout.decode().splitlines()
     if done.returncode != 0 or given != wanted:
         sys.exit(f"whole_runs: a demonstration of {size} from {start}: status {done.returncode}, {given} for {wanted}")

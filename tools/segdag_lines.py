@@ -68,6 +68,21 @@ class Reply:
         return self.last.split()[1:]
 
     @property
+    def first(self):
+        """The first of these words, which the replies that are asked for it have."""
+        words = self.words
+        if not words:
+            raise Refused(f"the program put '{self.last}', which is no reply to what was asked")
+        return words[0]
+
+    @property
+    def number(self):
+        """The same where it is a number."""
+        if not self.first.isdecimal() or len(self.first) > 20:
+            raise Refused(f"the program put '{self.last[:80]}', and a number was asked for")
+        return int(self.first)
+
+    @property
     def lines(self):
         return self.text.decode().split("\n")[:-1]
 

@@ -33,6 +33,8 @@ def written(log, more, held):
     with as_(log):
         child = Popen([program(), log, "--", "compact", *more], stdin=DEVNULL, stdout=PIPE, stderr=DEVNULL, pass_fds=(held,))
     told = child.communicate()[0].split()
-    if child.returncode != 0 or told[:2] != [b"ok", b"compacted"]:
+    if child.returncode == 0 and (told[:2] != [b"ok", b"compacted"] or len(told) != 6 or not b"".join(told[2:]).isdigit()):
+        raise Refused(f"the program put {b' '.join(told)[:80]!r}, and was to tell of a new log")
+    if child.returncode != 0:
         raise Refused(f"{log}: {end_of(child.returncode)}", child.returncode)
     return told

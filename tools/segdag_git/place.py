@@ -6,9 +6,7 @@ The program locks the log's file itself, where it is of a version that does. Whe
 """
 import fcntl
 import os
-import shutil
 import sys
-import tempfile
 from contextlib import contextmanager, suppress
 
 from segdag_lines import Program, Refused, Socket
@@ -98,6 +96,9 @@ class Place:
                     os.rename(self.old, self.log)
                     return
             # The file is another repository's too, or lies on another disk.
+            import shutil
+            import tempfile
+
             with tempfile.NamedTemporaryFile(dir=self.folder, delete=False) as copy:
                 shutil.copyfileobj(old, copy)
                 copy.flush()
@@ -159,6 +160,10 @@ class Place:
             with lines:
                 yield lines
             return
+        # They take milliseconds to load, which other questions don't pay.
+        import shutil
+        import tempfile
+
         with tempfile.TemporaryDirectory(prefix="segdag-") as folder:
             copy = os.path.join(folder, "log")
             with self.locked(fcntl.LOCK_SH):

@@ -54,7 +54,7 @@ def merge_base(place, objects, words):
 def is_ancestor(place, objects, words):
     one, other = (objects.named(word) for word in words)
     with Asked(place, objects, [one, other]) as store:
-        return 1 - store.size(f"inter({one},ancestors({other}))")
+        return 0 if store.size(f"inter({one},ancestors({other}))") else 1
 
 
 def ahead_behind(place, objects, words):

@@ -103,9 +103,9 @@ def counted(folder, expressions):
     all_of, unreal = replies[: len(expressions)], replies[len(expressions) :]
     # Where the log has no mark there are no stand-ins.
     unreal = [["ok 0"] if reply == [f"err unknown {MARK}"] else reply for reply in unreal]
-    if any(reply[-1][:3] != "ok " for reply in all_of + unreal):
+    if any(reply[-1][:3] != "ok " or not reply[-1][3:23].isdecimal() for reply in all_of + unreal):
         return None
-    return [int(one[0][3:]) - int(other[0][3:]) for one, other in zip(all_of, unreal)]
+    return [int(one[-1][3:23]) - int(other[-1][3:23]) for one, other in zip(all_of, unreal)]
 
 
 def answer(words):
@@ -140,4 +140,4 @@ def answer(words):
         return None
     if is_log:
         sys.stdout.write(f"{counts[0]}\n")
-    return 0 if is_log else 1 - counts[0]
+    return 0 if is_log or counts[0] else 1

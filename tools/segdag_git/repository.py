@@ -1,7 +1,6 @@
 """The repository, as git tells of it."""
 import os
 import re
-import tempfile
 from contextlib import suppress
 from subprocess import DEVNULL, PIPE, Popen
 
@@ -15,15 +14,12 @@ FOUND = re.compile(r"([0-9a-f]{40}) commit [0-9]+")
 
 def git(*words, given=None):
     """The lines that git puts; None where it refuses. It may read the lines of `given`."""
-    with tempfile.TemporaryFile() as asked:
-        if given is not None:
-            asked.write(os.fsencode("".join(line + "\n" for line in given)))
-            asked.seek(0)
-        try:
-            child = Popen(["git", *words], stdin=asked, stdout=PIPE, stderr=DEVNULL)
-        except OSError as error:
-            raise Refused(f"git can't be started: {error.strerror}") from error
-        put = child.communicate()[0]
+    text = os.fsencode("".join(line + "\n" for line in given or ()))
+    try:
+        child = Popen(["git", *words], stdin=PIPE, stdout=PIPE, stderr=DEVNULL)
+    except OSError as error:
+        raise Refused(f"git can't be started: {error.strerror}") from error
+    put = child.communicate(text)[0]
     return os.fsdecode(put).split("\n")[:-1] if child.returncode == 0 else None
 
 
@@ -103,6 +99,8 @@ def replaces(folder):
 
 def rows(wanted, without):
     """The rows of what these commits reach and those don't, parents first: each a name and its parents, without doubles."""
+    import tempfile  # It takes milliseconds to load, which a question on what the log has doesn't pay.
+
     words = ["git", "rev-list", "--topo-order", "--reverse", "--parents", "--stdin"]
     with tempfile.TemporaryFile("w+") as asked:
         asked.writelines([f"{name}\n" for name in wanted] + [f"^{name}\n" for name in without])

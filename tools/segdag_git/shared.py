@@ -1,7 +1,6 @@
 """The rights of the files beside the log: those that git gives its own by core.sharedRepository."""
 import os
 import stat
-import tempfile
 from contextlib import contextmanager, suppress
 
 from .repository import config
@@ -49,6 +48,8 @@ def share(path, given):
 
 def made(path, given):
     """Makes an empty file with these rights, neither more nor fewer at any moment. Nothing where it is there."""
+    import tempfile  # It takes milliseconds to load, which a question doesn't pay.
+
     mask = os.umask(0o077)
     os.umask(mask)
     place, fresh = tempfile.mkstemp(dir=os.path.dirname(path))

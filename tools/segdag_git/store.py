@@ -59,17 +59,20 @@ class Store:
 
     def places(self, names):
         """Where each of these is: its number in master, one behind an N among the others and what is pending, None where it isn't there."""
-        return [reply.words[0] if reply.ok else None for reply in self.lines.ask_all(f"id {name}" for name in names)]
+        return [reply.first if reply.ok else None for reply in self.lines.ask_all(f"id {name}" for name in names)]
 
     def has(self, name):
         return self.places([name])[0] is not None
 
     def listed(self, expression):
         """The names of an expression as it stands, the newest first."""
-        return self.lines.must(f"query {expression}").lines
+        names = self.lines.must(f"query {expression}").lines
+        if any(len(name) != 40 for name in names):
+            raise Refused("the program put names that are none")
+        return names
 
     def size(self, expression):
-        return int(self.lines.must(f"count {expression}").words[0])
+        return self.lines.must(f"count {expression}").number
 
     def real(self, expression):
         """The expression without stand-ins, where there are any."""
@@ -87,7 +90,7 @@ class Store:
                 raise Refused(f"more than {reply.words[-1]} commits aren't in the log yet: `git segdag sync` takes them")
             if not reply.ok:
                 raise Refused(f"{reply.last}, answered to the add of {line[4:44]}; if the log is wrong it may be removed")
-            new += reply.words[0] == "added"
+            new += reply.first == "added"
         return new
 
     def flush(self, heads):
