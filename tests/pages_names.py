@@ -21,7 +21,7 @@ ELSEWHERE = {
     "the kit: its programs, files, options": """rt rattle clap hex itoa arrayvec memchr lru rattle-kit-13f met-1 Kept.key Kept.give RT_JOBS out/rlib proofs/Lib.antt
         ./proofs/ --allow-holes --incremental --statements --only --start --fix-imports""",
     "git and what git segdag makes in a repository": """git segdag/log segdag/lock objects objects/info/segdag heads/master set:master main topic release HEAD cat-file
-        publish segdag.publish for-each-ref""",
+        publish segdag.publish for-each-ref core.sharedRepository --branches --tags --remotes --glob=""",
     "Linux and its programs": """make sh cc nc python3 strace valgrind perf flock fsync mv cp ssh curl socat renice nice sync sched_autogroup_enabled LISTEN_FDS TMPDIR
         ExecStart ConnectTimeout ServerAliveInterval KillMode=mixed StreamLocalBindMask Accept=yes StandardInput=socket""",
     "words of the program with a place to fill in": "bundle: pipe: ./bundle:.. ./pipe:.. TYPETRAIT .max(..) LOG REMOTE MODE TO FROM PATH",
