@@ -79,3 +79,7 @@ returns-clause-loaded g c = λ used. c.top.ensures.loaded
 
 pub returns-clause-no_log : goal.returns-clause-no_log
 returns-clause-no_log g c = λ used. c.top.ensures.no_log (subst (λ mode. MatchOption mode ⊥ (IsUsageOf Run)) c.in-Some.ensures used)
+
+pub returns-clause-spare : goal.returns-clause-spare
+returns-clause-spare g c = λ used. c.top.ensures.spare
+    (⊎_elim (λ other. inl (λ k. other (subst (λ mode. MatchOption mode ⊥ (IsUsageOf Compact)) (sym c.in-Some.ensures) k))) inr used)
