@@ -1,7 +1,7 @@
 # The quick start and the gate.
 RT ?= rt
 
-.PHONY: build run try test
+.PHONY: build run try lib lib-try test
 
 # Builds the program without its proofs, and leaves it as out/segdag.
 build:
@@ -15,6 +15,15 @@ run:
 # Runs the program on the sample without its proofs, in about a minute: `proved=no` stands in the last line.
 try:
 	cd crates/segdag && $(RT) try -- log -- run < stdin
+
+# The C library, proved: out/libsegdag.a, out/libsegdag.so and out/segdag.h (docs/CLIB.md).
+lib:
+	cd crates/segdag_c && $(RT) lib
+	RT="$(RT)" sh tools/build_library.sh crates/segdag_c/out/libsegdag_c.a
+
+# The same without its proofs, in a minute or two.
+lib-try:
+	RT="$(RT)" sh tools/build_library_unproved.sh
 
 # The gate: each proof, each must-fail edit, each test and each program; hours from nothing (docs/PROVING.md, "Gates"). Behind it
 # what no contract can say of the compiler, of the built program and of the documents, in some ten minutes. The first failure ends it.
@@ -35,6 +44,7 @@ test:
 	sh tests/no_memory.sh
 	sh tests/serve.sh
 	sh tests/pipes.sh
+	RT="$(RT)" sh tests/clib.sh
 	sh tests/guide.sh
 	sh tests/pages.sh
 	@sh tests/skips.sh

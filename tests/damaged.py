@@ -357,4 +357,5 @@ def main():
     print(f"damaged: {logs} drawn logs are taken; of {(refused + taken).total()} damaged ones {refused.total()} refused: {kinds}")
 
 
-main()
+if __name__ == "__main__":
+    main()

@@ -245,4 +245,5 @@ def main():
     print(f"no_memory: each of {calls} calls for memory found none:", ", ".join(f"{came} {told[came]}" for came in sorted(told)))
 
 
-main()
+if __name__ == "__main__":
+    main()

@@ -1,0 +1,181 @@
+/* The commit graph store as a C library. Link libsegdag.a or libsegdag.so: nothing else is needed.
+
+   A store is one log, opened with its lock. README says what sessions, names, ids, expressions and refusals are; docs/CLIB.md says what
+   is proved of these calls and what isn't.
+
+   Each call answers a code and never ends the process. Seen, and answered by a code: a store that is NULL, any other pointer that is
+   NULL where something is to be read or written, a session above 15, a text or a list that is too long, a thread that didn't open the
+   store. Not seen, and so yours to keep: a store that was closed through another copy of its pointer; pointers that aren't valid for
+   the lengths beside them; what is passed for writing that overlaps anything else that is passed; calls from a signal handler, or from
+   a child that was forked while the store was open. */
+#ifndef SEGDAG_H
+#define SEGDAG_H
+#include <stdbool.h>
+#include <stddef.h>
+#include <stdint.h>
+#ifdef __cplusplus
+extern "C" {
+#endif
+
+typedef enum segdag_status {
+    SEGDAG_OK = 0,
+    /* The log isn't open, or not any more. */
+    SEGDAG_DISK = 3,          /* the log's disk failed, and the store is closed: the log is as it was, or with the change */
+    SEGDAG_NO_LOG = 4,        /* the file is larger than 2^30 bytes, damaged, or no log */
+    SEGDAG_REPLY = 6,         /* no memory for a reply, and the store is closed: open it again to see what was done */
+    SEGDAG_MEMORY = 7,        /* no memory; nothing was done */
+    SEGDAG_NOT_OPENED = 9,    /* the file can't be opened, or is none */
+    SEGDAG_LOCKED = 16,       /* another process, or another store of this one, has the log */
+    SEGDAG_CLOSED = 17,       /* the store is NULL, or was closed for a failure before */
+    SEGDAG_OPEN = 18,         /* of segdag_core_load alone: a log is open */
+    SEGDAG_ARGUMENT = 19,     /* an argument is none: see above */
+    SEGDAG_THREAD = 20,       /* the store was opened by another thread */
+    /* The store refuses, and nothing changed. README names these so. */
+    SEGDAG_SYNTAX = 32,
+    SEGDAG_UNKNOWN = 33,
+    SEGDAG_TWICE = 34,
+    SEGDAG_DIFFERS = 35,
+    SEGDAG_CONFLICT = 36,
+    SEGDAG_LOST = 37,
+    SEGDAG_MASTER = 38,
+    SEGDAG_EMPTY = 39,
+    SEGDAG_FULL = 40,
+    SEGDAG_ANSWER = 41,
+    SEGDAG_NOT_EMPTY = 42,
+    SEGDAG_PENDING = 43,
+    SEGDAG_NO_REMOTE = 44,
+    SEGDAG_REMOTE = 45,
+    SEGDAG_MISMATCH_PATH = 46,
+    SEGDAG_MISMATCH_NAMES = 47,
+    SEGDAG_MISMATCH_CLONE = 48,
+    SEGDAG_MISMATCH_ROW = 49,
+    SEGDAG_LINE = 50          /* a line is longer than 16384 bytes */
+} segdag_status;
+
+/* The word of a status, as `unknown` and `mismatch path`; never NULL. */
+const char *segdag_word(segdag_status status);
+
+/* ---- stores */
+
+typedef struct segdag segdag;
+
+/* How many bytes a name has. */
+#define SEGDAG_NAME 20
+typedef uint8_t segdag_name_bytes[SEGDAG_NAME];
+
+/* Ids of commits that aren't in master are this much and their number in N0, N1 and so on. */
+#define SEGDAG_OTHERS ((uint64_t)1 << 56)
+
+/* Opens the log at this path, which is made where there is none, and takes its lock without waiting. Room for this many names of mirrors,
+   at least 1. *store is NULL unless the status is SEGDAG_OK. */
+segdag_status segdag_open(const char *path, uint32_t cache, segdag **store);
+
+/* Closes it, and makes *store NULL. What wasn't flushed is gone. */
+segdag_status segdag_close(segdag **store);
+
+/* ---- lines of the command language */
+
+/* Text that grows as it is wanted: all zeros at first, ended by a byte 0 that isn't counted. */
+typedef struct segdag_text {
+    char *bytes;
+    size_t size, room;
+} segdag_text;
+
+void segdag_text_free(segdag_text *text);
+
+/* Answers a line, without its end: the reply is what the program puts, with the ends of its lines, and nothing for a line with no reply.
+   A refusal is a reply, too. A change is on the disk when this returns. */
+segdag_status segdag_line(segdag *store, const char *line, size_t size, segdag_text *reply);
+
+/* ---- changes */
+
+/* Adds a commit to a session, and tells its id; one that is there with the same parents stays as it is. */
+segdag_status segdag_add(segdag *store, uint8_t session, const segdag_name_bytes name, const segdag_name_bytes *parents, size_t count, uint64_t *id);
+
+/* How many rows there are: in master and among the others of what was stored, or of what a session works on, and pending in it. */
+typedef struct segdag_sizes {
+    uint64_t master, others, pending;
+} segdag_sizes;
+
+/* Stores the session's pending rows, and what these heads reach in master. At most 399 heads. */
+segdag_status segdag_flush(segdag *store, uint8_t session, const segdag_name_bytes *heads, size_t count, segdag_sizes *sizes);
+
+/* Takes these others and their descendants out of what is stored. From 1 to 399 names. */
+segdag_status segdag_strip(segdag *store, uint8_t session, const segdag_name_bytes *names, size_t count, segdag_sizes *sizes);
+
+/* Takes the session to the newest version, and tells how many pending rows it keeps. */
+segdag_status segdag_reload(segdag *store, uint8_t session, uint64_t *pending);
+
+/* Lets the session's pending rows go, and tells how many they were. */
+segdag_status segdag_discard(segdag *store, uint8_t session, uint64_t *pending);
+
+/* ---- questions, in what a session sees */
+
+segdag_status segdag_sizes_of(segdag *store, uint8_t session, segdag_sizes *sizes);
+
+/* The id of a commit, and the name of an id. SEGDAG_UNKNOWN where the session doesn't see it. */
+segdag_status segdag_id(segdag *store, uint8_t session, const segdag_name_bytes name, uint64_t *id);
+segdag_status segdag_name(segdag *store, uint8_t session, uint64_t id, segdag_name_bytes name);
+
+/* How many members an expression has. */
+segdag_status segdag_count(segdag *store, uint8_t session, const char *expression, size_t size, uint64_t *count);
+
+/* Names that grow as they are wanted: all zeros at first. */
+typedef struct segdag_names {
+    segdag_name_bytes *names;
+    size_t count, room;
+} segdag_names;
+
+void segdag_names_free(segdag_names *names);
+
+/* The names of an expression's members, the greatest id first. */
+segdag_status segdag_list(segdag *store, uint8_t session, const char *expression, size_t size, segdag_names *members);
+
+/* Whether a is b or an ancestor of b. */
+segdag_status segdag_is_ancestor(segdag *store, uint8_t session, const segdag_name_bytes a, const segdag_name_bytes b, bool *is);
+
+/* The heads of what both reach. */
+segdag_status segdag_merge_bases(segdag *store, uint8_t session, const segdag_name_bytes a, const segdag_name_bytes b, segdag_names *bases);
+
+typedef struct segdag_pair {
+    segdag_name_bytes left, right;
+} segdag_pair;
+
+typedef struct segdag_distance {
+    uint64_t ahead, behind;
+} segdag_distance;
+
+/* Of each pair, how many commits the left one reaches that the right one doesn't, and the other way round. It stops at the first pair that
+   is refused, whose place is *done; else *done is count. */
+segdag_status segdag_ahead_behind(segdag *store, uint8_t session, const segdag_pair *pairs, size_t count, segdag_distance *distances, size_t *done);
+
+/* ---- without a file
+
+   The proved part, for who keeps logs elsewhere. It reaches no file: it is lent the log's bytes for one call, and says which writes and
+   syncs are to be performed, in this order, before what it answered counts. Where one can't be performed the core is to be closed. A core
+   is all zeros at first, isn't copied, and stays on its thread. Pointers may not be NULL, also where a size is 0. */
+
+typedef struct segdag_core {
+    bool is_open;
+    void *handle;
+} segdag_core;
+
+typedef enum segdag_kind { SEGDAG_NOTHING = 0, SEGDAG_WRITE = 1, SEGDAG_SYNC = 2 } segdag_kind;
+
+uint32_t segdag_core_load(segdag_core *core, const uint8_t *bytes, size_t size, uint32_t cache);
+uint32_t segdag_core_close(segdag_core *core);
+uint32_t segdag_core_next(segdag_core *core, uint32_t *kind, uint64_t *at, size_t *size);
+uint32_t segdag_core_piece(segdag_core *core, size_t from, uint8_t *out, size_t room, size_t *copied);
+uint32_t segdag_core_performed(segdag_core *core);
+uint32_t segdag_core_line(segdag_core *core, const uint8_t *line, size_t size, size_t *reply_size);
+uint32_t segdag_core_reply(segdag_core *core, size_t from, uint8_t *out, size_t room, size_t *copied);
+uint32_t segdag_core_add(segdag_core *core, uint8_t session, const uint8_t name[20], const uint8_t *parents, size_t parents_size, uint64_t *id);
+uint32_t segdag_core_id(segdag_core *core, uint8_t session, const uint8_t name[20], uint64_t *id);
+uint32_t segdag_core_count(segdag_core *core, uint8_t session, const uint8_t *text, size_t size, uint64_t *count);
+uint32_t segdag_core_query(segdag_core *core, uint8_t session, const uint8_t *text, size_t size, size_t *names_size);
+uint32_t segdag_core_names(segdag_core *core, size_t from, uint8_t *out, size_t room, size_t *copied);
+
+#ifdef __cplusplus
+}
+#endif
+#endif

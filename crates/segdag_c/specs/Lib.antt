@@ -1,0 +1,5 @@
+pub mod Owned
+pub mod Codes
+pub mod Does
+pub mod Typed
+pub mod Line

@@ -1,0 +1,19 @@
+#![tactic(auto)]
+
+//! The store as a C library: a log is opened behind a handle, command lines are answered in the caller's process, and a few calls
+//! take and give names as bytes. It reaches no file: it is lent the log's bytes, and says which writes and syncs are to be performed.
+
+mod answering;
+mod calls;
+mod codes;
+mod exports;
+mod handle;
+mod held;
+mod loading;
+mod names;
+mod parts;
+mod slot;
+#[cfg(test)]
+mod tests;
+
+pub use crate::slot::Slot;

@@ -1,0 +1,48 @@
+//! Loading a log whose bytes are lent.
+
+ghost use Rattle.std.specs.Prelude.{◌≡◌, ◌<◌, IfOk};
+ghost use Rattle.change_rules.specs.Standard.{standard};
+
+use crate::codes::Failure;
+use crate::held::Held;
+use call_disk::{LentDisk, NotedDisk};
+use dag_store::{Limits, LoadFault, Store};
+use line_io::MemorySink;
+use std::alloc::Global;
+
+/// Why C is told that a log isn't loaded.
+fn failure_of(fault: LoadFault) -> Failure {
+    match fault {
+        LoadFault::Disk(_) => Failure::Disk,
+        LoadFault::Memory => Failure::Memory,
+        LoadFault::Frame(_) | LoadFault::TooLarge(_) | LoadFault::Batch(_) => Failure::NoLog,
+    }
+}
+
+/// The store of the log that these bytes are, with room for so many names of mirrors, and what is to be written of one that is fresh.
+fn load_store(alloc: Global, bytes: &[u8], cache: u32) -> Result<(Store, NotedDisk), Failure>
+    requires { 0 < cache }
+    ensures limits { IfOk result (λ loaded. loaded.0.limits ≡ standard) }
+{
+    let mut disk = LentDisk::new(alloc, bytes);
+    match Store::load(alloc, &mut disk, Limits::standard(), cache) {
+        Ok(store) => Ok((store, disk.into_noted())),
+        Err(fault) => Err(failure_of(fault)),
+    }
+}
+
+/// Loads the log that these bytes are. What is to be written of one that is fresh is noted.
+pub(crate) fn load_log(alloc: Global, bytes: &[u8], cache: u32) -> Result<Held, Failure>
+    requires { 0 < cache }
+{
+    let Ok(reply) = MemorySink::new(alloc, &[]) else {
+        return Err(Failure::Memory);
+    };
+    let (store, log) = load_store(alloc, bytes, cache)?;
+    Ok(Held {
+        store: Some(store),
+        log,
+        reply,
+        names: Vec::new(alloc),
+    })
+}

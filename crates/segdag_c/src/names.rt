@@ -1,0 +1,32 @@
+//! Names as bytes, 20 each, one behind another.
+
+ghost use Rattle.std.specs.Prelude.{◌≡◌, ◌≤◌, ◌*◌, length, IfOk};
+
+use dag_store::Names;
+use id_groups::{Name, NameRef};
+use std::alloc::{AllocError, Global};
+
+/// How many bytes a name has.
+pub(crate) const NAME_SIZE: usize = 20;
+
+/// The names that stand one behind the other in these bytes; what is left behind them is no name.
+pub(crate) fn names_in(alloc: Global, bytes: &[u8]) -> Result<Vec<Name>, AllocError>
+    ensures { IfOk result (λ names. length names.items * 20 ≤ length bytes.now) }
+{
+    let mut names = Vec::new(alloc);
+    let mut rest = bytes;
+    'names: while rest.len() >= NAME_SIZE {
+        names.push(NameRef::over(&rest[..NAME_SIZE]).to_name())?;
+        rest = &rest[NAME_SIZE..];
+    }
+    Ok(names)
+}
+
+/// The bytes of names, one behind the other.
+pub(crate) fn join(alloc: Global, names: Names<'_>) -> Result<Vec<u8>, AllocError> {
+    let mut bytes = Vec::new(alloc);
+    for name in names {
+        bytes.extend_from_slice(name.bytes)?;
+    }
+    Ok(bytes)
+}

@@ -1,0 +1,143 @@
+//! Every function that C calls, over a log in memory.
+
+use crate::exports::{
+    segdag_core_add, segdag_core_close, segdag_core_count, segdag_core_id, segdag_core_line,
+    segdag_core_load, segdag_core_names, segdag_core_next, segdag_core_performed,
+    segdag_core_piece, segdag_core_query, segdag_core_reply,
+};
+use crate::slot::Slot;
+
+const FIRST: [u8; 20] = [1; 20];
+
+const SECOND: [u8; 20] = [2; 20];
+
+/// The line of a session with the name of 20 times this byte behind its words.
+const FLUSH: &[u8] = b"0 flush 0202020202020202020202020202020202020202";
+
+#[test]
+fn a_closed_slot_answers_its_code(rt: HostRuntime) {
+    let alloc = rt.alloc();
+    let mut slot = Slot::shut(alloc);
+    let mut number = 0;
+    let mut size = 0;
+    assert_eq!(rt; segdag_core_close(alloc, &mut slot), 17);
+    assert_eq!(rt;
+        segdag_core_line(alloc, &mut slot, b"0 status", &mut size),
+        17
+    );
+    assert_eq!(rt;
+        segdag_core_add(alloc, &mut slot, 0, &FIRST, b"", &mut number),
+        17
+    );
+    assert_eq!(rt; segdag_core_load(alloc, &mut slot, b"", 0), 19);
+    assert_eq!(rt;
+        segdag_core_load(alloc, &mut slot, &[1, 255, 255, 255], 1),
+        4
+    );
+    assert_eq!(rt; segdag_core_load(alloc, &mut slot, b"", 1), 0);
+    assert_eq!(rt; segdag_core_load(alloc, &mut slot, b"", 1), 18);
+    assert_eq!(rt; segdag_core_close(alloc, &mut slot), 0);
+    assert_eq!(rt; segdag_core_close(alloc, &mut slot), 17);
+    slot.forget();
+}
+
+#[test]
+fn typed_calls_answer(rt: HostRuntime) {
+    let alloc = rt.alloc();
+    let mut slot = Slot::shut(alloc);
+    let mut number = 7;
+    let mut size = 0;
+    assert_eq!(rt; segdag_core_load(alloc, &mut slot, b"", 1), 0);
+    assert_eq!(rt;
+        segdag_core_add(alloc, &mut slot, 0, &FIRST, b"", &mut number),
+        0
+    );
+    assert_eq!(rt; number, 1 << 56);
+    assert_eq!(rt;
+        segdag_core_add(alloc, &mut slot, 0, &SECOND, &FIRST, &mut number),
+        0
+    );
+    assert_eq!(rt;
+        segdag_core_add(alloc, &mut slot, 0, &SECOND, b"short", &mut number),
+        19
+    );
+    assert_eq!(rt;
+        segdag_core_add(alloc, &mut slot, 16, &SECOND, &FIRST, &mut number),
+        19
+    );
+    assert_eq!(rt;
+        segdag_core_add(alloc, &mut slot, 0, &FIRST, &SECOND, &mut number),
+        35
+    );
+    assert_eq!(rt;
+        segdag_core_id(alloc, &mut slot, 0, &SECOND, &mut number),
+        0
+    );
+    assert_eq!(rt; number, (1 << 56) + 1);
+    assert_eq!(rt;
+        segdag_core_id(alloc, &mut slot, 1, &SECOND, &mut number),
+        33
+    );
+    assert_eq!(rt;
+        segdag_core_count(alloc, &mut slot, 0, b"all", &mut number),
+        0
+    );
+    assert_eq!(rt; number, 2);
+    assert_eq!(rt;
+        segdag_core_count(alloc, &mut slot, 0, b"all of it", &mut number),
+        32
+    );
+    assert_eq!(rt;
+        segdag_core_query(alloc, &mut slot, 0, b"heads(all)", &mut size),
+        0
+    );
+    assert_eq!(rt; size, 20);
+    let mut name = [0; 20];
+    assert_eq!(rt;
+        segdag_core_names(alloc, &mut slot, 0, &mut name, &mut size),
+        0
+    );
+    assert_eq!(rt; name, SECOND);
+    assert_eq!(rt; segdag_core_close(alloc, &mut slot), 0);
+    slot.forget();
+}
+
+#[test]
+fn a_line_notes_what_is_to_be_written(rt: HostRuntime) {
+    let alloc = rt.alloc();
+    let mut slot = Slot::shut(alloc);
+    let mut number = 0;
+    let mut kind = 9;
+    let mut at = 9;
+    let mut size = 0;
+    assert_eq!(rt; segdag_core_load(alloc, &mut slot, &[0], 1), 0);
+    assert_eq!(rt;
+        segdag_core_add(alloc, &mut slot, 0, &SECOND, b"", &mut number),
+        0
+    );
+    assert_eq!(rt; segdag_core_line(alloc, &mut slot, FLUSH, &mut size), 0);
+    assert_eq!(rt; size, 15);
+    let mut reply = [0; 15];
+    assert_eq!(rt;
+        segdag_core_reply(alloc, &mut slot, 0, &mut reply, &mut size),
+        0
+    );
+    assert_eq!(rt; &reply, b"ok flushed 1 0\n");
+    let mut kinds = Vec::new(alloc);
+    for _ in 0..8 {
+        assert_eq!(rt;
+            segdag_core_next(alloc, &mut slot, &mut kind, &mut at, &mut size),
+            0
+        );
+        kinds.push(kind).expect(&rt, "memory");
+        let mut piece = [0; 1];
+        assert_eq!(rt;
+            segdag_core_piece(alloc, &mut slot, 0, &mut piece, &mut size),
+            0
+        );
+        assert_eq!(rt; segdag_core_performed(alloc, &mut slot), 0);
+    }
+    assert_eq!(rt; kinds.as_slice(), [2, 1, 2, 1, 2, 1, 2, 0].as_slice());
+    assert_eq!(rt; segdag_core_close(alloc, &mut slot), 0);
+    slot.forget();
+}

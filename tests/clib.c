@@ -1,0 +1,233 @@
+/* What tests/clib.sh runs over the library, by the header alone. `clib LOG -- run` answers lines as the program does, and ends with the
+   library's status; `clib import LOG COUNT EVERY` imports rows; `clib typed LOG` tries the typed calls. */
+#include "segdag.h"
+#include <pthread.h>
+#include <stdio.h>
+#include <stdlib.h>
+#include <string.h>
+
+static int stopped(const char *what, segdag_status status) {
+    if (status)
+        fprintf(stderr, "%s: %s\n", what, segdag_word(status));
+    return (int)status;
+}
+
+/* ---- lines */
+
+/* Answers the lines of standard input on standard output, as the program does. The end's status is the library's. */
+static int answer_lines(const char *path) {
+    segdag *store = NULL;
+    segdag_text reply = {0};
+    size_t room = 1 << 17;
+    char *line = malloc(room);
+    segdag_status status = line ? segdag_open(path, 4096, &store) : SEGDAG_MEMORY;
+    for (ssize_t size; status == SEGDAG_OK && (size = getline(&line, &room, stdin)) > 0;) {
+        if (line[size - 1] == '\n')
+            size -= 1;
+        status = segdag_line(store, line, (size_t)size, &reply);
+        /* A reply that finds no memory in the shim is a refusal of the line. */
+        if (status == SEGDAG_OK)
+            fwrite(reply.bytes, 1, reply.size, stdout);
+        else if (status == SEGDAG_MEMORY) {
+            fputs("err memory\n", stdout);
+            status = SEGDAG_OK;
+        }
+        fflush(stdout);
+    }
+    free(line);
+    segdag_text_free(&reply);
+    segdag_close(&store);
+    return stopped("lines", status);
+}
+
+/* ---- an import that may be killed */
+
+/* The name of the row with this number: its bytes are spread, so that ids and names have different orders. */
+static void name_of(uint64_t number, segdag_name_bytes name) {
+    uint64_t spread = number * 0x9e3779b97f4a7c15u;
+    memset(name, 7, SEGDAG_NAME);
+    for (int i = 0; i < 8; i++) {
+        name[i] = (uint8_t)(spread >> (8 * i));
+        name[12 + i] = (uint8_t)(number >> (8 * i));
+    }
+}
+
+/* Adds the row with this number: a child of the one before, and of an earlier one where the number ends in 9. */
+static segdag_status add_row(segdag *store, uint64_t number) {
+    segdag_name_bytes name, parents[2];
+    uint64_t id;
+    name_of(number, name);
+    name_of(number - 1, parents[0]);
+    name_of(number / 2, parents[1]);
+    size_t count = number == 0 ? 0 : number % 10 == 9 ? 2 : 1;
+    return segdag_add(store, 0, name, (const segdag_name_bytes *)parents, count, &id);
+}
+
+/* Goes on with an import of so many rows, with a flush behind each so many, and says each flush that was answered. */
+static int import_rows(const char *path, uint64_t count, uint64_t every) {
+    segdag *store = NULL;
+    segdag_sizes sizes = {0};
+    segdag_status status = segdag_open(path, 1, &store);
+    if (status == SEGDAG_OK)
+        status = segdag_sizes_of(store, 0, &sizes);
+    if (status == SEGDAG_OK) {
+        printf("found %llu\n", (unsigned long long)sizes.master);
+        fflush(stdout);
+    }
+    for (uint64_t number = sizes.master; status == SEGDAG_OK && number < count;) {
+        segdag_name_bytes head;
+        for (uint64_t end = number + every < count ? number + every : count; status == SEGDAG_OK && number < end; number++)
+            status = add_row(store, number);
+        name_of(number - 1, head);
+        if (status == SEGDAG_OK)
+            status = segdag_flush(store, 0, (const segdag_name_bytes *)&head, 1, &sizes);
+        if (status == SEGDAG_OK) {
+            printf("flushed %llu\n", (unsigned long long)sizes.master);
+            fflush(stdout);
+        }
+    }
+    segdag_close(&store);
+    return stopped("import", status);
+}
+
+/* ---- typed calls */
+
+static int failures;
+
+#define WANTS(condition)                                           \
+    do {                                                           \
+        if (!(condition)) {                                        \
+            fprintf(stderr, "typed: line %d: %s\n", __LINE__, #condition); \
+            failures += 1;                                         \
+        }                                                          \
+    } while (0)
+
+/* Calls with pointers, lengths and stores that are none. */
+static void try_arguments(segdag *store, const char *path) {
+    static const segdag_name_bytes names[400];
+    segdag *none = NULL, *second = NULL;
+    segdag_sizes sizes;
+    segdag_text reply = {0};
+    segdag_names found = {0};
+    uint64_t number;
+    bool is;
+    WANTS(segdag_open(path, 1, &second) == SEGDAG_LOCKED && !second);
+    WANTS(segdag_open("/", 1, &second) == SEGDAG_NOT_OPENED && !second);
+    WANTS(segdag_open(NULL, 1, &second) == SEGDAG_ARGUMENT && segdag_open(path, 0, &second) == SEGDAG_ARGUMENT);
+    WANTS(segdag_open(path, 1, NULL) == SEGDAG_ARGUMENT);
+    WANTS(segdag_line(none, "0 status", 8, &reply) == SEGDAG_CLOSED);
+    WANTS(segdag_add(none, 0, names[0], NULL, 0, &number) == SEGDAG_CLOSED);
+    WANTS(segdag_close(&none) == SEGDAG_CLOSED && segdag_close(NULL) == SEGDAG_CLOSED);
+    WANTS(segdag_line(store, NULL, 8, &reply) == SEGDAG_ARGUMENT && segdag_line(store, "0 status", 8, NULL) == SEGDAG_ARGUMENT);
+    WANTS(segdag_line(store, "0 status\n1 status", 17, &reply) == SEGDAG_ARGUMENT);
+    WANTS(segdag_add(store, 0, NULL, NULL, 0, &number) == SEGDAG_ARGUMENT && segdag_add(store, 0, names[0], NULL, 1, &number) == SEGDAG_ARGUMENT);
+    WANTS(segdag_add(store, 0, names[0], names, 9, &number) == SEGDAG_ARGUMENT && segdag_add(store, 16, names[0], NULL, 0, &number) == SEGDAG_ARGUMENT);
+    WANTS(segdag_flush(store, 16, NULL, 0, &sizes) == SEGDAG_ARGUMENT && segdag_flush(store, 0, names, 400, &sizes) == SEGDAG_ARGUMENT);
+    WANTS(segdag_flush(store, 0, names, SIZE_MAX, &sizes) == SEGDAG_ARGUMENT && segdag_strip(store, 0, names, 0, &sizes) == SEGDAG_ARGUMENT);
+    WANTS(segdag_count(store, 0, "all", SIZE_MAX, &number) == SEGDAG_ARGUMENT && segdag_count(store, 0, NULL, 3, &number) == SEGDAG_ARGUMENT);
+    WANTS(segdag_count(store, 0, "all of it", 9, &number) == SEGDAG_SYNTAX && segdag_list(store, 0, "", 0, &found) == SEGDAG_SYNTAX);
+    WANTS(segdag_is_ancestor(store, 0, NULL, names[0], &is) == SEGDAG_ARGUMENT && segdag_reload(store, 0, NULL) == SEGDAG_ARGUMENT);
+    WANTS(segdag_id(store, 0, names[0], &number) == SEGDAG_UNKNOWN && segdag_name(store, 0, 5, found.names[0]) == SEGDAG_ARGUMENT);
+    segdag_text_free(&reply);
+    segdag_names_free(&found);
+}
+
+static void *try_thread(void *store) {
+    segdag_sizes sizes;
+    segdag *copy = store;
+    WANTS(segdag_sizes_of(store, 0, &sizes) == SEGDAG_THREAD && segdag_close(&copy) == SEGDAG_THREAD && copy == store);
+    return NULL;
+}
+
+static bool is_reply(segdag *store, const char *line, const char *wanted) {
+    segdag_text reply = {0};
+    bool is = segdag_line(store, line, strlen(line), &reply) == SEGDAG_OK && !strcmp(reply.bytes, wanted) && reply.size == strlen(wanted);
+    segdag_text_free(&reply);
+    return is;
+}
+
+/* A chain of 100 rows in master, two branches of 10 and 5 that aren't, and a pending row. */
+static void make_history(segdag *store, segdag_name_bytes names[116]) {
+    segdag_sizes sizes;
+    uint64_t id = 0;
+    for (int i = 0; i < 116; i++) {
+        int parent = i == 110 ? 99 : i == 115 ? 50 : i - 1;
+        name_of((uint64_t)i, names[i]);
+        WANTS(segdag_add(store, 0, names[i], i ? (const segdag_name_bytes *)&names[parent] : NULL, i > 0, &id) == SEGDAG_OK);
+        WANTS(i == 115 || id == SEGDAG_OTHERS + (uint64_t)i);
+        if (i == 114)
+            WANTS(segdag_flush(store, 0, (const segdag_name_bytes *)&names[99], 1, &sizes) == SEGDAG_OK && sizes.master == 100 && sizes.others == 15);
+    }
+    WANTS(id == SEGDAG_OTHERS + 15);
+}
+
+static void try_questions(segdag *store, segdag_name_bytes names[116]) {
+    segdag_pair pairs[3];
+    segdag_distance distances[3];
+    segdag_names found = {0};
+    uint64_t number = 0;
+    size_t done = 9;
+    bool is = false;
+    for (int i = 0; i < 116; i++) {
+        segdag_name_bytes name;
+        WANTS(segdag_id(store, 0, names[i], &number) == SEGDAG_OK && number == (i < 100 ? (uint64_t)i : SEGDAG_OTHERS + (uint64_t)i - 100));
+        WANTS(segdag_name(store, 0, number, name) == SEGDAG_OK && !memcmp(name, names[i], SEGDAG_NAME));
+    }
+    WANTS(segdag_name(store, 0, 100, pairs[0].left) == SEGDAG_UNKNOWN && segdag_name(store, 0, SEGDAG_OTHERS + 16, pairs[0].left) == SEGDAG_UNKNOWN);
+    WANTS(segdag_count(store, 0, "all", 3, &number) == SEGDAG_OK && number == 116 && segdag_count(store, 1, "all", 3, &number) == SEGDAG_OK && number == 0);
+    WANTS(segdag_list(store, 0, "heads(all)", 10, &found) == SEGDAG_OK && found.count == 3 && !memcmp(found.names[0], names[115], SEGDAG_NAME));
+    WANTS(segdag_is_ancestor(store, 0, names[3], names[109], &is) == SEGDAG_OK && is && segdag_is_ancestor(store, 0, names[109], names[3], &is) == SEGDAG_OK && !is);
+    WANTS(segdag_is_ancestor(store, 0, names[3], names[3], &is) == SEGDAG_OK && is);
+    WANTS(segdag_merge_bases(store, 0, names[109], names[115], &found) == SEGDAG_OK && found.count == 1 && !memcmp(found.names[0], names[50], SEGDAG_NAME));
+    memcpy(pairs[0].left, names[109], SEGDAG_NAME);
+    memcpy(pairs[0].right, names[114], SEGDAG_NAME);
+    memcpy(pairs[1].left, names[0], SEGDAG_NAME);
+    memcpy(pairs[1].right, names[115], SEGDAG_NAME);
+    memset(&pairs[2], 200, sizeof pairs[2]);
+    WANTS(segdag_ahead_behind(store, 0, pairs, 2, distances, &done) == SEGDAG_OK && done == 2);
+    WANTS(distances[0].ahead == 10 && distances[0].behind == 5 && distances[1].ahead == 0 && distances[1].behind == 51);
+    WANTS(segdag_ahead_behind(store, 0, pairs, 3, distances, &done) == SEGDAG_UNKNOWN && done == 2);
+    segdag_names_free(&found);
+}
+
+static void try_changes(segdag *store, segdag_name_bytes names[116]) {
+    segdag_sizes sizes;
+    uint64_t number = 0;
+    WANTS(segdag_add(store, 0, names[0], (const segdag_name_bytes *)&names[5], 1, &number) == SEGDAG_DIFFERS);
+    WANTS(segdag_strip(store, 0, (const segdag_name_bytes *)&names[112], 1, &sizes) == SEGDAG_PENDING);
+    WANTS(segdag_discard(store, 0, &number) == SEGDAG_OK && number == 1);
+    WANTS(segdag_strip(store, 0, (const segdag_name_bytes *)&names[112], 1, &sizes) == SEGDAG_OK && sizes.master == 100 && sizes.others == 12);
+    WANTS(segdag_strip(store, 0, (const segdag_name_bytes *)&names[9], 1, &sizes) == SEGDAG_MASTER);
+    WANTS(segdag_reload(store, 1, &number) == SEGDAG_OK && number == 0);
+    WANTS(segdag_sizes_of(store, 1, &sizes) == SEGDAG_OK && sizes.master == 100 && sizes.others == 12 && sizes.pending == 0);
+    WANTS(is_reply(store, "1 status", "ok 100 12 0\n") && is_reply(store, "", "") && is_reply(store, "# no", "") && is_reply(store, "no", "err syntax\n"));
+}
+
+static int try_typed(const char *path) {
+    static segdag_name_bytes names[116];
+    segdag *store = NULL;
+    pthread_t thread;
+    if (stopped("open", segdag_open(path, 16, &store)))
+        return 1;
+    try_arguments(store, path);
+    make_history(store, names);
+    try_questions(store, names);
+    try_changes(store, names);
+    if (!pthread_create(&thread, NULL, try_thread, store))
+        pthread_join(thread, NULL);
+    WANTS(segdag_close(&store) == SEGDAG_OK && !store);
+    WANTS(segdag_open(path, 16, &store) == SEGDAG_OK && is_reply(store, "0 status", "ok 100 12 0\n"));
+    WANTS(segdag_close(&store) == SEGDAG_OK);
+    return failures != 0;
+}
+
+int main(int count, char **words) {
+    if (count == 4 && !strcmp(words[2], "--") && !strcmp(words[3], "run"))
+        return answer_lines(words[1]);
+    if (count == 3 && !strcmp(words[1], "typed"))
+        return try_typed(words[2]);
+    if (count == 5 && !strcmp(words[1], "import"))
+        return import_rows(words[2], strtoull(words[3], NULL, 10), strtoull(words[4], NULL, 10));
+    fputs("clib: words\n", stderr);
+    return 2;
+}

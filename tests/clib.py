@@ -1,0 +1,136 @@
+"""The parts of clib.sh: clib.py PART CLIB PROGRAM FOLDER, where CLIB is the program of tests/clib.c over the library, and PROGRAM the
+built one. Each ends with status 1 where the library did something else than the program, or lost what it had acknowledged."""
+import os
+import random
+import signal
+import subprocess
+import sys
+import time
+from pathlib import Path
+
+import no_memory
+from random_lines import Lines
+
+CLIB, PROGRAM, FOLDER = (os.path.abspath(word) for word in sys.argv[2:5])
+HISTORIES, RUNS, LINES = int(os.environ.get("HISTORIES", "17")), 3, 200  # 10,200 drawn lines
+ROWS, EVERY, KILLS = 100_000, 1_000, 30
+BY_LINES = 5_000  # how many of these rows the program imports, too
+MASK = (1 << 64) - 1
+
+
+def fail(text):
+    sys.exit(f"clib: {text}")
+
+
+def run(words, lines):
+    text = "".join(line + "\n" for line in lines).encode()
+    done = subprocess.run(words, input=text, stdout=subprocess.PIPE, stderr=subprocess.PIPE, timeout=300)
+    return done.returncode, done.stdout
+
+
+def drawn():
+    """Drawn lines in several runs over each log: the same replies and the same logs, byte by byte."""
+    logs = [Path(FOLDER, word) for word in ("by_library", "by_program")]
+    for seed in range(HISTORIES):
+        lines = Lines(random.Random(seed))
+        for log in logs:
+            log.unlink(missing_ok=True)
+        for part in range(RUNS):
+            sent = [lines.line() for _ in range(LINES)]
+            told, wanted = (run([program, log, "--", "run"], sent) for program, log in zip((CLIB, PROGRAM), logs))
+            if told != wanted or told[0] != 0:
+                Path("clib.lines").write_text("".join(line + "\n" for line in sent))
+                fail(f"history {seed}, run {part}: statuses {told[0]} and {wanted[0]}, other replies; clib.lines has the lines")
+            if logs[0].read_bytes() != logs[1].read_bytes():
+                fail(f"history {seed}, run {part}: other logs")
+    print(f"clib: {HISTORIES * RUNS * LINES} drawn lines get the program's replies, and leave its logs")
+
+
+def name_of(number):
+    """The name that clib.c gives the row with this number."""
+    name = bytearray([7] * 20)
+    name[:8] = (number * 0x9E3779B97F4A7C15 & MASK).to_bytes(8, "little")
+    name[12:] = number.to_bytes(8, "little")
+    return name.hex()
+
+
+def import_lines():
+    for number in range(BY_LINES):
+        parents = [] if number == 0 else [number - 1, number // 2] if number % 10 == 9 else [number - 1]
+        yield " ".join(["0 add", *map(name_of, [number, *parents])])
+        if number % EVERY == EVERY - 1:
+            yield f"0 flush {name_of(number)}"
+
+
+def imported(log, seconds=None, rows=ROWS):
+    """How many rows an import found, and the last flush that it told, where it is killed after so many seconds."""
+    words = [CLIB, "import", log, str(rows), str(EVERY)]
+    with subprocess.Popen(words, stdout=subprocess.PIPE, text=True) as process:
+        if seconds is not None:
+            time.sleep(seconds)
+            process.send_signal(signal.SIGKILL)
+        told = [line.split() for line in process.stdout.read().splitlines(keepends=True) if line.endswith("\n")]
+    if seconds is None and process.returncode:
+        fail(f"an import ended with status {process.returncode}")
+    return (int(told[0][1]) if told else None), (int(told[-1][1]) if told else None)
+
+
+def killed():
+    """An import of rows that is killed at drawn moments: the next one finds each acknowledged flush, and at most one more."""
+    whole, log, draw = Path(FOLDER, "whole"), Path(FOLDER, "killed"), random.Random(1)
+    began = time.monotonic()
+    imported(whole)
+    took = time.monotonic() - began
+    acknowledged, kills = 0, 0
+    while kills < KILLS or acknowledged < ROWS:
+        found, told = imported(log, took * draw.random() / 4 if kills < KILLS else None)
+        if found is not None and not acknowledged <= found <= acknowledged + EVERY:
+            fail(f"kill {kills}: {acknowledged} rows were acknowledged, and {found} found")
+        acknowledged, kills = (told if told is not None else acknowledged), kills + 1
+        if acknowledged == ROWS and kills < KILLS:
+            log.unlink()
+            acknowledged = 0
+    if whole.read_bytes() != log.read_bytes():
+        fail("the log of an import that was killed is another one")
+    part, by_lines = Path(FOLDER, "part"), Path(FOLDER, "by_lines")
+    imported(part, rows=BY_LINES)
+    status, _ = run([PROGRAM, by_lines, "--", "run"], import_lines())
+    if status != 0 or part.read_bytes() != by_lines.read_bytes():
+        fail("the log of the program's import is another one")
+    print(f"clib: {ROWS} rows imported in {took:.2f} s; {KILLS} kills: each acknowledged flush was found, at most one more")
+
+
+class Closed(no_memory.Lines):
+    """Lines over the library, which may also close the store: then what was told before is right, and the log is one of that moment."""
+
+    def came(self, fails):
+        status, output, files, _ = self.runs.run(self.text, fails)
+        if status in (3, 6, 7) and (self.is_unopened(output, files) or any(self.is_front(k, output, files) for k in range(len(self.lines) + 1))):
+            return f"status {status}"
+        return super().came(fails)
+
+    def is_unopened(self, output, files):
+        return output == b"" and self.runs.is_unchanged(files)
+
+    def is_front(self, k, output, files):
+        """Whether the output is that of the first k lines, and the log what they left, or one line more."""
+        return self.front(k)[0] == output and files in (self.front(k)[1], self.front(k + 1)[1])
+
+    def front(self, k):
+        if ("front", k) not in self.refused:
+            _, output, files, _ = self.runs.run(no_memory.joined(self.lines[:k]))
+            self.refused["front", k] = (output, files)
+        return self.refused["front", k]
+
+
+def memory():
+    """Each call for memory in turn finds none: no reply is wrong, and the log is one of before or behind a line."""
+    told, calls = {}, 0
+    for what, lines in no_memory.longest_cases(2):
+        tried = Closed(what, no_memory.Runs(CLIB, FOLDER, ["LOG", "--", "run"]), lines)
+        tried.fail_each(told)
+        calls += tried.calls
+    print(f"clib: each of {calls} calls for memory found none:", ", ".join(f"{came} {told[came]}" for came in sorted(told)))
+
+
+{"drawn": drawn, "killed": killed, "memory": memory}[sys.argv[1]]()

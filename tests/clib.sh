@@ -1,0 +1,67 @@
+#!/bin/sh
+# The library as its users have it. A C program that knows the header alone tries each call, answers drawn lines as the program does,
+# imports rows while it is killed, and loads damaged logs; want of memory at each allocation; the sanitizers; the examples. A minute
+# or so, and some more where the library has to be built.
+#     sh tests/clib.sh [PART]...     the parts are typed drawn killed damaged memory examples; LIBRARY is a library that is built
+. "$(dirname "$0")/lib.sh"
+cc=${CC:-cc}
+library=${LIBRARY:-$PWD/out/libsegdag.a}
+
+# Builds $folder/$1 of the C file $2 over the library, with the flags that follow.
+over_library() {
+    made=$1 source=$2
+    shift 2
+    "$cc" -O1 -Wall -Wextra -Werror -pthread "$@" -I bindings/c "$source" "$library" -o "$folder/$made"
+}
+
+# The shim is built with it, so that the sanitizers see what it does, and stands in front of the library's own.
+sanitized() {
+    "$cc" -O1 -g -fsanitize=address,undefined -fno-sanitize-recover=all -pthread -Wl,--allow-multiple-definition -I bindings/c \
+        tests/clib.c bindings/c/segdag.c bindings/c/calls.c "$library" -o "$folder/sanitized" 2> "$folder/told"
+}
+
+typed() {
+    "$folder/clib" typed "$folder/typed.log"
+    if sanitized; then
+        "$folder/sanitized" typed "$folder/sanitized.log"
+        HISTORIES=3 python tests/clib.py drawn "$folder/sanitized" "$program" "$folder"
+        echo "clib: the typed calls answer, and the sanitizers find nothing"
+    else
+        echo "clib: $cc has no sanitizers; the typed calls answer"
+    fi
+}
+
+memory() {
+    if "$cc" -shared -fPIC -O1 -o "$folder/no_memory.so" tests/no_memory.c; then
+        python tests/clib.py memory "$folder/clib" "$program" "$folder"
+    fi
+}
+
+examples() {
+    over_library example bindings/examples/example.c
+    "$folder/example" "$folder/c.log" > "$folder/c.told"
+    tail -1 "$folder/c.told" | grep -qx 'ok 3'
+    PYTHONPATH=bindings/python SEGDAG_LIBRARY=$(dirname "$library")/libsegdag.so python bindings/examples/example.py "$folder/py.log" > "$folder/py.told"
+    tail -1 "$folder/py.told" | grep -qx 'refused: Unknown'
+    told="C and Python"
+    if command -v rustc > "$folder/told"; then
+        rustc --edition 2024 -O -o "$folder/example_rs" bindings/examples/example.rs -C link-arg="$library"
+        "$folder/example_rs" "$folder/rs.log" | tail -1 | grep -qx 'the first is an ancestor of the third: true'
+        told="$told and Rust"
+    fi
+    echo "clib: the examples in $told run"
+}
+
+wants_program
+wants "$cc" python3
+[ -n "${LIBRARY:-}" ] || make lib RT="${RT:-rt}"
+[ $# -gt 0 ] || set -- typed drawn killed damaged memory examples
+wants_folder
+over_library clib tests/clib.c
+for part in "$@"; do
+    case $part in
+        typed | memory | examples) "$part" ;;
+        damaged) python tests/damaged.py "$folder/clib" "$folder" 40 1 ;;
+        *) python tests/clib.py "$part" "$folder/clib" "$program" "$folder" ;;
+    esac
+done
