@@ -25,7 +25,7 @@ ELSEWHERE = {
     "Linux and its programs": """make sh cc nc python3 strace valgrind perf flock fsync mv cp ssh curl socat renice nice sync sched_autogroup_enabled LISTEN_FDS TMPDIR
         ExecStart ConnectTimeout ServerAliveInterval KillMode=mixed StreamLocalBindMask Accept=yes StandardInput=socket""",
     "words of the program with a place to fill in": "bundle: pipe: ./bundle:.. ./pipe:.. TYPETRAIT .max(..) LOG REMOTE MODE TO FROM PATH",
-    "built, and in no checkout": "out/segdag out/segdag.by-rattle crates/segdag/out/segdag out out/ log.new",
+    "built, and in no checkout": "libsegdag.a libsegdag.so out/libsegdag.a out/libsegdag.so out/segdag.h out/segdag out/segdag.by-rattle crates/segdag/out/segdag out out/ log.new",
 }
 WORDS = {word for words in ELSEWHERE.values() for word in words.split()}
 
@@ -67,7 +67,7 @@ class Sources:
         self.below = {}
         for line in read(TOP / "crates.txt").splitlines():
             crate, _, uses = line.partition(":")
-            self.below[crate] = uses.split()
+            self.below[crate.split()[0]] = uses.split()
         self.own, self.specs, self.files, self.calls = {}, {}, {}, {}
         for crate in self.below:
             self.add_crate(crate)
@@ -106,6 +106,7 @@ def commands():
     text = "".join(read(path) for path in [*TOP.glob("tools/segdag_git/*.py"), TOP / "tools/segdagd"])
     words |= set(re.findall(r'"(?:--)?([a-z][a-z-]*)"', text)) | set(re.findall(r"\b(segdag\.[a-z]+)\b", text))
     words |= set(re.findall(r"\b[a-z]+\b", read(TOP / "bench/run.sh") + read(CRATES / "bench/src/main.rt")))
+    words |= set(re.findall(r"\b(?:segdag|SEGDAG)_\w+", read(TOP / "bindings/c/segdag.h"))) | {"segdag_core_*"}
     for path in [*TOP.glob("tests/*.py"), *TOP.glob("bench/*.py"), *TOP.glob("tools/*.py"), *TOP.glob("docs/pictures/*.py")]:
         words |= set(re.findall(r"^ *(?:class|def) (\w+)", read(path), re.MULTILINE))
     return words
