@@ -44,7 +44,6 @@ test:
 	sh tests/no_memory.sh
 	sh tests/serve.sh
 	sh tests/pipes.sh
-	RT="$(RT)" sh tests/clib.sh
 	sh tests/guide.sh
 	sh tests/pages.sh
 	@sh tests/skips.sh
