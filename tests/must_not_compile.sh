@@ -17,7 +17,7 @@ for crate in $(cut -d: -f1 "$copy/crates.txt"); do
         fi
     done
 done
-echo 'lent: dag_store mirror_set disk_trait gated_log' >> "$copy/crates.txt"
+echo 'lent: dag_store mirror_set remote_trait disk_trait gated_log' >> "$copy/crates.txt"
 
 # Writes a program that commits and flushes, with these lines in the functions, and prints what the compiler says of it.
 compile() {
@@ -28,6 +28,7 @@ use dag_store::{Flushed, Found, Store};
 use disk_trait::Disk;
 use gated_log::{Committed, Log};
 use mirror_set::Mirrors;
+use remote_trait::Remote;
 use std::process::ExitCode;
 
 fn commit<D: Disk>(log: Log, disk: &mut D, payload: &[u8]) -> Committed {
@@ -35,7 +36,12 @@ fn commit<D: Disk>(log: Log, disk: &mut D, payload: &[u8]) -> Committed {
 $1
 }
 
-fn flush<D: Disk>(store: Store, disk: &mut D, mirrors: &mut Mirrors, found: &Found) -> Flushed {
+fn flush<D: Disk, R: Remote>(
+    store: Store,
+    disk: &mut D,
+    mirrors: &mut Mirrors<R>,
+    found: &Found,
+) -> Flushed {
     let mut lent = store.names(0, found);
 $2
 }
