@@ -91,6 +91,22 @@ def writers():
         fail("writers: after the writer the log isn't free")
 
 
+def unwritten():
+    """A bundle of a log in which nothing is stored yet would write its first byte, so it is refused while another process has it."""
+    log = fresh("unwritten")
+    writer = Writer(log)
+    if writer.ask("0 status\n") != "ok 0 0 0\n" or not is_refused(ended([log, "--", "bundle"])):
+        fail("unwritten: a bundle of another one's new log isn't refused")
+    writer.ask(added(1))
+    writer.ask(f"0 flush {name(1)}\n")
+    if ended([log, "--", "bundle"])[0] != 0:
+        fail("unwritten: a bundle is refused though something is stored")
+    if writer.end() != 0 or ended([log, "--", "run"], "0 status\n")[:2] != (0, "ok 1 0 0\n"):
+        fail("unwritten: what was stored is lost")
+    if ended([fresh("nobody's"), "--", "bundle"])[0] != 0:
+        fail("unwritten: a bundle of a new log that nobody has is refused")
+
+
 def waits():
     """With --wait a run waits for the log, and then has the file that stands at its path, whichever that is then."""
     log = fresh("waits")
@@ -205,7 +221,7 @@ def readers():
     print(f"beside: readers: {4 * rounds} during {busy.sent - COMMITS} flushes, {moved} clones with what came meanwhile")
 
 
-PARTS = {part.__name__: part for part in (writers, waits, killed, readers)}
+PARTS = {part.__name__: part for part in (writers, unwritten, waits, killed, readers)}
 began = time.monotonic()
 PARTS[sys.argv[1]]()
 print(f"beside: {sys.argv[1]}: {time.monotonic() - began:.1f} s")

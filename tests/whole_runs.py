@@ -241,6 +241,53 @@ def pulls():
         os.remove(path)
 
 
+def numbered(number):
+    """The name of 16 bytes, of which the last is 1, and this number."""
+    return f"{1:032x}{number:08x}"
+
+
+def grown(log, parts):
+    """This log takes these parts, each of rows and of the heads with which they move to master."""
+    lines = []
+    for rows, heads in parts:
+        lines += [f"0 add {' '.join(row)}" for row in rows] + [f"0 flush {' '.join(heads)}"]
+    done = subprocess.run([PROGRAM, log, "--", "run"], input="".join(line + "\n" for line in lines).encode(), stdout=subprocess.PIPE, timeout=1800)
+    replies = done.stdout.decode().splitlines()
+    if done.returncode != 0 or len(replies) != len(lines) or any(not reply.startswith("ok ") for reply in replies):
+        sys.exit(f"whole_runs: a log that grows by {len(lines)} lines: status {done.returncode}, {replies[-1:]}")
+
+
+def large():
+    """What bodies that give up at a thousand rows, or at no head too many, would be told by."""
+    there = LOG + ".there"
+    chain = [[numbered(number), *([numbered(number - 1)] if number else [])] for number in range(2_500)]
+    grown(there, [(chain[:500], [numbered(499)])])
+    fresh("a clone of five hundred", "0 clone", "ok cloned 500", mirrors=[there])
+    grown(there, [(chain[500:], [numbered(2_499)])])
+    others = "".join(f"0 add {numbered(2_500 + number)} {numbered(499)}; " for number in range(1_500))
+    check(
+        "a pull of two thousand beside fifteen hundred others",
+        others + "0 flush; 0 pull; 0 count master; 0 count others; 0 count ancestors(" + numbered(2_499) + ")",
+        "".join(f"ok added N{number}; " for number in range(1_500)) + "ok flushed 500 1500; ok pulled 2500 1500; ok 2500; ok 1500; ok 2500",
+        mirrors=[there],
+    )
+    check("the run after it, without a mirror", f"0 id {numbered(2_499)}; 0 id {numbered(500)}; 0 count all", "ok 2499; ok 500; ok 4000")
+    os.remove(there)
+    # Commits without parents, each of which is a head of master: as many as the log of a clone can name, and one more.
+    apart = [numbered(number) for number in range(65_535)]
+    # A line has room for four hundred names.
+    blocks = [apart[at : at + 390] for at in range(0, len(apart), 390)]
+    grown(there, [([[name] for name in block], block) for block in blocks])
+    fresh("a clone of as many heads as there may be", "0 clone; 0 count heads(all)", "ok cloned 65535; ok 65535", mirrors=[there])
+    check("the run after it", "0 count heads(all)", "ok 65535")
+    last = numbered(65_535)
+    grown(there, [([[last]], [last])])
+    fresh("a clone of one more", "0 clone; 0 status", "err full heads 65535; ok 0 0 0", mirrors=[there], size=1)
+    check("a pull of it, which names no heads", "0 pull; 0 count heads(all)", "ok pulled 65536 0; ok 65536", mirrors=[there])
+    for path in (LOG, there):
+        os.remove(path)
+
+
 def ends(what, word, status, out, mirrors=()):
     """The program's run over the log by this word ends so, and puts these bytes."""
     done = subprocess.run([PROGRAM, LOG, *mirrors, "--", word], input=b"0 status\n", stdout=subprocess.PIPE, timeout=1800)
@@ -380,6 +427,7 @@ if knows_bundles():
     bundles()
 else:
     print("whole_runs: the program doesn't know bundles, so they and logs written again are left out")
+large()
 for size, start in [(1, 0), (2, 0), (3, 0), (3, 5), (3, 10), (64, 3), (999, 10), (1000, 0), (1001, (1 << 64) - 1)]:
     demonstrate(size, start, plainly(drawn(size, start), by_lines=True))
 many = plainly(drawn(20_000, 5), by_lines=False)

@@ -8,6 +8,9 @@ pub enum Access {
     Read,
     /// It is read and written, whoever else has it. It is made where there is none.
     Write,
+    /// The same, but one of at most a byte, in which nothing is stored yet, is for this disk alone: each call fails where another
+    /// one has its lock. So two don't write its first byte.
+    Fill,
     /// The same, for this disk alone: each call fails where another one has the lock.
     Own,
     /// The same, and the first call waits until no other has the lock.

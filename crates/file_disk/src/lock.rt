@@ -16,11 +16,21 @@ pub fn open<R: Files<File = File>>(rt: &R, path: &str, access: Access) -> io::Re
     let file = match access {
         Access::Read => return file::open_to_read(rt, path),
         Access::Write => file::open_to_write(rt, path)?,
+        Access::Fill => open_filled(rt, path)?,
         Access::Own => open_locked(rt, path, false)?,
         Access::Await => open_locked(rt, path, true)?,
     };
     file::keep_entry(rt, &file, path)?;
     Ok(file)
+}
+
+/// The file at this path, and with its lock where it has at most a byte.
+fn open_filled<R: Files<File = File>>(rt: &R, path: &str) -> io::Result<File> {
+    let file = file::open_to_write(rt, path)?;
+    if file::size_of(&file)? > 1 {
+        return Ok(file);
+    }
+    open_locked(rt, path, false)
 }
 
 /// The file at this path with its lock. Where another file was moved to the path meanwhile, that one is opened in its place:

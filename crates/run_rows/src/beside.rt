@@ -62,12 +62,6 @@ const SIX: [Spelled; 6] = [
     (0x06, &[0x03, 0x05]),
 ];
 
-/// How many commits the longest chain has behind those of the ten.
-const BEHIND: u32 = 2_000;
-
-/// How many commits without parents a mirror has that has too many heads by one.
-const APART: u32 = 65_536;
-
 /// The most rows of a mirror.
 const MOST: usize = 4_096;
 
@@ -97,31 +91,11 @@ fn row(spelled: &Spelled) -> Row {
     }
 }
 
-/// The name of 16 bytes, of which the last is 1, and this number: no other commit's.
-fn numbered(number: u32) -> Name {
-    let mut bytes = [0; 20];
-    bytes[15] = 1;
-    bytes[16..].copy_from_slice(&number.to_be_bytes());
-    Name::from_bytes(bytes)
-}
-
 /// Rows in a list.
 fn list_rows(alloc: Global, rows: &[Spelled]) -> Result<Vec<Row>, AllocError> {
     let mut list = Vec::new(alloc);
     for spelled in rows {
         list.push(row(spelled))?;
-    }
-    Ok(list)
-}
-
-/// The rows of the ten, and of the longest chain behind them.
-fn long_rows(alloc: Global) -> Result<Vec<Row>, AllocError> {
-    let mut list = list_rows(alloc, &TEN)?;
-    let mut before = name(0x19);
-    for number in 0..BEHIND {
-        let own = numbered(number);
-        list.push(Row::new(own, &[before]))?;
-        before = own;
     }
     Ok(list)
 }
@@ -152,33 +126,6 @@ fn mirror_in(alloc: Global, world: World, fails: &[u64]) -> Result<MemoryRemote,
 fn honest(alloc: Global, rows: &[Spelled], fails: &[u64]) -> Result<MemoryRemote, AllocError> {
     let world = world(alloc, rows)?;
     mirror_in(alloc, world, fails)
-}
-
-/// A mirror with the longest chain.
-fn long(alloc: Global, fails: &[u64]) -> Result<MemoryRemote, AllocError> {
-    let rows = long_rows(alloc)?;
-    let world = world_of(alloc, rows)?;
-    mirror_in(alloc, world, fails)
-}
-
-/// Adds a commit without parents, which is a head.
-fn push_apart(told: &mut CloneData, number: u32) -> Result<(), AllocError> {
-    if told.segments.len() > 1 << 20 || told.names.len() > 1 << 20 || told.heads.len() > 1 << 20 {
-        return Err(AllocError);
-    }
-    let id = u64::from(number);
-    told.push_segment(id, id, &[])?;
-    told.push_name(id, numbered(number))?;
-    told.push_head(numbered(number))
-}
-
-/// A mirror whose clone data have a head too many.
-fn apart(alloc: Global) -> Result<FixedRemote, AllocError> {
-    let mut told = CloneData::empty(alloc);
-    for number in 0..APART {
-        push_apart(&mut told, number)?;
-    }
-    Ok(FixedRemote::new(told, None, Vec::new(alloc)))
 }
 
 /// A mirror with the clone data of the chain, and this answer to each path; it has no names.
@@ -258,8 +205,6 @@ fn named(alloc: Global, word: &str, fails: &[u64]) -> Result<Option<Beside>, All
         "twelve" => Beside::Honest(honest(alloc, &TWELVE, fails)?),
         "nine" => Beside::Honest(honest(alloc, &NINE, fails)?),
         "six" => Beside::Honest(honest(alloc, &SIX, fails)?),
-        "long" => Beside::Honest(long(alloc, fails)?),
-        "apart" => Beside::Liar(apart(alloc)?),
         "far" => Beside::Liar(liar(alloc, Some(too_far()))?),
         "silent" => Beside::Liar(liar(alloc, None)?),
         _ => return Ok(None),

@@ -5,14 +5,14 @@ use Rattle.program_words.specs.declared.usage.Mode.{Mode}
 use Rattle.program_words.specs.declared.usage.Mode.TheVariants.{Run, Demo, Serve, Bundle, Compact}
 use Rattle.program_words.specs.declared.usage.Usage.{Usage}
 use Rattle.file_disk.specs.declared.access.Access.{Access}
-use Rattle.file_disk.specs.declared.access.Access.TheVariants.{Read, Write, Own, Await}
+use Rattle.file_disk.specs.declared.access.Access.TheVariants.{Read, Fill, Own, Await}
 
--- A run and a log that is written anew keep the log for themselves, and may wait for it; a bundle needs it, and others may have it;
--- a demonstration and a served mirror leave it alone.
+-- A run and a log that is written anew keep the log for themselves, and may wait for it; a bundle needs it, and others may have it unless
+-- nothing is stored in it yet; a demonstration and a served mirror leave it alone.
 abbrev pub access_by : Mode → Bool → Access
 access_by Run wait = if wait then Await else Own
 access_by Compact wait = if wait then Await else Own
-access_by Bundle wait = Write
+access_by Bundle wait = Fill
 access_by Demo wait = Read
 access_by Serve wait = Read
 

@@ -29,7 +29,7 @@ fn access_in(mode: Mode, wait: bool) -> Access
 {
     match mode {
         Mode::Demo | Mode::Serve => Access::Read,
-        Mode::Bundle => Access::Write,
+        Mode::Bundle => Access::Fill,
         Mode::Run | Mode::Compact => keeping(wait),
     }
 }

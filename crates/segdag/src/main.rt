@@ -31,13 +31,12 @@ mod words;
 
 use crate::files::{access_of, files_at, own_status};
 use crate::remotes::{mirrors_of, remotes_of};
-use crate::words::{log_of, mode_of};
+use crate::words::{is_run, log_of, mode_of};
 use dag_run::top;
 use disk_trait::Disk;
 use file_disk::{Access, FileDisk};
 use line_io::{Sink, Source, StdSink, StdSource};
 use mirror_set::Mirrors;
-use program_words::{Mode, read_words};
 use remote_trait::Remote;
 use std::alloc::{AllocError, Global};
 use std::io::ErrorKind;
@@ -164,19 +163,6 @@ fn run_over<R: Remote>(
     Ok(own_status(status, &files.log))
 }
 
-/// Whether the words are those of a run, which alone asks who is behind a pipe.
-fn is_run(alloc: Global, words: &[String]) -> bool
-    requires { length words.now < 2 ^ 32 }
-{
-    let Some(mode) = mode_of(words) else {
-        return false;
-    };
-    match read_words(alloc, mode) {
-        Ok(usage) => usage.mode == Mode::Run,
-        Err(_) => false,
-    }
-}
-
 /// The same beside the mirrors that these words name.
 fn run_beside(
     rt: &HostRuntime,
@@ -188,7 +174,7 @@ fn run_beside(
     requires words { length words.now < 2 ^ 32 }
     requires remotes { length remotes.now < 2 ^ 32 }
 {
-    let mirrors = mirrors_of(rt, remotes, is_run(rt.alloc(), words))?;
+    let mirrors = mirrors_of(rt, remotes, is_run(rt.alloc(), words)?)?;
     run_over(rt, words, path, access, &mut Mirrors::new(mirrors))
 }
 
