@@ -13,9 +13,9 @@ def name(i):
     return hashlib.sha1(str(i).encode()).hexdigest()
 
 
-def lines(commits, each):
+def drawn(commits):
+    """The numbers of each commit's parents, in turn."""
     draw = random.Random(7)
-    names = [name(i) for i in range(commits)]
     left = []
     for i in range(commits):
         kind = draw.randrange(10)
@@ -27,6 +27,12 @@ def lines(commits, each):
             other = left.pop() if left else i - draw.randrange(2, 64)
             if other != i - 1:
                 parents.append(other)
+        yield parents
+
+
+def lines(commits, each):
+    names = [name(i) for i in range(commits)]
+    for i, parents in enumerate(drawn(commits)):
         yield " ".join(["0 add", names[i], *(names[p] for p in parents)])
         if (i + 1) % each == 0 or i + 1 == commits:
             yield f"0 flush {names[i]}"

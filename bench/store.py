@@ -14,7 +14,7 @@ from pathlib import Path
 import spawn
 from history import lines, name
 
-PROGRAM = Path(__file__).parent.parent / "crates/segdag/out/segdag"
+PROGRAM = Path(os.environ.get("SEGDAG") or Path(__file__).parent.parent / "crates/segdag/out/segdag")
 
 
 def run(log, text):
