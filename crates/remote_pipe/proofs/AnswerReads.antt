@@ -14,8 +14,8 @@ use Rattle.batch_codec.specs.Reading.{fixed_at, piece_at}
 use Rattle.batch_codec.proofs.Pieces.{wide64, fixed_takes, fixed_again, piece_takes, piece_again}
 use Rattle.remote_rules.specs.CloneData.{CloneData, KnownName}
 use Rattle.remote_rules.specs.Known.{Path}
-use Rattle.remote_serve.specs.Answers.{Answer, Refreshed, Cloned, Named, Led, HasFailed, IsTooLong, IsNoRequest, HasNoMemory, told_segment_bytes, told_name_bytes, told_bytes, path_bytes, answer_bytes}
-use Rattle.remote_pipe.specs.Answering.{IsTold, IsToldName, IsToldClone, IsToldPath, IsAnswer}
+use Rattle.remote_serve.specs.Telling.{IsTold, IsToldName, IsToldClone, IsToldPath}
+use Rattle.remote_serve.specs.Answers.{Answer, Refreshed, Cloned, Named, Led, HasFailed, IsTooLong, IsNoRequest, HasNoMemory, told_segment_bytes, told_name_bytes, told_bytes, path_bytes, answer_bytes, IsAnswer}
 use Rattle.remote_pipe.specs.Reading.{only, counted_at, segment_at, known_at, told_at, names_told_at, way_at, refusal_at, answer_of_kind, answer_at}
 use Rattle.remote_pipe.proofs.Items.{name-is, itself, counted_takes, counted_again, segments_read, knowns_read, pieces_read}
 

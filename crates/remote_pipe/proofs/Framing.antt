@@ -5,9 +5,8 @@ use Rattle.std.proofs.lemmas.List.{take_at, drop_at, append-nil}
 use Rattle.remote_rules.specs.Mirror.{Mirror}
 use Rattle.remote_serve.specs.Frames.{frame}
 use Rattle.remote_serve.specs.Requests.{Request, ToRefresh, ToClone, ToNames, ToPath, IsRequest}
-use Rattle.remote_serve.specs.Answers.{Answer, Refreshed, Cloned, Named, Led, HasFailed, IsTooLong, IsNoRequest, HasNoMemory, Allows, LeftBy, answer_bytes, frame_of, longest_answer}
+use Rattle.remote_serve.specs.Answers.{Answer, Refreshed, Cloned, Named, Led, HasFailed, IsTooLong, IsNoRequest, HasNoMemory, Allows, LeftBy, answer_bytes, frame_of, longest_answer, IsAnswer}
 use Rattle.remote_serve.proofs.Fronts.{one-length}
-use Rattle.remote_pipe.specs.Answering.{IsAnswer}
 use Rattle.remote_pipe.specs.Peer.{Peer, request_frame, Brings, Serves}
 use Rattle.remote_pipe.specs.Exchange.{Asked}
 use Rattle.remote_pipe.proofs.AnswerReads.{one-answer}

@@ -12,8 +12,8 @@ use Rattle.segment_codec.proofs.Numbers.{IsBytes, bytes-rest, bind_some, chosen,
 use Rattle.batch_codec.specs.Reading.{fixed_at, piece_at}
 use Rattle.batch_codec.proofs.Pieces.{wide32, wide64, fixed_takes, fixed_again, piece_takes, piece_again}
 use Rattle.remote_rules.specs.CloneData.{KnownName}
+use Rattle.remote_serve.specs.Telling.{IsTold, IsToldName}
 use Rattle.remote_serve.specs.Answers.{numbers_bytes, told_segment_bytes, told_name_bytes}
-use Rattle.remote_pipe.specs.Answering.{IsTold, IsToldName}
 use Rattle.remote_pipe.specs.Reading.{only, items_at, counted_at, parents_at, segment_at, known_at}
 
 bytes-all : (xs : List ℕ) → IsBytes xs → AllByRecursion (λ b. b < 256) xs

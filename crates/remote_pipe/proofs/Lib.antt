@@ -10,3 +10,4 @@ pub mod Mirrors
 pub mod RemoteCalls
 pub mod Framing
 pub mod Taking
+pub mod Servers

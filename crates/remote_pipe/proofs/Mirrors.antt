@@ -11,8 +11,8 @@ use Rattle.remote_trait.specs.declared.fault.RemoteFault.TheVariants as remote
 use Rattle.remote_rules.specs.Honest.{IsSoundMirror}
 use Rattle.remote_serve.specs.Frames.{frame}
 use Rattle.remote_serve.specs.Requests.{Request, ToRefresh, ToClone, ToNames, ToPath, IsRequest}
-use Rattle.remote_serve.specs.Answers.{Answer, Allows, LeftBy, answer_bytes, frame_of}
-use Rattle.remote_pipe.specs.Answering.{IsAnswer, IsRefusal, Fits, IsAnswerLength}
+use Rattle.remote_serve.specs.Answers.{Answer, Allows, LeftBy, answer_bytes, frame_of, IsAnswer}
+use Rattle.remote_pipe.specs.Answering.{IsRefusal, Fits, IsAnswerLength}
 use Rattle.remote_pipe.specs.Peer.{Peer, request_frame}
 use Rattle.remote_pipe.specs.Exchange.{Asked, StopsAs}
 use Rattle.remote_pipe.specs.Line.{PlainLine, Keeps, StopsBehind, TookAnswer, TookRefusal, Failing, Wanting, CountsOne, Ends, Asks, AwaitsNothing, served_by}

@@ -9,8 +9,8 @@ use Rattle.remote_trait.specs.declared.fault.RemoteFault.{RemoteFault}
 use Rattle.remote_trait.specs.declared.fault.RemoteFault.TheVariants as remote
 use Rattle.remote_serve.specs.Frames.{frame}
 use Rattle.remote_serve.specs.Requests.{Request, IsRequest}
-use Rattle.remote_serve.specs.Answers.{Answer, answer_bytes, frame_of, longest_answer}
-use Rattle.remote_pipe.specs.Answering.{Answers, Fits, IsAnswer, IsAnswerLength, IsRefusal}
+use Rattle.remote_serve.specs.Answers.{Answer, answer_bytes, frame_of, longest_answer, IsAnswer}
+use Rattle.remote_pipe.specs.Answering.{Answers, Fits, IsAnswerLength, IsRefusal}
 use Rattle.remote_pipe.specs.Peer.{Peer, request_frame}
 use Rattle.remote_pipe.specs.Exchange.{Asked, StopsAs}
 use Rattle.remote_pipe.specs.declared.fault.PipeFault.{PipeFault}

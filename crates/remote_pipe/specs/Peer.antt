@@ -1,12 +1,11 @@
 -- Who is at the other end of a link, and what comes of what is put.
-use Rattle.std.specs.Prelude.{◌≡◌, ℕ, List, [], ◌++◌, Option, Some, None, Result, Ok, Err}
+use Rattle.std.specs.Prelude.{◌≡◌, ℕ, List, [], ◌∷◌, ◌++◌, Option, Some, None, Result, Ok, Err}
 use Rattle.std.specs.Io.KnownBytes.{ReadConsumes}
 use Rattle.outside.specs.Told.{TookFront}
 use Rattle.remote_rules.specs.Mirror.{Mirror}
 use Rattle.remote_serve.specs.Frames.{frame}
 use Rattle.remote_serve.specs.Requests.{Request, IsRequest, request_bytes}
-use Rattle.remote_serve.specs.Answers.{Allows, LeftBy, frame_of, Answer}
-use Rattle.remote_pipe.specs.Answering.{IsAnswer}
+use Rattle.remote_serve.specs.Answers.{Allows, LeftBy, frame_of, Answer, IsAnswer}
 
 pub record Peer : Type 0 where
   -- the mirror that is served there, where one is
@@ -30,6 +29,12 @@ abbrev pub Brings : List ℕ → Option Mirror → Option Mirror → List ℕ �
 Brings piece None now came = (now ≡ None) × (came ≡ [])
 Brings piece (Some m) None came = ⊥
 Brings piece (Some m) (Some n) came = (request : Request) → IsRequest request → piece ≡ request_frame request → Serves request m n came
+
+-- These pieces were put whole one after another to who serves a mirror, and this came of each. The mirror was m before, and is n behind them.
+abbrev pub BringsEach : List (List ℕ) → Mirror → Mirror → List (List ℕ) → Type 0
+BringsEach [] m n came = (n ≡ m) × (came ≡ [])
+BringsEach (piece ∷ pieces) m n [] = ⊥
+BringsEach (piece ∷ pieces) m n (first ∷ more) = (between : Mirror) × Brings piece (Some m) (Some between) first × BringsEach pieces between n more
 
 -- the piece was put whole
 pub record PutsWhole (piece : List ℕ) (before now : Peer) : Type 0 where

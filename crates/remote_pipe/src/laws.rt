@@ -1,15 +1,17 @@
-//! What is answered over a link to who serves a mirror is that mirror's answer.
+//! What is answered over a link to who serves a mirror is that mirror's answer, and our own server is one who does.
 
-ghost use Rattle.std.specs.Prelude.{◌≡◌, ◌≤◌, ◌++◌, ℕ, List, [], Some, length};
+ghost use Rattle.std.specs.Prelude.{◌≡◌, ◌≤◌, ◌++◌, ℕ, List, [], Some, length, map};
 ghost use Rattle.id_groups.specs.Name.{Name as NameBytes};
 ghost use Rattle.commit_graph.specs.World.{World};
+ghost use Rattle.line_io.specs.Streams.{Streams};
 ghost use Rattle.remote_rules.specs.Mirror.{Mirror};
 ghost use Rattle.remote_rules.specs.Honest.{IsSoundMirror};
 ghost use Rattle.remote_rules.specs.Serving.{IsServing};
-ghost use Rattle.remote_serve.specs.Requests.{Request, IsRequest};
-ghost use Rattle.remote_serve.specs.Answers.{Answer, Allows, LeftBy, answer_bytes, frame_of, longest_answer};
-ghost use Rattle.remote_pipe.specs.Answering.{IsAnswer};
-ghost use Rattle.remote_pipe.specs.Peer.{Peer, request_frame};
+ghost use Rattle.remote_serve.specs.Frames.{frame};
+ghost use Rattle.remote_serve.specs.Requests.{Request, IsRequest, request_bytes};
+ghost use Rattle.remote_serve.specs.Answers.{Answer, Allows, LeftBy, answer_bytes, frame_of, longest_answer, IsAnswer, IsAnswerTo};
+ghost use Rattle.remote_serve.specs.Ends.{AnswersAll};
+ghost use Rattle.remote_pipe.specs.Peer.{Peer, request_frame, Brings, BringsEach, Serves};
 ghost use Rattle.remote_pipe.specs.Exchange.{Asked};
 ghost use Rattle.remote_pipe.specs.Line.{served_by};
 ghost use Rattle.remote_pipe.specs.Remote.{PlainPipe, mirror_of};
@@ -34,4 +36,12 @@ pub fn served_answers_are_allowed()
 pub fn served_mirrors_serve()
     ensures sound { (r : PlainPipe) (m : Mirror) → served_by r.line.peer ≡ Some m → IsSoundMirror m → IsSoundMirror (mirror_of r) }
     ensures serves { (r : PlainPipe) (m : Mirror) (cloned : ℕ) (w : World NameBytes) → served_by r.line.peer ≡ Some m → IsServing cloned w m → IsServing cloned w (mirror_of r) }
+{}
+
+/// The server of `remote_serve` is at the other end of a link who serves its mirror there: of the frame of a body comes the frame of the answer
+/// to it, one after another for all that it answers.
+pub fn servers_are_peers()
+    ensures answer { (body : List ℕ) (answer : Answer) (m n : Mirror) → IsAnswerTo body m n answer → Brings (frame body) (Some m) (Some n) (frame_of answer) }
+    ensures request { (request : Request) (answer : Answer) (m n : Mirror) → IsRequest request → IsAnswerTo (request_bytes request) m n answer → Serves request m n (frame_of answer) }
+    ensures run { (limit : ℕ) (io : Streams) (m n : Mirror) (a : AnswersAll limit io m n) → BringsEach (map frame a.bodies) m n (map frame_of a.answers) }
 {}
