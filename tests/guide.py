@@ -11,9 +11,10 @@ import sys
 from guide_answers import answers, octopuses, shapes
 from guide_daemon import daemons
 from guide_enemies import enemies
-from guide_large import kernel, large
+from guide_large import given, kernel, large
 from guide_lib import FOLDER, HANGS, PROGRAM, TOP, environment, fail
 from guide_log import killed, logs, published
+from guide_quick import quick
 from guide_refusals import faults, refusals
 from guide_shared import shared
 
@@ -98,7 +99,7 @@ def page_played(page, writes):
     return count
 
 
-PARTS = (answers, octopuses, shapes, refusals, faults, logs, published, shared, killed, enemies, daemons, transcripts, large, kernel)
+PARTS = (answers, octopuses, shapes, refusals, faults, logs, published, shared, killed, enemies, daemons, quick, transcripts, large, kernel, given)
 PARTS = {it.__name__: it for it in PARTS}
 PARTS["write"] = lambda: transcripts(writes=True)
 PARTS[sys.argv[1]]()

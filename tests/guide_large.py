@@ -1,8 +1,10 @@
 """Parts of guide.sh that take long, and so are run where they are named: `git segdag` over large repositories answers as git does.
 
     sh tests/guide.sh large kernel
+    REPOSITORY=/path/of/one sh tests/guide.sh given
 
-COMMITS and ASKED say how many commits a repository has and how many questions are asked, ALONE how many of these without a daemon.
+COMMITS and ASKED say how many commits a repository has and how many questions are asked, ALONE how many of these without a daemon. REPOSITORY
+is copied by its branches, those of remotes, and its tags, and left as it is.
 """
 import os
 import random
@@ -59,7 +61,7 @@ def draw_kernel(draw, count):
 
 
 def filled(name, draw, rows):
-    """A repository of these rows, packed, with git's commit-graph; what no other commit has for a parent is a branch."""
+    """A repository of these rows; what no other commit has for a parent is a branch."""
     repository = Repository(name, draw, bare=True)
     childless = {}
     with tempfile.NamedTemporaryFile("w+") as stream:
@@ -80,9 +82,18 @@ def filled(name, draw, rows):
     repository.commits = [names[f":{at + 1}"] for at in range(len(names))]
     repository.point("main", repository.commits[-1])
     repository.must("update-ref", "-d", "refs/heads/drawn")
-    repository.must("pack-refs", "--all")
-    repository.must("commit-graph", "write", "--reachable")
     repository.branches.update({f"tip{at}": repository.commits[at] for at in sorted(childless)[-20:]})
+    return repository
+
+
+def copied(path, draw):
+    """A repository of what the references of another one have. Some of them, the newest, are asked for by name."""
+    repository = Repository("given", draw, bare=True)
+    kinds = ("heads", "remotes", "tags")
+    repository.must("fetch", "--quiet", "--no-tags", path, *(f"+refs/{kind}/*:refs/{kind}/*" for kind in kinds))
+    repository.commits = repository.must("rev-list", "--all", "--reverse", "--topo-order").split()
+    refs = repository.must("for-each-ref", "--sort=-creatordate", "--count=20", "--format=%(refname)").split()
+    repository.branches.update((ref, ref) for ref in refs if repository.git("rev-parse", "--quiet", "--verify", f"{ref}^{{commit}}")[0] == 0)
     return repository
 
 
@@ -113,9 +124,11 @@ def asked(repository, draw, turns):
             print(f"\rguide: {repository.path.name}: {(turn + 1) * EACH} of {turns * EACH} ", end="", file=sys.stderr, flush=True)
 
 
-def trial(name, rows):
+def trial(name, made):
     draw, began = random.Random(name), time.monotonic()
-    repository = filled(name, draw, rows)
+    repository = made(draw)
+    repository.must("pack-refs", "--all")
+    repository.must("commit-graph", "write", "--reachable")
     count = len(repository.commits)
     told = repository.sync()
     if not told.endswith(f", {count} commits in the log\n"):
@@ -131,14 +144,22 @@ def trial(name, rows):
     wide = max(len(line.split()) for line in repository.must("rev-list", "--all", "--parents").splitlines()) - 1
     roots = repository.must("rev-list", "--all", "--max-parents=0").count("\n")
     print(f"guide: {name}: {turns * EACH} questions over {count} commits, {roots} without parents and one with {wide}, are answered as by git "
-          f"(drawn and synced in {synced - began:.0f} s, asked in {time.monotonic() - synced:.0f} s)")
+          f"(made and synced in {synced - began:.0f} s, asked in {time.monotonic() - synced:.0f} s)")
 
 
 def large():
     """A drawn history of 300,000 commits."""
-    trial("large", draw_plain(random.Random(1), commits_of(True)))
+    trial("large", lambda draw: filled("large", draw, draw_plain(random.Random(1), commits_of(True))))
 
 
 def kernel():
     """A history of 100,000 commits like the kernel's."""
-    trial("kernel", draw_kernel(random.Random(2), commits_of(False)))
+    trial("kernel", lambda draw: filled("kernel", draw, draw_kernel(random.Random(2), commits_of(False))))
+
+
+def given():
+    """The repository that REPOSITORY names."""
+    path = os.environ.get("REPOSITORY")
+    if not path:
+        fail("REPOSITORY says which repository is to be asked")
+    trial("given", lambda draw: copied(os.path.abspath(path), draw))

@@ -22,7 +22,9 @@ def daemon(place, words):
 
 def keeper(place):
     """The process that holds the daemon's socket, or None."""
-    return Socket(place.socket).peer()
+    with suppress(Refused), Socket(place.socket) as lines:
+        return lines.peer()
+    return None
 
 
 def start(place, idle=None):
@@ -54,11 +56,12 @@ def group(place):
 
 
 def stop(place):
-    process = keeper(place) if place.is_served() else None
+    process = keeper(place)
     if process is None:
         print("none runs")
         return
-    os.kill(process, signal.SIGTERM)
+    with suppress(ProcessLookupError):
+        os.kill(process, signal.SIGTERM)
     until = time.monotonic() + LONG
     while place.is_served() or alive(process):
         if time.monotonic() > until:
@@ -75,8 +78,6 @@ def alive(process):
 
 
 def status(place):
-    if not place.is_served():
-        print("none runs")
-        return 1
-    print(f"process {keeper(place)} has the log")
-    return 0
+    process = keeper(place)
+    print("none runs" if process is None else f"process {process} has the log")
+    return 1 if process is None else 0
