@@ -356,6 +356,32 @@ def fill(served, count):
                 fail(f"the log isn't filled: {reply.last}")
 
 
+def turns():
+    """Clients of many lines have them sent on evenly, and one of two lines isn't behind them all."""
+    served, count = Served(program=stand_in()), 1500
+    barred, *many, brief = (raw(served.path) for _ in range(16))
+    barred.sendall(b"pull\n")
+    for sock in many:
+        sock.sendall(b"status\n" * count)
+    brief.sendall(b"id 1\nid 2\n")
+    PULLED.touch()
+    for sock in many:
+        if b"".join(exactly(sock, count * 9)) != b"ok 0 0 0\n" * count:
+            fail("replies are lost")
+    served.end()
+    sent = [line.split(b" ") for line in served.order.read_bytes().splitlines() if not line.startswith(b"0 ")]
+    owners = [number for number, _, word, *_ in sent if word == b"status"]
+    begin = max(map(owners.index, set(owners)))
+    end = min(len(owners) - owners[::-1].index(number) for number in set(owners))
+    shares = [owners[begin:end].count(number) for number in set(owners)]
+    if len(shares) != len(many) or min(shares) < max(shares) // 2 or sum(shares) < count:
+        fail(f"of clients that send as much as they can so many lines were sent on: {shares}")
+    before = max(at for at, line in enumerate(sent) if line[2] == b"id")
+    if before > 2 * count:
+        fail(f"two lines were behind {before} of others")
+    return f"{len(many)} clients of many lines have turns, and two lines of another one were behind {before} of them"
+
+
 def kept_file(served):
     """How many bytes a file without a name has that the daemon keeps."""
     sizes = [0]
@@ -549,7 +575,7 @@ def many():
     return f"{count} connections in a row leave {sizes[1][0] - sizes[0][0]} kB and no descriptor"
 
 
-PARTS = [wrong, seventeenth, two, rights, activated, idle, ends, unread, spilled, drawn, runs, settled, lends, shares, killed, crashed, many]
+PARTS = [wrong, seventeenth, two, rights, activated, idle, ends, unread, spilled, turns, drawn, runs, settled, lends, shares, killed, crashed, many]
 
 if __name__ == "__main__":
     FOLDER.mkdir()

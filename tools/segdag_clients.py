@@ -14,7 +14,7 @@ SETTLING = (b"flush", b"discard")  # lines behind which there may be nothing pen
 STORING = (b"flush", b"strip", b"clone", b"pull")  # lines that may make a new version, on which the session is then
 MOVING = (*STORING, b"reload")  # all behind which it is on the newest version
 HEAVY = (b"query", b"count", b"pull", b"clone", b"strip")  # lines that may take long, or have large replies
-LETTERS = (b"u", b"o", b"p")  # each of these words has one of them, and no name and no `add` has: to look for a letter takes no time
+HEAVY_LETTERS, MOVING_LETTERS = (b"q", b"n", b"p"), (b"l", b"p")  # each of these words has one, and no name and no `add`: to look for it takes no time
 AHEAD = 32  # such lines of one client under way at most, where their replies are small
 SMALL, LARGE = 1 << 12, 1 << 16  # replies below the one let more heavy lines go ahead, those above the other one alone
 
@@ -104,6 +104,10 @@ class Client:
     def has_lines(self):
         return self.at < len(self.lines)
 
+    def waiting(self):
+        """How many lines of it weren't sent on yet."""
+        return len(self.lines) - self.at
+
     def is_quiet(self):
         """Nothing of it is under way in either direction. Half a line is none yet."""
         return not (self.afloat or self.has_lines() or self.outbox or self.is_told)
@@ -155,10 +159,8 @@ class Client:
             lines = [line for line in lines if line != b""]
         if not lines:
             return
-        self.is_mixed = self.is_mixed or None in lines
-        if any(letter in data for letter in LETTERS):
-            self.is_mixed = self.is_mixed or any(word in data for word in HEAVY)
-            self.is_moving = self.is_moving or any(word in data for word in MOVING)
+        self.is_mixed = self.is_mixed or None in lines or has(HEAVY, HEAVY_LETTERS, data)
+        self.is_moving = self.is_moving or has(MOVING, MOVING_LETTERS, data)
         self.queued += len(data)
         self.lines = self.lines[self.at :] + lines
         self.at = 0
@@ -201,21 +203,23 @@ class Client:
         return count
 
     def next_lines(self, count):
-        """The next lines, which are now under way, and the groups that they make."""
+        """The bytes of the next lines for the program, which are now under way, and the groups that they make."""
         lines = self.lines[self.at : self.at + count]
-        groups = list(self.groups(lines)) if self.is_mixed or self.is_moving else [(self, count, 0, False)]
+        text = self.prefix + (b"\n" + self.prefix).join(lines) + b"\n"
+        may_move = self.is_moving and has(MOVING, MOVING_LETTERS, text)
+        groups = list(self.groups(lines, may_move)) if self.is_mixed or may_move else [(self, count, 0, False)]
         if self.is_settling and lines[-1].startswith(SETTLING):
             self.holds_adds, self.is_settling = True, False
         self.is_keeping = False
         self.afloat += count
         self.heavy += sum(heavy for _, _, heavy, _ in groups)
         self.passed(count)
-        return lines, groups
+        return text, groups
 
-    def groups(self, lines):
+    def groups(self, lines, may_move):
         """These lines in groups, of which none but the last line may move the session."""
         begin = 0
-        ends = [end for end, line in enumerate(lines, 1) if line.startswith(MOVING)] if self.is_moving else []
+        ends = [end for end, line in enumerate(lines, 1) if line.startswith(MOVING)] if may_move else []
         for end in ends if ends[-1:] == [len(lines)] else [*ends, len(lines)]:
             some = lines[begin:end]
             heavy = sum(line.startswith(HEAVY) for line in some) if self.is_mixed else 0
@@ -272,6 +276,11 @@ class Client:
         self.outbox.close()
         self.outbox.held.clear()
         self.sock.close()
+
+
+def has(words, letters, data):
+    """Whether one of these words is in it, by one of their letters first."""
+    return any(letter in data for letter in letters) and any(word in data for word in words)
 
 
 def judged(line):

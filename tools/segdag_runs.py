@@ -4,11 +4,12 @@ import os
 import re
 from collections import deque
 from contextlib import suppress
+from functools import lru_cache
 from subprocess import PIPE, Popen
 from time import monotonic
 
 PIECE = 1 << 18  # bytes of one read of replies
-REPLY = re.compile(rb"[or][^\n]*\n")  # the last line of a reply: a name has neither letter, and `ok` and `err` do
+LAST = (b"ok", b"err")  # how the last line of a reply begins
 
 
 class Refused(Exception):
@@ -17,6 +18,12 @@ class Refused(Exception):
     def __init__(self, sentence, status=1):
         super().__init__(sentence)
         self.status = status
+
+
+@lru_cache(maxsize=None)
+def replies(count):
+    """An expression for so many replies: a name has neither letter of these, and the last line, `ok` or `err`, begins with one or has it."""
+    return re.compile(rb"(?:[^or]*[or][^\n]*\n){%d}" % count)
 
 
 class Own:
@@ -110,20 +117,19 @@ class Run:
         self.carry = data[cut:]
         if data.endswith(b"\nerr disk\n") or data == b"err disk\n":
             cut -= len(b"err disk\n")  # No reply: the program ends.
-        is_ended = b"o" in data or b"r" in data
-        ends = [match.end() for match in REPLY.finditer(data, 0, cut)] if is_ended else []
-        return self.pieces(data, cut, ends)
+        return self.pieces(data, cut)
 
-    def pieces(self, data, cut, ends):
-        """The bytes up to `cut`, which end replies at these places, by groups."""
-        pieces, at, seen = [], 0, 0
+    def pieces(self, data, cut):
+        """The bytes up to `cut`, by groups."""
+        pieces, at = [], 0
+        whole = data.startswith(LAST) + sum(data.count(b"\n" + word, 0, cut) for word in LAST)
         while at < cut:
             group = self.groups[0]
-            left = min(group.left, len(ends) - seen)
-            seen += left
+            left = min(group.left, whole)
+            whole -= left
             group.left -= left
             self.afloat -= left
-            stop = cut if group.left else ends[seen - 1]
+            stop = cut if group.left else replies(left).match(data, at).end()
             pieces.append((group, data[at:stop]))
             at = stop
             if not group.left:
