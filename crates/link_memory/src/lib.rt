@@ -3,9 +3,9 @@
 //! A link in memory, for tests: what is put is served at once, over a remote, and the answers are taken as they are or with something wrong
 //! about one of them.
 
+mod coming;
 mod link;
 mod reached;
-mod served;
 mod wrong;
 
 pub use link::{MemoryLink, piped};

@@ -1,23 +1,30 @@
 //! The link.
 
-ghost use Rattle.std.specs.Prelude.{◌≡◌, ◌≤◌, ◌<◌, length};
+ghost use Rattle.std.specs.Prelude.{◌≡◌, ◌≤◌, ◌<◌, ◌≢◌, [], None, length, is_some};
 ghost use Rattle.std.specs.Io.{ReadsAtMost};
 ghost use Rattle.outside.specs.Counts.{HasCause};
+ghost use Rattle.outside.specs.Told.{WhereTold};
+ghost use Rattle.remote_pipe.specs.Peer.{PutsTo, TakesFrom};
+ghost use Rattle.remote_pipe.specs.Line.{served_by};
+ghost use Rattle.remote_pipe.specs.Remote.{mirror_by, mirror_of};
+ghost use Rattle.link_memory.specs.Over.{peer_over, served_over, server_of};
 
-use crate::served::answer_of;
-use crate::wrong::{Way, Wrong, spoil};
+use crate::coming::Coming;
+use crate::wrong::{Way, Wrong};
 use remote_pipe::{Link, LinkFault, PipeRemote};
+use remote_serve::answer_frame;
 use remote_trait::Remote;
 use std::alloc::{AllocError, Global};
 
-/// A link to a remote in memory. Each piece that is put is a request's frame, and is answered at once.
+/// A link to a remote in memory, which is served at its other end. Each piece that is put is a request's frame, and is answered at once; none is
+/// put while bytes of an answer are still to come. It tells who is at its other end where all answers come as they are.
 #[derive(Drop)]
 pub struct MemoryLink<R: Remote> {
     alloc: Global,
     remote: R,
     way: Way,
-    to_come: Vec<u8>,
-    at: usize,
+    asked: Vec<u8>,
+    to_come: Coming,
     requests: u64,
     is_broken: bool,
     put_faults: u64,
@@ -26,13 +33,17 @@ pub struct MemoryLink<R: Remote> {
 
 impl<R: Remote> MemoryLink<R> {
     /// A link to who serves this remote, whose answers come so. Nothing was put yet.
-    pub fn new(alloc: Global, remote: R, way: Way) -> MemoryLink<R> {
+    pub fn new(alloc: Global, remote: R, way: Way) -> MemoryLink<R>
+        ensures way { result.way ≡ way }
+        ensures remote { result.remote ≡ remote }
+        ensures to_come { result.to_come ≡ [] }
+    {
         MemoryLink {
             alloc,
             remote,
             way,
-            to_come: Vec::new(alloc),
-            at: 0,
+            asked: Vec::new(alloc),
+            to_come: Coming::none(alloc),
             requests: 0,
             is_broken: false,
             put_faults: 0,
@@ -40,39 +51,68 @@ impl<R: Remote> MemoryLink<R> {
         }
     }
 
-    /// Lets the answer come, or what is wrong about it.
-    fn bring(&mut self, mut frame: Vec<u8>, wrong: Option<Wrong>) -> Result<(), AllocError>
-        ensures put { self.new.put_faults ≡ self.old.put_faults }
-        ensures taken { self.new.take_faults ≡ self.old.take_faults }
+    /// Notes what is put, and answers the request in its frame.
+    fn serve(&mut self, piece: &[u8]) -> Result<(), AllocError>
+        ensures puts { PutsTo piece.now result (server_of (R.shown self.old.remote) self.old.to_come self.old.asked.items) (server_of (R.shown self.new.remote) self.new.to_come self.new.asked.items) }
+        ensures way { self.new.way ≡ self.old.way }
+        ensures put_faults { self.new.put_faults ≡ self.old.put_faults }
+        ensures take_faults { self.new.take_faults ≡ self.old.take_faults }
     {
-        if let Some(wrong) = wrong {
-            spoil(&mut frame, wrong)?;
+        if self.to_come.has_some() {
+            return Err(AllocError);
         }
-        self.to_come.extend_from_slice(&frame)
+        self.asked.extend_from_slice(piece)?;
+        if piece.len() < 4 {
+            return Ok(());
+        }
+        let (_len, body) = piece.split_at(4);
+        let frame = answer_frame(self.alloc, &mut self.remote, body)?;
+        self.to_come = Coming::of(frame);
+        Ok(())
+    }
+
+    /// The same, with something wrong about the answer.
+    fn serve_wrong(&mut self, piece: &[u8], wrong: Wrong) -> Result<(), AllocError>
+        ensures way { self.new.way ≡ self.old.way }
+        ensures put_faults { self.new.put_faults ≡ self.old.put_faults }
+        ensures take_faults { self.new.take_faults ≡ self.old.take_faults }
+    {
+        if let Wrong::NotPut = wrong {
+            return Err(AllocError);
+        }
+        if let Wrong::NotTaken = wrong {
+            self.is_broken = true;
+        }
+        self.serve(piece)?;
+        self.to_come.spoil(wrong)
     }
 
     /// Serves what is put, unless the link is to fail.
-    fn try_put(&mut self, asked: &[u8]) -> Result<(), AllocError>
-        ensures put { self.new.put_faults ≡ self.old.put_faults }
-        ensures taken { self.new.take_faults ≡ self.old.take_faults }
+    fn try_put(&mut self, piece: &[u8]) -> Result<(), AllocError>
+        ensures puts { WhereTold (peer_over self.old.way.wrong (R.shown self.old.remote) self.old.to_come self.old.asked.items) (peer_over self.new.way.wrong (R.shown self.new.remote) self.new.to_come self.new.asked.items) (PutsTo piece.now result) }
+        ensures way { self.new.way ≡ self.old.way }
+        ensures put_faults { self.new.put_faults ≡ self.old.put_faults }
+        ensures take_faults { self.new.take_faults ≡ self.old.take_faults }
     {
         self.requests = self.requests.saturating_add(1);
-        let wrong = self.way.wrong_at(self.requests);
-        if let Some(Wrong::NotPut) = wrong {
-            return Err(AllocError);
+        match self.way.wrong_at(self.requests) {
+            Some(wrong) => self.serve_wrong(piece, wrong),
+            None => self.serve(piece),
         }
-        if let Some(Wrong::NotTaken) = wrong {
-            self.is_broken = true;
-        }
-        let frame = answer_of(self.alloc, &mut self.remote, asked)?;
-        self.bring(frame, wrong)
+    }
+
+    /// The most bytes that come at once.
+    fn most(&self) -> usize
+        ensures { 0 < result }
+    {
+        (self.way.piece as usize).max(1)
     }
 }
 
 impl<R: Remote> Link for MemoryLink<R> {
-    ghost use Rattle.std.specs.Prelude.{None};
+    ghost use Rattle.link_memory.specs.Over.{peer_over};
 
-    ghost peer = { λ l. None };
+    ghost peer = { λ l. peer_over l.way.wrong (R.shown l.remote) l.to_come l.asked.items };
 
     ghost put_faults = { λ l. l.put_faults };
 
@@ -93,18 +133,16 @@ impl<R: Remote> Link for MemoryLink<R> {
             self.take_faults = self.take_faults.saturating_add(1);
             return Err(LinkFault);
         }
-        if self.at >= self.to_come.len() {
-            return Ok(0);
-        }
-        let left = self.to_come.len() - self.at;
-        let count = left.min(out.len()).min(self.way.piece as usize);
-        out[..count].copy_from_slice(&self.to_come[self.at..self.at + count]);
-        self.at += count;
-        Ok(count)
+        let most = self.most();
+        Ok(self.to_come.take(out, most))
     }
 }
 
-/// The remote that asks this one over a link, whose answers come so.
-pub fn piped<R: Remote>(alloc: Global, remote: R, way: Way) -> PipeRemote<MemoryLink<R>> {
-    PipeRemote::new(MemoryLink::new(alloc, remote, way))
+/// The remote that asks this one over a link, whose answers come so. Where they come as they are it is known to be this one.
+pub fn piped<R: Remote>(alloc: Global, remote: R, way: Way) -> PipeRemote<MemoryLink<R>>
+    ensures served { served_by result.line.peer ≡ served_over way.wrong (R.shown remote) }
+    ensures mirror { mirror_of result ≡ mirror_by (served_over way.wrong (R.shown remote)) 0 0 }
+{
+    let link = MemoryLink::new(alloc, remote, way);
+    PipeRemote::new(link)
 }

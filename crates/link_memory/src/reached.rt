@@ -4,6 +4,9 @@ ghost use Rattle.std.specs.Prelude.{◌≡◌, ◌≤◌, ◌<◌, ◌^◌, leng
 ghost use Rattle.remote_trait.specs.Calls.{Leaves, Refreshes, Fails, raised};
 ghost use Rattle.remote_trait.specs.Honest.{AreNamesOf, IsPathOf};
 ghost use Rattle.remote_rules.specs.Clones.{IsCloneOf};
+ghost use Rattle.remote_pipe.specs.Remote.{mirror_by};
+ghost use Rattle.link_memory.specs.Over.{served_over};
+ghost use Rattle.link_memory.specs.Reached.{shown_of};
 
 use crate::link::{MemoryLink, piped};
 use crate::wrong::Way;
@@ -22,8 +25,10 @@ pub enum Reached<R: Remote> {
 }
 
 impl<R: Remote> Reached<R> {
-    /// The mirror over a link whose answers come so.
-    pub fn over(alloc: Global, remote: R, way: Way) -> Reached<R> {
+    /// The mirror over a link whose answers come so. Where they come as they are it tells what the mirror does.
+    pub fn over(alloc: Global, remote: R, way: Way) -> Reached<R>
+        ensures { shown_of R.shown result ≡ mirror_by (served_over way.wrong (R.shown remote)) 0 0 }
+    {
         Reached::Far(piped(alloc, remote, way))
     }
 }

@@ -1,5 +1,7 @@
 //! What may be wrong about an answer on its way.
 
+ghost use Rattle.std.specs.Prelude.{◌≡◌, IfSome, is_some, true, None};
+
 use std::alloc::AllocError;
 
 /// What is wrong about an answer.
@@ -23,7 +25,7 @@ pub enum Wrong {
 /// How answers come.
 #[derive(Clone, Copy)]
 pub struct Way {
-    /// The most bytes that are taken at once; above 0.
+    /// The most bytes that are taken at once, or 1.
     pub piece: u32,
     /// The number of the request, from 1, about whose answer something is wrong, and what.
     pub wrong: Option<(u64, Wrong)>,
@@ -31,7 +33,9 @@ pub struct Way {
 
 impl Way {
     /// Answers come as they are, at most so many bytes at once.
-    pub fn whole(piece: u32) -> Way {
+    pub fn whole(piece: u32) -> Way
+        ensures { result.wrong ≡ None }
+    {
         Way { piece, wrong: None }
     }
 
@@ -44,7 +48,9 @@ impl Way {
     }
 
     /// What is wrong about the answer to the request with this number.
-    pub(crate) fn wrong_at(&self, request: u64) -> Option<Wrong> {
+    pub(crate) fn wrong_at(&self, request: u64) -> Option<Wrong>
+        ensures { IfSome result (λ _. is_some self.now.wrong ≡ true) }
+    {
         match self.wrong {
             Some((number, wrong)) if number == request => Some(wrong),
             _ => None,
