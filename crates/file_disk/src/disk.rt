@@ -60,7 +60,9 @@ impl<R: Files<File = File> + Drop> FileDisk<R> {
         ensures calls { self.new.calls ≡ self.old.calls }
         ensures faults { self.new.faults ≡ self.old.faults }
     {
-        if self.file.is_none() && matches!(self.access, Access::Fill | Access::Own | Access::Await) {
+        if self.file.is_none()
+            && matches!(self.access, Access::Fill | Access::Own | Access::Await)
+        {
             self.open().ok();
         }
         self.lacks_lock
