@@ -37,6 +37,7 @@ use disk_trait::Disk;
 use file_disk::{Access, FileDisk};
 use line_io::{Sink, Source, StdSink, StdSource};
 use mirror_set::Mirrors;
+use program_words::Mode;
 use remote_trait::Remote;
 use std::alloc::{AllocError, Global};
 use std::io::ErrorKind;
