@@ -6,6 +6,7 @@ mod ask;
 mod asking;
 mod frames;
 mod laws;
+mod once;
 mod refused;
 mod served;
 mod serving;
@@ -13,5 +14,6 @@ mod spelling;
 
 pub use ask::Ask;
 pub use laws::{failures_are_counted, frames_are_split};
+pub use once::answer_frame;
 pub use served::Served;
 pub use serving::{Desk, serve, serve_remote};
