@@ -42,6 +42,7 @@ test:
 	sh tests/format.sh
 	sh tests/damaged.sh
 	sh tests/no_memory.sh
+	RT="$(RT)" sh tests/clib.sh
 	sh tests/serve.sh
 	sh tests/pipes.sh
 	sh tests/guide.sh

@@ -2,9 +2,9 @@
 built one. Each ends with status 1 where the library did something else than the program, or lost what it had acknowledged."""
 import os
 import random
-import signal
 import subprocess
 import sys
+import threading
 import time
 from pathlib import Path
 
@@ -16,6 +16,7 @@ HISTORIES, RUNS, LINES = int(os.environ.get("HISTORIES", "17")), 3, 200  # 10,20
 ROWS, EVERY, KILLS = 100_000, 1_000, 30
 BY_LINES = 5_000  # how many of these rows the program imports, too
 MASK = (1 << 64) - 1
+HANGS = 1800  # seconds behind which something is taken to hang
 
 
 def fail(text):
@@ -24,7 +25,7 @@ def fail(text):
 
 def run(words, lines):
     text = "".join(line + "\n" for line in lines).encode()
-    done = subprocess.run(words, input=text, stdout=subprocess.PIPE, stderr=subprocess.PIPE, timeout=300)
+    done = subprocess.run(words, input=text, stdout=subprocess.PIPE, stderr=subprocess.PIPE, timeout=HANGS)
     return done.returncode, done.stdout
 
 
@@ -66,10 +67,11 @@ def imported(log, seconds=None, rows=ROWS):
     """How many rows an import found, and the last flush that it told, where it is killed after so many seconds."""
     words = [CLIB, "import", log, str(rows), str(EVERY)]
     with subprocess.Popen(words, stdout=subprocess.PIPE, text=True) as process:
-        if seconds is not None:
-            time.sleep(seconds)
-            process.send_signal(signal.SIGKILL)
+        end = threading.Timer(HANGS if seconds is None else seconds, process.kill)
+        end.start()
         told = [line.split() for line in process.stdout.read().splitlines(keepends=True) if line.endswith("\n")]
+        process.wait()
+        end.cancel()
     if seconds is None and process.returncode:
         fail(f"an import ended with status {process.returncode}")
     return (int(told[0][1]) if told else None), (int(told[-1][1]) if told else None)

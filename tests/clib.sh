@@ -1,11 +1,23 @@
 #!/bin/sh
 # The library as its users have it. A C program that knows the header alone tries each call, answers drawn lines as the program does,
 # imports rows while it is killed, and loads damaged logs; want of memory at each allocation; the sanitizers; the examples. A minute
-# or so, and some more where the library has to be built.
+# or so, and one or two more where the library has to be built, which then isn't proved.
 #     sh tests/clib.sh [PART]...     the parts are typed drawn killed damaged memory examples; LIBRARY is a library that is built
 . "$(dirname "$0")/lib.sh"
 cc=${CC:-cc}
-library=${LIBRARY:-$PWD/out/libsegdag.a}
+
+# $library is LIBRARY, or what this text makes without its proofs.
+wants_library() {
+    if [ -n "${LIBRARY:-}" ]; then
+        library=$(realpath "$LIBRARY")
+        echo "clib: over $library"
+    else
+        library=$folder/built/libsegdag.a
+        RT="${RT:-rt}" FOLDER=$folder/built sh tools/build_library_unproved.sh > "$folder/told" || cat "$folder/told"
+        [ -f "$library" ]
+        echo "clib: over the library of this text, built without its proofs"
+    fi
+}
 
 # Builds $folder/$1 of the C file $2 over the library, with the flags that follow.
 over_library() {
@@ -27,13 +39,15 @@ typed() {
         HISTORIES=3 python tests/clib.py drawn "$folder/sanitized" "$program" "$folder"
         echo "clib: the typed calls answer, and the sanitizers find nothing"
     else
-        echo "clib: $cc has no sanitizers; the typed calls answer"
+        untried sanitizers "$cc has no sanitizers"
     fi
 }
 
 memory() {
-    if "$cc" -shared -fPIC -O1 -o "$folder/no_memory.so" tests/no_memory.c; then
+    if "$cc" -shared -fPIC -O1 -o "$folder/no_memory.so" tests/no_memory.c 2> "$folder/told"; then
         python tests/clib.py memory "$folder/clib" "$program" "$folder"
+    else
+        untried "$cc" "$cc doesn't make a library of tests/no_memory.c"
     fi
 }
 
@@ -48,15 +62,17 @@ examples() {
         rustc --edition 2024 -O -o "$folder/example_rs" bindings/examples/example.rs -C link-arg="$library"
         "$folder/example_rs" "$folder/rs.log" | tail -1 | grep -qx 'the first is an ancestor of the third: true'
         told="$told and Rust"
+    else
+        untried rustc "there is no rustc for the example in Rust"
     fi
     echo "clib: the examples in $told run"
 }
 
 wants_program
-wants "$cc" python3
-[ -n "${LIBRARY:-}" ] || make lib RT="${RT:-rt}"
+wants "$cc" python3 ld ar objcopy
 [ $# -gt 0 ] || set -- typed drawn killed damaged memory examples
 wants_folder
+wants_library
 over_library clib tests/clib.c
 for part in "$@"; do
     case $part in

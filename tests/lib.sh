@@ -30,6 +30,12 @@ wants() {
 
 # Ends the script for want of a tool, with a reason.
 skip() {
+    untried "$@"
+    exit 0
+}
+
+# Says, with a reason, what isn't tried for want of a tool, and goes on.
+untried() {
     needed=${SEGDAG_NO_SKIP:-}
     [ "$needed" != 1 ] || needed="python3 git cc strace"
     case " $needed " in
@@ -40,7 +46,6 @@ skip() {
     esac
     echo "$script: $2, so this isn't tried"
     [ -z "${SKIPPED:-}" ] || echo "$script: $2" >> "$SKIPPED"
-    exit 0
 }
 
 # Runs a script of tests/ in Python, which leaves no compiled files behind.

@@ -1,7 +1,7 @@
 #!/bin/sh
-# Makes out/libsegdag.a, out/libsegdag.so and out/segdag.h of the core, an archive or an object, and of the shim in bindings/c. They
+# Makes libsegdag.a, libsegdag.so and segdag.h in the folder out of the core, an archive or an object, and of the shim in bindings/c. They
 # export segdag_* alone, and want the C library alone.
-#     RT=rt sh tools/build_library.sh CORE
+#     RT=rt FOLDER=out sh tools/build_library.sh CORE
 set -eu
 core=$(realpath "$1")
 cd "$(dirname "$0")/.."
@@ -24,7 +24,8 @@ done
     ar rcs libsegdag.a segdag_whole.o
     "$cc" -shared -Wl,-soname,libsegdag.so -o libsegdag.so segdag_whole.o
 )
-mkdir -p out
-mv "$folder/libsegdag.a" "$folder/libsegdag.so" out/
-cp bindings/c/segdag.h out/segdag.h
-echo "out/libsegdag.a, out/libsegdag.so and out/segdag.h are built"
+made=${FOLDER:-out}
+mkdir -p "$made"
+mv "$folder/libsegdag.a" "$folder/libsegdag.so" "$made/"
+cp bindings/c/segdag.h "$made/segdag.h"
+echo "$made/libsegdag.a, $made/libsegdag.so and $made/segdag.h are built"
