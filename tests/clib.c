@@ -1,5 +1,6 @@
-/* What tests/clib.sh runs over the library, by the header alone. `clib LOG -- run` answers lines as the program does, and ends with the
-   library's status; `clib import LOG COUNT EVERY` imports rows; `clib typed LOG` tries the typed calls. */
+/* What tests/clib.sh runs over the library, by the header alone. `clib LOG [REMOTE].. -- run [--cache N]` answers lines as the program
+   does, and ends with the library's status; `clib import LOG COUNT EVERY` imports rows; `clib typed LOG` tries the typed calls, and
+   `clib mirrors LOG THERE OTHER` those beside mirrors. */
 #include "segdag.h"
 #include <pthread.h>
 #include <stdio.h>
@@ -14,13 +15,21 @@ static int stopped(const char *what, segdag_status status) {
 
 /* ---- lines */
 
+/* Opens the log beside the mirrors that these words name. */
+static segdag_status open_beside(const char *path, uint32_t cache, char **remotes, int count, segdag **store) {
+    segdag_status status = segdag_open(path, cache, store);
+    for (int i = 0; status == SEGDAG_OK && i < count; i++)
+        status = segdag_add_mirror(*store, remotes[i]);
+    return status;
+}
+
 /* Answers the lines of standard input on standard output, as the program does. The end's status is the library's. */
-static int answer_lines(const char *path) {
+static int answer_lines(const char *path, uint32_t cache, char **remotes, int count) {
     segdag *store = NULL;
     segdag_text reply = {0};
     size_t room = 1 << 17;
     char *line = malloc(room);
-    segdag_status status = line ? segdag_open(path, 4096, &store) : SEGDAG_MEMORY;
+    segdag_status status = line ? open_beside(path, cache, remotes, count, &store) : SEGDAG_MEMORY;
     for (ssize_t size; status == SEGDAG_OK && (size = getline(&line, &room, stdin)) > 0;) {
         if (line[size - 1] == '\n')
             size -= 1;
@@ -203,6 +212,67 @@ static void try_changes(segdag *store, segdag_name_bytes names[116]) {
     WANTS(is_reply(store, "1 status", "ok 100 12 0\n") && is_reply(store, "", "") && is_reply(store, "# no", "") && is_reply(store, "no", "err syntax\n"));
 }
 
+/* ---- mirrors */
+
+/* Opens the log that is to be a mirror, and puts rows from this number on up to another one into its master. */
+static void grow(const char *path, uint64_t from, uint64_t end) {
+    segdag *there = NULL;
+    segdag_sizes sizes;
+    segdag_name_bytes head;
+    WANTS(segdag_open(path, 1, &there) == SEGDAG_OK);
+    for (uint64_t number = from; number < end; number++)
+        WANTS(add_row(there, number) == SEGDAG_OK);
+    name_of(end - 1, head);
+    WANTS(segdag_flush(there, 0, (const segdag_name_bytes *)&head, 1, &sizes) == SEGDAG_OK && sizes.master == end);
+    WANTS(segdag_close(&there) == SEGDAG_OK);
+}
+
+/* Whether each of so many rows has its number as id, and that id its name. */
+static bool are_found(segdag *store, uint64_t count) {
+    for (uint64_t number = 0; number < count; number++) {
+        segdag_name_bytes name, found;
+        uint64_t id = 0;
+        name_of(number, name);
+        if (segdag_id(store, 0, name, &id) || id != number || segdag_name(store, 0, number, found) || memcmp(name, found, SEGDAG_NAME))
+            return false;
+    }
+    return true;
+}
+
+static void write_bytes(const char *path, const char *bytes) {
+    FILE *file = fopen(path, "w");
+    WANTS(file && fputs(bytes, file) >= 0 && fclose(file) == 0);
+}
+
+/* A clone, its names, and pulls beside a log that grows, behind a file that isn't there and one that is no log. */
+static int try_mirrors(const char *path, const char *there, const char *other) {
+    segdag *store = NULL;
+    segdag_sizes sizes;
+    segdag_name_bytes name;
+    uint64_t number = 0;
+    grow(there, 0, 200);
+    WANTS(segdag_add_mirror(NULL, there) == SEGDAG_CLOSED && segdag_open(path, 3, &store) == SEGDAG_OK);
+    WANTS(segdag_clone(store, 0, &number) == SEGDAG_NO_REMOTE && segdag_pull(store, 0, &sizes) == SEGDAG_NO_REMOTE);
+    WANTS(segdag_add_mirror(store, NULL) == SEGDAG_ARGUMENT && segdag_add_mirror(store, "pipe:a:b") == SEGDAG_ARGUMENT);
+    WANTS(segdag_add_mirror(store, other) == SEGDAG_OK && segdag_clone(store, 0, &number) == SEGDAG_REMOTE);
+    write_bytes(other, "\001 no log");
+    WANTS(segdag_clone(store, 0, &number) == SEGDAG_REMOTE && is_reply(store, "0 clone", "err remote 1\n") && is_reply(store, "0 mirrors", "ok 1\n"));
+    WANTS(segdag_add_mirror(store, there) == SEGDAG_OK && segdag_clone(store, 0, &number) == SEGDAG_OK && number == 200);
+    WANTS(segdag_clone(store, 0, &number) == SEGDAG_NOT_EMPTY && segdag_clone(store, 0, NULL) == SEGDAG_ARGUMENT && are_found(store, 200));
+    grow(there, 200, 300);
+    name_of(299, name);
+    WANTS(segdag_id(store, 0, name, &number) == SEGDAG_UNKNOWN);
+    WANTS(segdag_pull(store, 0, &sizes) == SEGDAG_OK && sizes.master == 300 && sizes.others == 0 && are_found(store, 300));
+    WANTS(is_reply(store, "0 drop 1", "ok dropped 1\n") && segdag_pull(store, 0, &sizes) == SEGDAG_OK && sizes.master == 300);
+    WANTS(is_reply(store, "0 drop 0", "ok dropped 0\n") && segdag_pull(store, 0, &sizes) == SEGDAG_NO_REMOTE && segdag_pull(store, 0, NULL) == SEGDAG_ARGUMENT);
+    WANTS(segdag_close(&store) == SEGDAG_OK);
+    WANTS(segdag_open(path, 3, &store) == SEGDAG_OK && is_reply(store, "0 status", "ok 300 0 0\n"));
+    name_of(17, name);
+    WANTS(segdag_id(store, 0, name, &number) == SEGDAG_NO_REMOTE && segdag_add_mirror(store, there) == SEGDAG_OK && are_found(store, 300));
+    WANTS(segdag_close(&store) == SEGDAG_OK);
+    return failures != 0;
+}
+
 static int try_typed(const char *path) {
     static segdag_name_bytes names[116];
     segdag *store = NULL;
@@ -221,9 +291,21 @@ static int try_typed(const char *path) {
     return failures != 0;
 }
 
+/* The place of the word `--`, or one behind the last. */
+static int split_at(int count, char **words) {
+    int at = 0;
+    while (at < count && strcmp(words[at], "--"))
+        at++;
+    return at;
+}
+
 int main(int count, char **words) {
-    if (count == 4 && !strcmp(words[2], "--") && !strcmp(words[3], "run"))
-        return answer_lines(words[1]);
+    int split = split_at(count, words);
+    bool has_cache = count == split + 4 && !strcmp(words[split + 2], "--cache");
+    if (split > 1 && (count == split + 2 || has_cache) && !strcmp(words[split + 1], "run"))
+        return answer_lines(words[1], has_cache ? (uint32_t)strtoul(words[split + 3], NULL, 10) : 4096, words + 2, split - 2);
+    if (count == 5 && !strcmp(words[1], "mirrors"))
+        return try_mirrors(words[2], words[3], words[4]);
     if (count == 3 && !strcmp(words[1], "typed"))
         return try_typed(words[2]);
     if (count == 5 && !strcmp(words[1], "import"))

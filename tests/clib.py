@@ -9,11 +9,14 @@ import time
 from pathlib import Path
 
 import no_memory
+import serve_client
+from pipes import asks, grown
 from random_lines import Lines
 
 CLIB, PROGRAM, FOLDER = (os.path.abspath(word) for word in sys.argv[2:5])
 HISTORIES, RUNS, LINES = int(os.environ.get("HISTORIES", "17")), 3, 200  # 10,200 drawn lines
 ROWS, EVERY, KILLS = 100_000, 1_000, 30
+CLONES = int(os.environ.get("CLONES", "20"))  # how many logs are cloned beside mirrors
 BY_LINES = 5_000  # how many of these rows the program imports, too
 MASK = (1 << 64) - 1
 HANGS = 1800  # seconds behind which something is taken to hang
@@ -45,6 +48,105 @@ def drawn():
             if logs[0].read_bytes() != logs[1].read_bytes():
                 fail(f"history {seed}, run {part}: other logs")
     print(f"clib: {HISTORIES * RUNS * LINES} drawn lines get the program's replies, and leave its logs")
+
+
+class Asked:
+    """A run over a log beside mirrors, which is given a line when the one before it was answered."""
+
+    def __init__(self, program, log, mirrors, cache):
+        words = [program, log, *mirrors, "--", "run", "--cache", str(cache)]
+        self.child = subprocess.Popen(words, stdin=subprocess.PIPE, stdout=subprocess.PIPE, text=True)
+        self.watch = threading.Timer(HANGS, self.child.kill)
+        self.watch.start()
+
+    def reply(self, line):
+        self.child.stdin.write(line + "\n")
+        self.child.stdin.flush()
+        told = [self.child.stdout.readline()]
+        while told[-1] and not told[-1].startswith(("ok", "err")):
+            told.append(self.child.stdout.readline())
+        return "".join(told)
+
+    def end(self):
+        self.child.communicate()
+        self.watch.cancel()
+        return self.child.returncode
+
+
+class Beside:
+    """The library and the program over logs of their own, beside the same mirrors."""
+
+    def __init__(self, folder, seed):
+        self.draw = random.Random(seed)
+        self.logs = [Path(folder, word) for word in ("by_library", "by_program")]
+        self.there, self.other, self.bundle = (Path(folder, word) for word in ("there", "other", "bundle"))
+        for path in (*self.logs, self.there, self.other, self.bundle):
+            path.unlink(missing_ok=True)
+        self.rows = serve_client.draw_log(PROGRAM, self.draw, self.there, self.draw.choice([1, 8, 60, 300]))
+        self.lines, self.replies = [], 0
+
+    def mirrors(self):
+        """Words of mirrors: the log or its bundle, and what isn't there yet, what is no log, or neither."""
+        no_memory.bundled(PROGRAM, self.there, self.bundle)
+        words = [self.there, f"bundle:{self.bundle}", self.other, __file__, self.other.parent]
+        return [self.there, *self.draw.sample(words, self.draw.randrange(4))][:: self.draw.choice([1, -1])]
+
+    def say(self, children, lines):
+        for line in lines:
+            self.lines.append(line)
+            told, wanted = (child.reply(line) for child in children)
+            if told != wanted:
+                fail("beside mirrors it told\n" + told + "in place of\n" + wanted + "for\n" + "\n".join(self.lines))
+            self.replies += 1
+
+    def run(self):
+        """A clone that is asked, and pulls beside a log that grows meanwhile, or comes to be there."""
+        mirrors, cache = self.mirrors(), self.draw.choice([1, 3, 4096])
+        children = [Asked(program, log, mirrors, cache) for program, log in zip((CLIB, PROGRAM), self.logs)]
+        self.lines.append(" ".join(map(str, ["beside", *mirrors])))
+        self.say(children, asks(self.draw, self.rows))
+        for _ in range(3):
+            if run([PROGRAM, self.there, "--", "run"], grown(self.draw, self.rows))[0] != 0:
+                fail("the mirror's log didn't grow")
+            if self.draw.random() < 0.5:
+                self.other.write_bytes(self.there.read_bytes())
+            lines = ["0 query all", "0 pull", "1 pull", "0 query all", "1 count master", "0 mirrors", f"0 id {self.draw.choice(self.rows)[0].hex()}"]
+            self.say(children, self.draw.sample(lines, len(lines)) + ["0 drop 0"] * (self.draw.random() < 0.2))
+        if [child.end() for child in children] != [0, 0] or self.logs[0].read_bytes() != self.logs[1].read_bytes():
+            fail("beside mirrors it left another log, after\n" + "\n".join(self.lines))
+
+
+def by_python():
+    """The module in Python over a clone."""
+    import segdag
+
+    beside = Beside(FOLDER, 7)
+    names = [name for name, _ in beside.rows]
+    beside.other.write_bytes(b"\1 no log")
+    with segdag.open(beside.logs[0], cache=2, mirrors=[beside.other]) as store:
+        try:
+            store.clone()
+            fail("a clone of what is no log")
+        except segdag.Remote:
+            store.add_mirror(beside.there)
+        if store.clone() != len(names) or sorted(store.query("all")) != sorted(names):
+            fail("the module in Python finds other names in a clone")
+        lines = grown(beside.draw, beside.rows)
+        run([PROGRAM, beside.there, "--", "run"], lines)
+        sizes = store.pull()
+        if sizes != (len(names) + len(lines) - 1, 0, 0) or store.id(bytes.fromhex(lines[-1].split()[2])) != sizes.master - 1:
+            fail(f"the module in Python pulled {sizes}")
+
+
+def mirrors():
+    """Clones, names and pulls beside mirrors: the same replies and logs as the program's with the same words."""
+    replies = 0
+    for seed in range(CLONES):
+        beside = Beside(FOLDER, seed)
+        beside.run()
+        replies += beside.replies
+    by_python()
+    print(f"clib: {CLONES} clones that are asked and pull, {replies} lines beside mirrors: the program's replies and logs")
 
 
 def name_of(number):
@@ -127,12 +229,14 @@ class Closed(no_memory.Lines):
 
 def memory():
     """Each call for memory in turn finds none: no reply is wrong, and the log is one of before or behind a line."""
-    told, calls = {}, 0
-    for what, lines in no_memory.longest_cases(2):
-        tried = Closed(what, no_memory.Runs(CLIB, FOLDER, ["LOG", "--", "run"]), lines)
+    told, calls, there = {}, 0, Path(FOLDER, "there")
+    no_memory.made(PROGRAM, there, no_memory.chain(0x1B))
+    alone, beside = (no_memory.Runs(CLIB, FOLDER, words) for words in (["LOG", "--", "run"], ["LOG", there, "--", "run", "--cache", "1"]))
+    for what, runs, lines in [*((what, alone, lines) for what, lines in no_memory.longest_cases(2)), ("a clone", beside, no_memory.CLONED)]:
+        tried = Closed(what, runs, lines)
         tried.fail_each(told)
         calls += tried.calls
     print(f"clib: each of {calls} calls for memory found none:", ", ".join(f"{came} {told[came]}" for came in sorted(told)))
 
 
-{"drawn": drawn, "killed": killed, "memory": memory}[sys.argv[1]]()
+{"drawn": drawn, "mirrors": mirrors, "killed": killed, "memory": memory}[sys.argv[1]]()

@@ -1,8 +1,8 @@
 #!/bin/sh
-# The library as its users have it. A C program that knows the header alone tries each call, answers drawn lines as the program does,
-# imports rows while it is killed, and loads damaged logs; want of memory at each allocation; the sanitizers; the examples. A minute
+# The library as its users have it. A C program that knows the header alone tries each call, answers drawn lines as the program does, also
+# beside mirrors, imports rows while it is killed, and loads damaged logs; want of memory at each allocation; the sanitizers; the examples. A minute
 # or so, and one or two more where the library has to be built, which then isn't proved.
-#     sh tests/clib.sh [PART]...     the parts are typed drawn killed damaged memory examples; LIBRARY is a library that is built
+#     sh tests/clib.sh [PART]...     the parts are typed drawn mirrors killed damaged memory examples; LIBRARY is a library that is built
 . "$(dirname "$0")/lib.sh"
 cc=${CC:-cc}
 
@@ -29,7 +29,7 @@ over_library() {
 # The shim is built with it, so that the sanitizers see what it does, and stands in front of the library's own.
 sanitized() {
     "$cc" -O1 -g -fsanitize=address,undefined -fno-sanitize-recover=all -pthread -Wl,--allow-multiple-definition -I bindings/c \
-        tests/clib.c bindings/c/segdag.c bindings/c/calls.c "$library" -o "$folder/sanitized" 2> "$folder/told"
+        tests/clib.c bindings/c/segdag.c bindings/c/calls.c bindings/c/mirrors.c "$library" -o "$folder/sanitized" 2> "$folder/told"
 }
 
 typed() {
@@ -51,6 +51,14 @@ memory() {
     fi
 }
 
+mirrors() {
+    "$folder/clib" mirrors "$folder/m.log" "$folder/m.there" "$folder/m.other"
+    if sanitized; then
+        "$folder/sanitized" mirrors "$folder/s.log" "$folder/s.there" "$folder/s.other"
+    fi
+    PYTHONPATH=bindings/python SEGDAG_LIBRARY=$(dirname "$library")/libsegdag.so python tests/clib.py mirrors "$folder/clib" "$program" "$folder"
+}
+
 examples() {
     over_library example bindings/examples/example.c
     "$folder/example" "$folder/c.log" > "$folder/c.told"
@@ -70,13 +78,13 @@ examples() {
 
 wants_program
 wants "$cc" python3 ld ar objcopy
-[ $# -gt 0 ] || set -- typed drawn killed damaged memory examples
+[ $# -gt 0 ] || set -- typed drawn mirrors killed damaged memory examples
 wants_folder
 wants_library
 over_library clib tests/clib.c
 for part in "$@"; do
     case $part in
-        typed | memory | examples) "$part" ;;
+        typed | mirrors | memory | examples) "$part" ;;
         damaged) python tests/damaged.py "$folder/clib" "$folder" 40 1 ;;
         *) python tests/clib.py "$part" "$folder/clib" "$program" "$folder" ;;
     esac

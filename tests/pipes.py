@@ -322,4 +322,5 @@ def main():
     print(f"pipes: {runs} runs: mirrors behind pipes answer as those at paths do, and what breaks is passed over")
 
 
-main()
+if __name__ == "__main__":
+    main()

@@ -120,6 +120,17 @@ segdag_status segdag_strip(segdag *store, uint8_t session, const segdag_name_byt
     return change(store, session, "strip", names, count, sizes);
 }
 
+segdag_status segdag_clone(segdag *store, uint8_t session, uint64_t *master) {
+    if (!master)
+        return SEGDAG_ARGUMENT;
+    segdag_status status = answer(store, session, "clone", NULL, 0);
+    return status ? status : read_numbers(store, &master, 1);
+}
+
+segdag_status segdag_pull(segdag *store, uint8_t session, segdag_sizes *sizes) {
+    return change(store, session, "pull", NULL, 0, sizes);
+}
+
 static segdag_status let_go(segdag *store, uint8_t session, const char *word, uint64_t *pending) {
     if (!pending)
         return SEGDAG_ARGUMENT;
@@ -150,14 +161,19 @@ segdag_status segdag_add(segdag *store, uint8_t session, const segdag_name_bytes
         return status;
     if (!name || !id || (count && !parents) || count > 8)
         return SEGDAG_ARGUMENT;
-    return segdag_core_add(&store->core, session, name, count ? parents[0] : &nothing, count * SEGDAG_NAME, id);
+    const uint8_t *first = count ? parents[0] : &nothing;
+    status = segdag_core_add(&store->core, session, name, first, count * SEGDAG_NAME, id);
+    return store_asks_again(store, status) ? segdag_core_add(&store->core, session, name, first, count * SEGDAG_NAME, id) : status;
 }
 
 segdag_status segdag_id(segdag *store, uint8_t session, const segdag_name_bytes name, uint64_t *id) {
     segdag_status status = store_is_usable(store);
     if (status)
         return status;
-    return name && id ? segdag_core_id(&store->core, session, name, id) : SEGDAG_ARGUMENT;
+    if (!name || !id)
+        return SEGDAG_ARGUMENT;
+    status = segdag_core_id(&store->core, session, name, id);
+    return store_asks_again(store, status) ? segdag_core_id(&store->core, session, name, id) : status;
 }
 
 segdag_status segdag_count(segdag *store, uint8_t session, const char *expression, size_t size, uint64_t *count) {
@@ -166,7 +182,9 @@ segdag_status segdag_count(segdag *store, uint8_t session, const char *expressio
         return status;
     if (!expression || !count || size > LONGEST_LINE)
         return SEGDAG_ARGUMENT;
-    return segdag_core_count(&store->core, session, (const uint8_t *)expression, size, count);
+    const uint8_t *text = (const uint8_t *)expression;
+    status = segdag_core_count(&store->core, session, text, size, count);
+    return store_asks_again(store, status) ? segdag_core_count(&store->core, session, text, size, count) : status;
 }
 
 void segdag_names_free(segdag_names *names) {
@@ -184,7 +202,10 @@ segdag_status segdag_list(segdag *store, uint8_t session, const char *expression
         return SEGDAG_ARGUMENT;
     size_t bytes = 0;
     members->count = 0;
-    status = segdag_core_query(&store->core, session, (const uint8_t *)expression, size, &bytes);
+    const uint8_t *text = (const uint8_t *)expression;
+    status = segdag_core_query(&store->core, session, text, size, &bytes);
+    if (store_asks_again(store, status))
+        status = segdag_core_query(&store->core, session, text, size, &bytes);
     if (status || bytes == 0)
         return status;
     void *names = members->names;

@@ -82,7 +82,7 @@ static segdag_status open_locked(const char *path, int *fd) {
     return SEGDAG_LOCKED;
 }
 
-static int read_all(int fd, uint8_t *bytes, size_t size) {
+int store_read_all(int fd, uint8_t *bytes, size_t size) {
     for (size_t at = 0; at < size;) {
         ssize_t count = pread(fd, bytes + at, size - at, (off_t)at);
         if (count < 0 && errno == EINTR)
@@ -171,7 +171,7 @@ static segdag_status load(segdag *store, const char *path, uint32_t cache) {
     if (size && !bytes)
         return SEGDAG_MEMORY;
     segdag_status status = SEGDAG_DISK;
-    if (!read_all(store->fd, bytes, size))
+    if (!store_read_all(store->fd, bytes, size))
         status = segdag_core_load(&store->core, size ? bytes : &nothing, size, cache);
     free(bytes);
     return status == SEGDAG_OK && perform(store) ? SEGDAG_DISK : status;
@@ -206,6 +206,7 @@ segdag_status segdag_close(segdag **store) {
         return SEGDAG_THREAD;
     store_fail(closed, SEGDAG_OK);
     segdag_text_free(&closed->reply);
+    store_free_mirrors(closed);
     free(closed);
     *store = NULL;
     return SEGDAG_OK;
@@ -239,18 +240,18 @@ void segdag_text_free(segdag_text *text) {
     *text = (segdag_text){0};
 }
 
-segdag_status segdag_line(segdag *store, const char *line, size_t size, segdag_text *reply) {
-    segdag_status status = store_is_usable(store);
-    if (status)
-        return status;
-    if (!reply || (!line && size) || (size && memchr(line, '\n', size)))
-        return SEGDAG_ARGUMENT;
-    reply->size = 0;
-    if (!grow_text(reply, SHORT_REPLY))
-        return SEGDAG_MEMORY;
-    reply->bytes[0] = 0;
+/* Whether this stands behind the line's number. */
+static bool has_word(const char *line, size_t size, const char *word) {
+    size_t at = 0, long_word = strlen(word);
+    while (at < size && line[at] >= '0' && line[at] <= '9')
+        at++;
+    return size - at == long_word && !memcmp(line + at, word, long_word);
+}
+
+/* Answers a line in the core, and performs what it notes. */
+static segdag_status answer_line(segdag *store, const char *line, size_t size, segdag_text *reply) {
     size_t wanted = 0;
-    status = segdag_core_line(&store->core, size ? (const uint8_t *)line : &nothing, size, &wanted);
+    segdag_status status = segdag_core_line(&store->core, size ? (const uint8_t *)line : &nothing, size, &wanted);
     if (status == SEGDAG_DISK || status == SEGDAG_REPLY)
         return store_fail(store, status);
     if (status)
@@ -261,5 +262,30 @@ segdag_status segdag_line(segdag *store, const char *line, size_t size, segdag_t
         return SEGDAG_MEMORY;
     status = segdag_core_reply(&store->core, 0, (uint8_t *)reply->bytes, wanted ? wanted : 1, &reply->size);
     reply->bytes[reply->size] = 0;
+    return status;
+}
+
+/* Whether the reply is that all mirrors failed. */
+static bool tells_failed(const segdag_text *reply) {
+    static const char failed[] = "err remote ";
+    return !strncmp(reply->bytes, failed, strlen(failed));
+}
+
+segdag_status segdag_line(segdag *store, const char *line, size_t size, segdag_text *reply) {
+    segdag_status status = store_is_usable(store);
+    if (status)
+        return status;
+    if (!reply || (!line && size) || (size && memchr(line, '\n', size)))
+        return SEGDAG_ARGUMENT;
+    reply->size = 0;
+    if (!grow_text(reply, SHORT_REPLY))
+        return SEGDAG_MEMORY;
+    reply->bytes[0] = 0;
+    bool is_fresh = has_word(line, size, " clone") || has_word(line, size, " pull");
+    status = is_fresh ? store_read_mirrors(store) : SEGDAG_OK;
+    if (status == SEGDAG_OK)
+        status = answer_line(store, line, size, reply);
+    if (status == SEGDAG_OK && !is_fresh && tells_failed(reply) && store_asks_again(store, SEGDAG_REMOTE))
+        status = answer_line(store, line, size, reply);
     return status;
 }

@@ -73,6 +73,14 @@ segdag_status segdag_open(const char *path, uint32_t cache, segdag **store);
 /* Closes it, and makes *store NULL. What wasn't flushed is gone. */
 segdag_status segdag_close(segdag **store);
 
+/* ---- mirrors */
+
+/* Adds a mirror behind the others, as a word REMOTE of the program does: a log that this one may be a clone of, by its path, or
+   `bundle:PATH`. Mirrors behind pipes are the program's alone. The file is read as a whole, without a lock: now, before each clone and pull,
+   and where all mirrors failed another call, which is then made once more. Between these nothing that becomes of it is seen. One that can't
+   be read, or is no log, is a mirror that fails when it is asked. At most 65536. */
+segdag_status segdag_add_mirror(segdag *store, const char *word);
+
 /* ---- lines of the command language */
 
 /* Text that grows as it is wanted: all zeros at first, ended by a byte 0 that isn't counted. */
@@ -102,6 +110,12 @@ segdag_status segdag_flush(segdag *store, uint8_t session, const segdag_name_byt
 
 /* Takes these others and their descendants out of what is stored. From 1 to 399 names. */
 segdag_status segdag_strip(segdag *store, uint8_t session, const segdag_name_bytes *names, size_t count, segdag_sizes *sizes);
+
+/* Stores a mirror's master, with a few of its names, in a log that has nothing, and tells how many rows it has. */
+segdag_status segdag_clone(segdag *store, uint8_t session, uint64_t *master);
+
+/* Stores what is new in a mirror's master behind what is there, with its names. */
+segdag_status segdag_pull(segdag *store, uint8_t session, segdag_sizes *sizes);
 
 /* Takes the session to the newest version, and tells how many pending rows it keeps. */
 segdag_status segdag_reload(segdag *store, uint8_t session, uint64_t *pending);
@@ -162,11 +176,18 @@ typedef struct segdag_core {
 
 typedef enum segdag_kind { SEGDAG_NOTHING = 0, SEGDAG_WRITE = 1, SEGDAG_SYNC = 2 } segdag_kind;
 
+typedef enum segdag_mirror { SEGDAG_LOG = 0, SEGDAG_BUNDLE = 1 } segdag_mirror;
+
 uint32_t segdag_core_load(segdag_core *core, const uint8_t *bytes, size_t size, uint32_t cache);
 uint32_t segdag_core_close(segdag_core *core);
 uint32_t segdag_core_next(segdag_core *core, uint32_t *kind, uint64_t *at, size_t *size);
 uint32_t segdag_core_piece(segdag_core *core, size_t from, uint8_t *out, size_t room, size_t *copied);
 uint32_t segdag_core_performed(segdag_core *core);
+
+/* A mirror, by a number of yours: each call on it fails until it is renewed. Renewed it has a copy of these bytes, the whole of its file,
+   or isn't there; SEGDAG_ARGUMENT where no mirror has this number, as of one that a line dropped. */
+uint32_t segdag_core_add_mirror(segdag_core *core, uint32_t number, uint32_t kind);
+uint32_t segdag_core_renew_mirror(segdag_core *core, uint32_t number, bool is_there, const uint8_t *bytes, size_t size);
 uint32_t segdag_core_line(segdag_core *core, const uint8_t *line, size_t size, size_t *reply_size);
 uint32_t segdag_core_reply(segdag_core *core, size_t from, uint8_t *out, size_t room, size_t *copied);
 uint32_t segdag_core_add(segdag_core *core, uint8_t session, const uint8_t name[20], const uint8_t *parents, size_t parents_size, uint64_t *id);

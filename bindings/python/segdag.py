@@ -112,10 +112,13 @@ def _load() -> ctypes.CDLL:
     calls = {
         "open": [text, ctypes.c_uint32, ctypes.POINTER(store)],
         "close": [ctypes.POINTER(store)],
+        "add_mirror": [store, text],
         "line": [store, text, size, ctypes.POINTER(_Text)],
         "add": [store, session, text, text, size, number],
         "flush": [store, session, text, size, sizes],
         "strip": [store, session, text, size, sizes],
+        "clone": [store, session, number],
+        "pull": [store, session, sizes],
         "reload": [store, session, number],
         "discard": [store, session, number],
         "sizes_of": [store, session, sizes],
@@ -158,10 +161,17 @@ def _joined(names: Iterable[bytes]) -> Tuple[bytes, int]:
 class Store:
     """An open log. `session`, 0 to 15, is whose pending rows and base a call works on."""
 
-    def __init__(self, path: Union[str, "os.PathLike[str]"], cache: int = 4096) -> None:
+    def __init__(self, path: Union[str, "os.PathLike[str]"], cache: int = 4096, mirrors: Iterable[str] = ()) -> None:
         self._store = ctypes.c_void_p()
         self._text, self._names = _Text(), _Names()
         _check(_library.segdag_open(os.fsencode(path), cache, ctypes.byref(self._store)), os.fspath(path))
+        for word in mirrors:
+            self.add_mirror(word)
+
+    def add_mirror(self, word: str) -> None:
+        """Adds a mirror: a log that this one may be a clone of, by its path, or `bundle:PATH`. Its file is read now, before each clone and
+        pull, and where all mirrors failed another call, which is then made once more."""
+        _check(_library.segdag_add_mirror(self._store, os.fsencode(word)), word)
 
     def __enter__(self) -> "Store":
         return self
@@ -207,6 +217,16 @@ class Store:
         joined, count = _joined(names)
         sizes = _Sizes()
         _check(call(self._store, session, joined, count, ctypes.byref(sizes)))
+        return Sizes(sizes.master, sizes.others, sizes.pending)
+
+    def clone(self, session: int = 0) -> int:
+        """Stores a mirror's master in a log that has nothing, and gives how many rows it has."""
+        return self._number(_library.segdag_clone, session)
+
+    def pull(self, session: int = 0) -> Sizes:
+        """Stores what is new in a mirror's master."""
+        sizes = _Sizes()
+        _check(_library.segdag_pull(self._store, session, ctypes.byref(sizes)))
         return Sizes(sizes.master, sizes.others, sizes.pending)
 
     def reload(self, session: int = 0) -> int:
@@ -275,7 +295,7 @@ class Store:
         return [(it.ahead, it.behind) for it in distances[: done.value]]
 
 
-def open(path: Union[str, "os.PathLike[str]"], cache: int = 4096) -> Store:
-    """Opens the log at this path, which is made where there is none, and takes its lock."""
-    return Store(path, cache)
+def open(path: Union[str, "os.PathLike[str]"], cache: int = 4096, mirrors: Iterable[str] = ()) -> Store:
+    """Opens the log at this path, which is made where there is none, and takes its lock, beside these mirrors."""
+    return Store(path, cache, mirrors)
 

@@ -1,5 +1,5 @@
--- What a call does to a store beside no mirrors.
-use Rattle.std.specs.Prelude.{ℕ, List, []}
+-- What a call does to a store beside mirrors.
+use Rattle.std.specs.Prelude.{ℕ, List}
 use Rattle.remote_rules.specs.Mirror.{Mirror}
 use Rattle.step_rules.specs.State.{State}
 use Rattle.step_rules.specs.Verb.{Verb}
@@ -8,7 +8,6 @@ use Rattle.dag_store.specs.Kept.{PlainStore}
 use Rattle.dag_store.specs.Stands.{StandsBeside, IsAnswerable}
 use Rattle.dag_store.specs.Steps.{Leads}
 
--- The command's step with this reply, from each state that the store stands for beside no mirrors.
-abbrev pub Does : PlainStore → ℕ → Verb → Reply → PlainStore → Type 0
-Does old s verb reply new =
-    (left : List Mirror) × ((began : ℕ) (st : State) → StandsBeside began old [] st → IsAnswerable st → Leads began old.limits st s verb reply new left)
+-- The command's step with this reply, from each state that the store stands for beside the first mirrors, to one beside those that are left.
+abbrev pub Does : List Mirror → PlainStore → ℕ → Verb → Reply → PlainStore → List Mirror → Type 0
+Does first old s verb reply new left = (began : ℕ) (st : State) → StandsBeside began old first st → IsAnswerable st → Leads began old.limits st s verb reply new left

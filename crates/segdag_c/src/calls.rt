@@ -4,16 +4,18 @@ ghost use Rattle.std.specs.Prelude.{◌≡◌, ◌<◌, ◌≤◌, length, Ok, I
 ghost use Rattle.set_expr.specs.Whole.{tree_of};
 ghost use Rattle.set_expr.specs.Spelling.{SpellsExpr};
 ghost use Rattle.step_rules.specs.Verb.{Add as ToAdd, Count as ToCount, IdOf, Query as ToQuery};
+ghost use Rattle.segdag_c.specs.Calls.{HeldDoes};
 ghost use Rattle.segdag_c.specs.Does.{Does};
+ghost use Rattle.segdag_c.specs.Mirrors.{shown_all};
 ghost use Rattle.segdag_c.specs.Typed.{added_reply, counted_reply, id_reply};
 
 use crate::codes::Failure;
 use crate::held::Held;
+use crate::mirror::Mirror;
 use crate::names::{NAME_SIZE, join, names_in};
 use dag_store::{Added, Expr, Found, Store};
 use id_groups::{Id, Name};
 use mirror_set::Mirrors;
-use remote_trait::FixedRemote;
 use set_expr::ExprFault;
 use std::alloc::Global;
 
@@ -23,21 +25,20 @@ const SESSIONS: u8 = 16;
 /// How many parents a commit has at most.
 const MOST_PARENTS: usize = 8;
 
-/// Adds a commit to a session of the store, which has no mirrors.
+/// Adds a commit to a session of the store.
 fn add_to(
-    alloc: Global,
     store: &mut Store,
+    mirrors: &mut Mirrors<Mirror>,
     session: u8,
     name: &Name,
     parents: &[Name],
 ) -> Result<Added, Failure>
     requires session { session < 16 }
     requires few { length parents.now ≤ 8 }
-    ensures does { IfSome (added_reply result) (λ reply. Does store.old session (ToAdd name.now parents.now) reply store.new) }
+    ensures does { IfSome (added_reply result) (λ reply. Does (shown_all mirrors.old.list.items) store.old session (ToAdd name.now parents.now) reply store.new (shown_all mirrors.new.list.items)) }
     ensures limits { store.new.limits ≡ store.old.limits }
 {
-    let mut mirrors: Mirrors<FixedRemote> = Mirrors::new(Vec::new(alloc));
-    match store.add(session, &mut mirrors, name, parents) {
+    match store.add(session, mirrors, name, parents) {
         Ok(added) => Ok(added),
         Err(refusal) => Err(Failure::Refused(refusal)),
     }
@@ -63,31 +64,37 @@ pub(crate) fn add(
     let Some(store) = &mut held.store else {
         return Err(Failure::Disk);
     };
-    add_to(alloc, store, session, name, &parents)
+    add_to(store, &mut held.mirrors, session, name, &parents)
 }
 
-/// The id of a commit that a session of the store sees, which has no mirrors.
-fn id_in(alloc: Global, store: &mut Store, session: u8, name: &Name) -> Result<Id, Failure>
+/// The id of a commit that a session of the store sees.
+fn id_in(
+    store: &mut Store,
+    mirrors: &mut Mirrors<Mirror>,
+    session: u8,
+    name: &Name,
+) -> Result<Id, Failure>
     requires { session < 16 }
-    ensures does { IfSome (id_reply result) (λ reply. Does store.old session (IdOf name.now) reply store.new) }
+    ensures does { IfSome (id_reply result) (λ reply. Does (shown_all mirrors.old.list.items) store.old session (IdOf name.now) reply store.new (shown_all mirrors.new.list.items)) }
     ensures limits { store.new.limits ≡ store.old.limits }
 {
-    let mut mirrors: Mirrors<FixedRemote> = Mirrors::new(Vec::new(alloc));
-    match store.id(session, &mut mirrors, name) {
+    match store.id(session, mirrors, name) {
         Ok(id) => Ok(id),
         Err(refusal) => Err(Failure::Refused(refusal)),
     }
 }
 
 /// The id of a commit that a session sees.
-pub(crate) fn id(alloc: Global, held: &mut Held, session: u8, name: &Name) -> Result<Id, Failure> {
+pub(crate) fn id(held: &mut Held, session: u8, name: &Name) -> Result<Id, Failure>
+    ensures { IfSome (id_reply result) (λ reply. HeldDoes held.old held.new session (IdOf name.now) reply) }
+{
     if session >= SESSIONS {
         return Err(Failure::Argument);
     }
     let Some(store) = &mut held.store else {
         return Err(Failure::Disk);
     };
-    id_in(alloc, store, session, name)
+    id_in(store, &mut held.mirrors, session, name)
 }
 
 /// The expression that a text spells.
@@ -101,14 +108,18 @@ fn expr_of(alloc: Global, text: &[u8]) -> Result<Expr, Failure>
     }
 }
 
-/// How many members an expression has in a session of the store, which has no mirrors.
-fn count_in(alloc: Global, store: &mut Store, session: u8, expr: &Expr) -> Result<u64, Failure>
+/// How many members an expression has in a session of the store.
+fn count_in(
+    store: &mut Store,
+    mirrors: &mut Mirrors<Mirror>,
+    session: u8,
+    expr: &Expr,
+) -> Result<u64, Failure>
     requires { session < 16 }
-    ensures does { IfSome (counted_reply result) (λ reply. Does store.old session (ToCount (tree_of expr.now)) reply store.new) }
+    ensures does { IfSome (counted_reply result) (λ reply. Does (shown_all mirrors.old.list.items) store.old session (ToCount (tree_of expr.now)) reply store.new (shown_all mirrors.new.list.items)) }
     ensures limits { store.new.limits ≡ store.old.limits }
 {
-    let mut mirrors: Mirrors<FixedRemote> = Mirrors::new(Vec::new(alloc));
-    match store.count(session, &mut mirrors, expr) {
+    match store.count(session, mirrors, expr) {
         Ok(answer) => Ok(answer.count()),
         Err(refusal) => Err(Failure::Refused(refusal)),
     }
@@ -128,7 +139,7 @@ pub(crate) fn count(
     let Some(store) = &mut held.store else {
         return Err(Failure::Disk);
     };
-    count_in(alloc, store, session, &expr)
+    count_in(store, &mut held.mirrors, session, &expr)
 }
 
 /// The names of an answer, one behind the other.
@@ -141,13 +152,18 @@ fn join_found(alloc: Global, store: &Store, session: u8, found: &Found) -> Resul
     }
 }
 
-/// The names of the members of an expression in a session of the store, which has no mirrors.
-fn query_in(alloc: Global, store: &mut Store, session: u8, expr: &Expr) -> Result<Vec<u8>, Failure>
+/// The names of the members of an expression in a session of the store.
+fn query_in(
+    alloc: Global,
+    store: &mut Store,
+    mirrors: &mut Mirrors<Mirror>,
+    session: u8,
+    expr: &Expr,
+) -> Result<Vec<u8>, Failure>
     requires { session < 16 }
     ensures limits { store.new.limits ≡ store.old.limits }
 {
-    let mut mirrors: Mirrors<FixedRemote> = Mirrors::new(Vec::new(alloc));
-    match store.query(session, &mut mirrors, expr) {
+    match store.query(session, mirrors, expr) {
         Ok(found) => join_found(alloc, store, session, &found),
         Err(refusal) => Err(Failure::Refused(refusal)),
     }
@@ -167,6 +183,6 @@ pub(crate) fn query(
     let Some(store) = &mut held.store else {
         return Err(Failure::Disk);
     };
-    held.names = query_in(alloc, store, session, &expr)?;
+    held.names = query_in(alloc, store, &mut held.mirrors, session, &expr)?;
     Ok(held.names.len())
 }

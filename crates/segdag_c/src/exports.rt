@@ -1,12 +1,17 @@
 //! The functions that C calls.
 
-ghost use Rattle.std.specs.Prelude.{◌≡◌, ◌<◌, [], IfSome, false};
-ghost use Rattle.segdag_c.specs.Line.{LineDoes};
+ghost use Rattle.std.specs.Prelude.{◌≡◌, ◌≤◌, ◌-◌, ◌++◌, IfSome, false, length, min, take, drop};
+ghost use Rattle.step_rules.specs.Verb.{IdOf};
+ghost use Rattle.step_rules.specs.Reply.{Identified};
+ghost use Rattle.segdag_c.specs.Calls.{Tells, SlotDoes, IsRefusedBy, IsCopied};
+ghost use Rattle.segdag_c.specs.Answers.{HeldAnswers, SlotAnswers};
 
 use crate::answering::answer_line;
 use crate::calls::{add, count, id, query};
 use crate::codes::{DONE, Failure, code_of, code_of_stop};
+use crate::held::Held;
 use crate::loading::load_log;
+use crate::mirroring::{add_mirror, renew_mirror};
 use crate::slot::{Slot, put, take};
 use call_disk::NotedCall;
 use dag_store::Added;
@@ -15,7 +20,7 @@ use std::alloc::Global;
 
 /// The code where no log is open.
 fn closed() -> u32
-    ensures { 0 < result }
+    ensures { result ≡ 17 }
 {
     code_of(Failure::Closed)
 }
@@ -102,7 +107,10 @@ pub extern "C" fn segdag_core_next(
 }
 
 /// Copies the bytes from a place on to the front of `out`, as many as there are and fit, and answers how many.
-fn copy_from(bytes: &[u8], from: usize, out: &mut [u8]) -> usize {
+fn copy_from(bytes: &[u8], from: usize, out: &mut [u8]) -> usize
+    ensures count { result ≡ min (length out.old) (length bytes.now - from) }
+    ensures bytes { out.new ≡ take result (drop from bytes.now) ++ drop result out.old }
+{
     if from >= bytes.len() {
         return 0;
     }
@@ -153,6 +161,18 @@ pub extern "C" fn segdag_core_performed(alloc: Global, slot: &mut Slot) -> u32 {
     }
 }
 
+/// Answers a command line of an open log, says how many bytes the reply has, and gives the code.
+fn tell_line(alloc: Global, held: &mut Held, line: &[u8], reply_size: &mut usize) -> u32
+    ensures { result ≡ 0 → HeldAnswers held.old line.now held.new }
+{
+    let answered = answer_line(alloc, held, line);
+    *reply_size = held.reply.bytes().len();
+    match answered {
+        Ok(()) => DONE,
+        Err(stop) => code_of_stop(stop),
+    }
+}
+
 /// Answers a command line, and says how many bytes the reply has. A line with no reply has an empty one.
 #[unsafe(no_mangle)]
 pub extern "C" fn segdag_core_line(
@@ -161,19 +181,14 @@ pub extern "C" fn segdag_core_line(
     line: &[u8],
     reply_size: &mut usize,
 ) -> u32
-    ensures { result ≡ 0 → IfSome slot.old.handle.held (λ before. IfSome slot.new.handle.held (λ after.
-        IfSome before.store (λ old. IfSome after.store (λ new. LineDoes old line.now new 0 [] after.reply)))) }
+    ensures { result ≡ 0 → SlotAnswers slot.old.handle.held line.now slot.new.handle.held }
 {
     match take(alloc, slot) {
         Some(taken) => {
             let mut held = taken;
-            let answered = answer_line(alloc, &mut *held, line);
-            *reply_size = held.reply.bytes().len();
+            let code = tell_line(alloc, &mut *held, line, reply_size);
             put(slot, held);
-            match answered {
-                Ok(()) => DONE,
-                Err(stop) => code_of_stop(stop),
-            }
+            code
         }
         None => closed(),
     }
@@ -187,7 +202,10 @@ pub extern "C" fn segdag_core_reply(
     from: usize,
     out: &mut [u8],
     copied: &mut usize,
-) -> u32 {
+) -> u32
+    ensures copies { result ≡ 0 → IfSome slot.old.handle.held (λ held. IsCopied held.reply.taken from copied.new out.old out.new) }
+    ensures kept { result ≡ 0 → slot.new.handle.held ≡ slot.old.handle.held }
+{
     match take(alloc, slot) {
         Some(held) => {
             *copied = copy_from(held.reply.bytes(), from, out);
@@ -245,7 +263,9 @@ pub extern "C" fn segdag_core_add(
 }
 
 /// Tells an id, where there is one.
-fn tell_id(answer: Result<Id, Failure>, number: &mut u64) -> u32 {
+fn tell_id(answer: Result<Id, Failure>, number: &mut u64) -> u32
+    ensures { Tells answer number.new result }
+{
     match answer {
         Ok(id) => {
             *number = id.number();
@@ -263,11 +283,14 @@ pub extern "C" fn segdag_core_id(
     session: u8,
     name: &[u8; 20],
     number: &mut u64,
-) -> u32 {
+) -> u32
+    ensures does { result ≡ 0 → SlotDoes slot.old.handle.held slot.new.handle.held session (IdOf name.now) (Identified number.new) }
+    ensures refused { 33 ≤ result → IsRefusedBy result slot.old.handle.held slot.new.handle.held session (IdOf name.now) }
+{
     match take(alloc, slot) {
         Some(taken) => {
             let mut held = taken;
-            let answer = id(alloc, &mut *held, session, &Name::from_bytes(*name));
+            let answer = id(&mut *held, session, &Name::from_bytes(*name));
             put(slot, held);
             tell_id(answer, number)
         }
@@ -276,7 +299,9 @@ pub extern "C" fn segdag_core_id(
 }
 
 /// Tells a count, where there is one.
-fn tell_count(answer: Result<u64, Failure>, total: &mut u64) -> u32 {
+fn tell_count(answer: Result<u64, Failure>, total: &mut u64) -> u32
+    ensures { Tells answer total.new result }
+{
     match answer {
         Ok(count) => {
             *total = count;
@@ -346,12 +371,63 @@ pub extern "C" fn segdag_core_names(
     from: usize,
     out: &mut [u8],
     copied: &mut usize,
-) -> u32 {
+) -> u32
+    ensures copies { result ≡ 0 → IfSome slot.old.handle.held (λ held. IsCopied held.names.items from copied.new out.old out.new) }
+    ensures kept { result ≡ 0 → slot.new.handle.held ≡ slot.old.handle.held }
+{
     match take(alloc, slot) {
         Some(held) => {
             *copied = copy_from(&held.names, from, out);
             put(slot, held);
             DONE
+        }
+        None => closed(),
+    }
+}
+
+/// The code of a call that gives nothing.
+fn code_of_done(done: Result<(), Failure>) -> u32 {
+    match done {
+        Ok(()) => DONE,
+        Err(failure) => code_of(failure),
+    }
+}
+
+/// Adds a mirror behind the others, of which C speaks by this number: a log is of kind 0, a bundle of kind 1. Each call on it fails
+/// until it is renewed.
+#[unsafe(no_mangle)]
+pub extern "C" fn segdag_core_add_mirror(
+    alloc: Global,
+    slot: &mut Slot,
+    number: u32,
+    kind: u32,
+) -> u32 {
+    match take(alloc, slot) {
+        Some(taken) => {
+            let mut held = taken;
+            let done = add_mirror(alloc, &mut *held, number, kind);
+            put(slot, held);
+            code_of_done(done)
+        }
+        None => closed(),
+    }
+}
+
+/// Gives the mirror with this number a copy of these bytes, the whole of its file, or says that it isn't there.
+#[unsafe(no_mangle)]
+pub extern "C" fn segdag_core_renew_mirror(
+    alloc: Global,
+    slot: &mut Slot,
+    number: u32,
+    is_there: bool,
+    bytes: &[u8],
+) -> u32 {
+    match take(alloc, slot) {
+        Some(taken) => {
+            let mut held = taken;
+            let done = renew_mirror(alloc, &mut *held, number, is_there, bytes);
+            put(slot, held);
+            code_of_done(done)
         }
         None => closed(),
     }

@@ -1,7 +1,7 @@
 #![tactic(auto)]
 
 //! The store as a C library: a log is opened behind a handle, command lines are answered in the caller's process, and a few calls
-//! take and give names as bytes. It reaches no file: it is lent the log's bytes, and says which writes and syncs are to be performed.
+//! take and give names as bytes. It reaches no file: it is lent the bytes of the log and of its mirrors, and says which writes and syncs are to be performed.
 
 mod answering;
 mod calls;
@@ -10,6 +10,8 @@ mod exports;
 mod handle;
 mod held;
 mod loading;
+mod mirror;
+mod mirroring;
 mod names;
 mod parts;
 mod slot;

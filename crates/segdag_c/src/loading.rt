@@ -8,6 +8,7 @@ use crate::held::Held;
 use call_disk::{LentDisk, NotedDisk};
 use dag_store::{Limits, LoadFault, Store};
 use line_io::MemorySink;
+use mirror_set::Mirrors;
 use std::alloc::Global;
 
 /// Why C is told that a log isn't loaded.
@@ -42,6 +43,7 @@ pub(crate) fn load_log(alloc: Global, bytes: &[u8], cache: u32) -> Result<Held, 
     Ok(Held {
         store: Some(store),
         log,
+        mirrors: Mirrors::new(Vec::new(alloc)),
         reply,
         names: Vec::new(alloc),
     })

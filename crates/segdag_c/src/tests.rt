@@ -1,9 +1,9 @@
 //! Every function that C calls, over a log in memory.
 
 use crate::exports::{
-    segdag_core_add, segdag_core_close, segdag_core_count, segdag_core_id, segdag_core_line,
-    segdag_core_load, segdag_core_names, segdag_core_next, segdag_core_performed,
-    segdag_core_piece, segdag_core_query, segdag_core_reply,
+    segdag_core_add, segdag_core_add_mirror, segdag_core_close, segdag_core_count, segdag_core_id,
+    segdag_core_line, segdag_core_load, segdag_core_names, segdag_core_next, segdag_core_performed,
+    segdag_core_piece, segdag_core_query, segdag_core_renew_mirror, segdag_core_reply,
 };
 use crate::slot::Slot;
 
@@ -13,6 +13,14 @@ const SECOND: [u8; 20] = [2; 20];
 
 /// The line of a session with the name of 20 times this byte behind its words.
 const FLUSH: &[u8] = b"0 flush 0202020202020202020202020202020202020202";
+
+/// A log whose master has the one commit with the name of 20 times 2.
+const MIRRORED: [u8; 98] = [
+    1, 0, 0, 0, 0, 0, 0, 0, 88, 2, 1, 0, 0, 0, 0, 0, 0, 0, 0, 0, 0, 0, 0, 0, 0, 0, 1, 0, 0, 0, 0,
+    0, 0, 0, 0, 0, 0, 0, 1, 1, 0, 0, 0, 0, 0, 0, 0, 0, 0, 0, 0, 0, 0, 0, 0, 0, 0, 0, 1, 0, 0, 0, 0,
+    0, 0, 0, 0, 2, 2, 2, 2, 2, 2, 2, 2, 2, 2, 2, 2, 2, 2, 2, 2, 2, 2, 2, 2, 0, 0, 0, 0, 0, 0, 0, 0,
+    0, 0, 0,
+];
 
 #[test]
 fn a_closed_slot_answers_its_code(rt: HostRuntime) {
@@ -138,6 +146,52 @@ fn a_line_notes_what_is_to_be_written(rt: HostRuntime) {
         assert_eq!(rt; segdag_core_performed(alloc, &mut slot), 0);
     }
     assert_eq!(rt; kinds.as_slice(), [2, 1, 2, 1, 2, 1, 2, 0].as_slice());
+    assert_eq!(rt; segdag_core_close(alloc, &mut slot), 0);
+    slot.forget();
+}
+
+#[test]
+fn mirrors_are_asked(rt: HostRuntime) {
+    let alloc = rt.alloc();
+    let mut slot = Slot::shut(alloc);
+    let mut number = 0;
+    let mut size = 0;
+    assert_eq!(rt; segdag_core_add_mirror(alloc, &mut slot, 7, 0), 17);
+    assert_eq!(rt;
+        segdag_core_renew_mirror(alloc, &mut slot, 7, true, &MIRRORED),
+        17
+    );
+    assert_eq!(rt; segdag_core_load(alloc, &mut slot, &[0], 1), 0);
+    assert_eq!(rt; segdag_core_add_mirror(alloc, &mut slot, 7, 2), 19);
+    assert_eq!(rt; segdag_core_add_mirror(alloc, &mut slot, 7, 0), 0);
+    assert_eq!(rt; segdag_core_add_mirror(alloc, &mut slot, 8, 1), 0);
+    assert_eq!(rt;
+        segdag_core_renew_mirror(alloc, &mut slot, 9, true, &MIRRORED),
+        19
+    );
+    assert_eq!(rt;
+        segdag_core_line(alloc, &mut slot, b"0 clone", &mut size),
+        0
+    );
+    assert_eq!(rt; size, 13);
+    assert_eq!(rt;
+        segdag_core_renew_mirror(alloc, &mut slot, 7, true, &MIRRORED),
+        0
+    );
+    assert_eq!(rt;
+        segdag_core_renew_mirror(alloc, &mut slot, 8, false, b""),
+        0
+    );
+    assert_eq!(rt;
+        segdag_core_line(alloc, &mut slot, b"0 clone", &mut size),
+        0
+    );
+    assert_eq!(rt; size, 12);
+    assert_eq!(rt;
+        segdag_core_id(alloc, &mut slot, 0, &SECOND, &mut number),
+        0
+    );
+    assert_eq!(rt; number, 0);
     assert_eq!(rt; segdag_core_close(alloc, &mut slot), 0);
     slot.forget();
 }

@@ -1,0 +1,135 @@
+//! The calls that add mirrors to an open log, and give them their bytes.
+
+ghost use Rattle.std.specs.Prelude.{◌≡◌, ◌<◌, length, Some, None, IfOk, IfSome, if◌then◌else◌};
+ghost use Rattle.disk_trait.specs.Images.{fresh_disk};
+ghost use Rattle.call_disk.specs.Tells.{tells};
+
+use crate::codes::Failure;
+use crate::held::Held;
+use crate::mirror::Mirror;
+use call_disk::OwnedDisk;
+use mirror_set::Mirrors;
+use remote_bundle::BundleRemote;
+use remote_store::{Limits, StoreRemote};
+use std::alloc::Global;
+use std::mem::replace;
+
+/// The kind of a log.
+const LOG: u32 = 0;
+
+/// The kind of a bundle.
+const BUNDLE: u32 = 1;
+
+/// How many mirrors there are at most.
+const MOST_MIRRORS: u32 = 1 << 16;
+
+/// How many bytes a bundle may have.
+const BUNDLE_LIMIT: u64 = 1 << 30;
+
+/// The log on this disk, which may have as many bytes as an open log.
+fn log_on(disk: OwnedDisk) -> StoreRemote<OwnedDisk> {
+    StoreRemote::new(disk, Limits::standard())
+}
+
+/// The bundle on this disk.
+fn bundle_on(disk: OwnedDisk) -> BundleRemote<OwnedDisk> {
+    BundleRemote::new(disk, BUNDLE_LIMIT)
+}
+
+/// A mirror of this kind, if it is one, that isn't there.
+fn missing(alloc: Global, number: u32, kind: u32) -> Option<Mirror> {
+    match kind {
+        LOG => Some(Mirror::Log(number, log_on(OwnedDisk::missing(alloc)))),
+        BUNDLE => Some(Mirror::Bundle(number, bundle_on(OwnedDisk::missing(alloc)))),
+        _ => None,
+    }
+}
+
+/// Puts a mirror behind the others.
+fn push_mirror(mirrors: &mut Mirrors<Mirror>, mirror: Mirror) -> Result<(), Failure> {
+    if mirrors.len() >= MOST_MIRRORS {
+        return Err(Failure::Argument);
+    }
+    match mirrors.list.push(mirror) {
+        Ok(()) => Ok(()),
+        Err(_) => Err(Failure::Memory),
+    }
+}
+
+/// Adds a mirror of this kind behind the others, to be spoken of by this number. It isn't there so far, and each call on it fails.
+pub(crate) fn add_mirror(
+    alloc: Global,
+    held: &mut Held,
+    number: u32,
+    kind: u32,
+) -> Result<(), Failure> {
+    let Some(mirror) = missing(alloc, number, kind) else {
+        return Err(Failure::Argument);
+    };
+    push_mirror(&mut held.mirrors, mirror)
+}
+
+impl Mirror {
+    /// The number by which C speaks of it.
+    fn number(&self) -> u32 {
+        match self {
+            Mirror::Log(number, _) | Mirror::Bundle(number, _) => *number,
+        }
+    }
+
+    /// Lets go of what it was read from, for this disk.
+    fn renew(&mut self, disk: OwnedDisk) {
+        match self {
+            Mirror::Log(_, log) => drop(replace(log, log_on(disk))),
+            Mirror::Bundle(_, bundle) => drop(replace(bundle, bundle_on(disk))),
+        }
+    }
+}
+
+/// The place of the mirror with this number.
+fn place_of(list: &[Mirror], number: u32) -> Option<usize>
+    ensures { IfSome result (λ k. k < length list.now) }
+{
+    'mirrors: for k in 0..list.len() {
+        let mirror = &list[k];
+        if mirror.number() == number {
+            return Some(k);
+        }
+    }
+    None
+}
+
+/// The disk with a copy of these bytes, or one that isn't there.
+fn disk_of(alloc: Global, is_there: bool, bytes: &[u8]) -> Result<OwnedDisk, Failure>
+    ensures { IfOk result (λ disk. tells disk ≡ (if is_there then Some (fresh_disk bytes.now) else None)) }
+{
+    if !is_there {
+        return Ok(OwnedDisk::missing(alloc));
+    }
+    match OwnedDisk::of(alloc, bytes) {
+        Ok(disk) => Ok(disk),
+        Err(_) => Err(Failure::Memory),
+    }
+}
+
+/// Gives the mirror with this number another disk, if there is one.
+fn renew_in(mirrors: &mut Mirrors<Mirror>, number: u32, disk: OwnedDisk) -> Result<(), Failure> {
+    let Some(place) = place_of(&mirrors.list, number) else {
+        return Err(Failure::Argument);
+    };
+    let mirror = &mut mirrors.list[place];
+    mirror.renew(disk);
+    Ok(())
+}
+
+/// Gives the mirror with this number a copy of these bytes, or takes what it had, where it isn't there.
+pub(crate) fn renew_mirror(
+    alloc: Global,
+    held: &mut Held,
+    number: u32,
+    is_there: bool,
+    bytes: &[u8],
+) -> Result<(), Failure> {
+    let disk = disk_of(alloc, is_there, bytes)?;
+    renew_in(&mut held.mirrors, number, disk)
+}
