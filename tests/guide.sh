@@ -8,6 +8,5 @@ wants git python3
 [ $# -gt 0 ] || set -- answers octopuses shapes refusals faults logs published shared killed enemies daemons quick transcripts
 wants_folder
 for part in "$@"; do
-    mkdir "$folder/$part"
-    python tests/guide.py "$part" "$program" "$folder/$part"
+    python tests/guide.py "$part" "$program" "$folder"
 done

@@ -113,7 +113,7 @@ def ways(repository, asked, wanted):
 
 def processes(repository, asked):
     """A plain question starts one git and nothing else; another one begins Python once."""
-    folder, told = FOLDER / "counted", FOLDER / "processes"
+    folder, told = FOLDER / "counting", FOLDER / "processes"
     folder.mkdir()
     for name in ("git", "python3"):
         real = shutil.which("git") if name == "git" else os.path.realpath(sys.executable)
