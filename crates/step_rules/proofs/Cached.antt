@@ -129,7 +129,7 @@ is-in-append n (x ∷ xs) ys e f = let parts = neither (nat_eq n x) (is_in nat_e
 
 -- the new known names of a change are of ids from the old count on
 module _ (st : Stored) (new : World Name) (payload : Payload) (grown : GrowsMaster st.stored new) (late : (n : ℕ) → n < length st.stored.master → is_in nat_eq n (map (λ (k : Known). k.id) payload.known) ≡ false) where
-  cached-next : (k : KnownName) → IsLazyName st k → IsLazyName (with_stored st new payload) k
+  pub cached-next : (k : KnownName) → IsLazyName st k → IsLazyName (with_stored st new payload) k
   cached-next k h =
       let parts = and_true (nat_lt k.id (length st.stored.master)) _ h.0 in
       let below = ltb-true k.id (length st.stored.master) parts.0 in
