@@ -27,6 +27,7 @@ pub mod Changed
 pub mod CloneSteps
 pub mod FlushStored
 pub mod FlushDisk
+pub mod Following
 pub mod FinishLemmas
 pub mod ChangeSteps
 pub mod FlushSteps

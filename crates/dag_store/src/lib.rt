@@ -6,6 +6,7 @@ mod adding;
 mod cloning;
 mod finishing;
 mod flushing;
+mod following;
 mod laws;
 mod loading;
 mod names;
@@ -17,6 +18,7 @@ mod stripping;
 mod whole;
 
 pub use change_rules::{Limit, Limits};
+pub use following::{FollowFault, Followed};
 pub use high_segments::LevelCounts;
 pub use laws::stores_stand;
 pub use names::Names;
