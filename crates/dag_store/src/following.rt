@@ -82,6 +82,7 @@ pub enum Followed {
 }
 
 /// A disk on which nothing is put, since what is written to it stands on another one already.
+#[derive(Drop)]
 struct Elsewhere;
 
 impl Disk for Elsewhere {
@@ -202,9 +203,7 @@ impl Store {
         } = self;
         match take_payload(&mut log, &mut tables, payload) {
             Ok(()) => {
-                Taken::Done(
-                    with_payload(alloc, log, tables, sessions, limits, names, payload),
-                )
+                Taken::Done(with_payload(alloc, log, tables, sessions, limits, names, payload))
             }
             Err(fault) => {
                 let store = Store {
