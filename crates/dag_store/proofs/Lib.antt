@@ -28,6 +28,7 @@ pub mod CloneSteps
 pub mod FlushStored
 pub mod FlushDisk
 pub mod Following
+pub mod GoingOn
 pub mod FinishLemmas
 pub mod ChangeSteps
 pub mod FlushSteps

@@ -15,11 +15,11 @@ ghost use Rattle.dag_store.specs.Following.{FollowsTo, GoOn, MayGoOn, OneHasCaus
 ghost use Rattle.dag_store.specs.Kept.{IsKept};
 ghost use Rattle.dag_store.specs.Stands.{StandsBeside};
 
+use crate::elsewhere::append;
 use crate::store::Store;
 use batch_codec::BatchRef;
-use disk_trait::{Disk, DiskFault};
 use flush_rebuild::{Limits, TableFault, Tables};
-use gated_log::{Committed, Log, ReserveFault};
+use gated_log::{Log, ReserveFault};
 use lazy_names::LazyNames;
 use std::alloc::Global;
 use store_plans::Session;
@@ -81,46 +81,6 @@ pub enum Followed {
     Refused(Store, u32, FollowFault),
 }
 
-/// A disk on which nothing is put, since what is written to it stands on another one already.
-#[derive(Drop)]
-struct Elsewhere;
-
-impl Disk for Elsewhere {
-    ghost use Rattle.std.specs.Prelude.{None, zero};
-
-    ghost bytes = { λ d. None };
-
-    ghost told = { λ d. None };
-
-    ghost meanwhile = { λ d. None };
-
-    ghost faults = { λ d. zero };
-
-    ghost tells = { λ d. tt };
-
-    ghost sound = { λ d. tt };
-
-    fn size(&mut self) -> Result<u64, DiskFault> {
-        Ok(0)
-    }
-
-    fn read(&mut self, _at: u64, _out: &mut [u8]) -> Result<usize, DiskFault> {
-        Ok(0)
-    }
-
-    fn write(&mut self, _at: u64, _piece: &[u8]) -> Result<(), DiskFault> {
-        Ok(())
-    }
-
-    fn sync(&mut self) -> Result<(), DiskFault> {
-        Ok(())
-    }
-
-    fn clock(&self) -> u64 {
-        0
-    }
-}
-
 /// Makes room in the log for a payload, and adds it to the tables at the place where it will stand. A refusal changes nothing but the
 /// log's room.
 fn take_payload(log: &mut Log, tables: &mut Tables, payload: &[u8]) -> Result<(), FollowFault>
@@ -145,7 +105,7 @@ fn take_payload(log: &mut Log, tables: &mut Tables, payload: &[u8]) -> Result<()
     Ok(())
 }
 
-/// Puts a payload that was taken behind the others of the log, for sessions as they are.
+/// The store whose log has a payload more that was taken, for sessions as they are.
 fn with_payload(
     alloc: Global,
     log: Log,
@@ -160,20 +120,14 @@ fn with_payload(
     ensures store { result ≡ record { log = result.log; sessions = sessions.items; limits = limits; cache = names } }
     ensures payloads { result.log.payloads ≡ log.payloads ++ payload.now ∷ [] }
 {
-    match log.commit(&mut Elsewhere, payload) {
-        Committed::Done(log, _clock) => {
-            Store {
-                alloc,
-                log,
-                tables,
-                sessions,
-                limits,
-                names,
-            }
-        }
-        Committed::Full(_log, _limit) => unreachable!(),
-        Committed::Memory(_log) => unreachable!(),
-        Committed::Disk(_fault) => unreachable!(),
+    let log = append(log, payload);
+    Store {
+        alloc,
+        log,
+        tables,
+        sessions,
+        limits,
+        names,
     }
 }
 

@@ -4,6 +4,7 @@
 
 mod adding;
 mod cloning;
+mod elsewhere;
 mod finishing;
 mod flushing;
 mod following;
@@ -20,7 +21,7 @@ mod whole;
 pub use change_rules::{Limit, Limits};
 pub use following::{FollowFault, Followed};
 pub use high_segments::LevelCounts;
-pub use laws::stores_stand;
+pub use laws::{logs_go_on, stores_stand};
 pub use names::Names;
 pub use query::Found;
 pub use replies::{Added, Counts, Flushed, LoadFault};
