@@ -6,3 +6,4 @@ pub mod Typed
 pub mod Line
 pub mod Calls
 pub mod Answers
+pub mod Following

@@ -5,6 +5,7 @@ ghost use Rattle.step_rules.specs.Verb.{IdOf};
 ghost use Rattle.step_rules.specs.Reply.{Identified};
 ghost use Rattle.segdag_c.specs.Calls.{Tells, SlotDoes, IsRefusedBy, IsCopied};
 ghost use Rattle.segdag_c.specs.Answers.{HeldAnswers, SlotAnswers};
+ghost use Rattle.segdag_c.specs.Following.{EndsAt, SlotFollows};
 
 use crate::answering::answer_line;
 use crate::calls::{add, count, id, query};
@@ -449,7 +450,10 @@ fn tell_end(answer: Result<u64, Failure>, at: &mut u64) -> u32
 
 /// Says where in its file the log goes on: the place of its closed gate, from which on `segdag_core_more` takes bytes.
 #[unsafe(no_mangle)]
-pub extern "C" fn segdag_core_end(alloc: Global, slot: &mut Slot, at: &mut u64) -> u32 {
+pub extern "C" fn segdag_core_end(alloc: Global, slot: &mut Slot, at: &mut u64) -> u32
+    ensures end { result ≡ 0 → EndsAt slot.old.handle.held at.new }
+    ensures kept { result ≡ 0 → slot.new.handle.held ≡ slot.old.handle.held }
+{
     match take(alloc, slot) {
         Some(held) => {
             let end = end_of(&held);
@@ -468,7 +472,9 @@ pub extern "C" fn segdag_core_more(
     slot: &mut Slot,
     bytes: &[u8],
     count: &mut u32,
-) -> u32 {
+) -> u32
+    ensures { result ≡ 0 → SlotFollows slot.old.handle.held bytes.now slot.new.handle.held }
+{
     match take(alloc, slot) {
         Some(taken) => {
             let mut held = taken;
