@@ -27,7 +27,7 @@ pub mod Changed
 pub mod CloneSteps
 pub mod FlushStored
 pub mod FlushDisk
-pub mod Following
+pub mod Followers
 pub mod GoingOn
 pub mod FinishLemmas
 pub mod ChangeSteps
