@@ -114,7 +114,7 @@ static segdag_status read_whole(segdag *store, uint64_t from, uint32_t cache, ui
 static char *whole_path(const char *path) {
     char *folder = *path == '/' ? NULL : get_current_dir_name(), *whole = NULL;
     if (!folder)
-        return strdup(path);
+        return *path != '/' && errno == ENOMEM ? NULL : strdup(path);
     if (asprintf(&whole, "%s/%s", folder, path) < 0)
         whole = NULL;
     free(folder);
