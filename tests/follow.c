@@ -170,7 +170,7 @@ static void try_refused(const char *path) {
     WANTS(segdag_clone(reader, 1, &number) == SEGDAG_FOLLOWS && segdag_pull(reader, 1, &sizes) == SEGDAG_FOLLOWS);
     WANTS(follows(reader, "0 flush") && follows(reader, "0 flush 0000") && follows(reader, "15 clone") && follows(reader, "0 pull") && follows(reader, "0 strip x"));
     WANTS(is_reply(reader, "0 flushed", "err syntax\n") && is_reply(reader, " flush", "err syntax\n") && is_reply(reader, "0  pull", "err syntax\n"));
-    WANTS(is_reply(reader, "# 0 flush", "") && is_reply(reader, "0 mirrors", "ok 1\n") && is_reply(reader, "0 status", "ok 10 0 1\n"));
+    WANTS(is_reply(reader, "# flush", "") && is_reply(reader, "# 0 flush", "") && is_reply(reader, "", "") && is_reply(reader, "0 mirrors", "ok 1\n") && is_reply(reader, "0 status", "ok 10 0 1\n"));
     WANTS(has_bytes(path, ten.bytes, ten.size) && segdag_close(&writer) == SEGDAG_OK && segdag_close(&reader) == SEGDAG_OK);
 }
 

@@ -186,13 +186,14 @@ segdag_status segdag_more(segdag *store, uint64_t *count) {
 
 /* ---- lines */
 
-/* Whether this is the second word of the line. */
+/* Whether this word stands behind the line's number. */
 static bool has_second(const char *line, size_t size, const char *word) {
-    const char *blank = size ? memchr(line, ' ', size) : NULL;
-    if (!blank)
+    size_t at = 0, length = strlen(word);
+    while (at < size && line[at] >= '0' && line[at] <= '9')
+        at++;
+    if (at == 0 || size - at < 1 + length || line[at] != ' ' || memcmp(line + at + 1, word, length))
         return false;
-    size_t left = size - (size_t)(blank + 1 - line), length = strlen(word);
-    return left >= length && !memcmp(blank + 1, word, length) && (left == length || blank[1 + length] == ' ');
+    return size - at == 1 + length || line[at + 1 + length] == ' ';
 }
 
 segdag_status store_before_line(segdag *store, const char *line, size_t size) {
