@@ -76,7 +76,7 @@ follow() {
         "$folder/sanitized" typed "$folder/f.log"
         echo "clib: followers answer, and the sanitizers find nothing"
     fi
-    for case in alone quick compared busy; do
+    for case in alone quick drawn compared busy; do
         followed "$case"
     done
     if no_memory; then

@@ -170,7 +170,8 @@ static void try_refused(const char *path) {
     WANTS(segdag_clone(reader, 1, &number) == SEGDAG_FOLLOWS && segdag_pull(reader, 1, &sizes) == SEGDAG_FOLLOWS);
     WANTS(follows(reader, "0 flush") && follows(reader, "0 flush 0000") && follows(reader, "15 clone") && follows(reader, "0 pull") && follows(reader, "0 strip x"));
     WANTS(is_reply(reader, "0 flushed", "err syntax\n") && is_reply(reader, " flush", "err syntax\n") && is_reply(reader, "0  pull", "err syntax\n"));
-    WANTS(is_reply(reader, "# flush", "") && is_reply(reader, "# 0 flush", "") && is_reply(reader, "", "") && is_reply(reader, "0 mirrors", "ok 1\n") && is_reply(reader, "0 status", "ok 10 0 1\n"));
+    WANTS(is_reply(reader, "# flush", "") && is_reply(reader, "# 0 flush", "") && is_reply(reader, "", ""));
+    WANTS(is_reply(reader, "0 mirrors", "ok 1\n") && is_reply(reader, "0 status", "ok 10 0 1\n"));
     WANTS(has_bytes(path, ten.bytes, ten.size) && segdag_close(&writer) == SEGDAG_OK && segdag_close(&reader) == SEGDAG_OK);
 }
 
@@ -448,10 +449,18 @@ static void try_steps(const char *path, const char *log, int step) {
     segdag_close(&reader);
 }
 
+static void try_empty(const char *path) {
+    put_front(path, "", 0);
+    segdag *reader = follow_again(path);
+    WANTS(take_all(reader) == 0);
+    segdag_close(&reader);
+}
+
 static int try_memory(const char *path, const char *front) {
     static char log[1 << 16];
     int fd = open(path, O_RDONLY);
     WANTS(fd >= 0 && read(fd, log, sizeof log) > 0 && close(fd) == 0);
+    try_empty(front);
     try_steps(front, log, 1);
     try_steps(front, log, 2);
     printf("%d\n", wanted_memory);

@@ -12,9 +12,11 @@ import time
 from pathlib import Path
 
 import segdag
+from random_lines import Lines
 
 FOLLOW, CLIB, PROGRAM, FOLDER = (os.path.abspath(word) for word in sys.argv[2:6])
 CHANGES = int(os.environ.get("CHANGES", "10000"))  # of a writer whose replies are compared, and of one that never pauses
+HISTORIES, LINES = int(os.environ.get("HISTORIES", "17")), 600  # of drawn lines, 10,200
 READERS = 3  # followers of one that never pauses
 ROWS = int(os.environ.get("ROWS", "100000"))  # of the log whose reloads are measured
 ROUNDS, LEAST = 15, 5  # how often a reload is measured, and how many times faster than a load it has to be
@@ -117,14 +119,11 @@ class History:
         return self.draw.choice(asked)
 
 
-class Told(threading.Thread):
-    """A writer, asked behind each change: what it tells then of its sizes and heads and to a drawn question, by the number of changes."""
+class Writer:
+    """A run of the program, which is given lines that are answered, and waited for."""
 
     def __init__(self, log):
-        super().__init__()
-        self.history, self.told, self.bad = History(1), [None], None
         self.child = subprocess.Popen([PROGRAM, log, "--", "run"], stdin=subprocess.PIPE, stdout=subprocess.PIPE, text=True)
-        self.began = self.ended = 0
 
     def ask(self, lines):
         self.child.stdin.write("".join(line + "\n" for line in lines))
@@ -137,18 +136,32 @@ class Told(threading.Thread):
             told.append(self.child.stdout.readline())
         return "".join(told)
 
+    def end(self):
+        self.child.communicate()
+        return self.child.returncode
+
+
+class Told(threading.Thread):
+    """A writer, asked behind each change: what it tells then of its sizes and heads and to a drawn question, by the number of changes."""
+
+    def __init__(self, log):
+        super().__init__()
+        self.history, self.told, self.bad = History(1), [None], None
+        self.writer, self.status = Writer(log), None
+        self.began = self.ended = 0
+
     def run(self):
         for _ in range(CHANGES):
             lines, question = self.history.change(), self.history.question()
             self.told.append(None)
             self.began += 1
-            replies = self.ask([*lines, "0 status", "0 query heads(all)", f"0 {question}"])
+            replies = self.writer.ask([*lines, "0 status", "0 query heads(all)", f"0 {question}"])
             if not all(reply.startswith("ok") for reply in replies[: len(lines) + 1]):
                 self.bad = f"{lines}: {replies}"
                 break
             self.told[self.began] = (*replies[-3:], question)
             self.ended = self.began
-        self.child.communicate()
+        self.status = self.writer.end()
 
 
 class Seen:
@@ -204,7 +217,7 @@ def compared():
             loads += 1
         time.sleep(seen.draw.random() * 0.004)
     writer.join()
-    if writer.ended < CHANGES or writer.child.returncode != 0:
+    if writer.ended < CHANGES or writer.status != 0:
         fail(f"the writer was refused, or failed: {writer.bad}")
     seen.reload()
     if seen.newest != CHANGES:
@@ -227,6 +240,49 @@ def busy():
     took = time.monotonic() - began
     reloads = f"{turns} reloads, {moved} of them with something new, and {opened} loads"
     print(f"follow: {READERS} followers, {reloads} in {took:.0f} s of {CHANGES} flushes: none was refused")
+
+
+def is_answered(line):
+    return line != "" and not line.startswith("#")
+
+
+class Halves:
+    """A run with sixteen sessions, and another one whose odd sessions are a follower's: drawn lines get the same replies."""
+
+    def __init__(self, seed):
+        self.lines, self.logs = Lines(random.Random(seed)), [fresh("one"), fresh("two")]
+        self.logs[1].write_bytes(b"")
+        self.whole, self.even = (Writer(log) for log in self.logs)
+        self.odd, self.sent, self.refused = segdag.follow(self.logs[1], cache=1), 0, 0
+
+    def say(self, line):
+        session, _, command = line.partition(" ")
+        is_odd = session in map(str, range(1, 16, 2))
+        if is_odd and command.split(" ")[0] in ("flush", "strip", "clone", "pull"):
+            self.refused += 1
+            return raises(segdag.Follows, self.odd.line, line)
+        wanted = self.whole.ask([line])[0]
+        self.odd.more()
+        self.sent += 1
+        return wanted == (self.odd.line(line) if is_odd else self.even.ask([line])[0])
+
+    def run(self):
+        for line in filter(is_answered, (self.lines.line() for _ in range(LINES))):
+            if not self.say(line):
+                fail(f"a follower's sessions answer something else to {line}")
+        self.odd.close()
+        if (self.whole.end(), self.even.end()) != (0, 0) or self.logs[0].read_bytes() != self.logs[1].read_bytes():
+            fail("the program failed, or left another log")
+
+
+def drawn():
+    """A follower's sessions answer as sessions of the writer's process would."""
+    sent = refused = 0
+    for seed in range(HISTORIES):
+        halves = Halves(seed)
+        halves.run()
+        sent, refused = sent + halves.sent, refused + halves.refused
+    print(f"follow: {sent} drawn lines, half the sessions a follower's: the replies of a single process; {refused} changes were refused")
 
 
 # A follower alone.
@@ -300,7 +356,7 @@ def rights():
         writer.flush(named(51))
         if not raises(segdag.Locked, segdag.open, log) or reader.reload() != 0 or reader.sizes() != (51, 0, 0):
             fail("a writer can't be opened beside a follower, or isn't followed")
-    print(f"follow: changes are refused, also to a user who may only read{' (not to root, who started this)' if is_root else ''}")
+    print(f"follow: changes are refused, also to a user who may only read{', another one than root' if is_root else ''}")
 
 
 def lazy():
@@ -371,4 +427,4 @@ def memory():
     print(f"follow: each of {calls} calls for memory found none: {told['1']} were told, and the call made once more goes on")
 
 
-{part.__name__: part for part in (compared, busy, alone, quick, memory)}[sys.argv[1]]()
+{part.__name__: part for part in (drawn, compared, busy, alone, quick, memory)}[sys.argv[1]]()
