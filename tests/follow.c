@@ -76,6 +76,23 @@ static void make_logs(const char *path) {
     WANTS(!memcmp(ten.bytes, twenty.bytes, ten.size - 1) && !memcmp(twenty.bytes, many.bytes, twenty.size - 1) && many.size > 100000);
 }
 
+/* ---- another process, while a file is read */
+
+static const char *growing;
+static content *grown;
+
+/* Puts the whole of a longer log in place of a front of it. */
+static void store_whole(void) {
+    before_read = NULL;
+    write_bytes(growing, grown->bytes, grown->size);
+}
+
+/* Makes the file longer by a byte. */
+static void store_byte(void) {
+    FILE *stream = fopen(growing, "ab");
+    WANTS(stream && fputc(0, stream) == 0 && fclose(stream) == 0);
+}
+
 /* ---- what is seen */
 
 static bool sees(segdag *store, uint8_t session, uint64_t rows) {
@@ -210,14 +227,16 @@ static void try_damaged(const char *path) {
     memcpy(log.bytes + ten.size - 1, ten.bytes, ten.size);
     write_bytes(path, log.bytes, 2 * ten.size - 1);
     WANTS(came(reader, SEGDAG_NO_LOG, 0) && reloads(reader, SEGDAG_NO_LOG) && finds(reader, 10));
-    for (size_t size = 0; size < ten.size; size += size < ten.size - 3 ? ten.size / 5 : 1) {
+    for (size_t size = 0; size < ten.size; size++) {
         write_bytes(path, ten.bytes, size);
-        WANTS(came(reader, SEGDAG_NO_LOG, 0) && reloads(reader, SEGDAG_NO_LOG) && finds(reader, 10));
+        WANTS(came(reader, SEGDAG_NO_LOG, 0));
     }
-    for (size_t size = ten.size + 1; size < twenty.size; size += size < twenty.size - 3 ? twenty.size / 50 : 1) {
+    WANTS(reloads(reader, SEGDAG_NO_LOG) && finds(reader, 10));
+    for (size_t size = ten.size + 1; size < twenty.size; size++) {
         write_bytes(path, twenty.bytes, size);
-        WANTS(came(reader, SEGDAG_NO_LOG, 0) && finds(reader, 10));
+        WANTS(came(reader, SEGDAG_NO_LOG, 0));
     }
+    WANTS(reloads(reader, SEGDAG_NO_LOG) && finds(reader, 10));
     memcpy(log.bytes, twenty.bytes, twenty.size);
     log.bytes[twenty.size - 1] = 1;
     write_bytes(path, log.bytes, twenty.size);
@@ -227,7 +246,7 @@ static void try_damaged(const char *path) {
     WANTS(segdag_close(&reader) == SEGDAG_OK);
 }
 
-/* A change that is lawful, and behind it one that isn't: the first one stays. */
+/* A change that is lawful, and behind it one that isn't: the first one stays, also where the file grows meanwhile. */
 static void try_partly(const char *path) {
     static content log;
     segdag *reader = NULL;
@@ -235,8 +254,13 @@ static void try_partly(const char *path) {
     WANTS(segdag_follow(path, 1, &reader) == SEGDAG_OK);
     memcpy(log.bytes, twenty.bytes, twenty.size);
     memcpy(log.bytes + twenty.size - 1, ten.bytes, ten.size);
-    write_bytes(path, log.bytes, twenty.size + ten.size - 1);
-    WANTS(came(reader, SEGDAG_NO_LOG, 1) && came(reader, SEGDAG_NO_LOG, 0) && finds(reader, 10));
+    memset(log.bytes + twenty.size + ten.size - 1, 1, 100000);
+    write_bytes(path, log.bytes, twenty.size + ten.size + 100000);
+    growing = path;
+    before_read = store_byte;
+    WANTS(came(reader, SEGDAG_NO_LOG, 1));
+    before_read = NULL;
+    WANTS(came(reader, SEGDAG_NO_LOG, 0) && finds(reader, 10));
     write_bytes(path, many.bytes, many.size);
     WANTS(came(reader, SEGDAG_OK, 1) && reloads(reader, SEGDAG_OK) && finds(reader, 5000) && segdag_close(&reader) == SEGDAG_OK);
 }
@@ -270,21 +294,6 @@ static void try_folders(const char *path) {
 }
 
 /* ---- a file that grows while it is read */
-
-static const char *growing;
-static content *grown;
-
-/* Puts the whole of a longer log in place of a front of it. */
-static void store_whole(void) {
-    before_read = NULL;
-    write_bytes(growing, grown->bytes, grown->size);
-}
-
-/* Makes the file longer by a byte. */
-static void store_byte(void) {
-    FILE *stream = fopen(growing, "ab");
-    WANTS(stream && fputc(0, stream) == 0 && fclose(stream) == 0);
-}
 
 /* The gate opens between the size, which ends within the change behind it, and the read. */
 static void try_growing(const char *path) {
