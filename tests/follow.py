@@ -17,7 +17,7 @@ from random_lines import Lines
 FOLLOW, CLIB, PROGRAM, FOLDER = (os.path.abspath(word) for word in sys.argv[2:6])
 CHANGES = int(os.environ.get("CHANGES", "10000"))  # of a writer whose replies are compared, and of one that never pauses
 HISTORIES, LINES = int(os.environ.get("HISTORIES", "17")), 600  # of drawn lines, 10,200
-READERS = 3  # followers of one that never pauses
+READERS, KILLS = 3, 10  # followers of one that never pauses, and how often that one is killed
 ROWS = int(os.environ.get("ROWS", "100000"))  # of the log whose reloads are measured
 ROUNDS, LEAST = 15, 5  # how often a reload is measured, and how many times faster than a load it has to be
 NOBODY = 65534
@@ -226,20 +226,41 @@ def compared():
     print(f"follow: {reloads} reloads and {loads} loads beside {CHANGES} changes, on {len(found)} versions of them: each answers what the writer did")
 
 
+def import_killed(log):
+    """An import that flushes each row, and is killed at drawn moments and goes on: how often."""
+    draw, kills = random.Random(3), 0
+    while True:
+        writer = subprocess.Popen([CLIB, "import", log, str(CHANGES), "1"], stdout=subprocess.DEVNULL)
+        try:
+            status = writer.wait(draw.random() * 2 if kills < KILLS else HANGS)
+        except subprocess.TimeoutExpired:
+            writer.kill()
+            writer.wait()
+            kills += 1
+            continue
+        if status != 0:
+            fail(f"beside followers an import ended with status {status}")
+        return kills
+
+
 def busy():
-    """Followers beside a writer that never pauses: none is refused."""
+    """Followers beside a writer that never pauses, and is killed: none is refused."""
     log = fresh("busy")
     log.write_bytes(b"")
     began = time.monotonic()
-    writer = subprocess.Popen([CLIB, "import", log, str(CHANGES), "1"], stdout=subprocess.DEVNULL)
     readers = [subprocess.Popen([FOLLOW, "beside", log, str(CHANGES)], stdout=subprocess.PIPE, text=True) for _ in range(READERS)]
-    told = [reader.communicate(timeout=HANGS)[0].split() for reader in readers]
-    if writer.wait(HANGS) != 0 or any(reader.returncode for reader in readers):
+    try:
+        kills = import_killed(log)
+        told = [reader.communicate(timeout=HANGS)[0].split() for reader in readers]
+    finally:
+        for reader in readers:
+            reader.kill()
+    if any(reader.returncode for reader in readers):
         fail(f"beside a writer that never pauses {[reader.returncode for reader in readers]} came, {told}")
     turns, moved, opened = (sum(int(it[k]) for it in told) for k in range(3))
-    took = time.monotonic() - began
     reloads = f"{turns} reloads, {moved} of them with something new, and {opened} loads"
-    print(f"follow: {READERS} followers, {reloads} in {took:.0f} s of {CHANGES} flushes: none was refused")
+    took = f"{time.monotonic() - began:.0f} s of {CHANGES} flushes by a writer that was killed {kills} times"
+    print(f"follow: {READERS} followers, {reloads} in {took}: none was refused")
 
 
 def is_answered(line):
@@ -363,8 +384,11 @@ def lazy():
     """A clone's log is followed beside its mirror, which is asked for names."""
     there, log = fresh("there"), fresh("lazy")
     run(there, chain(1, 300))
-    run(log, ["0 clone"], there)
+    log.write_bytes(b"")
     with segdag.follow(log, cache=2, mirrors=[str(there)]) as reader:
+        run(log, ["0 clone"], there)
+        if reader.reload() != 0 or reader.sizes() != (300, 0, 0) or reader.id(named(21)) != 20:
+            fail("a follower takes another clone")
         run(there, chain(301, 320))
         run(log, ["0 pull"], there)
         if reader.reload() != 0 or list(reader.query("all")) != [named(k) for k in range(320, 0, -1)] or reader.id(named(17)) != 16:
