@@ -21,8 +21,10 @@ def check(what, lines, replies, status=0, size=None, mirrors=()):
     text = "".join(spelled(line) + "\n" for line in lines)
     done = subprocess.run([PROGRAM, LOG, *mirrors, "--", "run"], input=text.encode(), stdout=subprocess.PIPE, timeout=1800)
     given = done.stdout.decode().splitlines()
-    if done.returncode != status or given != [spelled(reply) for reply in replies]:
-        sys.exit(f"whole_runs: {what}: status {done.returncode}, {given}")
+    wanted = [spelled(reply) for reply in replies]
+    if done.returncode != status or given != wanted:
+        at = next((at for at, (one, other) in enumerate(zip(given, wanted)) if one != other), min(len(given), len(wanted)))
+        sys.exit(f"whole_runs: {what}: status {done.returncode}, from reply {at} on {given[at : at + 9]} for {wanted[at : at + 9]}")
     if size is not None and os.path.getsize(LOG) != size:
         sys.exit(f"whole_runs: {what}: the log has {os.path.getsize(LOG)} bytes")
 
@@ -347,7 +349,8 @@ def deep():
     rows = [[] if place < 2 else [place - 2] + [place - 1] * (place % 1_000 == 0) for place in range(200_000)]
     names = [numbered(place) for place in range(len(rows))]
     told = [[names[place], *(names[parent] for parent in row)] for place, row in enumerate(rows)]
-    grown(LOG, [(told[at : at + 50_000], names[at + 49_998 : at + 50_000]) for at in range(0, len(rows), 50_000)])
+    # Heads move one behind the other, so the ids are the places.
+    grown(LOG, [(told[at : at + 390], names[at : at + 390]) for at in range(0, len(rows), 390)])
 
     def reached(*places):
         found = set(places)
@@ -369,7 +372,10 @@ def deep():
     def listed(found):
         return "; ".join([*(names[place] for place in sorted(found, reverse=True)), f"ok {len(found)}"])
 
-    lines, replies = ["0 levels"], ["ok 200000"]
+    flat = plain_store.flat_segments(0, rows)
+    lines, replies = ["0 levels"], ["ok " + " ".join(map(str, plain_store.level_sizes(flat)))]
+    if len(flat) != len(rows):
+        sys.exit(f"whole_runs: {len(flat)} segments by the plain graph")
 
     def ask(text, found, size):
         if len(found) != size:

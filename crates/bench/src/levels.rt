@@ -191,7 +191,7 @@ fn time_question<T: SegmentTable>(
 }
 
 /// A question about pairs of commits within so many ids.
-fn asked(name: &str, question: Question, reach: u64) -> Asked<'_> {
+fn pairs_of(name: &str, question: Question, reach: u64) -> Asked<'_> {
     Asked {
         name,
         question,
@@ -212,7 +212,7 @@ fn time_pairs<T: SegmentTable>(
         table,
         ids,
         what,
-        asked("ancestors", Question::Ancestors, ids),
+        pairs_of("ancestors", Question::Ancestors, ids),
         count,
     )?;
     time_question(
@@ -220,7 +220,7 @@ fn time_pairs<T: SegmentTable>(
         table,
         ids,
         what,
-        asked("only, far", Question::Only, ids),
+        pairs_of("only, far", Question::Only, ids),
         count,
     )?;
     time_question(
@@ -228,7 +228,7 @@ fn time_pairs<T: SegmentTable>(
         table,
         ids,
         what,
-        asked("gca, far", Question::Gca, ids),
+        pairs_of("gca, far", Question::Gca, ids),
         count,
     )?;
     time_question(
@@ -236,7 +236,7 @@ fn time_pairs<T: SegmentTable>(
         table,
         ids,
         what,
-        asked("only, near", Question::Only, NEAR),
+        pairs_of("only, near", Question::Only, NEAR),
         count,
     )?;
     time_question(
@@ -244,7 +244,7 @@ fn time_pairs<T: SegmentTable>(
         table,
         ids,
         what,
-        asked("gca, near", Question::Gca, NEAR),
+        pairs_of("gca, near", Question::Gca, NEAR),
         count,
     )
 }
