@@ -21,8 +21,10 @@ def check(what, lines, replies, status=0, size=None, mirrors=()):
     text = "".join(spelled(line) + "\n" for line in lines)
     done = subprocess.run([PROGRAM, LOG, *mirrors, "--", "run"], input=text.encode(), stdout=subprocess.PIPE, timeout=1800)
     given = done.stdout.decode().splitlines()
-    if done.returncode != status or given != [spelled(reply) for reply in replies]:
-        sys.exit(f"whole_runs: {what}: status {done.returncode}, {given}")
+    wanted = [spelled(reply) for reply in replies]
+    if done.returncode != status or given != wanted:
+        at = next((at for at, (one, other) in enumerate(zip(given, wanted)) if one != other), min(len(given), len(wanted)))
+        sys.exit(f"whole_runs: {what}: status {done.returncode}, from reply {at} on {given[at : at + 9]} for {wanted[at : at + 9]}")
     if size is not None and os.path.getsize(LOG) != size:
         sys.exit(f"whole_runs: {what}: the log has {os.path.getsize(LOG)} bytes")
 
@@ -241,6 +243,35 @@ def pulls():
         os.remove(path)
 
 
+def worlds():
+    """Sixteen sessions on sixteen worlds of one log of a hundred flushes: each sees what it saw. Each flush has one commit on the one before;
+    each fourth is a head, which moves with the three before it. Behind each sixth one more session is put on the newest world."""
+    lines, replies = [], []
+
+    def ask(line, *told):
+        lines.append(line)
+        replies.extend(told)
+
+    def seen(count):
+        return [f"{number:040}" for number in reversed(range(count))] + [f"ok {count}"]
+
+    for number in range(100):
+        others = number % 4
+        ask(f"0 add {number:040}" + (f" {number - 1:040}" if number else ""), f"ok added N{others}")
+        if others == 3:
+            ask(f"0 flush {number:040}", f"ok flushed {number + 1} 0")
+        else:
+            ask("0 flush", f"ok flushed {number - others} {others + 1}")
+        session = number // 6 + 1
+        if number % 6 == 5 and session < 16:
+            ask(f"{session} reload", "ok reloaded 0")
+            ask(f"{session} query all", *seen(number + 1))
+    ask("0 query all", *seen(100))
+    for session in range(1, 16):
+        ask(f"{session} query all", *seen(session * 6))
+    fresh("sixteen sessions on sixteen worlds", "\n".join(lines), "\n".join(replies))
+
+
 def numbered(number):
     """The name of 16 bytes, of which the last is 1, and this number."""
     return f"{1:032x}{number:08x}"
@@ -273,6 +304,13 @@ def large():
     )
     check("the run after it, without a mirror", f"0 id {numbered(2_499)}; 0 id {numbered(500)}; 0 count all", "ok 2499; ok 500; ok 4000")
     os.remove(there)
+    os.remove(LOG)
+    grown(LOG, [(chain[:2_000], [numbered(1_999)])])
+    record = bytes([1, 0, *(1_999).to_bytes(8, "big"), 207, 15, 0])
+    named_chain = b"".join(bytes.fromhex(numbered(number)) for number in range(2_000))
+    ends("two thousand commits written anew", "compact", 0, b"ok compacted 2000 0 56071 56071\n")
+    ends("their bundle", "bundle", 0, b"SEGBNDL1" + (2_000).to_bytes(4, "big") + (1).to_bytes(4, "big") + record + named_chain)
+    os.remove(LOG + ".new")
     # Commits without parents, each of which is a head of master: as many as the log of a clone can name, and one more.
     apart = [numbered(number) for number in range(65_535)]
     # A line has room for four hundred names.
@@ -286,6 +324,95 @@ def large():
     check("a pull of it, which names no heads", "0 pull; 0 count heads(all)", "ok pulled 65536 0; ok 65536", mirrors=[there])
     for path in (LOG, there):
         os.remove(path)
+
+
+def leveled():
+    """How many segments commits without parents have on each level, which come so many at a time."""
+    for count, piece, sizes in [
+        (1, 1, [1]),
+        (16, 3, [16]),
+        (19, 19, [19, 3]),
+        # Each level has fifteen fewer than the one below, and one more is missing on the first.
+        (122, 1, [122, 106, 91, 76, 61, 46, 31, 16]),
+        # No ninth level comes.
+        (2_000, 350, [2000, 1984, 1969, 1954, 1939, 1924, 1909, 1894]),
+    ]:
+        roots = [numbered(number) for number in range(count)]
+        grown(LOG, [([[name] for name in roots[at : at + piece]], roots[at : at + piece]) for at in range(0, count, piece)])
+        check(f"levels of {count} roots", "0 levels", "ok " + " ".join(map(str, sizes)))
+        os.remove(LOG)
+
+
+def deep():
+    """Two hundred thousand segments, each of one commit: whatever called itself for each of them would run out of stack. The commits 0 and 1
+    have no parents, and each other the one two before; each thousandth has the one before too."""
+    rows = [[] if place < 2 else [place - 2] + [place - 1] * (place % 1_000 == 0) for place in range(200_000)]
+    names = [numbered(place) for place in range(len(rows))]
+    told = [[names[place], *(names[parent] for parent in row)] for place, row in enumerate(rows)]
+    # Heads move one behind the other, so the ids are the places.
+    grown(LOG, [(told[at : at + 390], names[at : at + 390]) for at in range(0, len(rows), 390)])
+
+    def reached(*places):
+        found = set(places)
+        for place in range(max(places), -1, -1):
+            if place in found:
+                found.update(rows[place])
+        return found
+
+    def heads(found):
+        return found - {parent for place in found for parent in rows[place]}
+
+    def between(low, high):
+        found = {low}
+        for place in range(low, high + 1):
+            if found.intersection(rows[place]):
+                found.add(place)
+        return found & reached(high)
+
+    def listed(found):
+        return "; ".join([*(names[place] for place in sorted(found, reverse=True)), f"ok {len(found)}"])
+
+    flat = plain_store.flat_segments(0, rows)
+    lines, replies = ["0 levels"], ["ok " + " ".join(map(str, plain_store.level_sizes(flat)))]
+    if len(flat) != len(rows):
+        sys.exit(f"whole_runs: {len(flat)} segments by the plain graph")
+
+    def ask(text, found, size):
+        if len(found) != size:
+            sys.exit(f"whole_runs: {text} has {len(found)} commits by the plain graph, and not {size}")
+        text = re.sub(r"\b\d+\b", lambda number: names[int(number[0])], text)
+        short = len(found) <= 10_000
+        lines.append(f"0 {'query' if short else 'count'} {text}")
+        replies.append(listed(found) if short else f"ok {size}")
+
+    # Each second one; and those below 9000, since 9000 merges 8999.
+    ask("ancestors(9999)", reached(9_999), 5_000)
+    ask("ancestors(9998)", reached(9_998), 9_500)
+    ask("ancestors(union(9998,9999))", reached(9_998, 9_999), 10_000)
+    ask("gca(union(9998,9999))", heads(reached(9_998) & reached(9_999)), 1)
+    ask("gca(union(9999,9001))", heads(reached(9_999) & reached(9_001)), 1)
+    ask("range(1,9999)", between(1, 9_999), 5_000)
+    ask("range(0,9999)", between(0, 9_999), 0)
+    # 4500 below 9000, and those from 1000 on.
+    ask("range(1,9998)", between(1, 9_998), 9_000)
+    ask("only(9999,9998)", reached(9_999) - reached(9_998), 500)
+    ask("only(9998,9999)", reached(9_998) - reached(9_999), 5_000)
+    ask("inter(0,ancestors(9998))", {0}, 1)
+    ask("inter(1,ancestors(9998))", {1}, 1)
+    ask("inter(0,ancestors(9999))", set(), 0)
+    # The odd one reaches all odd ones, the even one those below the last merge too.
+    ask("ancestors(199998)", reached(199_998), 199_500)
+    ask("gca(union(199998,199999))", heads(reached(199_998) & reached(199_999)), 1)
+    ask("range(1,199998)", between(1, 199_998), 199_000)
+    ask("only(199999,199998)", reached(199_999) - reached(199_998), 500)
+    ask("inter(0,ancestors(199999))", set(), 0)
+    for place, steps, found in [
+        (9_999, 4_999, {1}), (9_999, 5_000, set()), (9_998, 4_999, {0}), (9_998, 5_000, set()), (9_998, 3_210, {3_578}), (199_999, 99_999, {1}),
+    ]:
+        lines.append(f"0 query up({names[place]},{steps})")
+        replies.append(listed(found))
+    check("two hundred thousand segments", "\n".join(lines), "\n".join(replies))
+    os.remove(LOG)
 
 
 def ends(what, word, status, out, mirrors=()):
@@ -417,6 +544,8 @@ def demonstrate(size, start, wanted):
 
 
 os.remove(LOG)
+worlds()
+os.remove(LOG)
 clones()
 if knows_pull():
     pulls()
@@ -427,6 +556,8 @@ if knows_bundles():
     bundles()
 else:
     print("whole_runs: the program doesn't know bundles, so they and logs written again are left out")
+leveled()
+deep()
 large()
 for size, start in [(1, 0), (2, 0), (3, 0), (3, 5), (3, 10), (64, 3), (999, 10), (1000, 0), (1001, (1 << 64) - 1)]:
     demonstrate(size, start, plainly(drawn(size, start), by_lines=True))

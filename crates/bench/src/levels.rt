@@ -44,8 +44,8 @@ const SHAPES: [(&str, Shape); 4] = [
 pub fn run(rt: &HostRuntime, size: u64) -> io::Result<()>
     requires { size ≤ 16000000 }
 {
-    for (name, shape) in SHAPES {
-        time_graph(rt, name, shape, segments_of(size))?;
+    for (name, shape) in &SHAPES {
+        time_graph(rt, name, *shape, segments_of(size))?;
     }
     Ok(())
 }
@@ -167,18 +167,36 @@ fn time_asked<T: SegmentTable>(
     time_children(rt, table, ids, what, commits)
 }
 
-/// Times a question about so many pairs of commits, which are near within so many ids.
+/// What is asked of pairs of commits, which are near within so many ids, and how that is called.
+#[derive(Clone, Copy)]
+struct Asked<'a> {
+    name: &'a str,
+    question: Question,
+    reach: u64,
+}
+
+/// Times a question about so many pairs of commits.
 fn time_question<T: SegmentTable>(
     rt: &HostRuntime,
     table: &T,
     ids: u64,
-    question: Question,
-    reach: u64,
+    what: &str,
+    asked: Asked<'_>,
     count: u64,
 ) -> io::Result<()> {
+    headed_times(rt, asked.name, what, count)?;
     let start = Instant::now(rt)?;
-    let sum = ask_pairs(rt.alloc(), table, question, ids, reach, count)?;
+    let sum = ask_pairs(rt.alloc(), table, asked.question, ids, asked.reach, count)?;
     told(rt, "together", start, sum)
+}
+
+/// A question about pairs of commits within so many ids.
+fn pairs_of(name: &str, question: Question, reach: u64) -> Asked<'_> {
+    Asked {
+        name,
+        question,
+        reach,
+    }
 }
 
 /// Times questions about so many pairs of commits, far and near.
@@ -189,17 +207,62 @@ fn time_pairs<T: SegmentTable>(
     what: &str,
     count: u64,
 ) -> io::Result<()> {
-    for (name, question, reach) in [
-        ("ancestors", Question::Ancestors, ids),
-        ("only, far", Question::Only, ids),
-        ("gca, far", Question::Gca, ids),
-        ("only, near", Question::Only, NEAR),
-        ("gca, near", Question::Gca, NEAR),
-    ] {
-        headed_times(rt, name, what, count)?;
-        time_question(rt, table, ids, question, reach, count)?;
-    }
-    Ok(())
+    time_question(
+        rt,
+        table,
+        ids,
+        what,
+        pairs_of("ancestors", Question::Ancestors, ids),
+        count,
+    )?;
+    time_question(
+        rt,
+        table,
+        ids,
+        what,
+        pairs_of("only, far", Question::Only, ids),
+        count,
+    )?;
+    time_question(
+        rt,
+        table,
+        ids,
+        what,
+        pairs_of("gca, far", Question::Gca, ids),
+        count,
+    )?;
+    time_question(
+        rt,
+        table,
+        ids,
+        what,
+        pairs_of("only, near", Question::Only, NEAR),
+        count,
+    )?;
+    time_question(
+        rt,
+        table,
+        ids,
+        what,
+        pairs_of("gca, near", Question::Gca, NEAR),
+        count,
+    )
+}
+
+/// Times the children of so many commits within so many of the newest ids.
+fn time_children_within<T: SegmentTable>(
+    rt: &HostRuntime,
+    table: &T,
+    ids: u64,
+    what: &str,
+    name: &str,
+    reach: u64,
+    count: u64,
+) -> io::Result<()> {
+    headed_times(rt, name, what, count)?;
+    let start = Instant::now(rt)?;
+    let sum = ask_children(rt.alloc(), table, ids, reach, count)?;
+    told(rt, "together", start, sum)
 }
 
 /// Times the children of so many commits, all over the graph and in its newest hundredth.
@@ -210,16 +273,9 @@ fn time_children<T: SegmentTable>(
     what: &str,
     count: u64,
 ) -> io::Result<()> {
-    for (name, reach) in [
-        ("children, anywhere", ids),
-        ("children, among the newest hundredth", ids / 100),
-    ] {
-        headed_times(rt, name, what, count)?;
-        let start = Instant::now(rt)?;
-        let sum = ask_children(rt.alloc(), table, ids, reach, count)?;
-        told(rt, "together", start, sum)?;
-    }
-    Ok(())
+    time_children_within(rt, table, ids, what, "children, anywhere", ids, count)?;
+    let newest = "children, among the newest hundredth";
+    time_children_within(rt, table, ids, what, newest, ids / 100, count)
 }
 
 /// The sample of a copy of the records, of which none was added yet.
@@ -230,16 +286,28 @@ fn start_growing(alloc: Global, records: &[u8]) -> Result<Growing, AllocError> {
     })
 }
 
+/// Times so many batches of so many records.
+fn time_some(
+    rt: &HostRuntime,
+    growing: Growing,
+    records: &[u8],
+    batch: u64,
+    times: u64,
+) -> io::Result<Growing> {
+    headed_times(rt, "batches", "of so many", batch)?;
+    timed(rt, growing, records, batch, times)
+}
+
 /// Times levels that grow by batches of so many records: the first hundred batches, all but the last hundred, and the last.
 /// Where there are few batches they are thirds.
 fn time_batches(rt: &HostRuntime, records: &[u8], segments: u64, batch: u64) -> io::Result<()> {
-    let mut growing = start_growing(rt.alloc(), records)?;
     let all = segments / batch.max(1);
     let few = (all / 3).min(100);
-    for times in [few, all.saturating_sub(few).saturating_sub(few), few] {
-        headed_times(rt, "batches", "of so many", batch)?;
-        growing = timed(rt, growing, records, batch, times)?;
-    }
+    let growing = start_growing(rt.alloc(), records)?;
+    let growing = time_some(rt, growing, records, batch, few)?;
+    let most = all.saturating_sub(few).saturating_sub(few);
+    let growing = time_some(rt, growing, records, batch, most)?;
+    let _last = time_some(rt, growing, records, batch, few)?;
     Ok(())
 }
 

@@ -11,9 +11,7 @@ mod levels;
 mod map;
 mod names;
 mod placing;
-mod plans;
 mod random;
-mod remote;
 mod spans;
 mod telling;
 mod walks;
@@ -30,21 +28,17 @@ enum Bench {
     Map,
     Names,
     Placing,
-    Plans,
-    Remote,
     Spans,
     Walks,
 }
 
 /// The word for each benchmark.
-const WORDS: [(&str, Bench); 9] = [
+const WORDS: [(&str, Bench); 7] = [
     ("flat", Bench::Flat),
     ("levels", Bench::Levels),
     ("map", Bench::Map),
     ("names", Bench::Names),
     ("placing", Bench::Placing),
-    ("plans", Bench::Plans),
-    ("remote", Bench::Remote),
     ("spans", Bench::Spans),
     ("walks", Bench::Walks),
 ];
@@ -78,8 +72,6 @@ fn run(rt: &HostRuntime, bench: Bench, size: u64) -> io::Result<()>
         Bench::Map => map::run(rt),
         Bench::Names => names::run(rt),
         Bench::Placing => placing::run(rt),
-        Bench::Plans => plans::run(rt, size),
-        Bench::Remote => remote::run(rt, size),
         Bench::Spans => spans::run(rt),
         Bench::Walks => walks::run(rt, size),
     }
@@ -90,9 +82,9 @@ fn run_named(rt: &HostRuntime, word: Option<&str>, size: u64) -> io::Result<bool
     requires { size ≤ 16000000 }
 {
     let mut is_known = false;
-    for (name, bench) in WORDS {
-        if word.is_none() || word == Some(name) {
-            run(rt, bench, size)?;
+    for (name, bench) in &WORDS {
+        if word.is_none() || word == Some(*name) {
+            run(rt, *bench, size)?;
             is_known = true;
         }
     }
@@ -112,7 +104,7 @@ fn main(rt: HostRuntime) -> ExitCode {
         Ok(true) => ExitCode::SUCCESS,
         Ok(false) => {
             let _told = eprintln!(rt;
-                "usage: bench [flat|levels|map|names|placing|plans|remote|spans|walks [--size N]]"
+                "usage: bench [flat|levels|map|names|placing|spans|walks [--size N]]"
             );
             ExitCode::from(2)
         }

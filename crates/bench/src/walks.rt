@@ -62,45 +62,49 @@ fn time_all<T: SegmentTable>(rt: &HostRuntime, table: &Queries<'_, T>) -> io::Re
 }
 
 fn time_look_ups<T: SegmentTable>(rt: &HostRuntime, table: &Queries<'_, T>) -> io::Result<()> {
-    for (what, query) in [
-        ("flat_at, all segments", Query::SegmentsFrom(0)),
-        ("flat_at, all parents of segments", Query::ParentsFrom(0)),
-        ("flat, a random id for each commit", Query::RandomIds),
-    ] {
-        time(rt, table, what, query)?;
-    }
-    Ok(())
+    time(rt, table, "flat_at, all segments", Query::SegmentsFrom(0))?;
+    time(
+        rt,
+        table,
+        "flat_at, all parents of segments",
+        Query::ParentsFrom(0),
+    )?;
+    time(
+        rt,
+        table,
+        "flat, a random id for each commit",
+        Query::RandomIds,
+    )
 }
 
 fn time_ancestors<T: SegmentTable>(rt: &HostRuntime, table: &Queries<'_, T>) -> io::Result<()> {
     let tenth = table.count() / 10;
-    for (what, query) in [
-        ("ancestors of the head", Query::Ancestors),
-        (
-            "first_ancestor of the head, a tenth down",
-            Query::FirstAncestor(tenth),
-        ),
-        ("is_ancestor, 100 random pairs", Query::IsAncestor(100)),
-        (
-            "inter(X,ancestors(Y)), 100 random pairs",
-            Query::InterAncestors(100),
-        ),
-    ] {
-        time(rt, table, what, query)?;
-    }
-    Ok(())
+    time(rt, table, "ancestors of the head", Query::Ancestors)?;
+    time(
+        rt,
+        table,
+        "first_ancestor of the head, a tenth down",
+        Query::FirstAncestor(tenth),
+    )?;
+    time(
+        rt,
+        table,
+        "is_ancestor, 100 random pairs",
+        Query::IsAncestor(100),
+    )?;
+    time(
+        rt,
+        table,
+        "inter(X,ancestors(Y)), 100 random pairs",
+        Query::InterAncestors(100),
+    )
 }
 
 fn time_all_at_once<T: SegmentTable>(rt: &HostRuntime, table: &Queries<'_, T>) -> io::Result<()> {
-    for (what, of) in [
-        ("parents(all)", OfAll::Parents),
-        ("heads(all)", OfAll::Heads),
-        ("roots(all)", OfAll::Roots),
-        ("merges(all)", OfAll::Merges),
-    ] {
-        time(rt, table, what, Query::OfAll(of))?;
-    }
-    Ok(())
+    time(rt, table, "parents(all)", Query::OfAll(OfAll::Parents))?;
+    time(rt, table, "heads(all)", Query::OfAll(OfAll::Heads))?;
+    time(rt, table, "roots(all)", Query::OfAll(OfAll::Roots))?;
+    time(rt, table, "merges(all)", Query::OfAll(OfAll::Merges))
 }
 
 fn time_upward<T: SegmentTable>(
@@ -110,16 +114,21 @@ fn time_upward<T: SegmentTable>(
     place: u64,
 ) -> io::Result<()> {
     headed(rt, whose)?;
-    for (what, query) in [
-        ("flat_at, the segments above", Query::SegmentsFrom(place)),
-        ("flat_at, the parents of these", Query::ParentsFrom(place)),
-        ("children", Query::Children(place)),
-        ("descendants", Query::Descendants(place)),
-        ("range to the head", Query::RangeToHead(place)),
-    ] {
-        time(rt, table, what, query)?;
-    }
-    Ok(())
+    time(
+        rt,
+        table,
+        "flat_at, the segments above",
+        Query::SegmentsFrom(place),
+    )?;
+    time(
+        rt,
+        table,
+        "flat_at, the parents of these",
+        Query::ParentsFrom(place),
+    )?;
+    time(rt, table, "children", Query::Children(place))?;
+    time(rt, table, "descendants", Query::Descendants(place))?;
+    time(rt, table, "range to the head", Query::RangeToHead(place))
 }
 
 fn time_pairs<T: SegmentTable>(
@@ -130,14 +139,9 @@ fn time_pairs<T: SegmentTable>(
     times: u64,
 ) -> io::Result<()> {
     headed(rt, which)?;
-    for (what, query) in [
-        ("sets alone", Query::Sets(apart, times)),
-        ("only", Query::Only(apart, times)),
-        ("gca", Query::Gca(apart, times)),
-    ] {
-        time(rt, table, what, query)?;
-    }
-    Ok(())
+    time(rt, table, "sets alone", Query::Sets(apart, times))?;
+    time(rt, table, "only", Query::Only(apart, times))?;
+    time(rt, table, "gca", Query::Gca(apart, times))
 }
 
 fn time_ten<T: SegmentTable>(rt: &HostRuntime, table: &Queries<'_, T>) -> io::Result<()> {

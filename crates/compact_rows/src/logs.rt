@@ -1,7 +1,7 @@
 //! The bytes of logs, and of what is written of each.
 
 /// Two flushes: of two commits into master with one outside, and of one more.
-pub(crate) const FLUSHES: [u8; 269] = [
+const FLUSHES: [u8; 269] = [
     1, 0, 0, 0, 0, 0, 0, 0, 149, 2, 1, 0, 0, 0, 0, 0, 0, 0, 0, 0, 0, 0, 0, 0, 0, 0, 2, 0, 0, 0, 0,
     0, 0, 0, 0, 0, 0, 0, 1, 1, 0, 0, 0, 0, 0, 0, 0, 0, 1, 1, 0, 0, 0, 0, 0, 0, 0, 0, 2, 0, 0, 0, 0,
     0, 0, 0, 0, 0, 0, 0, 0, 0, 0, 0, 0, 0, 0, 0, 0, 0, 0, 0, 0, 0, 0, 0, 161, 0, 0, 0, 0, 0, 0, 0,
@@ -14,7 +14,7 @@ pub(crate) const FLUSHES: [u8; 269] = [
 ];
 
 /// The same in one batch.
-pub(crate) const FLUSHES_WHOLE: [u8; 179] = [
+const FLUSHES_WHOLE: [u8; 179] = [
     1, 0, 0, 0, 0, 0, 0, 0, 169, 2, 3, 0, 0, 0, 0, 0, 0, 0, 0, 0, 0, 0, 0, 0, 0, 0, 2, 0, 0, 0, 0,
     0, 0, 0, 0, 0, 0, 0, 1, 1, 0, 0, 0, 0, 0, 0, 0, 0, 1, 1, 0, 0, 0, 0, 0, 0, 0, 0, 2, 0, 0, 0, 0,
     0, 0, 0, 0, 0, 0, 0, 0, 0, 0, 0, 0, 0, 0, 0, 0, 0, 0, 0, 0, 0, 0, 0, 161, 0, 0, 0, 0, 0, 0, 0,
@@ -44,7 +44,7 @@ pub(crate) const CLONED_WHOLE: [u8; 146] = [
 ];
 
 /// A flush of two commits outside of master, in the first version.
-pub(crate) const FIRST: [u8; 98] = [
+const FIRST: [u8; 98] = [
     1, 0, 0, 0, 0, 0, 0, 0, 88, 1, 1, 0, 0, 0, 0, 0, 0, 0, 0, 0, 0, 0, 0, 0, 0, 0, 0, 0, 0, 0, 0,
     0, 0, 0, 0, 0, 0, 0, 0, 0, 2, 0, 0, 0, 1, 1, 0, 1, 0, 0, 0, 0, 0, 0, 1, 1, 0, 0, 0, 0, 0, 0, 0,
     0, 0, 0, 0, 0, 0, 0, 0, 0, 0, 0, 0, 0, 161, 0, 0, 0, 0, 0, 0, 0, 0, 0, 0, 0, 0, 0, 0, 0, 0, 0,
@@ -52,9 +52,43 @@ pub(crate) const FIRST: [u8; 98] = [
 ];
 
 /// The same in one batch, which is longer.
-pub(crate) const FIRST_WHOLE: [u8; 110] = [
+const FIRST_WHOLE: [u8; 110] = [
     1, 0, 0, 0, 0, 0, 0, 0, 100, 2, 3, 0, 0, 0, 0, 0, 0, 0, 0, 0, 0, 0, 0, 0, 0, 0, 0, 0, 0, 0, 0,
     0, 0, 0, 0, 0, 0, 0, 0, 0, 0, 0, 0, 0, 0, 0, 0, 0, 0, 0, 0, 0, 2, 0, 0, 0, 1, 1, 0, 1, 0, 0, 0,
     0, 0, 0, 1, 1, 0, 0, 0, 0, 0, 0, 0, 0, 0, 0, 0, 0, 0, 0, 0, 0, 0, 0, 0, 0, 161, 0, 0, 0, 0, 0,
     0, 0, 0, 0, 0, 0, 0, 0, 0, 0, 0, 0, 0, 0, 177, 0,
 ];
+
+/// A log, or what is written of it.
+#[derive(Clone, Copy)]
+pub(crate) enum Of {
+    Nothing,
+    /// A closed gate.
+    Closed,
+    /// The same, and a byte behind it.
+    ClosedMore,
+    /// An open gate with nothing behind it.
+    Open,
+    Flushes,
+    FlushesWhole,
+    Cloned,
+    ClonedWhole,
+    First,
+    FirstWhole,
+}
+
+/// Its bytes.
+pub(crate) fn bytes_of(of: Of) -> &'static [u8] {
+    match of {
+        Of::Nothing => &[],
+        Of::Closed => &[0],
+        Of::ClosedMore => &[0, 7],
+        Of::Open => &[1, 0],
+        Of::Flushes => &FLUSHES,
+        Of::FlushesWhole => &FLUSHES_WHOLE,
+        Of::Cloned => &CLONED,
+        Of::ClonedWhole => &CLONED_WHOLE,
+        Of::First => &FIRST,
+        Of::FirstWhole => &FIRST_WHOLE,
+    }
+}

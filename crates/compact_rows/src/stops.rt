@@ -36,10 +36,13 @@ fn leaves_right(alloc: Global, to: &MemoryDisk, fill: Fill) -> Result<bool, Allo
     Ok(has_whole && (answer == WRITTEN || answer == Compacted::NotFresh))
 }
 
+/// What a crash may leave of the bytes that aren't sure.
+const FILLS: [Fill; 4] = [Fill::Old, Fill::New, Fill::Byte(0), Fill::Byte(127)];
+
 /// The same with each fill.
 fn leaves_right_always(alloc: Global, to: &MemoryDisk) -> Result<bool, AllocError> {
-    for fill in [Fill::Old, Fill::New, Fill::Byte(0), Fill::Byte(127)] {
-        if !leaves_right(alloc, to, fill)? {
+    for fill in &FILLS {
+        if !leaves_right(alloc, to, *fill)? {
             return Ok(false);
         }
     }

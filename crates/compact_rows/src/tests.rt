@@ -1,125 +1,159 @@
-ghost use Rattle.std.specs.Prelude.{◌≤◌, ◌^◌};
+//! What is answered, and left on the second disk, of two disks with these bytes.
 
-use crate::logs::{CLONED, CLONED_WHOLE, FIRST, FIRST_WHOLE, FLUSHES, FLUSHES_WHOLE};
+use crate::logs::{Of, bytes_of};
 use crate::stops::{blames_first, fails_right, stops_right};
 use disk_memory::MemoryDisk;
 use log_compact::{Compacted, Shrunk, compact};
 use std::alloc::{AllocError, Global};
 use std::test::Fail;
 
-// What is answered where it is written: sizes and lengths.
-fn done(master: u64, others: u64, length_from: u64, length_to: u64) -> Compacted {
-    Compacted::Done(Shrunk {
-        master,
-        others,
-        length_from,
-        length_to,
-    })
+/// The bytes of the first disk and of the second, a limit, the answer, and what is on the second then.
+type Row = (Of, Of, u64, Compacted, Of);
+
+const ROWS: [Row; 11] = [
+    // a log in one batch
+    (
+        Of::Flushes,
+        Of::Nothing,
+        1000,
+        Compacted::Done(Shrunk {
+            master: 2,
+            others: 2,
+            length_from: 269,
+            length_to: 179,
+        }),
+        Of::FlushesWhole,
+    ),
+    (
+        Of::Cloned,
+        Of::Closed,
+        1000,
+        Compacted::Done(Shrunk {
+            master: 11,
+            others: 0,
+            length_from: 216,
+            length_to: 146,
+        }),
+        Of::ClonedWhole,
+    ),
+    (
+        Of::ClonedWhole,
+        Of::Closed,
+        1000,
+        Compacted::Done(Shrunk {
+            master: 11,
+            others: 0,
+            length_from: 146,
+            length_to: 146,
+        }),
+        Of::ClonedWhole,
+    ),
+    // an empty log writes no batch
+    (
+        Of::Nothing,
+        Of::Nothing,
+        1000,
+        Compacted::Done(Shrunk {
+            master: 0,
+            others: 0,
+            length_from: 1,
+            length_to: 1,
+        }),
+        Of::Closed,
+    ),
+    (
+        Of::ClosedMore,
+        Of::ClosedMore,
+        1000,
+        Compacted::Done(Shrunk {
+            master: 0,
+            others: 0,
+            length_from: 1,
+            length_to: 1,
+        }),
+        Of::ClosedMore,
+    ),
+    // only a log without batches is written
+    (
+        Of::Flushes,
+        Of::ClonedWhole,
+        1000,
+        Compacted::NotFresh,
+        Of::ClonedWhole,
+    ),
+    (Of::Flushes, Of::Open, 1000, Compacted::NotFresh, Of::Open),
+    (Of::Open, Of::Nothing, 1000, Compacted::FromBad, Of::Nothing),
+    // a log of the first version grows
+    (
+        Of::First,
+        Of::Nothing,
+        109,
+        Compacted::Full(109),
+        Of::Closed,
+    ),
+    (
+        Of::First,
+        Of::Nothing,
+        110,
+        Compacted::Done(Shrunk {
+            master: 0,
+            others: 2,
+            length_from: 98,
+            length_to: 110,
+        }),
+        Of::FirstWhole,
+    ),
+    (Of::First, Of::Nothing, 97, Compacted::FromBad, Of::Nothing),
+];
+
+/// Whether the disks are answered so.
+fn is_answered(alloc: Global, row: &Row) -> Result<bool, AllocError> {
+    let (from, to, limit, answer, left) = *row;
+    let mut from = MemoryDisk::new(alloc, bytes_of(from), &[], None)?;
+    let mut to = MemoryDisk::new(alloc, bytes_of(to), &[], None)?;
+    let given = compact(alloc, &mut from, &mut to, limit.clamp(1, 1000));
+    Ok(given == answer && to.bytes() == bytes_of(left))
 }
 
-// Whether the bytes of two disks, with a limit, are answered so.
-fn is_answered(
-    alloc: Global,
-    from: &[u8],
-    to: &[u8],
-    limit: u64,
-    answer: Compacted,
-    left: &[u8],
-) -> Result<bool, AllocError>
-    requires { (1 ≤ limit) × (limit ≤ 2 ^ 32) }
-{
-    let mut from = MemoryDisk::new(alloc, from, &[], None)?;
-    let mut to = MemoryDisk::new(alloc, to, &[], None)?;
-    let given = compact(alloc, &mut from, &mut to, limit);
-    Ok(given == answer && to.bytes() == left)
+/// The place of the first row that isn't.
+fn first_wrong(alloc: Global) -> Result<Option<usize>, AllocError> {
+    for (place, row) in ROWS.iter().enumerate() {
+        if !is_answered(alloc, row)? {
+            return Ok(Some(place));
+        }
+    }
+    Ok(None)
 }
 
 #[test]
-fn a_log_is_written_in_one_batch(rt: HostRuntime) -> Result<(), Fail> {
-    let alloc = rt.alloc();
-    assert!(rt;
-        is_answered(
-            alloc,
-            &FLUSHES,
-            &[],
-            1000,
-            done(2, 2, 269, 179),
-            &FLUSHES_WHOLE
-        )?
-    );
-    assert!(rt;
-        is_answered(
-            alloc,
-            &CLONED,
-            &[0],
-            1000,
-            done(11, 0, 216, 146),
-            &CLONED_WHOLE
-        )?
-    );
-    assert!(rt;
-        is_answered(
-            alloc,
-            &CLONED_WHOLE,
-            &[0],
-            1000,
-            done(11, 0, 146, 146),
-            &CLONED_WHOLE
-        )?
-    );
+fn logs_are_written_anew_or_not(rt: HostRuntime) -> Result<(), Fail> {
+    assert_eq!(rt; first_wrong(rt.alloc())?, None);
     Ok(())
 }
 
-#[test]
-fn an_empty_log_writes_no_batch(rt: HostRuntime) -> Result<(), Fail> {
-    let alloc = rt.alloc();
-    assert!(rt; is_answered(alloc, &[], &[], 1000, done(0, 0, 1, 1), &[0])?);
-    assert!(rt; is_answered(alloc, &[0, 7], &[0, 7], 1000, done(0, 0, 1, 1), &[0, 7])?);
-    Ok(())
-}
-
-#[test]
-fn only_a_log_without_batches_is_written(rt: HostRuntime) -> Result<(), Fail> {
-    let alloc = rt.alloc();
-    assert!(rt;
-        is_answered(
-            alloc,
-            &FLUSHES,
-            &CLONED_WHOLE,
-            1000,
-            Compacted::NotFresh,
-            &CLONED_WHOLE
-        )?
-    );
-    assert!(rt; is_answered(alloc, &FLUSHES, &[1, 0], 1000, Compacted::NotFresh, &[1, 0])?);
-    assert!(rt; is_answered(alloc, &[1, 0], &[], 1000, Compacted::FromBad, &[])?);
-    Ok(())
-}
-
-#[test]
-fn a_log_of_the_first_version_grows(rt: HostRuntime) -> Result<(), Fail> {
-    let alloc = rt.alloc();
-    assert!(rt; is_answered(alloc, &FIRST, &[], 109, Compacted::Full(109), &[0])?);
-    assert!(rt; is_answered(alloc, &FIRST, &[], 110, done(0, 2, 98, 110), &FIRST_WHOLE)?);
-    assert!(rt; is_answered(alloc, &FIRST, &[], 97, Compacted::FromBad, &[])?);
-    Ok(())
-}
-
-#[test]
-fn a_stop_leaves_no_batch_or_the_whole(rt: HostRuntime) -> Result<(), Fail> {
+/// Whether a stop behind each call of the second disk leaves no batch or the whole.
+fn all_stop_right(alloc: Global) -> Result<bool, AllocError> {
     for calls in 0..9 {
-        assert!(rt; stops_right(rt.alloc(), calls)?);
+        if !stops_right(alloc, calls)? {
+            return Ok(false);
+        }
     }
-    Ok(())
+    Ok(true)
+}
+
+/// Whether it is so where one call fails, and a call of the first disk that fails is told.
+fn all_fail_right(alloc: Global) -> Result<bool, AllocError> {
+    for call in 1..10 {
+        if !fails_right(alloc, call)? || (call < 5 && !blames_first(alloc, call)?) {
+            return Ok(false);
+        }
+    }
+    Ok(true)
 }
 
 #[test]
-fn a_call_that_fails_is_told(rt: HostRuntime) -> Result<(), Fail> {
-    for call in 1..10 {
-        assert!(rt; fails_right(rt.alloc(), call)?);
-    }
-    for call in 1..5 {
-        assert!(rt; blames_first(rt.alloc(), call)?);
-    }
+fn a_stop_or_a_fault_leaves_no_batch_or_the_whole(rt: HostRuntime) -> Result<(), Fail> {
+    assert!(rt; all_stop_right(rt.alloc())?);
+    assert!(rt; all_fail_right(rt.alloc())?);
     Ok(())
 }

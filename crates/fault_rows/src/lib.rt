@@ -1,15 +1,13 @@
 #![tactic(auto)]
 
-//! Tests of whole runs over disks that fail, stop and crash at each call, over files that are no log, and of many sessions over one
-//! log, as tables.
+//! What runs of command lines don't show (run_rows): the program's words and modes, over disks and sinks that fail, and look-ups, which no
+//! reply tells.
 
 #[cfg(test)]
-mod answers;
+mod bundled;
 #[cfg(test)]
-mod bases;
+mod compacted;
 #[cfg(test)]
-mod files;
+mod look_ups;
 #[cfg(test)]
-mod stops;
-#[cfg(test)]
-mod versions;
+mod modes;

@@ -83,19 +83,22 @@ fn has_lines(
     Ok(lines.as_slice() == want)
 }
 
-/// Inputs, limits, and the lines with the end.
-const LIMITED: [(&[u8], u64, &[u8]); 10] = [
-    (b"", 0, b"."),
-    (b"a\r\n\nb\r\r\nc\n", 99, b"a||b\r|c|."),
-    (b"a\nb", 99, b"a|b|."),
-    (b"a\nb\r", 99, b"a|b\r|."),
-    (b"a\nbc", 4, b"a|bc|."),
-    (b"a\nbc", 3, b"a|>"),
-    (b"a\nb\n", 3, b"a|>"),
-    (b"a\nb\n", 4, b"a|b|."),
-    (b"a\nb\nc", 4, b"a|b|>"),
-    (b"abcdef", 3, b">"),
+/// Inputs and the lines with the end, an equals sign between, and limits.
+const LIMITED: [(&str, u64); 10] = [
+    ("=.", 0),
+    ("a\r\n\nb\r\r\nc\n=a||b\r|c|.", 99),
+    ("a\nb=a|b|.", 99),
+    ("a\nb\r=a|b\r|.", 99),
+    ("a\nbc=a|bc|.", 4),
+    ("a\nbc=a|>", 3),
+    ("a\nb\n=a|>", 3),
+    ("a\nb\n=a|b|.", 4),
+    ("a\nb\nc=a|b|>", 4),
+    ("abcdef=>", 3),
 ];
+
+/// How many bytes a call gives.
+const CUTS: [u32; 3] = [1, 2, 99];
 
 /// Whether the input has these lines, however few bytes a call gives.
 fn has_lines_by_any(
@@ -104,8 +107,27 @@ fn has_lines_by_any(
     limit: u64,
     want: &[u8],
 ) -> Result<bool, AllocError> {
-    for cut in [1, 2, 99] {
-        if !has_lines(alloc, input, limit, cut, &[], want)? {
+    for cut in &CUTS {
+        if *cut == 0 || !has_lines(alloc, input, limit, *cut, &[], want)? {
+            return Ok(false);
+        }
+    }
+    Ok(true)
+}
+
+/// Whether a row's input has its lines.
+fn is_limited(alloc: Global, row: &(&str, u64)) -> Result<bool, AllocError> {
+    let (text, limit) = *row;
+    match text.split_once('=') {
+        Some((input, want)) => has_lines_by_any(alloc, input.as_bytes(), limit, want.as_bytes()),
+        None => Ok(false),
+    }
+}
+
+/// Whether each row's does.
+fn are_limited(alloc: Global) -> Result<bool, AllocError> {
+    for row in &LIMITED {
+        if !is_limited(alloc, row)? {
             return Ok(false);
         }
     }
@@ -114,22 +136,39 @@ fn has_lines_by_any(
 
 #[test]
 fn lines_within_the_limit(rt: HostRuntime) -> Result<(), Fail> {
-    for (input, limit, want) in &LIMITED {
-        assert!(rt; has_lines_by_any(rt.alloc(), input, *limit, want)?);
-    }
+    assert!(rt; are_limited(rt.alloc())?);
     Ok(())
 }
 
+/// How a line ends.
+#[derive(Clone, Copy)]
+enum End {
+    None,
+    Feed,
+    Both,
+    Return,
+}
+
+/// The bytes of the end.
+fn end_of(end: End) -> &'static [u8] {
+    match end {
+        End::None => b"",
+        End::Feed => b"\n",
+        End::Both => b"\r\n",
+        End::Return => b"\r",
+    }
+}
+
 /// Lines of so many bytes with an end behind them, and whether they are texts.
-const LONG: [(usize, &[u8], bool); 8] = [
-    (16_384, b"", true),
-    (16_384, b"\n", true),
-    (16_384, b"\r\n", true),
-    (16_384, b"\r", false),
-    (16_385, b"", false),
-    (16_385, b"\n", false),
-    (16_385, b"\r\n", false),
-    (70_000, b"\n", false),
+const LONG: [(usize, End, bool); 8] = [
+    (16_384, End::None, true),
+    (16_384, End::Feed, true),
+    (16_384, End::Both, true),
+    (16_384, End::Return, false),
+    (16_385, End::None, false),
+    (16_385, End::Feed, false),
+    (16_385, End::Both, false),
+    (70_000, End::Feed, false),
 ];
 
 /// Whether an input of so many bytes with this end is one text, or else one line that is too long.
@@ -155,8 +194,13 @@ fn is_long_by_any(
     end: &[u8],
     is_text: bool,
 ) -> Result<bool, AllocError> {
-    for cut in [1, 99_999] {
-        if !is_long(alloc, count, end, cut, is_text)? {
+    Ok(is_long(alloc, count, end, 1, is_text)? && is_long(alloc, count, end, 99_999, is_text)?)
+}
+
+/// Whether each line is a text, or too long, as its row says.
+fn are_long(alloc: Global) -> Result<bool, AllocError> {
+    for (count, end, is_text) in &LONG {
+        if !is_long_by_any(alloc, *count, end_of(*end), *is_text)? {
             return Ok(false);
         }
     }
@@ -165,9 +209,7 @@ fn is_long_by_any(
 
 #[test]
 fn a_line_has_at_most_16384_bytes(rt: HostRuntime) -> Result<(), Fail> {
-    for (count, end, is_text) in &LONG {
-        assert!(rt; is_long_by_any(rt.alloc(), *count, end, *is_text)?);
-    }
+    assert!(rt; are_long(rt.alloc())?);
     Ok(())
 }
 
@@ -180,8 +222,8 @@ const FAILING: [(u32, &[u64], &[u8]); 3] = [
 
 #[test]
 fn a_source_fails_at_the_calls_that_are_named(rt: HostRuntime) -> Result<(), Fail> {
-    for (cut, fails, want) in FAILING {
-        assert!(rt; cut > 0 && has_lines(rt.alloc(), b"a\nb\ncd", 99, cut, fails, want)?);
+    for (cut, fails, want) in &FAILING {
+        assert!(rt; *cut > 0 && has_lines(rt.alloc(), b"a\nb\ncd", 99, *cut, fails, want)?);
     }
     Ok(())
 }

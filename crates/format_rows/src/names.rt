@@ -2,7 +2,6 @@
 
 ghost use Rattle.std.specs.Prelude.{◌<◌, ◌^◌};
 
-use crate::payloads::MERGE;
 use batch_codec::BatchRef;
 use id_groups::{Id, NameRef};
 use name_map::{MapBuild, MapFault, NameMap};
@@ -207,48 +206,20 @@ fn names_are_found_both_ways(rt: HostRuntime) -> Result<(), Fail> {
     Ok(())
 }
 
-/// Whether the map has the names of a clone's ids 1 to 3 and of the id 4 behind it, and none of the id 0.
-fn has_clone(map: &NameMap, log: &[u8]) -> bool {
-    map.name(log, Id::master(0)).is_none()
-        && has(map, log, 1, 0xb1, 0)
-        && has(map, log, 2, 0xc1, 1)
-        && has(map, log, 3, 0xd1, 2)
-        && has(map, log, 4, 5, 3)
-}
-
-/// Adds a clone and a flush of one id behind it. Whether the names are distinct.
-fn add_clone(alloc: Global, map: &mut NameMap, log: &mut Vec<u8>) -> Result<bool, AllocError> {
-    if !add_payload(map, log, &MERGE)? {
-        return Ok(false);
-    }
-    add_flush(alloc, map, log, &[name_of(5)], &[])
-}
-
-/// Whether a map has the names of the clone and the flush that were added to it.
-fn holds_clone(alloc: Global) -> Result<bool, AllocError> {
-    let mut map = NameMap::empty(alloc);
-    let mut log: Vec<u8> = Vec::new(alloc);
-    let distinct = add_clone(alloc, &mut map, &mut log)?;
-    Ok(distinct && has_clone(&map, &log))
-}
-
-#[test]
-fn a_clone_leaves_ids_out(rt: HostRuntime) -> Result<(), Fail> {
-    assert!(rt; holds_clone(rt.alloc())?);
-    Ok(())
-}
-
-/// The names of these numbers.
+/// The names of these numbers, up to the first 0.
 fn names_of(alloc: Global, numbers: &[u16]) -> Result<Vec<[u8; 20]>, AllocError> {
     let mut names = Vec::new(alloc);
     for number in numbers {
+        if *number == 0 {
+            break;
+        }
         names.push(name_of(*number))?;
     }
     Ok(names)
 }
 
-/// The numbers of a flush's master names, and of its other names.
-type Numbers = (&'static [u16], &'static [u16]);
+/// The numbers of a flush's master names, and of its other names, each list up to the first 0.
+type Numbers = ([u16; 3], [u16; 2]);
 
 /// A flush of the names of these numbers over so many master ids.
 fn flush_of(alloc: Global, before: u64, numbers: &Numbers) -> Result<Vec<u8>, AllocError> {
@@ -257,18 +228,6 @@ fn flush_of(alloc: Global, before: u64, numbers: &Numbers) -> Result<Vec<u8>, Al
     let others = names_of(alloc, others)?;
     flush_bytes(alloc, before, &names, &others)
 }
-
-/// Flushes that are tried in turn, each over what was taken before, and whether their names are distinct from those and one another.
-const TRIED: [(Numbers, bool); 8] = [
-    ((&[1, 1], &[]), false),
-    ((&[1], &[1]), false),
-    ((&[], &[1, 1]), false),
-    ((&[1], &[2, 2]), false),
-    ((&[1], &[2]), true),
-    ((&[1], &[]), false),
-    ((&[], &[1]), false),
-    ((&[2], &[]), true),
-];
 
 /// Adds a flush of the names of these numbers. Whether the names are distinct.
 fn add_numbers(
@@ -281,44 +240,72 @@ fn add_numbers(
     add_payload(map, log, &payload)
 }
 
-/// Tries these flushes. Whether those are taken that may be.
-fn are_told_apart(alloc: Global, map: &mut NameMap, log: &mut Vec<u8>) -> Result<bool, AllocError> {
-    for (numbers, distinct) in &TRIED {
-        if add_numbers(alloc, map, log, numbers)? != *distinct {
-            return Ok(false);
-        }
-    }
-    Ok(true)
-}
+/// A flush of no names.
+const NO_FLUSH: Numbers = ([0; 3], [0; 2]);
 
-/// Whether those flushes are taken that may be, and a map has their names.
-fn holds_told_apart(alloc: Global) -> Result<bool, AllocError> {
-    let mut map = NameMap::empty(alloc);
-    let mut log: Vec<u8> = Vec::new(alloc);
-    let told = are_told_apart(alloc, &mut map, &mut log)?;
-    Ok(told && has(&map, &log, 1, 2, 1))
-}
-
-#[test]
-fn double_names_are_refused(rt: HostRuntime) -> Result<(), Fail> {
-    assert!(rt; holds_told_apart(rt.alloc())?);
-    Ok(())
-}
-
-/// The names of new master ids and of other ids of payloads that come one behind the other, by their numbers, and how many
-/// known names there are with them; none where the names don't fit.
-const IN_TURN: [(&[Numbers], Option<u64>); 8] = [
-    (&[], Some(0)),
-    (&[(&[9, 1], &[2]), (&[2, 3], &[]), (&[], &[4])], Some(4)),
+/// The names of new master ids and of other ids of payloads that come one behind the other, by their numbers; how many payloads there
+/// are; and how many known names there are with them; none where the names don't fit.
+const IN_TURN: [([Numbers; 4], usize, Option<u64>); 14] = [
+    ([NO_FLUSH, NO_FLUSH, NO_FLUSH, NO_FLUSH], 0, Some(0)),
     (
-        &[(&[1], &[2, 3]), (&[], &[3, 2]), (&[3], &[2]), (&[2], &[])],
+        [
+            ([9, 1, 0], [2, 0]),
+            ([2, 3, 0], [0, 0]),
+            ([0, 0, 0], [4, 0]),
+            NO_FLUSH,
+        ],
+        3,
+        Some(4),
+    ),
+    (
+        [
+            ([1, 0, 0], [2, 3]),
+            ([0, 0, 0], [3, 2]),
+            ([3, 0, 0], [2, 0]),
+            ([2, 0, 0], [0, 0]),
+        ],
+        4,
         Some(3),
     ),
-    (&[(&[1], &[]), (&[2, 1], &[])], None),
-    (&[(&[1], &[]), (&[2], &[3, 1])], None),
-    (&[(&[1], &[]), (&[2], &[2])], None),
-    (&[(&[1], &[]), (&[2], &[3, 3])], None),
-    (&[(&[1, 2, 1], &[])], None),
+    (
+        [([1, 0, 0], [0, 0]), ([2, 1, 0], [0, 0]), NO_FLUSH, NO_FLUSH],
+        2,
+        None,
+    ),
+    (
+        [([1, 0, 0], [0, 0]), ([2, 0, 0], [3, 1]), NO_FLUSH, NO_FLUSH],
+        2,
+        None,
+    ),
+    (
+        [([1, 0, 0], [0, 0]), ([2, 0, 0], [2, 0]), NO_FLUSH, NO_FLUSH],
+        2,
+        None,
+    ),
+    (
+        [([1, 0, 0], [0, 0]), ([2, 0, 0], [3, 3]), NO_FLUSH, NO_FLUSH],
+        2,
+        None,
+    ),
+    ([([1, 2, 1], [0, 0]), NO_FLUSH, NO_FLUSH, NO_FLUSH], 1, None),
+    ([([1, 1, 0], [0, 0]), NO_FLUSH, NO_FLUSH, NO_FLUSH], 1, None),
+    ([([1, 0, 0], [1, 0]), NO_FLUSH, NO_FLUSH, NO_FLUSH], 1, None),
+    ([([0, 0, 0], [1, 1]), NO_FLUSH, NO_FLUSH, NO_FLUSH], 1, None),
+    (
+        [([1, 0, 0], [2, 0]), ([1, 0, 0], [0, 0]), NO_FLUSH, NO_FLUSH],
+        2,
+        None,
+    ),
+    (
+        [([1, 0, 0], [2, 0]), ([0, 0, 0], [1, 0]), NO_FLUSH, NO_FLUSH],
+        2,
+        None,
+    ),
+    (
+        [([1, 0, 0], [2, 0]), ([2, 0, 0], [0, 0]), NO_FLUSH, NO_FLUSH],
+        2,
+        Some(2),
+    ),
 ];
 
 /// Adds the flushes to the map and the log in turn, up to one whose names aren't distinct from those before. Whether there is none.
@@ -421,10 +408,20 @@ fn have(alloc: Global, flushes: &[Numbers], known: Option<u64>) -> Result<bool, 
     Ok(count_in_turn(alloc, flushes)? == known && count_at_once(alloc, flushes)? == known)
 }
 
+/// The place of the first payloads that lead to another number, in turn or at once.
+fn first_wrong(alloc: Global) -> Result<Option<usize>, AllocError> {
+    for (place, row) in IN_TURN.iter().enumerate() {
+        let (flushes, count, known) = row;
+        let flushes = flushes.get(..*count).unwrap_or_default();
+        if !have(alloc, flushes, *known)? {
+            return Ok(Some(place));
+        }
+    }
+    Ok(None)
+}
+
 #[test]
 fn a_map_at_once_is_that_in_turn(rt: HostRuntime) -> Result<(), Fail> {
-    for (flushes, known) in &IN_TURN {
-        assert!(rt; have(rt.alloc(), flushes, *known)?);
-    }
+    assert_eq!(rt; first_wrong(rt.alloc())?, None);
     Ok(())
 }

@@ -47,63 +47,103 @@ pub(crate) const MERGE: [u8; 178] = [
     0, 0, 0, 0, 0, 0, 0, 0, 0, 0, 0, 0, 0xd1, 0, 0, 0, 0, 0, 0, 0, 0,
 ];
 
+/// `CHAIN` with a byte behind it.
+const BEHIND: [u8; 89] = [
+    1, 1, 0, 0, 0, 0, 0, 0, 0, 0, 0, 0, 0, 0, 0, 0, 0, 0, 0, 0, 0, 0, 0, 0, 0, 0, 0, 0, 0, 0, 0, 2,
+    0, 0, 0, 1, 1, 0, 1, 0, 0, 0, 0, 0, 0, 1, 1, 0, 0, 0, 0, 0, 0, 0, 0, 0, 0, 0, 0, 0, 0, 0, 0, 0,
+    0, 0, 0, 161, 0, 0, 0, 0, 0, 0, 0, 0, 0, 0, 0, 0, 0, 0, 0, 0, 0, 0, 0, 177, 0,
+];
+
+/// `CHAIN` with the number 1 of its record, of the ids below the highest, in two bytes.
+const LONGER: [u8; 89] = [
+    1, 1, 0, 0, 0, 0, 0, 0, 0, 0, 0, 0, 0, 0, 0, 0, 0, 0, 0, 0, 0, 0, 0, 0, 0, 0, 0, 0, 0, 0, 0, 2,
+    0, 0, 0, 1, 1, 0, 1, 0, 0, 0, 0, 0, 0, 1, 129, 0, 0, 0, 0, 0, 0, 0, 0, 0, 0, 0, 0, 0, 0, 0, 0,
+    0, 0, 0, 0, 0, 161, 0, 0, 0, 0, 0, 0, 0, 0, 0, 0, 0, 0, 0, 0, 0, 0, 0, 0, 0, 177,
+];
+
+/// A payload.
+#[derive(Clone, Copy)]
+enum Of {
+    Chain,
+    Fork,
+    Clone,
+    Side,
+    Merge,
+    Behind,
+    Longer,
+}
+
+/// Its bytes.
+fn bytes_of(of: Of) -> &'static [u8] {
+    match of {
+        Of::Chain => &CHAIN,
+        Of::Fork => &FORK,
+        Of::Clone => &CLONE,
+        Of::Side => &SIDE,
+        Of::Merge => &MERGE,
+        Of::Behind => &BEHIND,
+        Of::Longer => &LONGER,
+    }
+}
+
 /// Whether the payload is one, with another byte at a place.
 pub(crate) fn is_read(
     alloc: Global,
     payload: &[u8],
-    place: usize,
+    place: u8,
     value: u8,
 ) -> Result<bool, AllocError> {
     let mut bytes = Vec::from_slice(alloc, payload)?;
-    if let Some(byte) = bytes.get_mut(place) {
+    if let Some(byte) = bytes.get_mut(usize::from(place)) {
         *byte = value;
     }
     Ok(BatchRef::read(&bytes).is_some())
 }
 
 /// A payload, another byte at a place of it, and whether it is a payload then.
-const CHANGED: [(&[u8], usize, u8, bool); 24] = [
+const CHANGED: [(Of, u8, u8, bool); 26] = [
     // as they are
-    (&CHAIN, 0, 1, true),
-    (&FORK, 0, 1, true),
-    (&CLONE, 0, 1, true),
-    (&SIDE, 0, 1, true),
-    (&MERGE, 0, 1, true),
+    (Of::Chain, 0, 1, true),
+    (Of::Fork, 0, 1, true),
+    (Of::Clone, 0, 1, true),
+    (Of::Side, 0, 1, true),
+    (Of::Merge, 0, 1, true),
     // the version, the kind, the counts
-    (&FORK, 0, 0, false),
-    (&FORK, 0, 2, false),
-    (&FORK, 0, 3, false),
-    (&FORK, 1, 3, false),
-    (&FORK, 1, 2, false),
-    (&FORK, 9, 3, false),
-    (&FORK, 17, 3, false),
-    (&FORK, 17, 1, false),
+    (Of::Fork, 0, 0, false),
+    (Of::Fork, 0, 2, false),
+    (Of::Fork, 0, 3, false),
+    (Of::Fork, 1, 3, false),
+    (Of::Fork, 1, 2, false),
+    (Of::Fork, 9, 3, false),
+    (Of::Fork, 17, 3, false),
+    (Of::Fork, 17, 1, false),
     // a level, a gap, a parent above the master group
-    (&FORK, 23, 1, false),
-    (&FORK, 113, 1, false),
-    (&FORK, 116, 2, false),
+    (Of::Fork, 23, 1, false),
+    (Of::Fork, 113, 1, false),
+    (Of::Fork, 116, 2, false),
     // known ids that repeat or are not new
-    (&FORK, 73, 0, false),
-    (&FORK, 73, 2, false),
+    (Of::Fork, 73, 0, false),
+    (Of::Fork, 73, 2, false),
     // a clone that isn't the first, is empty, or doesn't know the highest id of its segment
-    (&CLONE, 1, 1, false),
-    (&CLONE, 9, 1, false),
-    (&CLONE, 17, 0, false),
-    (&CLONE, 45, 8, false),
+    (Of::Clone, 1, 1, false),
+    (Of::Clone, 9, 1, false),
+    (Of::Clone, 17, 0, false),
+    (Of::Clone, 45, 8, false),
     // a record that goes on from the one before it
-    (&SIDE, 46, 1, false),
+    (Of::Side, 46, 1, false),
     // a parent of a merge that the clone doesn't know
-    (&MERGE, 58, 0, false),
+    (Of::Merge, 58, 0, false),
+    // more bytes
+    (Of::Behind, 0, 1, false),
+    (Of::Longer, 0, 1, false),
 ];
 
-/// The first byte of these, with its place, by which something else becomes of a payload than it is wanted.
-pub(crate) fn first_wrong(
-    alloc: Global,
-    changes: &[(&[u8], usize, u8, bool)],
-) -> Result<Option<(u8, usize)>, AllocError> {
-    for (payload, place, value, is_payload) in changes {
-        if is_read(alloc, payload, *place, *value)? != *is_payload {
-            return Ok(Some((*value, *place)));
+/// The place of the first row by which something else becomes of a payload than it is wanted.
+fn first_wrong(alloc: Global) -> Result<Option<usize>, AllocError> {
+    for (row, changed) in CHANGED.iter().enumerate() {
+        let (of, place, value, is_payload) = *changed;
+        if is_read(alloc, bytes_of(of), place, value)? != is_payload {
+            return Ok(Some(row));
         }
     }
     Ok(None)
@@ -111,23 +151,22 @@ pub(crate) fn first_wrong(
 
 #[test]
 fn each_rule_is_tested(rt: HostRuntime) -> Result<(), Fail> {
-    assert_eq!(rt; first_wrong(rt.alloc(), &CHANGED)?, None);
+    assert_eq!(rt; first_wrong(rt.alloc())?, None);
     Ok(())
 }
 
+/// Whether no front of a payload is one.
+fn are_fronts_none(payload: &[u8]) -> bool {
+    for len in 0..payload.len() {
+        let (front, _) = payload.split_at(len);
+        if BatchRef::read(front).is_some() {
+            return false;
+        }
+    }
+    true
+}
+
 #[test]
-fn fronts_and_longer_bytes_are_none(rt: HostRuntime) {
-    for len in 0..88usize {
-        assert!(rt; BatchRef::read(&CHAIN[..len]).is_none());
-    }
-    let mut behind = [0u8; 89];
-    behind[..88].copy_from_slice(&CHAIN);
-    // the span 1 of the one record, in two bytes
-    let mut longer = [0u8; 89];
-    longer[..46].copy_from_slice(&CHAIN[..46]);
-    longer[46] = 0x81;
-    longer[48..].copy_from_slice(&CHAIN[47..]);
-    for bytes in [behind, longer] {
-        assert!(rt; BatchRef::read(&bytes).is_none());
-    }
+fn fronts_are_none(rt: HostRuntime) {
+    assert!(rt; are_fronts_none(&CHAIN));
 }

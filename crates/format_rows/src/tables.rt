@@ -1,12 +1,9 @@
 //! Tables of small graphs against the parents of their ids.
 
-ghost use Rattle.std.specs.Prelude.{◌≡◌, ◌≤◌, ◌<◌, ◌⊎◌, ◌^◌, ◌+◌, true, List, length, OnOk, IfOk};
-ghost use Rattle.std.specs.List.{AllByRecursion};
-ghost use Rattle.segment_codec.specs.Lent.{parents_left};
+ghost use Rattle.std.specs.Prelude.{◌≡◌, ◌≤◌, ◌^◌, ◌+◌, true, List, length, OnOk};
 ghost use Rattle.segment_codec.specs.Record.{Segment};
 ghost use Rattle.flat_segments.specs.Placed.{PlacedSegment, AreRecords, Stand};
 ghost use Rattle.flat_segments.specs.Kept.{IsTableOf};
-ghost use Rattle.format_rows.specs.Single.{IsOne};
 
 use flat_segments::{FlatFault, FlatTable, FlatView, Section};
 use id_groups::{FIRST_OTHER, Id};
@@ -270,27 +267,6 @@ fn a_graph_in_three_batches(rt: HostRuntime) -> Result<(), Fail> {
     Ok(())
 }
 
-/// The graph in one batch behind a first byte.
-fn push_one_batch(out: &mut Vec<u8>) -> Result<(), AllocError> {
-    out.push(0)?;
-    push_batch(out, 0, 200)
-}
-
-/// Whether the one batch of the log makes the table of the graph.
-fn is_whole_at_once(alloc: Global, log: &[u8]) -> Result<bool, FlatFault> {
-    let mut table = FlatTable::empty(alloc);
-    add(&mut table, log, 1, log.len().saturating_sub(1), 0)?;
-    Ok(is_whole(&table, log))
-}
-
-#[test]
-fn a_graph_in_one_batch(rt: HostRuntime) -> Result<(), Fail> {
-    let mut log = Vec::new(rt.alloc());
-    push_one_batch(&mut log)?;
-    assert!(rt; is_whole_at_once(rt.alloc(), &log)?);
-    Ok(())
-}
-
 /// Records that may not come first, and which of them is the wrong one.
 const REFUSED: [(&[u8], u32); 5] = [
     // id 1 alone, where id 0 is next
@@ -322,40 +298,19 @@ fn are_refused(alloc: Global, bytes: &[u8], number: u32) -> bool {
     result == Err(FlatFault::BadSegment(number)) && table.count() == 0
 }
 
-#[test]
-fn records_that_may_not_come(rt: HostRuntime) {
-    for (bytes, number) in REFUSED {
-        assert!(rt; are_refused(rt.alloc(), bytes, number));
-    }
-}
-
-/// Whether each parent is one of four master ids or an id of the other group.
-fn are_near(parents: SegmentParents<'_>) -> bool
-    ensures { result ≡ true → AllByRecursion (λ p. (p < 4) ⊎ (2 ^ 56 ≤ p)) (parents_left parents.entry) }
-{
-    let mut rest = parents;
-    'parents: while let Some(parent) = rest.next() {
-        if parent.number() >= 4 && parent.number() < FIRST_OTHER {
+/// Whether all of them are refused.
+fn are_all_refused(alloc: Global) -> bool {
+    for (bytes, number) in &REFUSED {
+        if !are_refused(alloc, bytes, *number) {
             return false;
         }
     }
     true
 }
 
-/// The section of one record that begins at an id.
-fn pushed(alloc: Global, bytes: &[u8], low: u64) -> Result<Section, FlatFault>
-    requires { 2 ^ 56 ≤ low }
-    ensures { IfOk result (λ section. (s : Segment) × IsOne section bytes.now low s) }
-{
-    let Some((segment, _)) = read_segment(bytes) else {
-        return Err(FlatFault::Memory);
-    };
-    if segment.level() != 0 || segment.low().number() != low || !are_near(segment.parents()) {
-        return Err(FlatFault::Memory);
-    }
-    let mut section = Section::empty(alloc);
-    section.push(segment, 0)?;
-    Ok(section)
+#[test]
+fn records_that_may_not_come(rt: HostRuntime) {
+    assert!(rt; are_all_refused(rt.alloc()));
 }
 
 /// The end of a section of the record, which stands at the last place.
@@ -375,93 +330,5 @@ fn end_at_last(alloc: Global, bytes: &[u8]) -> Result<u64, FlatFault> {
 fn a_place_beyond_all_bytes(rt: HostRuntime) -> Result<(), Fail> {
     let bytes: [u8; 12] = [1, 0, 1, 0, 0, 0, 0, 0, 0, 6, 6, 0];
     assert_eq!(rt; end_at_last(rt.alloc(), &bytes)?, FIRST_OTHER + 7);
-    Ok(())
-}
-
-/// Whether an id is found in the segment from a lowest to a highest id.
-fn is_found(view: &FlatView<'_>, id: u64, low: u64, high: u64) -> bool
-    requires { id < 2 ^ 57 }
-{
-    let mut steps = Steps::new();
-    let Some(found) = view.flat(Id::from_number(id), &mut steps) else {
-        return false;
-    };
-    let ends = view.ending(0, Id::from_number(id), &mut steps).is_some();
-    found.low().number() == low && found.high().number() == high && ends == (id == high)
-}
-
-/// Whether an id is none of the view's.
-fn is_missing(view: &FlatView<'_>, id: u64) -> bool
-    requires { id < 2 ^ 57 }
-{
-    view.flat(Id::from_number(id), &mut Steps::new()).is_none()
-}
-
-/// Whether the view has the ids 0 to 3 in one segment, N0 to N6 in one, and N7 and N8 in one with the parent N6.
-fn is_joined(view: &FlatView<'_>) -> bool {
-    let bounds = view.bounds();
-    if view.flat_count() != 3 {
-        return false;
-    }
-    let last = view.flat_at(2, &mut Steps::new());
-    bounds.master == 4
-        && bounds.others == 9
-        && last.low().number() == FIRST_OTHER + 7
-        && last.parents().next().map(|parent| parent.number()) == Some(FIRST_OTHER + 6)
-        && is_found(view, 0, 0, 3)
-        && is_found(view, 3, 0, 3)
-        && is_found(view, FIRST_OTHER, FIRST_OTHER, FIRST_OTHER + 6)
-        && is_found(view, FIRST_OTHER + 6, FIRST_OTHER, FIRST_OTHER + 6)
-        && is_found(view, FIRST_OTHER + 7, FIRST_OTHER + 7, FIRST_OTHER + 8)
-        && is_found(view, FIRST_OTHER + 8, FIRST_OTHER + 7, FIRST_OTHER + 8)
-        && is_missing(view, 4)
-        && is_missing(view, FIRST_OTHER - 1)
-        && is_missing(view, FIRST_OTHER + 9)
-}
-
-/// Whether the view of four ids with two sections of one record is as `is_joined` wants it.
-fn are_joined(
-    table: &FlatTable,
-    log: &[u8],
-    others: &Section,
-    some: &[u8],
-    pending: &Section,
-    more: &[u8],
-) -> bool
-    requires table { (records : List PlacedSegment) × IsTableOf table.now records × Stand log.now records }
-    requires four { 4 ≤ table.now.end }
-    requires others { (s : Segment) × IsOne others.now some.now (2 ^ 56) s }
-    requires pending { (s : Segment) × IsOne pending.now more.now others.now.end s }
-{
-    is_joined(&table.view(log, 4).join(others, some, pending, more))
-}
-
-/// Whether the sections of these two records are joined behind the table, as `is_joined` wants it.
-fn are_joined_behind(
-    alloc: Global,
-    table: &FlatTable,
-    log: &[u8],
-    some: &[u8],
-    more: &[u8],
-) -> Result<bool, FlatFault>
-    requires table { (records : List PlacedSegment) × IsTableOf table.now records × Stand log.now records }
-    requires four { 4 ≤ table.now.end }
-{
-    let others = pushed(alloc, some, FIRST_OTHER)?;
-    let pending = pushed(alloc, more, others.end())?;
-    Ok(are_joined(table, log, &others, some, &pending, more))
-}
-
-#[test]
-fn sections_are_joined(rt: HostRuntime) -> Result<(), Fail> {
-    let log: [u8; 12] = [1, 0, 0, 0, 0, 0, 0, 0, 0, 3, 3, 0];
-    // N0 to N6 above the last master id, and N7 and N8 above N6 and that
-    let some: [u8; 13] = [0, 0, 1, 0, 0, 0, 0, 0, 0, 6, 6, 1, 3];
-    let more: [u8; 22] = [
-        0, 0, 1, 0, 0, 0, 0, 0, 0, 8, 1, 2, 0x86, 0x80, 0x80, 0x80, 0x80, 0x80, 0x80, 0x80, 1, 3,
-    ];
-    let mut table = FlatTable::empty(rt.alloc());
-    add(&mut table, &log, 0, 12, 0)?;
-    assert!(rt; table.count() >= 4 && are_joined_behind(rt.alloc(), &table, &log, &some, &more)?);
     Ok(())
 }

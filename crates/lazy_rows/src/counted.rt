@@ -157,28 +157,25 @@ fn cloned(alloc: Global) -> Result<MemoryDisk, AllocError> {
     Ok(disk)
 }
 
-/// A line, its reply, for how many names it asks, and how many changes it stores.
-type Asked = (&'static str, &'static str, u64, usize);
+/// A line and its reply, an equals sign between; for how many names it asks, and how many changes it stores.
+type Asked = (&'static str, u64, usize);
 
 /// Beside a mirror with two commits more, of which a session has one: the second pull asks again and stores nothing.
 const PULLED: [Asked; 7] = [
     (
-        "0 add 000000000000000000000000000000000000001a 0000000000000000000000000000000000000019\n",
-        "ok added N0\n",
+        "0 add 000000000000000000000000000000000000001a 0000000000000000000000000000000000000019\n=ok added N0\n",
         1,
         0,
     ),
     (
-        "0 add 0000000000000000000000000000000000000020 0000000000000000000000000000000000000019\n",
-        "ok added N1\n",
+        "0 add 0000000000000000000000000000000000000020 0000000000000000000000000000000000000019\n=ok added N1\n",
         1,
         0,
     ),
-    ("0 flush\n", "ok flushed 10 2\n", 0, 1),
-    ("0 pull\n", "ok pulled 12 1\n", 2, 1),
+    ("0 flush\n=ok flushed 10 2\n", 0, 1),
+    ("0 pull\n=ok pulled 12 1\n", 2, 1),
     (
-        "0 query top(all,3)\n",
-        "0000000000000000000000000000000000000020
+        "0 query top(all,3)\n=0000000000000000000000000000000000000020
 000000000000000000000000000000000000001b
 000000000000000000000000000000000000001a
 ok 3
@@ -187,46 +184,72 @@ ok 3
         0,
     ),
     (
-        "0 id 000000000000000000000000000000000000001a\n",
-        "ok 10\n",
+        "0 id 000000000000000000000000000000000000001a\n=ok 10\n",
         0,
         0,
     ),
-    ("0 pull\n", "ok pulled 12 1\n", 2, 0),
+    ("0 pull\n=ok pulled 12 1\n", 2, 0),
 ];
 
 /// Beside the same mirror, of which a row differs from one that is stored.
 const DIFFERING: [Asked; 4] = [
     (
-        "0 add 000000000000000000000000000000000000001a 0000000000000000000000000000000000000018\n",
-        "ok added N0\n",
+        "0 add 000000000000000000000000000000000000001a 0000000000000000000000000000000000000018\n=ok added N0\n",
         2,
         0,
     ),
-    ("0 flush\n", "ok flushed 10 1\n", 0, 1),
+    ("0 flush\n=ok flushed 10 1\n", 0, 1),
     (
-        "0 pull\n",
-        "err conflict 000000000000000000000000000000000000001a\n",
+        "0 pull\n=err conflict 000000000000000000000000000000000000001a\n",
         2,
         0,
     ),
-    ("0 status\n", "ok 10 1 0\n", 0, 0),
+    ("0 status\n=ok 10 1 0\n", 0, 0),
 ];
 
 /// Beside a mirror with nine of the ten commits.
-const FEWER: [Asked; 1] = [("0 pull\n", "err mismatch clone 0\n", 0, 0)];
+const FEWER: [Asked; 1] = [("0 pull\n=err mismatch clone 0\n", 0, 0)];
 
-/// How many commits the mirror has, and the lines.
-type Case = (u8, &'static [Asked]);
+/// Beside which mirror lines go.
+#[derive(Clone, Copy, PartialEq, Debug)]
+enum Case {
+    Pulled,
+    Differing,
+    Fewer,
+}
 
-/// All of them.
-const CASES: [Case; 3] = [(12, &PULLED), (12, &DIFFERING), (9, &FEWER)];
+/// All cases.
+const CASES: [Case; 3] = [Case::Pulled, Case::Differing, Case::Fewer];
+
+impl Case {
+    /// How many commits the mirror has.
+    fn commits(self) -> u8 {
+        match self {
+            Case::Pulled | Case::Differing => 12,
+            Case::Fewer => 9,
+        }
+    }
+
+    /// The lines.
+    fn rows(self) -> &'static [Asked] {
+        match self {
+            Case::Pulled => &PULLED,
+            Case::Differing => &DIFFERING,
+            Case::Fewer => &FEWER,
+        }
+    }
+}
+
+/// A line, and its reply.
+fn halves(text: &str) -> (&str, &str) {
+    text.split_once('=').unwrap_or((text, ""))
+}
 
 /// The lines of these rows.
 fn lines_of(alloc: Global, rows: &[Asked]) -> Result<String, AllocError> {
     let mut text = String::new(alloc);
-    for (line, _, _, _) in rows {
-        text.push_str(line)?;
+    for (line, _, _) in rows {
+        text.push_str(halves(line).0)?;
     }
     Ok(text)
 }
@@ -234,8 +257,8 @@ fn lines_of(alloc: Global, rows: &[Asked]) -> Result<String, AllocError> {
 /// Their replies.
 fn replies_of(alloc: Global, rows: &[Asked]) -> Result<String, AllocError> {
     let mut text = String::new(alloc);
-    for (_, reply, _, _) in rows {
-        text.push_str(reply)?;
+    for (line, _, _) in rows {
+        text.push_str(halves(line).1)?;
     }
     Ok(text)
 }
@@ -243,7 +266,7 @@ fn replies_of(alloc: Global, rows: &[Asked]) -> Result<String, AllocError> {
 /// For how many names they ask.
 fn asked_by(rows: &[Asked]) -> u64 {
     let mut sum = 0u64;
-    for (_, _, asked, _) in rows {
+    for (_, asked, _) in rows {
         sum = sum.wrapping_add(*asked);
     }
     sum
@@ -252,7 +275,7 @@ fn asked_by(rows: &[Asked]) -> u64 {
 /// How many changes they store.
 fn stored_by(rows: &[Asked]) -> usize {
     let mut sum = 0usize;
-    for (_, _, _, stored) in rows {
+    for (_, _, stored) in rows {
         sum = sum.wrapping_add(*stored);
     }
     sum
@@ -333,12 +356,12 @@ fn is_counted(
 }
 
 /// The first number of lines of a case that ask for another number of names, if there is one.
-fn wrong_count(alloc: Global, case: &Case) -> Result<Option<usize>, AllocError> {
-    let (commits, rows) = case;
+fn wrong_count(alloc: Global, case: Case) -> Result<Option<usize>, AllocError> {
+    let rows = case.rows();
     for count in 0..rows.len() {
-        let front = &rows[..count + 1];
-        if !is_counted(alloc, *commits, front, Reach::Paths)?
-            || !is_counted(alloc, *commits, front, Reach::Pipes(5))?
+        let (front, _) = rows.split_at(count + 1);
+        if !is_counted(alloc, case.commits(), front, Reach::Paths)?
+            || !is_counted(alloc, case.commits(), front, Reach::Pipes(5))?
         {
             return Ok(Some(count + 1));
         }
@@ -346,11 +369,11 @@ fn wrong_count(alloc: Global, case: &Case) -> Result<Option<usize>, AllocError> 
     Ok(None)
 }
 
-/// The place of the first case in which one does, and that number.
-fn wrong_case(alloc: Global) -> Result<Option<(usize, usize)>, AllocError> {
-    for place in 0..CASES.len() {
-        if let Some(count) = wrong_count(alloc, &CASES[place])? {
-            return Ok(Some((place, count)));
+/// The first case in which one does, and that number.
+fn wrong_case(alloc: Global) -> Result<Option<(Case, usize)>, AllocError> {
+    for case in &CASES {
+        if let Some(count) = wrong_count(alloc, *case)? {
+            return Ok(Some((*case, count)));
         }
     }
     Ok(None)

@@ -1,30 +1,17 @@
 //! Mirrors in memory, by the words that a case names them with.
 
+use crate::told::{halves, liar, name, number};
 use commit_graph::{Row, World};
 use id_groups::Name;
-use remote_memory::{MemoryRemote, clone_of};
+use remote_memory::MemoryRemote;
 use remote_trait::{CloneData, FixedRemote, Path, Remote, RemoteFault};
 use std::alloc::{AllocError, Global};
 
 /// A row of a master: the last byte of its name, and those of its parents. All other bytes are 0.
 type Spelled = (u8, &'static [u8]);
 
-/// Ten commits in a chain.
-const TEN: [Spelled; 10] = [
-    (0x10, &[]),
-    (0x11, &[0x10]),
-    (0x12, &[0x11]),
-    (0x13, &[0x12]),
-    (0x14, &[0x13]),
-    (0x15, &[0x14]),
-    (0x16, &[0x15]),
-    (0x17, &[0x16]),
-    (0x18, &[0x17]),
-    (0x19, &[0x18]),
-];
-
-/// The same, and two more.
-const TWELVE: [Spelled; 12] = [
+/// A chain of twelve commits.
+const CHAIN: [Spelled; 12] = [
     (0x10, &[]),
     (0x11, &[0x10]),
     (0x12, &[0x11]),
@@ -39,19 +26,6 @@ const TWELVE: [Spelled; 12] = [
     (0x1b, &[0x1a]),
 ];
 
-/// The first nine of them.
-const NINE: [Spelled; 9] = [
-    (0x10, &[]),
-    (0x11, &[0x10]),
-    (0x12, &[0x11]),
-    (0x13, &[0x12]),
-    (0x14, &[0x13]),
-    (0x15, &[0x14]),
-    (0x16, &[0x15]),
-    (0x17, &[0x16]),
-    (0x18, &[0x17]),
-];
-
 /// Six commits, of which two stand on the second, and the last is a merge. They stand in the order of their ids in master.
 const SIX: [Spelled; 6] = [
     (0x01, &[]),
@@ -62,15 +36,29 @@ const SIX: [Spelled; 6] = [
     (0x06, &[0x03, 0x05]),
 ];
 
+/// A commit, two on it, and their merge.
+const FOUR: [Spelled; 4] = [
+    (0xa1, &[]),
+    (0xb1, &[0xa1]),
+    (0xc1, &[0xa1]),
+    (0xd1, &[0xb1, 0xc1]),
+];
+
+/// Five commits in a chain, two on the third, a merge of both, and one more.
+const FORK: [Spelled; 9] = [
+    (0x10, &[]),
+    (0x11, &[0x10]),
+    (0x12, &[0x11]),
+    (0x13, &[0x12]),
+    (0x14, &[0x13]),
+    (0x15, &[0x12]),
+    (0x16, &[0x15]),
+    (0x17, &[0x14, 0x16]),
+    (0x18, &[0x17]),
+];
+
 /// The most rows of a mirror.
 const MOST: usize = 4_096;
-
-/// The name of 19 zero bytes and this one.
-fn name(last: u8) -> Name {
-    let mut bytes = [0; 20];
-    bytes[19] = last;
-    Name::from_bytes(bytes)
-}
 
 /// The row of a merge of two commits, and of a commit on the one, if they are the same.
 fn merge(own: Name, first: Name, second: Name) -> Row {
@@ -128,24 +116,6 @@ fn honest(alloc: Global, rows: &[Spelled], fails: &[u64]) -> Result<MemoryRemote
     mirror_in(alloc, world, fails)
 }
 
-/// A mirror with the clone data of the chain, and this answer to each path; it has no names.
-fn liar(alloc: Global, path: Option<Path>) -> Result<FixedRemote, AllocError> {
-    let world = world(alloc, &TEN)?;
-    if world.master_count() > MOST as u64 {
-        return Err(AllocError);
-    }
-    let told = clone_of(alloc, &world.master_alone())?;
-    Ok(FixedRemote::new(told, path, Vec::new(alloc)))
-}
-
-/// A way of twelve steps from the chain's last commit, which has nine behind it.
-fn too_far() -> Path {
-    Path {
-        x: name(0x19),
-        n: 12,
-    }
-}
-
 /// A mirror that a case names.
 #[derive(Drop)]
 pub enum Beside {
@@ -198,18 +168,35 @@ impl Remote for Beside {
     }
 }
 
-/// The mirror of this word; nothing where there is none.
+/// The commits that stand for a word.
+fn rows_of(word: &str) -> Option<&'static [Spelled]> {
+    match word {
+        "ten" => CHAIN.get(..10),
+        "twelve" => Some(&CHAIN),
+        "nine" => CHAIN.get(..9),
+        "six" => Some(&SIX),
+        "four" => Some(&FOUR),
+        "fork" => Some(&FORK),
+        _ => None,
+    }
+}
+
+/// The same, and only so many of them where a number stands behind a colon.
+fn first_rows(word: &str) -> Option<&'static [Spelled]> {
+    let (kind, digits) = halves(word, ':');
+    let rows = rows_of(kind)?;
+    if digits.is_empty() {
+        return Some(rows);
+    }
+    rows.get(..number(digits) as usize)
+}
+
+/// The honest mirror of this word; nothing where there is none.
 fn named(alloc: Global, word: &str, fails: &[u64]) -> Result<Option<Beside>, AllocError> {
-    let one = match word {
-        "ten" => Beside::Honest(honest(alloc, &TEN, fails)?),
-        "twelve" => Beside::Honest(honest(alloc, &TWELVE, fails)?),
-        "nine" => Beside::Honest(honest(alloc, &NINE, fails)?),
-        "six" => Beside::Honest(honest(alloc, &SIX, fails)?),
-        "far" => Beside::Liar(liar(alloc, Some(too_far()))?),
-        "silent" => Beside::Liar(liar(alloc, None)?),
-        _ => return Ok(None),
-    };
-    Ok(Some(one))
+    match first_rows(word) {
+        Some(rows) => Ok(Some(Beside::Honest(honest(alloc, rows, fails)?))),
+        None => Ok(None),
+    }
 }
 
 /// The numbers of these digits.
@@ -221,12 +208,14 @@ fn numbers(alloc: Global, digits: &str) -> Result<Vec<u64>, AllocError> {
     Ok(list)
 }
 
-/// The mirror of this word, which fails at its calls with the numbers that stand behind a stroke, a digit each.
+/// The mirror of this word: an honest one, which fails at its calls with the numbers that stand behind a stroke, a digit each; or behind
+/// `told:` one that tells what isn't so.
 fn mirror_of(alloc: Global, word: &str) -> Result<Option<Beside>, AllocError> {
-    match word.split_once('/') {
-        Some((kind, fails)) => named(alloc, kind, &numbers(alloc, fails)?),
-        None => named(alloc, word, &[]),
+    if let Some(text) = word.strip_prefix("told:") {
+        return Ok(Some(Beside::Liar(liar(alloc, text)?)));
     }
+    let (kind, fails) = halves(word, '/');
+    named(alloc, kind, &numbers(alloc, fails)?)
 }
 
 /// The mirrors of these words, one blank between two.

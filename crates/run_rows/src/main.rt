@@ -2,38 +2,30 @@
 
 //! Runs of command lines as data: the standard input holds cases, each behind a line that begins with `==`. The replies to
 //! the lines of each case go to the standard output, behind the case's own line and before one of how it ended: the status, the
-//! bytes of its log, and the moment of each change. A case whose line begins with `== again` goes over the log of the one before,
-//! any other over a fresh one. Where a case's line ends with ` beside: ` and words, its lines go beside these mirrors, and else beside none.
+//! bytes of its log, and the moment of each change. A case whose line begins with `== again` goes over the log that the one before left,
+//! with `== same` over the one that it began with, any other over a fresh one. Behind ` with: ` its line has words for limits, for what fails
+//! and stops (`setting`), and the end then says how many bytes of lines are left, and the moment of the disk. Behind ` beside: ` it has words
+//! for mirrors (`beside`), and else there are none. Where crashes are tried (`crashes`), what they leave follows.
 //! Reading a case takes one carriage return off the end of each of its lines, and running it the next.
 
 use crate::beside::mirrors_of;
-use dag_run::{Limits, Report, run_lines};
+use crate::crashes::{Worlds, letters, sizes_of};
+use crate::setting::{Setting, setting_of};
+use dag_run::{Report, run_lines};
 use disk_memory::MemoryDisk;
 use disk_trait::Disk;
-use line_io::{Line, LineFault, Lines, MemorySource, Sink, SinkFault, Source, StdSink, StdSource};
+use line_io::{
+    Line, LineFault, Lines, MemorySink, MemorySource, Sink, SinkFault, Source, StdSink, StdSource,
+};
 use mirror_set::Mirrors;
 use std::alloc::{AllocError, AllocFailed, Global};
 use std::process::ExitCode;
 use std::{io, str};
 
 mod beside;
-#[cfg(test)]
-mod bundle_tests;
-#[cfg(test)]
-mod compact_tests;
-#[cfg(test)]
-mod long_tests;
-#[cfg(test)]
-mod look_ups;
-#[cfg(test)]
-mod mirror_tests;
-#[cfg(test)]
-mod tests;
-#[cfg(test)]
-mod version_tests;
-
-/// For how many names that mirrors gave there is room.
-const CACHE: u32 = 4096;
+mod crashes;
+mod setting;
+mod told;
 
 /// Why the cases weren't all run.
 #[derive(Clone, Copy)]
@@ -67,30 +59,40 @@ impl From<SinkFault> for Stop {
     }
 }
 
-/// The lines of a case, and the log that they go over. Its own line says beside which mirrors.
+/// The lines of a case, the log that they go over, and the one that the case before began with. Its own line says how it is run.
 #[derive(Drop)]
 struct Case {
     title: String,
     lines: Vec<u8>,
     log: Vec<u8>,
+    start: Vec<u8>,
     begun: bool,
 }
 
 /// Answers the lines of an input over a disk, beside the mirrors that the case's line names.
-fn run_beside<D: Disk, I: Source, O: Sink>(
+fn run_beside(
     alloc: Global,
     title: &str,
-    disk: &mut D,
-    input: &mut I,
-    output: &mut O,
+    setting: &Setting,
+    disk: &mut MemoryDisk,
+    input: &mut MemorySource,
+    output: &mut MemorySink,
 ) -> Result<Report, Stop> {
     let list = mirrors_of(alloc, title)?;
     if list.len() > 8 {
         return Err(Stop::Memory);
     }
     let mut mirrors = Mirrors::new(list);
-    let limits = Limits::standard();
-    Ok(run_lines(alloc, limits, CACHE, disk, &mut mirrors, input, output))
+    let limits = setting.limits();
+    Ok(run_lines(
+        alloc,
+        limits,
+        setting.cache(),
+        disk,
+        &mut mirrors,
+        input,
+        output,
+    ))
 }
 
 /// Adds the moment of a change to the line that says how a run ended.
@@ -99,48 +101,138 @@ fn add_change(alloc: Global, line: &mut String, change: u64) -> Result<(), Alloc
     line.push_str(word.as_str())
 }
 
+/// What the line of how a run ended has behind its changes, where the case's line says how it is run.
+fn rest_of(alloc: Global, title: &str, left: u64, clock: u64) -> Result<String, AllocError> {
+    if title.contains(" with: ") {
+        format!(in alloc; ", left {left}, clock {clock}\n")
+    } else {
+        String::from_str(alloc, "\n")
+    }
+}
+
 /// The line that says how a run ended.
-fn end_of(alloc: Global, report: &Report, size: usize) -> Result<String, AllocError> {
+fn end_of(
+    alloc: Global,
+    report: &Report,
+    disk: &MemoryDisk,
+    rest: &str,
+) -> Result<String, AllocError> {
+    let size = disk.bytes().len();
     let mut line = format!(in alloc; "-- {} {size}", report.status)?;
     for i in 0..report.changes.len() {
         add_change(alloc, &mut line, report.changes.at(i))?;
     }
-    line.push('\n')?;
+    line.push_str(rest)?;
     Ok(line)
 }
 
-/// Puts the line that says how a run ended.
-fn put_end<O: Sink>(
+/// Runs lines over a disk, and answers how their run ended.
+fn run_over(
     alloc: Global,
-    report: &Report,
-    size: usize,
-    output: &mut O,
-) -> Result<(), Stop> {
-    let end = end_of(alloc, report, size)?;
-    output.put(end.as_bytes())?;
-    Ok(())
+    title: &str,
+    lines: &[u8],
+    disk: &mut MemoryDisk,
+    output: &mut MemorySink,
+) -> Result<String, Stop> {
+    let setting = setting_of(title);
+    let mut input = MemorySource::new(alloc, lines, setting.piece(), &[setting.source])?;
+    let report = run_beside(alloc, title, &setting, disk, &mut input, output)?;
+    let rest = rest_of(alloc, title, input.left(), disk.clock())?;
+    Ok(end_of(alloc, &report, disk, rest.as_str())?)
 }
 
-/// Runs lines over a disk, and says how their run ended.
-fn run_over<O: Sink>(
+/// Puts what was told, with a line feed behind a piece of a line, and how the run ended.
+fn put_told<O: Sink>(told: &[u8], end: &str, output: &mut O) -> Result<(), SinkFault> {
+    output.put(told)?;
+    if told.last().is_some_and(|byte| *byte != b'\n') {
+        output.put(b"\n")?;
+    }
+    output.put(end.as_bytes())
+}
+
+/// Runs lines over a disk, and puts what was told and how their run ended.
+fn run_told<O: Sink>(
     alloc: Global,
     title: &str,
     lines: &[u8],
     disk: &mut MemoryDisk,
     output: &mut O,
 ) -> Result<(), Stop> {
-    let mut input = MemorySource::new(alloc, lines, 65_536, &[])?;
-    let report = run_beside(alloc, title, disk, &mut input, output)?;
-    put_end(alloc, &report, disk.bytes().len(), output)
+    let mut told = MemorySink::new(alloc, &[setting_of(title).sink])?;
+    let end = run_over(alloc, title, lines, disk, &mut told)?;
+    Ok(put_told(told.bytes(), end.as_str(), output)?)
+}
+
+/// The disk with the log of a case, which fails as its line says.
+fn disk_of(alloc: Global, case: &Case) -> Result<MemoryDisk, AllocError> {
+    let setting = setting_of(case.title.as_str());
+    MemoryDisk::new(alloc, &case.start, &[setting.fails], setting.stop())
+}
+
+/// The same, which doesn't fail, behind the case's lines.
+fn whole_of(alloc: Global, case: &Case) -> Result<MemoryDisk, Stop> {
+    let mut disk = MemoryDisk::new(alloc, &case.start, &[], None)?;
+    let mut unheard = MemorySink::new(alloc, &[])?;
+    let _end = run_over(
+        alloc,
+        case.title.as_str(),
+        &case.lines,
+        &mut disk,
+        &mut unheard,
+    )?;
+    Ok(disk)
+}
+
+/// What crashes of the disk leave of the worlds before and after a case's lines.
+fn left_of(
+    alloc: Global,
+    case: &Case,
+    setting: &Setting,
+    disk: &MemoryDisk,
+) -> Result<Vec<u8>, Stop> {
+    let whole = whole_of(alloc, case)?;
+    let worlds = Worlds::of(alloc, &case.start, whole.bytes())?;
+    let sizes = sizes_of(case.start.len(), setting);
+    let first = setting.first_moment(disk.clock());
+    Ok(letters(alloc, &worlds, disk, first, &sizes)?)
+}
+
+/// Puts what crashes of the disk leave, where the case's line asks for it.
+fn put_left<O: Sink>(
+    alloc: Global,
+    case: &Case,
+    disk: &MemoryDisk,
+    output: &mut O,
+) -> Result<(), Stop> {
+    let setting = setting_of(case.title.as_str());
+    if setting.crashes == 0 {
+        return Ok(());
+    }
+    let left = left_of(alloc, case, &setting, disk)?;
+    output.put(&left)?;
+    Ok(output.put(b"\n")?)
 }
 
 /// Runs the lines of a case over its log, which is as they leave it then, and empties them.
 fn run_case<O: Sink>(alloc: Global, case: &mut Case, output: &mut O) -> Result<(), Stop> {
-    let mut disk = MemoryDisk::new(alloc, &case.log, &[], None)?;
-    run_over(alloc, case.title.as_str(), &case.lines, &mut disk, output)?;
+    let mut disk = disk_of(alloc, case)?;
+    run_told(alloc, case.title.as_str(), &case.lines, &mut disk, output)?;
+    put_left(alloc, case, &disk, output)?;
     case.lines.clear();
     case.log.clear();
     case.log.extend_from_slice(disk.bytes())?;
+    Ok(())
+}
+
+/// Sets the log that a case with this line begins with.
+fn take_start(case: &mut Case, title: &[u8]) -> Result<(), AllocError> {
+    if title.starts_with(b"== same") {
+        return Ok(());
+    }
+    case.start.clear();
+    if title.starts_with(b"== again") {
+        case.start.extend_from_slice(&case.log)?;
+    }
     Ok(())
 }
 
@@ -166,9 +258,7 @@ fn begin<O: Sink>(
     }
     case.begun = true;
     take_title(case, title)?;
-    if !title.starts_with(b"== again") {
-        case.log.clear();
-    }
+    take_start(case, title)?;
     output.put(title)?;
     output.put(b"\n")?;
     Ok(())
@@ -227,6 +317,7 @@ fn run_cases<I: Source, O: Sink>(alloc: Global, input: &mut I, output: &mut O) -
         title: String::new(alloc),
         lines: Vec::new(alloc),
         log: Vec::new(alloc),
+        start: Vec::new(alloc),
         begun: false,
     };
     take_lines(alloc, &mut case, input, output)?;

@@ -5,7 +5,7 @@ ghost use Rattle.segment_codec.specs.Table.{IsHeld};
 ghost use Rattle.span_set.specs.Members.{IsMember};
 
 use crate::plain::{PairQuery, Query, bit, has};
-use ancestor_query::{ancestors, ancestors_above, first_ancestor, is_ancestor, parents};
+use ancestor_query::{ancestors, first_ancestor, is_ancestor, parents};
 use common_ancestor::{common, gca, only, tips};
 use id_groups::{Group, Id};
 use range_query::{children, descendants, heads, merges, range, roots};
@@ -80,14 +80,6 @@ impl<'a, T: SegmentTable> Asked<'a, T> {
         let set = self.set_of(places)?;
         let mut steps = Steps::new();
         let made = self.queried(query, &set, &mut steps)?;
-        Ok(self.places_of(&made))
-    }
-
-    /// What the set reaches from a lowest place on.
-    pub fn above(&self, places: u64, floor: u64) -> Result<u64, AllocError> {
-        let set = self.set_of(places)?;
-        let mut steps = Steps::new();
-        let made = ancestors_above(self.alloc, self.table, &set, self.id_at(floor), &mut steps)?;
         Ok(self.places_of(&made))
     }
 

@@ -2,7 +2,7 @@
 
 use crate::asked::Asked;
 use crate::draws::Draws;
-use crate::plain::{Graph, PairQuery, QUERIES, Query, bit, has};
+use crate::plain::{Graph, PAIR_QUERIES, PairQuery, QUERIES, Query, bit, has};
 use segment_codec::SegmentTable;
 use std::alloc::AllocError;
 
@@ -13,8 +13,6 @@ pub enum Wrong {
     MadeOfTwo(PairQuery, u64, u64),
     IsAncestor(u64, u64),
     FirstAncestor(u64, u64),
-    Above(u64, u64),
-    Expression(u64, u64),
     /// The table has other ids than the graph.
     Ids,
 }
@@ -23,7 +21,8 @@ pub type Found = Result<Option<Wrong>, AllocError>;
 
 /// The first query of one set that goes wrong.
 fn wrong_on<T: SegmentTable>(asked: &Asked<'_, T>, graph: &Graph, set: u64) -> Found {
-    for query in QUERIES {
+    for query in &QUERIES {
+        let query = *query;
         if asked.made(query, set)? != graph.made(query, set) {
             return Ok(Some(Wrong::Made(query, set)));
         }
@@ -38,7 +37,8 @@ fn wrong_on_two<T: SegmentTable>(
     first: u64,
     second: u64,
 ) -> Found {
-    for query in [PairQuery::Range, PairQuery::Only] {
+    for query in &PAIR_QUERIES {
+        let query = *query;
         if asked.made_of_two(query, first, second)? != graph.made_of_two(query, first, second) {
             return Ok(Some(Wrong::MadeOfTwo(query, first, second)));
         }

@@ -186,24 +186,6 @@ impl Graph {
         }
     }
 
-    /// All places.
-    pub fn all(&self) -> u64 {
-        let mut set = 0;
-        for place in 0..self.count() {
-            set |= bit(place);
-        }
-        set
-    }
-
-    /// What the set reaches from a lowest place on.
-    pub fn above(&self, set: u64, floor: u64) -> u64 {
-        let mut found = self.ancestors_of(set);
-        for place in 0..floor {
-            found &= !bit(place);
-        }
-        found
-    }
-
     /// What the query makes of two sets.
     pub fn made_of_two(&self, query: PairQuery, first: u64, second: u64) -> u64 {
         match query {
@@ -248,3 +230,6 @@ pub enum PairQuery {
     Range,
     Only,
 }
+
+/// Both of them.
+pub const PAIR_QUERIES: [PairQuery; 2] = [PairQuery::Range, PairQuery::Only];
