@@ -150,7 +150,7 @@ class Client:
         data = self.part + data
         lines = data.split(b"\n")
         self.part = lines.pop()
-        if lines and self.is_skipping:
+        if self.is_skipping and lines:
             lines[0], self.is_skipping = None, False
         if self.is_skipping or len(self.part) > LINE + 1:
             self.is_skipping, self.part = True, b""
@@ -167,7 +167,12 @@ class Client:
 
     def may_send(self):
         """Whether its next line, where it has one, can be sent on."""
-        return self.is_ready and self.outbox.size < UNREAD and self.pick(1) > 0
+        if not self.is_ready or self.outbox.size >= UNREAD:
+            return False
+        if self.holds_adds or self.is_settling:
+            return self.pick(1) > 0
+        line = self.lines[self.at]
+        return not self.is_mixed or line is not None and (self.heavy < self.ahead or not line.startswith(HEAVY))
 
     def refuse(self):
         """Answers lines that are too long, when all in front of them are answered."""

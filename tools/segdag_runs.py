@@ -126,7 +126,7 @@ class Run:
         """The bytes up to `cut`, by groups."""
         pieces, at = [], 0
         whole = data.startswith(LAST) + data.count(b"\nok", 0, cut) + data.count(b"\nerr", 0, cut)
-        while at < cut:
+        while at < cut:  # `whole` replies end from here on
             group = self.groups[0]
             left = min(group.left, whole)
             whole -= left
