@@ -172,7 +172,7 @@ class Client:
         if self.holds_adds or self.is_settling:
             return self.pick(1) > 0
         line = self.lines[self.at]
-        return not self.is_mixed or line is not None and (self.heavy < self.ahead or not line.startswith(HEAVY))
+        return not self.is_mixed or line is not None and self.heavy + line.startswith(HEAVY) <= self.ahead
 
     def refuse(self):
         """Answers lines that are too long, when all in front of them are answered."""
