@@ -126,18 +126,21 @@ class Run:
         """The bytes up to `cut`, by groups."""
         pieces, at = [], 0
         whole = data.startswith(LAST) + data.count(b"\nok", 0, cut) + data.count(b"\nerr", 0, cut)
-        while at < cut:  # `whole` replies end from here on
+        while at < cut:
+            # So many replies end from here on.
             group = self.groups[0]
-            left = min(group.left, whole)
+            left = group.left if group.left < whole else whole
             whole -= left
             group.left -= left
             self.afloat -= left
+            if group.left:
+                pieces.append((group, data[at:cut]))
+                break
             # Behind the reply to the last line of all nothing comes.
-            stop = cut if group.left or not self.afloat else replies(left).match(data, at).end()
+            stop = replies(left).match(data, at).end() if self.afloat else cut
             pieces.append((group, data[at:stop]))
             at = stop
-            if not group.left:
-                self.groups.popleft()
+            self.groups.popleft()
         return pieces
 
     def close(self):
