@@ -3,8 +3,8 @@
 `make run`; a million where none is given, a multiple of 1,000.
 
 A clone is timed from the start of its processes to their end, all else from a line to its reply, behind one that lets the mirror read
-its log. Of three times in turn the least is told. Names are printed too where both ends have one processor. Then the same is asked behind a pipe whose answers come 20 ms late (bench/late.py), with
-the number of ways there and back.
+its log. Of three times in turn the least is told. Names are printed too where both ends have one processor. Then the same is asked behind
+a pipe whose answers come 20 ms late (bench/late.py), with the number of ways there and back.
 """
 import os
 import random
