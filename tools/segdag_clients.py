@@ -1,6 +1,7 @@
 """One client of segdagd: the lines that came from it and wait for their turn, and the replies that it hasn't taken yet."""
 import os
 import tempfile
+from contextlib import suppress
 from select import EPOLLIN, EPOLLOUT
 from time import monotonic
 
@@ -131,19 +132,30 @@ class Client:
         return (EPOLLIN if is_open else 0) | (EPOLLOUT if self.outbox.size else 0)
 
     def read(self):
-        """Takes some bytes in; False where the connection is broken."""
+        """Some bytes that came, if any did; None where the connection is broken."""
         try:
             data = self.sock.recv(FIRST if self.session is None else PIECE)
         except BlockingIOError:
-            return True
+            return b""
         except OSError:
-            return False
-        if data:
-            self.take_in(data)
-        else:
+            return None
+        if not data:
             # A line that no line feed ends may be half of one, of a client that was killed: it isn't carried out.
             self.is_over, self.part = True, b""
-        return True
+        return data
+
+    def is_alone(self, data):
+        """Whether these bytes are one line that may be sent on as it is, and nothing of the client is in front of it or still to be taken."""
+        if not self.is_ready or self.lines or self.part or self.is_skipping or self.afloat or self.outbox.size or self.is_told:
+            return False
+        return 0 < data.find(b"\n") == len(data) - 1 <= LINE and data[0] != HASH and RETURN not in data
+
+    def next_alone(self, line):
+        """The bytes of such a line for the program, and its group. It is now under way."""
+        group = Group(self, 1, int(line.startswith(HEAVY)), STORES if line.startswith(STORING) else line.startswith(MOVING))
+        self.is_keeping = False
+        self.afloat, self.heavy = 1, group.heavy
+        return self.prefix + line, group
 
     def take_in(self, data):
         """Cuts bytes into lines. Those that get no reply, empty ones and comments, are left out."""
@@ -260,6 +272,15 @@ class Client:
             self.ahead = 1
         elif heavy and size < SMALL * heavy:
             self.ahead = min(AHEAD, 2 * self.ahead)
+
+    def take_alone(self, data):
+        """Bytes of its replies, behind which no others were read with them: they are sent at once if none wait."""
+        if not self.outbox.size and not self.is_gone and not self.is_told:
+            self.moved = monotonic()
+            with suppress(OSError):
+                data = data[self.sock.send(data) :]
+        if data:
+            self.take(data)
 
     def give(self):
         """Sends replies as far as the client takes them; False where the connection is broken."""

@@ -35,6 +35,8 @@ class Own:
     def take(self, data):
         self.reply += data
 
+    take_alone = take
+
     def answered(self, _count, _heavy, _size):
         self.then(self.reply)
 
