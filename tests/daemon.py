@@ -67,6 +67,11 @@ def alone():
     same_store(served.log, store)
     texts = [drawn_text(lines, draw, k, max(300, COUNT // 2), settles=True) for k in range(3)]
     served = Served("--run-bytes", str(1 << 16), "--slow", "3600", log="other")
+    with Socket(served.path) as one, Socket(served.path) as two:
+        for line in (b"# a note\n", b"\n", b"\r\n"):
+            # What gets no reply takes none from another client.
+            if one.must("status").last != "ok 0 0 0" or one.socket.sendall(line) or two.must("status").last != "ok 0 0 0":
+                fail(f"behind {line!r} others are told something else")
     outs = at_once(served, texts, 6, talk_in_turn)
     served.end()
     more, store = compare(texts, outs, served.order)
