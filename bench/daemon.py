@@ -3,8 +3,8 @@
 
 Usage: bench/daemon.py [COMMITS [LINES]], behind `make run`; SEGDAG may say where the program is. Each client is a
 process that sends as far ahead as its socket takes, and the same process measures the pipe. What a kind of line is
-answered through the pipe, and through the daemon by each number of clients, stands in one row; each is the better of two. Two minutes with
-50,000 lines.
+answered through the pipe, and through the daemon by each number of clients, stands in one row; each is the better of two. The merge base is
+asked through the pipe too, in turn with the daemon, and an echo in Python tells what a line through a socket costs alone. Two minutes with 50,000 lines.
 """
 import os
 import random
@@ -113,16 +113,71 @@ def added(first, count):
             yield f"flush {name(i)}"
 
 
-def ask(sock, line):
-    sock.sendall(line)
-    reply = b""
-    while not reply.rpartition(b"\nok ")[1] and not reply.startswith(b"ok "):
-        reply += sock.recv(1 << 16)
+def whole(reply):
+    return reply.startswith(b"ok ") or b"\nok " in reply
+
+
+def through(to, back, line):
+    """The reply to a line that is written to one descriptor, read from another."""
+    os.write(to, line)
+    reply = os.read(back, 1 << 16)
+    while not whole(reply):
+        reply += os.read(back, 1 << 16)
     return reply
 
 
-def latency(path, draw, commits, others):
-    """Milliseconds of a merge base, each from its line to its reply: the median and the 99th of a hundred, beside so many busy clients."""
+def asked(to, back, draw, commits, prefix=b""):
+    """Milliseconds of near merge bases, each from its line to its reply, the least first."""
+    taken = []
+    for _ in range(2000):
+        i = draw.randrange(commits)
+        line = prefix + f"query gca(union({name(i)},{name(max(0, i - draw.randrange(1, 200)))}))\n".encode()
+        begun = time.perf_counter()
+        through(to, back, line)
+        taken.append(1000 * (time.perf_counter() - begun))
+    return sorted(taken)
+
+
+def asked_at(path, draw, commits):
+    """The same through a socket at this path."""
+    with socket.socket(socket.AF_UNIX, socket.SOCK_STREAM) as sock:
+        sock.connect(path)
+        through(sock.fileno(), sock.fileno(), b"status\n")
+        return asked(sock.fileno(), sock.fileno(), draw, commits)
+
+
+def asked_by_pipe(log, draw, commits):
+    """The same through the program's own pipe."""
+    with subprocess.Popen([PROGRAM, log, "--", "run"], stdin=subprocess.PIPE, stdout=subprocess.PIPE, bufsize=0) as ran:
+        to, back = ran.stdin.fileno(), ran.stdout.fileno()
+        through(to, back, b"0 status\n")
+        taken = asked(to, back, draw, commits, b"0 ")
+        ran.stdin.close()
+    return taken
+
+
+def echo(path):
+    """A process at this path that answers each line of one client by a reply as long as a merge base's."""
+    with socket.socket(socket.AF_UNIX, socket.SOCK_STREAM) as door:
+        door.bind(path)
+        door.listen(1)
+        print("ready", flush=True)
+        with door.accept()[0] as sock:
+            while sock.recv(1 << 16):
+                sock.send(b"0" * 40 + b"\nok 1\n")
+
+
+def asked_of_echo(path, draw, commits):
+    words = [sys.executable, os.path.abspath(__file__), "echo", path]
+    with subprocess.Popen(words, stdout=subprocess.PIPE, bufsize=0) as ran:
+        ran.stdout.readline()
+        taken = asked_at(path, draw, commits)
+    os.unlink(path)
+    return taken
+
+
+def asked_beside(path, draw, commits, others):
+    """The same of the daemon, beside so many busy clients."""
     with tempfile.NamedTemporaryFile(dir=os.path.dirname(path)) as given:
         given.write(b"".join(b"id %s\n" % name(draw.randrange(commits)).encode() for _ in range(300_000 if others else 1)))
         given.flush()
@@ -131,20 +186,33 @@ def latency(path, draw, commits, others):
         for process in ran:
             process.stdout.readline()
             process.stdin.write(b"\n")
-        taken = []
-        with socket.socket(socket.AF_UNIX, socket.SOCK_STREAM) as sock:
-            sock.connect(path)
-            for _ in range(2000):
-                i = draw.randrange(commits)
-                line = f"query gca(union({name(i)},{name(max(0, i - draw.randrange(1, 200)))}))\n".encode()
-                begun = time.perf_counter()
-                ask(sock, line)
-                taken.append(1000 * (time.perf_counter() - begun))
+        taken = asked_at(path, draw, commits)
         for process in ran:
             process.kill()
             process.communicate()
-    taken.sort()
-    return taken[len(taken) // 2], taken[len(taken) * 99 // 100]
+    return taken
+
+
+def told(what, taken):
+    print(f"| {what} | {taken[len(taken) // 2]:.3f} | {taken[len(taken) * 99 // 100]:.3f} |", flush=True)
+
+
+def latencies(log, path, draw, commits):
+    """A merge base through the program's pipe, an echo and the daemon in turn, and through the daemon beside others."""
+    print(f"\nA near merge base, from its line to its reply (aim: {LATENCY} ms at the median, alone).\n")
+    print("| Through | median, ms | 99th of a hundred, ms |\n|---|---|---|", flush=True)
+    for _ in range(TURNS):
+        told("the program's pipe", asked_by_pipe(log, draw, commits))
+        told("an echo in Python, which answers nothing", asked_of_echo(path + ".echo", draw, commits))
+        daemon = begin(log, path)
+        told("the daemon", asked_beside(path, draw, commits, 0))
+        daemon.terminate()
+        daemon.wait()
+    daemon = begin(log, path)
+    for others in (3, 15):
+        told(f"the daemon, beside {others} busy clients", asked_beside(path, draw, commits, others))
+    daemon.terminate()
+    daemon.wait()
 
 
 def begin(log, path):
@@ -189,15 +257,8 @@ def main():
         for kind, make in kinds(draw, commits, count):
             pipe, *shared = throughput(log, path, folder, make)
             print(f"| {kind} | {pipe:,.0f} | " + " | ".join(f"{number:,.0f}, {number / pipe:.0%}" for number in shared) + " |", flush=True)
-        print(f"\nA near merge base, from its line to its reply (aim: {LATENCY} ms at the median, alone).\n")
-        print("| Beside | median, ms | 99th of a hundred, ms |\n|---|---|---|", flush=True)
-        daemon = begin(log, path)
-        for others in (0, 3, 15):
-            middle, late = latency(path, draw, commits, others)
-            print(f"| {others} busy clients | {middle:.3f} | {late:.3f} |", flush=True)
-        daemon.terminate()
-        daemon.wait()
+        latencies(log, path, draw, commits)
 
 
 if __name__ == "__main__":
-    client(*sys.argv[2:]) if sys.argv[1:2] == ["client"] else main()
+    {"client": client, "echo": echo}[sys.argv[1]](*sys.argv[2:]) if sys.argv[1:2] in (["client"], ["echo"]) else main()

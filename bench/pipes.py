@@ -3,8 +3,8 @@
 `make run`; a million where none is given, a multiple of 1,000.
 
 A clone is timed from the start of its processes to their end, all else from a line to its reply, behind one that lets the mirror read
-its log. Of three times in turn the least is told. Then the same is asked behind a pipe whose answers come 20 ms late (bench/late.py), with
-the number of ways there and back.
+its log. Of three times in turn the least is told. Names are printed too where both ends have one processor. Then the same is asked behind
+a pipe whose answers come 20 ms late (bench/late.py), with the number of ways there and back.
 """
 import os
 import random
@@ -127,6 +127,19 @@ class Place:
         with self.behind() as mirror:
             return self.line(mirror.word, line)
 
+    def line_on_one(self, line):
+        """The same with both ends on one processor, where none wakes another one."""
+        processors = os.sched_getaffinity(0)
+        os.sched_setaffinity(0, {min(processors)})
+        try:
+            return self.line_behind(line)
+        finally:
+            os.sched_setaffinity(0, processors)
+
+    def on_one(self, what, line):
+        taken = min(self.line_on_one(line) for _ in range(TIMES))
+        print(f"{self.kind}: {what}: behind a pipe with both ends on one processor {taken:.3f} s", flush=True)
+
     def in_turn(self, what, at_path, behind, aim):
         taken = [(at_path(), behind()) for _ in range(TIMES)]
         path, pipe = (min(times) for times in zip(*taken))
@@ -154,6 +167,7 @@ def measure(kind, history, commits, folder):
     names = min(NAMES, commits)
     printed = f"0 query top(all,{names})"
     place.in_turn(f"the {names} newest names printed", lambda: place.line_at_path(printed), lambda: place.line_behind(printed), "3")
+    place.on_one(f"the {names} newest names printed", printed)
     lazy = place.lazy[1:]
     place.late("a clone", None, ["0 clone"])
     if kind == "a chain":

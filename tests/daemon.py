@@ -15,7 +15,7 @@ from pathlib import Path
 from daemon_lends import lends, shares
 from daemon_lib import (
     COUNT, FOLDER, HANGS, LINE, PART, PROGRAM, SEGDAGD, TOO_LONG, Served, at_once, compare, drawn_lines, drawn_text, fail, forked,
-    judged, moments, name, raw, same_store, talk, told_whole, waited, whole,
+    judged, moments, name, raw, same_store, talk, talk_in_turn, told_whole, waited, whole,
 )
 from segdag_lines import Refused, Socket
 
@@ -53,6 +53,32 @@ def run_sizes(order):
         else:
             sizes[-1] += len(line.split(b" ", 1)[1]) + 1
     return sizes
+
+
+def alone():
+    """Clients of which each waits for every reply: one by itself, and three at once that go over to new runs."""
+    draw = random.Random(15)
+    lines = drawn_lines(draw, 40)
+    text = drawn_text(lines, draw, 0, max(300, COUNT // 2))
+    served = Served()
+    outs = at_once(served, [text], 5, talk_in_turn)
+    served.end()
+    count, store = compare([text], outs, served.order)
+    same_store(served.log, store)
+    texts = [drawn_text(lines, draw, k, max(300, COUNT // 2), settles=True) for k in range(3)]
+    served = Served("--run-bytes", str(1 << 16), "--slow", "3600", log="other")
+    with Socket(served.path) as one, Socket(served.path) as two:
+        for line in (b"# a note\n", b"\n", b"\r\n"):
+            # What gets no reply takes none from another client.
+            if one.must("status").last != "ok 0 0 0" or one.socket.sendall(line) or two.must("status").last != "ok 0 0 0":
+                fail(f"behind {line!r} others are told something else")
+    outs = at_once(served, texts, 6, talk_in_turn)
+    served.end()
+    more, store = compare(texts, outs, served.order)
+    same_store(served.log, store)
+    if len(run_sizes(served.order)) < 2:
+        fail("there was no new run, so this tries less")
+    return f"{count} lines of a client that waits for each reply are answered so, and {more} of three over {len(run_sizes(served.order)) - 1} new runs"
 
 
 def runs():
@@ -575,7 +601,7 @@ def many():
     return f"{count} connections in a row leave {sizes[1][0] - sizes[0][0]} kB and no descriptor"
 
 
-PARTS = [wrong, seventeenth, two, rights, activated, idle, ends, unread, spilled, turns, drawn, runs, settled, lends, shares, killed, crashed, many]
+PARTS = [wrong, seventeenth, two, rights, activated, idle, ends, unread, spilled, turns, drawn, alone, runs, settled, lends, shares, killed, crashed, many]
 
 if __name__ == "__main__":
     FOLDER.mkdir()

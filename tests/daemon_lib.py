@@ -280,10 +280,26 @@ def same_store(served_log, store):
         fail("the log has other bytes")
 
 
-def at_once(served, texts, seed):
+def talk_in_turn(path, text, out, draw):
+    """Sends each line of the text, in one piece or two, when the one before it is answered."""
+    with raw(path) as sock, open(out, "wb", buffering=0) as kept:
+        for line in [line + b"\n" for line in text.split(b"\n")[:-1]]:
+            cut = draw.randrange(len(line)) if draw.random() < 0.2 else 0
+            for piece in (line[:cut], line[cut:]):
+                sock.sendall(piece)
+            reply = b"" if line.strip(b"\r\n") and not line.startswith(b"#") else b"ok\n"
+            while not (b"\n" + reply).rpartition(b"\n")[0].rpartition(b"\n")[2].startswith((b"ok", b"err")):
+                piece = sock.recv(1 << 16)
+                if not piece:
+                    sys.exit("the connection ended before a reply")
+                kept.write(piece)
+                reply += piece
+
+
+def at_once(served, texts, seed, talks=talk):
     """A client for each text, all at once; what they were answered."""
     outs = [FOLDER / f"out{k}" for k in range(len(texts))]
-    pids = [forked(talk, served.path, text, out, random.Random(seed + k)) for k, (text, out) in enumerate(zip(texts, outs))]
+    pids = [forked(talks, served.path, text, out, random.Random(seed + k)) for k, (text, out) in enumerate(zip(texts, outs))]
     waited(pids)
     return outs
 

@@ -1,8 +1,11 @@
 """One client of segdagd: the lines that came from it and wait for their turn, and the replies that it hasn't taken yet."""
 import os
 import tempfile
+from contextlib import suppress
 from select import EPOLLIN, EPOLLOUT
 from time import monotonic
+
+from segdag_runs import Group
 
 LINE = 16_384 - 3  # bytes of a client's line: one of the program has 16,384, and the longest session's number and a space are three
 TOO_LONG = b"err line 16384\n"
@@ -14,11 +17,9 @@ SETTLING = (b"flush", b"discard")  # lines behind which there may be nothing pen
 STORING = (b"flush", b"strip", b"clone", b"pull")  # lines that may make a new version, on which the session is then
 MOVING = (*STORING, b"reload")  # all behind which it is on the newest version
 HEAVY = (b"query", b"count", b"pull", b"clone", b"strip")  # lines that may take long, or have large replies
-HEAVY_LETTERS, MOVING_LETTERS = (b"q", b"n", b"p"), (b"l", b"p")  # each of these words has one, and no name and no `add`: to look for it takes no time
 AHEAD = 32  # such lines of one client under way at most, where their replies are small
 SMALL, LARGE = 1 << 12, 1 << 16  # replies below the one let more heavy lines go ahead, those above the other one alone
-
-
+HASH, RETURN, L, N, P, Q = b"#\rlnpq"
 STORES = 2  # of a group: its last line may make a new version
 
 
@@ -30,15 +31,13 @@ class Outbox:
     """Replies that weren't taken: the first in memory, what comes behind a megabyte in a file without a name."""
 
     def __init__(self, limit):
-        self.limit, self.held = limit, bytearray()
+        self.limit, self.held, self.size = limit, bytearray(), 0
         self.file, self.begin, self.end = None, 0, 0
 
-    def __len__(self):
-        return len(self.held) + self.end - self.begin
-
     def put(self, data):
-        if self.begin == self.end and len(self.held) + len(data) <= KEPT:
+        if self.begin == self.end and self.size + len(data) <= KEPT:
             self.held += data
+            self.size += len(data)
             return
         if self.end + len(data) > self.limit:
             raise Full
@@ -50,34 +49,40 @@ class Outbox:
         except OSError as error:
             raise Full from error
         self.end += len(data)
+        self.size += len(data)
 
     def refill(self):
         """Takes a piece of the file to memory."""
         self.held += os.pread(self.file.fileno(), min(PIECE, self.end - self.begin), self.begin)
         self.begin += len(self.held)
         if self.begin == self.end:
-            self.close()
+            self.drop_file()
 
     def give(self, sock):
         """Sends what the socket takes, up to four pieces, so that others have their turn; how many bytes that were."""
-        sent = 0
+        before = self.size
         for _ in range(4):
             if not self.held and self.begin < self.end:
                 self.refill()
-            if not self.held:
-                break
             try:
                 count = sock.send(self.held)
             except BlockingIOError:
                 break
             del self.held[:count]
-            sent += count
-        return sent
+            self.size -= count
+            if not self.size:
+                break
+        return before - self.size
 
-    def close(self):
+    def drop_file(self):
+        """Lets go of what the file has."""
         if self.file is not None:
             self.file.close()
-        self.file, self.begin, self.end = None, 0, 0
+        self.file, self.begin, self.end, self.size = None, 0, 0, len(self.held)
+
+    def close(self):
+        self.held.clear()
+        self.drop_file()
 
 
 class Client:
@@ -101,16 +106,13 @@ class Client:
         self.afloat, self.heavy, self.ahead = 0, 0, 1
         self.outbox, self.moved, self.mask = Outbox(limit), 0.0, 0
 
-    def has_lines(self):
-        return self.at < len(self.lines)
-
     def waiting(self):
         """How many lines of it weren't sent on yet."""
         return len(self.lines) - self.at
 
     def is_quiet(self):
         """Nothing of it is under way in either direction. Half a line is none yet."""
-        return not (self.afloat or self.has_lines() or self.outbox or self.is_told)
+        return not (self.afloat or self.lines or self.outbox.size or self.is_told)
 
     def since(self):
         """The moment from which on it is quiet."""
@@ -122,62 +124,78 @@ class Client:
 
     def is_done(self):
         """It sends nothing more and has all replies, or it had its last word."""
-        return not self.outbox and (self.is_told or self.is_over and not self.has_lines() and not self.afloat)
+        return not self.outbox.size and (self.is_told or self.is_over and not self.lines and not self.afloat)
 
     def wanted(self):
         """What is to be told of its socket."""
-        limit = FIRST if self.session is None else PIECE
-        is_open = not self.is_over and not self.is_told and self.queued < limit
-        return EPOLLIN * is_open | EPOLLOUT * bool(self.outbox)
+        is_open = not self.is_over and not self.is_told and self.queued < (FIRST if self.session is None else PIECE)
+        return (EPOLLIN if is_open else 0) | (EPOLLOUT if self.outbox.size else 0)
 
     def read(self):
-        """Takes some bytes in; False where the connection is broken."""
+        """Some bytes that came, if any did; None where the connection is broken."""
         try:
             data = self.sock.recv(FIRST if self.session is None else PIECE)
         except BlockingIOError:
-            return True
+            return b""
         except OSError:
-            return False
-        if data:
-            self.take_in(data)
-        else:
+            return None
+        if not data:
             # A line that no line feed ends may be half of one, of a client that was killed: it isn't carried out.
             self.is_over, self.part = True, b""
-        return True
+        return data
+
+    def is_alone(self, data):
+        """Whether these bytes are one line that may be sent on as it is, and nothing of the client is in front of it or still to be taken."""
+        if not self.is_ready or self.lines or self.part or self.is_skipping or self.afloat or self.outbox.size or self.is_told:
+            return False
+        return 0 < data.find(b"\n") == len(data) - 1 <= LINE and data[0] != HASH and RETURN not in data
+
+    def next_alone(self, line):
+        """The bytes of such a line for the program, and its group. It is now under way."""
+        group = Group(self, 1, int(line.startswith(HEAVY)), STORES if line.startswith(STORING) else line.startswith(MOVING))
+        self.is_keeping = False
+        self.afloat, self.heavy = 1, group.heavy
+        return self.prefix + line, group
 
     def take_in(self, data):
         """Cuts bytes into lines. Those that get no reply, empty ones and comments, are left out."""
         data = self.part + data
         lines = data.split(b"\n")
         self.part = lines.pop()
-        if lines and self.is_skipping:
+        if self.is_skipping and lines:
             lines[0], self.is_skipping = None, False
         if self.is_skipping or len(self.part) > LINE + 1:
             self.is_skipping, self.part = True, b""
-        if None in lines or b"" in lines or b"#" in data or b"\r" in data or len(max(lines, key=len, default=b"")) > LINE:
+        if HASH in data or RETURN in data or None in lines or b"" in lines or len(max(lines, key=len, default=b"")) > LINE:
             lines = [judged(line) for line in lines]
             lines = [line for line in lines if line != b""]
         if not lines:
             return
-        self.is_mixed = self.is_mixed or None in lines or has(HEAVY, HEAVY_LETTERS, data)
-        self.is_moving = self.is_moving or has(MOVING, MOVING_LETTERS, data)
+        self.is_mixed = self.is_mixed or None in lines or has_heavy(data)
+        self.is_moving = self.is_moving or has_moving(data)
         self.queued += len(data)
-        self.lines = self.lines[self.at :] + lines
+        self.lines = self.lines[self.at :] + lines if self.lines else lines
         self.at = 0
 
     def may_send(self):
-        """Whether its next line can be sent on."""
-        return self.is_ready and self.has_lines() and len(self.outbox) < UNREAD and self.pick(1) > 0
+        """Whether its next line, where it has one, can be sent on."""
+        if not self.is_ready or self.outbox.size >= UNREAD:
+            return False
+        if self.holds_adds or self.is_settling:
+            return self.pick(1) > 0
+        line = self.lines[self.at]
+        return not self.is_mixed or line is not None and self.heavy + line.startswith(HEAVY) <= self.ahead
 
     def refuse(self):
         """Answers lines that are too long, when all in front of them are answered."""
-        while self.is_ready and self.has_lines() and self.lines[self.at] is None and not self.afloat and len(self.outbox) < UNREAD:
+        while self.is_ready and self.lines and self.lines[self.at] is None and not self.afloat and self.outbox.size < UNREAD:
             self.take(TOO_LONG)
             self.passed(1)
 
     def pick(self, most):
         """How many of its next lines are sent on now."""
-        count = min(most, len(self.lines) - self.at)
+        left = len(self.lines) - self.at
+        count = most if most < left else left
         if not self.is_mixed and not self.holds_adds and not self.is_settling:
             return count
         heavy = self.heavy
@@ -206,36 +224,42 @@ class Client:
         """The bytes of the next lines for the program, which are now under way, and the groups that they make."""
         lines = self.lines[self.at : self.at + count]
         text = self.prefix + (b"\n" + self.prefix).join(lines) + b"\n"
-        may_move = self.is_moving and has(MOVING, MOVING_LETTERS, text)
-        groups = list(self.groups(lines, may_move)) if self.is_mixed or may_move else [(self, count, 0, False)]
+        if self.is_moving and has_moving(text):
+            groups = list(self.groups(lines))
+        else:
+            groups = [Group(self, count, self.count_heavy(lines), False)]
         if self.is_settling and lines[-1].startswith(SETTLING):
             self.holds_adds, self.is_settling = True, False
         self.is_keeping = False
         self.afloat += count
-        self.heavy += sum(heavy for _, _, heavy, _ in groups)
+        for group in groups:
+            self.heavy += group.heavy
         self.passed(count)
         return text, groups
 
-    def groups(self, lines, may_move):
+    def groups(self, lines):
         """These lines in groups, of which none but the last line may move the session."""
         begin = 0
-        ends = [end for end, line in enumerate(lines, 1) if line.startswith(MOVING)] if may_move else []
+        ends = [end for end, line in enumerate(lines, 1) if line.startswith(MOVING)]
         for end in ends if ends[-1:] == [len(lines)] else [*ends, len(lines)]:
             some = lines[begin:end]
-            heavy = sum(line.startswith(HEAVY) for line in some) if self.is_mixed else 0
-            yield self, len(some), heavy, STORES if some[-1].startswith(STORING) else some[-1].startswith(MOVING)
+            moves = STORES if some[-1].startswith(STORING) else some[-1].startswith(MOVING)
+            yield Group(self, len(some), self.count_heavy(some), moves)
             begin = end
+
+    def count_heavy(self, lines):
+        return sum([line.startswith(HEAVY) for line in lines]) if self.is_mixed else 0
 
     def passed(self, count):
         self.at += count
-        if not self.has_lines():
+        if self.at == len(self.lines):
             self.lines, self.at, self.queued, self.is_mixed, self.is_moving = [], 0, 0, False, False
 
     def take(self, data):
         """Bytes of its replies."""
         if self.is_gone or self.is_told:
             return
-        if not self.outbox:
+        if not self.outbox.size:
             self.moved = monotonic()
         self.outbox.put(data)
 
@@ -248,6 +272,15 @@ class Client:
             self.ahead = 1
         elif heavy and size < SMALL * heavy:
             self.ahead = min(AHEAD, 2 * self.ahead)
+
+    def take_alone(self, data):
+        """Bytes of its replies, behind which no others were read with them: they are sent at once if none wait."""
+        if not self.outbox.size and not self.is_gone and not self.is_told:
+            self.moved = monotonic()
+            with suppress(OSError):
+                data = data[self.sock.send(data) :]
+        if data:
+            self.take(data)
 
     def give(self):
         """Sends replies as far as the client takes them; False where the connection is broken."""
@@ -262,25 +295,31 @@ class Client:
         """The last that it is told: what it sent and what is under way for it isn't answered any more."""
         if self.is_told or self.is_gone:
             return
-        if not self.outbox:
+        if not self.outbox.size:
             self.moved = monotonic()
         try:
             self.outbox.put(line)
         except Full:
-            self.outbox.close()
+            self.outbox.drop_file()
         self.lines, self.at, self.part, self.is_told = [], 0, b"", True
 
     def close(self):
         self.is_gone, self.is_ready = True, False
         self.lines, self.at, self.part = [], 0, b""
         self.outbox.close()
-        self.outbox.held.clear()
         self.sock.close()
 
 
-def has(words, letters, data):
-    """Whether one of these words is in it, by one of their letters first."""
-    return any(letter in data for letter in letters) and any(word in data for word in words)
+def has_heavy(data):
+    """Whether a line of these bytes may be heavy. Each word is looked for behind one of its letters that no name and no `add` has: to look for
+    that takes no time."""
+    found = (Q in data and b"query" in data) or (N in data and (b"count" in data or b"clone" in data))
+    return found or (P in data and (b"pull" in data or b"strip" in data))
+
+
+def has_moving(data):
+    """Whether a line of these bytes may move the session, in the same way."""
+    return (L in data and any([word in data for word in MOVING])) or (P in data and b"strip" in data)
 
 
 def judged(line):

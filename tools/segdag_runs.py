@@ -35,12 +35,14 @@ class Own:
     def take(self, data):
         self.reply += data
 
+    take_alone = take
+
     def answered(self, _count, _heavy, _size):
         self.then(self.reply)
 
 
 class Group:
-    """Lines of one owner that were sent on at once: how many there are and how many still wait for a reply, how many may be heavy, whether
+    """Lines of one owner that are sent on at once: how many there are and how many still wait for a reply, how many may be heavy, whether
     the last one may move the session to the newest version, how many bytes their replies have so far, and when they were sent."""
 
     __slots__ = ("owner", "count", "left", "heavy", "moves", "size", "sent")
@@ -61,6 +63,9 @@ class Run:
         self.to, self.back = self.process.stdin.fileno(), self.process.stdout.fileno()
         self.groups, self.afloat = deque(), 0
         self.unsent, self.carry, self.given = bytearray(), b"", 0
+        # Where replies are read to. It is kept: room of this size that is taken for each read costs more than all else about that.
+        self.room = memoryview(bytearray(PIECE))
+        self.rooms = (self.room,)
         self.is_closed = False
         for place in (self.to, self.back):
             with suppress(OSError):
@@ -69,7 +74,7 @@ class Run:
     def load(self):
         """Waits until the log is loaded; the status where the program ended before."""
         with suppress(BrokenPipeError):
-            self.send([(Own(len), 1, 0, False)], b"0 status\n")
+            self.send((Group(Own(len), 1, 0, False),), b"0 status\n")
         reply = b""
         while not reply.endswith(b"\n"):
             piece = os.read(self.back, PIECE)
@@ -85,10 +90,10 @@ class Run:
         return None
 
     def send(self, groups, data):
-        """Sends lines on, of groups: of each the owner, how many lines it has and how many heavy ones, and whether its last one moves."""
-        for owner, count, heavy, moves in groups:
-            self.groups.append(Group(owner, count, heavy, moves))
-            self.afloat += count
+        """Sends the lines of these groups on."""
+        self.groups += groups
+        for group in groups:
+            self.afloat += group.count
         self.given += len(data)
         self.unsent += data
         self.push()
@@ -107,12 +112,12 @@ class Run:
     def replies(self):
         """The next pieces of replies, each with the group that it belongs to and whether that one is answered by it. None at the end."""
         try:
-            data = os.read(self.back, PIECE)
+            count = os.readv(self.back, self.rooms)
         except BlockingIOError:
             return []
-        if not data:
+        if not count:
             return None
-        data = self.carry + data
+        data = self.carry + self.room[:count]
         cut = data.rfind(b"\n") + 1
         self.carry = data[cut:]
         if data.endswith(b"\nerr disk\n") or data == b"err disk\n":
@@ -122,18 +127,22 @@ class Run:
     def pieces(self, data, cut):
         """The bytes up to `cut`, by groups."""
         pieces, at = [], 0
-        whole = data.startswith(LAST) + sum(data.count(b"\n" + word, 0, cut) for word in LAST)
+        whole = data.startswith(LAST) + data.count(b"\nok", 0, cut) + data.count(b"\nerr", 0, cut)
         while at < cut:
+            # So many replies end from here on.
             group = self.groups[0]
-            left = min(group.left, whole)
+            left = group.left if group.left < whole else whole
             whole -= left
             group.left -= left
             self.afloat -= left
-            stop = cut if group.left else replies(left).match(data, at).end()
+            if group.left:
+                pieces.append((group, data[at:cut]))
+                break
+            # Behind the reply to the last line of all nothing comes.
+            stop = replies(left).match(data, at).end() if self.afloat else cut
             pieces.append((group, data[at:stop]))
             at = stop
-            if not group.left:
-                self.groups.popleft()
+            self.groups.popleft()
         return pieces
 
     def close(self):

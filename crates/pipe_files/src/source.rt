@@ -6,15 +6,22 @@ ghost use Rattle.outside.specs.Counts.{HasCause};
 use line_io::{Source, SourceFault};
 use std::fs::{File, OpenOptions};
 use std::io;
-use std::io::{ErrorKind, Read};
+use std::io::{BufReader, ErrorKind, Read};
 
-/// What is at a path, read from there on. It is opened when bytes are first wanted, and each error is a counted fault.
+/// What is at a path, read from there on. It is opened when bytes are first wanted, and each error is a counted fault. What has come is
+/// read by one call of the system, up to 8,192 bytes, and kept until it is wanted: a frame's length and its body cost one call.
 #[derive(Drop)]
 pub struct PipeSource {
     rt: HostRuntime,
     path: String,
-    file: Option<File>,
+    file: Option<BufReader<File>>,
     faults: u64,
+}
+
+/// Opens what is at the path for reading.
+fn open(rt: &HostRuntime, path: &str) -> io::Result<BufReader<File>> {
+    let file = OpenOptions::new().read(true).open(rt, path)?;
+    BufReader::new(rt.alloc(), file)
 }
 
 /// One read, tried again where a signal interrupted it.
@@ -49,8 +56,7 @@ impl PipeSource {
         ensures { self.new.faults ≡ self.old.faults }
     {
         if self.file.is_none() {
-            let path = self.path.as_str();
-            self.file = Some(OpenOptions::new().read(true).open(&self.rt, path)?);
+            self.file = Some(open(&self.rt, self.path.as_str())?);
         }
         Ok(())
     }
