@@ -1,2 +1,3 @@
 pub mod AsBox
 pub mod Beside
+pub mod Followed

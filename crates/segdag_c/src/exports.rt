@@ -1,11 +1,12 @@
 //! The functions that C calls.
 
-ghost use Rattle.std.specs.Prelude.{◌≡◌, ◌≤◌, ◌-◌, ◌++◌, IfSome, false, length, min, take, drop};
+ghost use Rattle.std.specs.Prelude.{◌≡◌, ◌≤◌, ◌-◌, ◌++◌, IfSome, MatchResult, false, length, min, take, drop};
 ghost use Rattle.step_rules.specs.Verb.{IdOf};
 ghost use Rattle.step_rules.specs.Reply.{Identified};
 ghost use Rattle.segdag_c.specs.Calls.{Tells, SlotDoes, IsRefusedBy, IsCopied};
 ghost use Rattle.segdag_c.specs.Answers.{HeldAnswers, SlotAnswers};
 ghost use Rattle.segdag_c.specs.Following.{EndsAt, SlotFollows};
+ghost use Rattle.segdag_c.specs.Codes.{failure_code};
 
 use crate::answering::answer_line;
 use crate::calls::{add, count, id, query};
@@ -388,7 +389,9 @@ pub extern "C" fn segdag_core_names(
 }
 
 /// The code of a call that gives nothing.
-fn code_of_done(done: Result<(), Failure>) -> u32 {
+fn code_of_done(done: Result<(), Failure>) -> u32
+    ensures { MatchResult done (λ _. result ≡ 0) (λ failure. result ≡ failure_code failure) }
+{
     match done {
         Ok(()) => DONE,
         Err(failure) => code_of(failure),
