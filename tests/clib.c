@@ -1,6 +1,6 @@
 /* What tests/clib.sh runs over the library, by the header alone. `clib LOG [REMOTE].. -- run [--cache N]` answers lines as the program
    does, and ends with the library's status; `clib import LOG COUNT EVERY` imports rows; `clib typed LOG` tries the typed calls, and
-   `clib mirrors LOG THERE OTHER` those beside mirrors. */
+   `clib mirrors LOG THERE OTHER` those beside mirrors; `clib pulls LOG THERE COUNT` pulls beside a log that grows to so many rows. */
 #include "segdag.h"
 #include <pthread.h>
 #include <stdio.h>
@@ -141,10 +141,30 @@ static void try_arguments(segdag *store, const char *path) {
     segdag_names_free(&found);
 }
 
+/* Each call with a store, from another thread than its own. */
 static void *try_thread(void *store) {
+    static const segdag_name_bytes names[2];
     segdag_sizes sizes;
+    segdag_text reply = {0};
+    segdag_names found = {0};
+    segdag_name_bytes name;
+    segdag_pair pair;
+    segdag_distance distance;
     segdag *copy = store;
+    uint64_t number;
+    size_t done;
+    bool is;
+    memset(&pair, 0, sizeof pair);
     WANTS(segdag_sizes_of(store, 0, &sizes) == SEGDAG_THREAD && segdag_close(&copy) == SEGDAG_THREAD && copy == store);
+    WANTS(segdag_line(store, "0 status", 8, &reply) == SEGDAG_THREAD && segdag_add_mirror(store, "/") == SEGDAG_THREAD);
+    WANTS(segdag_add(store, 0, names[0], NULL, 0, &number) == SEGDAG_THREAD && segdag_flush(store, 0, NULL, 0, &sizes) == SEGDAG_THREAD);
+    WANTS(segdag_strip(store, 0, names, 1, &sizes) == SEGDAG_THREAD && segdag_clone(store, 0, &number) == SEGDAG_THREAD);
+    WANTS(segdag_pull(store, 0, &sizes) == SEGDAG_THREAD && segdag_reload(store, 0, &number) == SEGDAG_THREAD);
+    WANTS(segdag_discard(store, 0, &number) == SEGDAG_THREAD && segdag_id(store, 0, names[0], &number) == SEGDAG_THREAD);
+    WANTS(segdag_name(store, 0, 0, name) == SEGDAG_THREAD && segdag_count(store, 0, "all", 3, &number) == SEGDAG_THREAD);
+    WANTS(segdag_list(store, 0, "all", 3, &found) == SEGDAG_THREAD && segdag_is_ancestor(store, 0, names[0], names[1], &is) == SEGDAG_THREAD);
+    WANTS(segdag_merge_bases(store, 0, names[0], names[1], &found) == SEGDAG_THREAD && found.count == 0);
+    WANTS(segdag_ahead_behind(store, 0, &pair, 1, &distance, &done) == SEGDAG_THREAD && done == 0);
     return NULL;
 }
 
@@ -273,6 +293,21 @@ static int try_mirrors(const char *path, const char *there, const char *other) {
     return failures != 0;
 }
 
+/* Pulls beside a log that another process extends, until it has so many rows: none may be refused. */
+static int pull_meanwhile(const char *path, char *there, uint64_t count) {
+    segdag *store = NULL;
+    segdag_sizes sizes = {0};
+    unsigned long pulls = 0;
+    segdag_status status = open_beside(path, 16, &there, 1, &store);
+    if (status == SEGDAG_OK)
+        status = segdag_clone(store, 0, &sizes.master);
+    for (; status == SEGDAG_OK && sizes.master < count; pulls++)
+        status = segdag_pull(store, 0, &sizes);
+    printf("pulled %lu\n", pulls);
+    segdag_close(&store);
+    return stopped("pull", status);
+}
+
 static int try_typed(const char *path) {
     static segdag_name_bytes names[116];
     segdag *store = NULL;
@@ -308,6 +343,8 @@ int main(int count, char **words) {
         return try_mirrors(words[2], words[3], words[4]);
     if (count == 3 && !strcmp(words[1], "typed"))
         return try_typed(words[2]);
+    if (count == 5 && !strcmp(words[1], "pulls"))
+        return pull_meanwhile(words[2], words[3], strtoull(words[4], NULL, 10));
     if (count == 5 && !strcmp(words[1], "import"))
         return import_rows(words[2], strtoull(words[3], NULL, 10), strtoull(words[4], NULL, 10));
     fputs("clib: words\n", stderr);

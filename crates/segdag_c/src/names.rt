@@ -1,6 +1,9 @@
 //! Names as bytes, 20 each, one behind another.
 
-ghost use Rattle.std.specs.Prelude.{◌≡◌, ◌≤◌, ◌*◌, length, IfOk};
+ghost use Rattle.std.specs.Prelude.{◌≡◌, ◌≤◌, ◌*◌, ◌%◌, length, IfOk};
+ghost use Rattle.std.specs.List.{concat};
+ghost use Rattle.dag_store.specs.Names.{names_left};
+ghost use Rattle.segdag_c.specs.Names.{AreJoined};
 
 use dag_store::Names;
 use id_groups::{Name, NameRef};
@@ -11,7 +14,8 @@ pub(crate) const NAME_SIZE: usize = 20;
 
 /// The names that stand one behind the other in these bytes; what is left behind them is no name.
 pub(crate) fn names_in(alloc: Global, bytes: &[u8]) -> Result<Vec<Name>, AllocError>
-    ensures { IfOk result (λ names. length names.items * 20 ≤ length bytes.now) }
+    ensures few { IfOk result (λ names. length names.items * 20 ≤ length bytes.now) }
+    ensures joined { length bytes.now % 20 ≡ 0 → IfOk result (λ names. AreJoined names.items bytes.now) }
 {
     let mut names = Vec::new(alloc);
     let mut rest = bytes;
@@ -23,7 +27,9 @@ pub(crate) fn names_in(alloc: Global, bytes: &[u8]) -> Result<Vec<Name>, AllocEr
 }
 
 /// The bytes of names, one behind the other.
-pub(crate) fn join(alloc: Global, names: Names<'_>) -> Result<Vec<u8>, AllocError> {
+pub(crate) fn join(alloc: Global, names: Names<'_>) -> Result<Vec<u8>, AllocError>
+    ensures { IfOk result (λ bytes. bytes.items ≡ concat (names_left names.entry)) }
+{
     let mut bytes = Vec::new(alloc);
     for name in names {
         bytes.extend_from_slice(name.bytes)?;

@@ -1,0 +1,144 @@
+-- What codes tell of answers.
+use Rattle.std.proofs.Common.{◌≡◌, ◌<◌, ◌≤◌, ◌⊎◌, inl, inr, ℕ, Option, Some, None, Ok, Err, IfOk, IfErr, IfSome, sym, ◌∙◌, subst, arith, lit<}
+use Rattle.std.specs.declared.result.Result.{Result}
+use Rattle.step_rules.specs.Reply.{Reply, Added as IsAdded, Old as IsOld, Refused as IsRefused}
+use Rattle.step_rules.specs.declared.Refusal.{Refusal}
+use Rattle.step_rules.specs.declared.Refusal.TheVariants as why
+use Rattle.dag_store.specs.declared.replies.Added.{Added}
+use Rattle.dag_store.specs.declared.replies.Added.TheVariants.{New, Old}
+use Rattle.segdag_c.specs.declared.codes.Failure.{Failure}
+use Rattle.segdag_c.specs.declared.codes.Failure.TheVariants.{Disk, NoLog, Reply as NoReply, Memory, Closed, AlreadyOpen, Argument, Syntax, Refused}
+use Rattle.segdag_c.specs.Calls.{Tells, TellsAdded, IsRefusal}
+use Rattle.segdag_c.specs.Codes.{failure_code, refusal_code}
+use Rattle.segdag_c.specs.Typed.{reply_of, added_reply, refusal_in, IsNoRefusal}
+
+pub refused-positive : (r : Refusal) → 0 < refusal_code r
+refused-positive why.Memory = lit< tt
+refused-positive (why.Unknown name) = lit< tt
+refused-positive (why.Twice name) = lit< tt
+refused-positive (why.Differs name) = lit< tt
+refused-positive (why.Conflict name) = lit< tt
+refused-positive (why.Lost name) = lit< tt
+refused-positive (why.InMaster name) = lit< tt
+refused-positive (why.Emptied count) = lit< tt
+refused-positive (why.Full what limit) = lit< tt
+refused-positive (why.Answer count) = lit< tt
+refused-positive (why.NotEmpty master others) = lit< tt
+refused-positive (why.Pending count) = lit< tt
+refused-positive why.NoRemote = lit< tt
+refused-positive (why.Remote count) = lit< tt
+refused-positive (why.MismatchPath name back) = lit< tt
+refused-positive (why.MismatchNames asked given) = lit< tt
+refused-positive (why.MismatchClone at) = lit< tt
+refused-positive (why.MismatchRow id) = lit< tt
+
+pub failure-positive : (f : Failure) → 0 < failure_code f
+failure-positive Disk = lit< tt
+failure-positive NoLog = lit< tt
+failure-positive NoReply = lit< tt
+failure-positive Memory = lit< tt
+failure-positive Closed = lit< tt
+failure-positive AlreadyOpen = lit< tt
+failure-positive Argument = lit< tt
+failure-positive Syntax = lit< tt
+failure-positive (Refused refusal) = refused-positive refusal
+
+-- no failure is told by 0
+pub no-zero : (f : Failure) (code : ℕ) → code ≡ failure_code f → code ≡ 0 → ⊥
+no-zero f code told zero = let p = failure-positive f in omega (arith, told, zero, p)
+
+-- a code from 33 on is a refusal's
+pub refused-code : (Done : Reply → Type 0) (f : Failure) (code : ℕ) → code ≡ failure_code f → 33 ≤ code → IfSome (refusal_in f) (λ r. Done (IsRefused r)) → IsRefusal code Done
+refused-code Done Disk code told many done = absurd (omega (arith, told, many))
+refused-code Done NoLog code told many done = absurd (omega (arith, told, many))
+refused-code Done NoReply code told many done = absurd (omega (arith, told, many))
+refused-code Done Memory code told many done = absurd (omega (arith, told, many))
+refused-code Done Closed code told many done = absurd (omega (arith, told, many))
+refused-code Done AlreadyOpen code told many done = absurd (omega (arith, told, many))
+refused-code Done Argument code told many done = absurd (omega (arith, told, many))
+refused-code Done Syntax code told many done = absurd (omega (arith, told, many))
+refused-code Done (Refused refusal) code told many done = (refusal, told, done)
+
+-- what is known of the reply that a failure is, of its refusal
+pub as-refusal : {X : Type 0} (told : X → Reply) (f : Failure) (Done : Reply → Type 0) → IfSome (reply_of told (Err f)) Done → IfSome (refusal_in f) (λ r. Done (IsRefused r))
+as-refusal told Disk Done done = tt
+as-refusal told NoLog Done done = tt
+as-refusal told NoReply Done done = tt
+as-refusal told Memory Done done = tt
+as-refusal told Closed Done done = tt
+as-refusal told AlreadyOpen Done done = tt
+as-refusal told Argument Done done = tt
+as-refusal told Syntax Done done = tt
+as-refusal told (Refused refusal) Done done = done
+
+-- where the store wasn't asked there is no reply
+pub no-reply : {X : Type 0} (told : X → Reply) (f : Failure) (Done : Reply → Type 0) → IsNoRefusal f → IfSome (reply_of told (Err f)) Done
+no-reply told Disk Done none = tt
+no-reply told NoLog Done none = tt
+no-reply told NoReply Done none = tt
+no-reply told Memory Done none = tt
+no-reply told Closed Done none = tt
+no-reply told AlreadyOpen Done none = tt
+no-reply told Argument Done none = tt
+no-reply told Syntax Done none = tt
+no-reply told (Refused refusal) Done none = absurd none
+
+pub no-refusal : (f : Failure) (Done : Refusal → Type 0) → IsNoRefusal f → IfSome (refusal_in f) Done
+no-refusal Disk Done none = tt
+no-refusal NoLog Done none = tt
+no-refusal NoReply Done none = tt
+no-refusal Memory Done none = tt
+no-refusal Closed Done none = tt
+no-refusal AlreadyOpen Done none = tt
+no-refusal Argument Done none = tt
+no-refusal Syntax Done none = tt
+no-refusal (Refused refusal) Done none = absurd none
+
+-- a number that is told with 0
+pub told-number : (Done : ℕ → Type 0) (answer : Result ℕ Failure) (number code : ℕ) → Tells answer number code → code ≡ 0 → IfOk answer Done → Done number
+told-number Done (Ok value) number code told zero done = subst Done (sym told.1) done
+told-number Done (Err f) number code told zero done = absurd (no-zero f code told zero)
+
+pub told-refused : (Done : Reply → Type 0) (answer : Result ℕ Failure) (number code : ℕ) → Tells answer number code → 33 ≤ code
+    → IfErr answer (λ f. IfSome (refusal_in f) (λ r. Done (IsRefused r))) → IsRefusal code Done
+told-refused Done (Ok value) number code told many done = absurd (let zero = told.0 in omega (arith, zero, many))
+told-refused Done (Err f) number code told many done = refused-code Done f code told many done
+
+-- the same of the reply that an answer is
+pub told-reply : (reply : ℕ → Reply) (Done : Reply → Type 0) (answer : Result ℕ Failure) (number code : ℕ) → Tells answer number code → code ≡ 0
+    → IfSome (reply_of reply answer) Done → Done (reply number)
+told-reply reply Done (Ok value) number code told zero done = subst (λ n. Done (reply n)) (sym told.1) done
+told-reply reply Done (Err f) number code told zero done = absurd (no-zero f code told zero)
+
+pub refused-reply : (reply : ℕ → Reply) (Done : Reply → Type 0) (answer : Result ℕ Failure) (number code : ℕ) → Tells answer number code → 33 ≤ code
+    → IfSome (reply_of reply answer) Done → IsRefusal code Done
+refused-reply reply Done (Ok value) number code told many done = absurd (let zero = told.0 in omega (arith, zero, many))
+refused-reply reply Done (Err f) number code told many done = refused-code Done f code told many (as-refusal reply f Done done)
+
+-- of an add
+pub told-added : (Done : Reply → Type 0) (answer : Result Added Failure) (id code : ℕ) → TellsAdded answer id code → code ≡ 0 → IfSome (added_reply answer) Done
+    → Done (IsAdded id) ⊎ Done (IsOld id)
+told-added Done (Ok (New value)) id code told zero done = inl (subst (λ n. Done (IsAdded n)) (sym told.1) done)
+told-added Done (Ok (Old value)) id code told zero done = inr (subst (λ n. Done (IsOld n)) (sym told.1) done)
+told-added Done (Err f) id code told zero done = absurd (no-zero f code told zero)
+
+pub refused-added : (Done : Reply → Type 0) (answer : Result Added Failure) (id code : ℕ) → TellsAdded answer id code → 33 ≤ code → IfSome (added_reply answer) Done
+    → IsRefusal code Done
+refused-added Done (Ok added) id code told many done = absurd (let zero = told.0 in omega (arith, zero, many))
+refused-added Done (Err f) id code told many done = refused-code Done f code told many (as-refusal (λ (a : Added). IsOld 0) f Done (again f done))
+  where
+    again : (f : Failure) → IfSome (added_reply (Err f)) Done → IfSome (reply_of (λ (a : Added). IsOld 0) (Err f)) Done
+    again Disk done = tt
+    again NoLog done = tt
+    again NoReply done = tt
+    again Memory done = tt
+    again Closed done = tt
+    again AlreadyOpen done = tt
+    again Argument done = tt
+    again Syntax done = tt
+    again (Refused refusal) done = done
+
+-- what is known of a reply leads to more of it
+pub known-of : {X : Type 0} (o : Option X) (P Q : X → Type 0) → ((x : X) → P x → Q x) → IfSome o P → IfSome o Q
+known-of None P Q more p = tt
+known-of (Some x) P Q more p = more x p
