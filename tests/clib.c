@@ -1,11 +1,15 @@
 /* What tests/clib.sh runs over the library, by the header alone. `clib LOG [REMOTE].. -- run [--cache N]` answers lines as the program
    does, and ends with the library's status; `clib import LOG COUNT EVERY` imports rows; `clib typed LOG` tries the typed calls, and
    `clib mirrors LOG THERE OTHER` those beside mirrors; `clib pulls LOG THERE COUNT` pulls beside a log that grows to so many rows. */
+#define _GNU_SOURCE
 #include "segdag.h"
 #include <pthread.h>
 #include <stdio.h>
 #include <stdlib.h>
 #include <string.h>
+#include <sys/syscall.h>
+#include <sys/types.h>
+#include <unistd.h>
 
 static int stopped(const char *what, segdag_status status) {
     if (status)
@@ -264,6 +268,61 @@ static void write_bytes(const char *path, const char *bytes) {
     WANTS(file && fputs(bytes, file) >= 0 && fclose(file) == 0);
 }
 
+/* What is done before the next read of a file: the library reads by this pread. */
+static void (*before_read)(void);
+
+ssize_t pread(int fd, void *bytes, size_t size, off_t at) {
+    if (before_read)
+        before_read();
+    return syscall(SYS_pread64, fd, bytes, size, at);
+}
+
+/* The bytes of a log of 300 rows, whose last hundred came by one change, and how many there were before it. */
+static struct {
+    const char *path;
+    char bytes[1 << 16];
+    size_t before, size;
+} grown;
+
+static size_t read_bytes(void) {
+    FILE *file = fopen(grown.path, "rb");
+    size_t size = file ? fread(grown.bytes, 1, sizeof grown.bytes, file) : 0;
+    WANTS(file && size < sizeof grown.bytes && fclose(file) == 0);
+    return size;
+}
+
+/* Makes so many bytes of it those of the file, in place. */
+static void store_front(size_t size) {
+    FILE *file = fopen(grown.path, "wb");
+    WANTS(file && fwrite(grown.bytes, 1, size, file) == size && fclose(file) == 0);
+}
+
+/* The rest of the change, and its gate, which is open then. */
+static void store_whole(void) {
+    before_read = NULL;
+    store_front(grown.size);
+}
+
+/* A change of a mirror's log ends between the moment when the size is asked, within it, and the read. */
+static void try_growing(const char *path, const char *there) {
+    segdag *store = NULL;
+    uint64_t number = 0;
+    grown.path = there;
+    grow(there, 0, 200);
+    grown.before = read_bytes();
+    grow(there, 200, 300);
+    grown.size = read_bytes();
+    for (size_t more = 0; more < grown.size - grown.before; more += 97) {
+        grown.bytes[grown.before - 1] = 0;
+        store_front(grown.before + more);
+        WANTS(segdag_open(path, 3, &store) == SEGDAG_OK && segdag_add_mirror(store, there) == SEGDAG_OK);
+        grown.bytes[grown.before - 1] = 1;
+        before_read = store_whole;
+        WANTS(segdag_clone(store, 0, &number) == SEGDAG_OK && !before_read && number == 300 && are_found(store, 300));
+        WANTS(segdag_close(&store) == SEGDAG_OK && unlink(path) == 0);
+    }
+}
+
 /* A clone, its names, and pulls beside a log that grows, behind a file that isn't there and one that is no log. */
 static int try_mirrors(const char *path, const char *there, const char *other) {
     segdag *store = NULL;
@@ -290,6 +349,8 @@ static int try_mirrors(const char *path, const char *there, const char *other) {
     name_of(17, name);
     WANTS(segdag_id(store, 0, name, &number) == SEGDAG_NO_REMOTE && segdag_add_mirror(store, there) == SEGDAG_OK && are_found(store, 300));
     WANTS(segdag_close(&store) == SEGDAG_OK);
+    WANTS(unlink(path) == 0 && unlink(there) == 0);
+    try_growing(path, there);
     return failures != 0;
 }
 
