@@ -85,7 +85,7 @@ const SYNC: u32 = 2;
 
 /// What is to be performed next: its kind, and of a write its place and how many bytes it has.
 fn parts_of(next: Option<&NotedCall>) -> (u32, u64, usize)
-    ensures { IsSaid (said_of (option_copied next)) result.0 result.1 result.2 }
+    ensures { IsSaid (said_of (option_copied next.entry)) result.0 result.1 result.2 }
 {
     match next {
         Some(NotedCall::Write(at, piece)) => (WRITE, *at, piece.len()),
@@ -135,7 +135,7 @@ fn copy_from(bytes: &[u8], from: usize, out: &mut [u8]) -> usize
 
 /// Copies of the piece that is to be written next.
 fn copy_piece(next: Option<&NotedCall>, from: usize, out: &mut [u8]) -> usize
-    ensures { IsCopied (piece_of (said_of (option_copied next))) from result out.old out.new }
+    ensures { IsCopied (piece_of (said_of (option_copied next.entry))) from result out.old out.new }
 {
     match next {
         Some(NotedCall::Write(_, piece)) => copy_from(piece, from, out),

@@ -1,10 +1,7 @@
-use Rattle.std.proofs.Common.{◌≡◌, ◌++◌, map}
+use Rattle.std.proofs.Common.{◌≡◌, ◌++◌}
 use Rattle.std.specs.List.{concat}
-use Rattle.dag_store.specs.Names.{names_left, name_of}
+use Rattle.dag_store.specs.Names.{names_left}
 use Rattle.segdag_c.proofs.names.join.Given as goal
 
 abbrev pub invariant-loop-name : goal.invariant-loop-name
-invariant-loop-name l = record {
-  names : names_left l.fn.names ≡ map name_of l.yielded ++ names_left l.name-iterator;
-  bytes : l.bytes.items ≡ concat (map name_of l.yielded);
-}
+invariant-loop-name l = l.bytes.items ++ concat (names_left l.name-iterator) ≡ concat (names_left l.fn.names)
