@@ -2,20 +2,13 @@
    does, and ends with the library's status; `clib import LOG COUNT EVERY` imports rows; `clib typed LOG` tries the typed calls, and
    `clib mirrors LOG THERE OTHER` those beside mirrors; `clib pulls LOG THERE COUNT` pulls beside a log that grows to so many rows. */
 #define _GNU_SOURCE
-#include "segdag.h"
+#include "clib.h"
+#include <fcntl.h>
 #include <pthread.h>
-#include <stdio.h>
 #include <stdlib.h>
-#include <string.h>
 #include <sys/syscall.h>
 #include <sys/types.h>
 #include <unistd.h>
-
-static int stopped(const char *what, segdag_status status) {
-    if (status)
-        fprintf(stderr, "%s: %s\n", what, segdag_word(status));
-    return (int)status;
-}
 
 /* ---- lines */
 
@@ -55,27 +48,6 @@ static int answer_lines(const char *path, uint32_t cache, char **remotes, int co
 
 /* ---- an import that may be killed */
 
-/* The name of the row with this number: its bytes are spread, so that ids and names have different orders. */
-static void name_of(uint64_t number, segdag_name_bytes name) {
-    uint64_t spread = number * 0x9e3779b97f4a7c15u;
-    memset(name, 7, SEGDAG_NAME);
-    for (int i = 0; i < 8; i++) {
-        name[i] = (uint8_t)(spread >> (8 * i));
-        name[12 + i] = (uint8_t)(number >> (8 * i));
-    }
-}
-
-/* Adds the row with this number: a child of the one before, and of an earlier one where the number ends in 9. */
-static segdag_status add_row(segdag *store, uint64_t number) {
-    segdag_name_bytes name, parents[2];
-    uint64_t id;
-    name_of(number, name);
-    name_of(number - 1, parents[0]);
-    name_of(number / 2, parents[1]);
-    size_t count = number == 0 ? 0 : number % 10 == 9 ? 2 : 1;
-    return segdag_add(store, 0, name, (const segdag_name_bytes *)parents, count, &id);
-}
-
 /* Goes on with an import of so many rows, with a flush behind each so many, and says each flush that was answered. */
 static int import_rows(const char *path, uint64_t count, uint64_t every) {
     segdag *store = NULL;
@@ -105,16 +77,6 @@ static int import_rows(const char *path, uint64_t count, uint64_t every) {
 
 /* ---- typed calls */
 
-static int failures;
-
-#define WANTS(condition)                                           \
-    do {                                                           \
-        if (!(condition)) {                                        \
-            fprintf(stderr, "typed: line %d: %s\n", __LINE__, #condition); \
-            failures += 1;                                         \
-        }                                                          \
-    } while (0)
-
 /* Calls with pointers, lengths and stores that are none. */
 static void try_arguments(segdag *store, const char *path) {
     static const segdag_name_bytes names[400];
@@ -125,7 +87,7 @@ static void try_arguments(segdag *store, const char *path) {
     uint64_t number;
     bool is;
     WANTS(segdag_open(path, 1, &second) == SEGDAG_LOCKED && !second);
-    WANTS(segdag_open("/", 1, &second) == SEGDAG_NOT_OPENED && !second);
+    WANTS(segdag_open("/", 1, &second) == SEGDAG_NOT_OPENED && !second && fcntl(0, F_GETFD) >= 0);
     WANTS(segdag_open(NULL, 1, &second) == SEGDAG_ARGUMENT && segdag_open(path, 0, &second) == SEGDAG_ARGUMENT);
     WANTS(segdag_open(path, 1, NULL) == SEGDAG_ARGUMENT);
     WANTS(segdag_line(none, "0 status", 8, &reply) == SEGDAG_CLOSED);
@@ -170,13 +132,6 @@ static void *try_thread(void *store) {
     WANTS(segdag_merge_bases(store, 0, names[0], names[1], &found) == SEGDAG_THREAD && found.count == 0);
     WANTS(segdag_ahead_behind(store, 0, &pair, 1, &distance, &done) == SEGDAG_THREAD && done == 0);
     return NULL;
-}
-
-static bool is_reply(segdag *store, const char *line, const char *wanted) {
-    segdag_text reply = {0};
-    bool is = segdag_line(store, line, strlen(line), &reply) == SEGDAG_OK && !strcmp(reply.bytes, wanted) && reply.size == strlen(wanted);
-    segdag_text_free(&reply);
-    return is;
 }
 
 /* A chain of 100 rows in master, two branches of 10 and 5 that aren't, and a pending row. */

@@ -1,8 +1,8 @@
 #!/bin/sh
 # The library as its users have it. A C program that knows the header alone tries each call, answers drawn lines as the program does, also
-# beside mirrors, imports rows while it is killed, and loads damaged logs; want of memory at each allocation; the sanitizers; the examples. A minute
-# or so, and one or two more where the library has to be built, which then isn't proved.
-#     sh tests/clib.sh [PART]...     the parts are typed drawn mirrors killed damaged memory examples; LIBRARY is a library that is built
+# beside mirrors, imports rows while it is killed, and loads damaged logs; want of memory at each allocation; followers beside writers; the
+# sanitizers; the examples. Two minutes or so, and one or two more where the library has to be built, which then isn't proved.
+#     sh tests/clib.sh [PART]...     the parts are typed drawn mirrors killed damaged memory follow examples; LIBRARY is a library that is built
 . "$(dirname "$0")/lib.sh"
 cc=${CC:-cc}
 
@@ -29,7 +29,7 @@ over_library() {
 # The shim is built with it, so that the sanitizers see what it does, and stands in front of the library's own.
 sanitized() {
     "$cc" -O1 -g -fsanitize=address,undefined -fno-sanitize-recover=all -pthread -Wl,--allow-multiple-definition -I bindings/c \
-        tests/clib.c bindings/c/segdag.c bindings/c/calls.c bindings/c/mirrors.c "$library" -o "$folder/sanitized" 2> "$folder/told"
+        "${1:-tests/clib.c}" bindings/c/*.c "$library" -o "$folder/sanitized" 2> "$folder/told"
 }
 
 typed() {
@@ -43,8 +43,13 @@ typed() {
     fi
 }
 
+# Builds what lets a call for memory find none.
+no_memory() {
+    "$cc" -shared -fPIC -O1 -o "$folder/no_memory.so" tests/no_memory.c 2> "$folder/told"
+}
+
 memory() {
-    if "$cc" -shared -fPIC -O1 -o "$folder/no_memory.so" tests/no_memory.c 2> "$folder/told"; then
+    if no_memory; then
         python tests/clib.py memory "$folder/clib" "$program" "$folder"
     else
         untried "$cc" "$cc doesn't make a library of tests/no_memory.c"
@@ -57,6 +62,26 @@ mirrors() {
         "$folder/sanitized" mirrors "$folder/s.log" "$folder/s.there" "$folder/s.other"
     fi
     PYTHONPATH=bindings/python SEGDAG_LIBRARY=$(dirname "$library")/libsegdag.so python tests/clib.py mirrors "$folder/clib" "$program" "$folder"
+}
+
+# A part of tests/follow.py.
+followed() {
+    PYTHONPATH=bindings/python SEGDAG_LIBRARY=$(dirname "$library")/libsegdag.so python tests/follow.py "$1" "$folder/follow" "$folder/clib" "$program" "$folder"
+}
+
+follow() {
+    over_library follow tests/follow.c
+    "$folder/follow" typed "$folder/f.log"
+    if sanitized tests/follow.c; then
+        "$folder/sanitized" typed "$folder/f.log"
+        echo "clib: followers answer, and the sanitizers find nothing"
+    fi
+    for case in alone quick drawn compared busy; do
+        followed "$case"
+    done
+    if no_memory; then
+        followed memory
+    fi
 }
 
 examples() {
@@ -78,13 +103,13 @@ examples() {
 
 wants_program
 wants "$cc" python3 ld ar objcopy
-[ $# -gt 0 ] || set -- typed drawn mirrors killed damaged memory examples
+[ $# -gt 0 ] || set -- typed drawn mirrors killed damaged memory follow examples
 wants_folder
 wants_library
 over_library clib tests/clib.c
 for part in "$@"; do
     case $part in
-        typed | mirrors | memory | examples) "$part" ;;
+        typed | mirrors | memory | follow | examples) "$part" ;;
         damaged) python tests/damaged.py "$folder/clib" "$folder" 40 1 ;;
         *) python tests/clib.py "$part" "$folder/clib" "$program" "$folder" ;;
     esac

@@ -9,7 +9,7 @@ cc=${CC:-cc}
 heap=$(dirname "$("${RT:-rt}" doc)")/c/liblibc_c.a
 folder=$(mktemp -d)
 trap 'rm -rf "$folder"' EXIT
-for source in segdag calls mirrors; do
+for source in segdag calls mirrors following; do
     "$cc" -O2 -fPIC -Wall -Wextra -c "bindings/c/$source.c" -o "$folder/$source.o"
 done
 (

@@ -22,7 +22,8 @@ static const struct {
 } words[] = {
     {"ok", SEGDAG_OK}, {"disk", SEGDAG_DISK}, {"no log", SEGDAG_NO_LOG}, {"reply", SEGDAG_REPLY}, {"memory", SEGDAG_MEMORY},
     {"not opened", SEGDAG_NOT_OPENED}, {"locked", SEGDAG_LOCKED}, {"closed", SEGDAG_CLOSED}, {"open", SEGDAG_OPEN},
-    {"argument", SEGDAG_ARGUMENT}, {"thread", SEGDAG_THREAD}, {"syntax", SEGDAG_SYNTAX}, {"unknown", SEGDAG_UNKNOWN},
+    {"argument", SEGDAG_ARGUMENT}, {"thread", SEGDAG_THREAD}, {"follows", SEGDAG_FOLLOWS}, {"replaced", SEGDAG_REPLACED},
+    {"syntax", SEGDAG_SYNTAX}, {"unknown", SEGDAG_UNKNOWN},
     {"twice", SEGDAG_TWICE}, {"differs", SEGDAG_DIFFERS}, {"conflict", SEGDAG_CONFLICT}, {"lost", SEGDAG_LOST},
     {"master", SEGDAG_MASTER}, {"empty", SEGDAG_EMPTY}, {"full", SEGDAG_FULL}, {"answer", SEGDAG_ANSWER},
     {"not-empty", SEGDAG_NOT_EMPTY}, {"pending", SEGDAG_PENDING}, {"no-remote", SEGDAG_NO_REMOTE}, {"remote", SEGDAG_REMOTE},

@@ -56,8 +56,7 @@ static int sync_folder(const char *path) {
     return failed && why != EINVAL && why != EACCES && why != EPERM && why != ENOTSUP ? -1 : 0;
 }
 
-/* Whether the file is the one that stands at the path. */
-static bool is_at(int fd, const char *path) {
+bool store_is_at(int fd, const char *path) {
     struct stat own, there;
     return !fstat(fd, &own) && !stat(path, &there) && own.st_ino == there.st_ino && own.st_dev == there.st_dev;
 }
@@ -71,7 +70,7 @@ static segdag_status open_locked(const char *path, int *fd) {
         *fd = open(path, O_RDWR | O_CREAT | O_CLOEXEC | O_NONBLOCK, 0666);
         if (*fd < 0)
             return errno == ENOMEM ? SEGDAG_MEMORY : SEGDAG_NOT_OPENED;
-        if (!flock(*fd, LOCK_EX | LOCK_NB) && is_at(*fd, path))
+        if (!flock(*fd, LOCK_EX | LOCK_NB) && store_is_at(*fd, path))
             return SEGDAG_OK;
         bool is_taken = errno == EWOULDBLOCK;
         close(*fd);
@@ -141,7 +140,27 @@ static int perform(segdag *store) {
     }
 }
 
+bool store_drop_noted(segdag *store) {
+    for (bool had_any = false;; had_any = true) {
+        uint32_t kind = SEGDAG_NOTHING;
+        uint64_t at = 0;
+        size_t size = 0;
+        if (segdag_core_next(&store->core, &kind, &at, &size) || kind == SEGDAG_NOTHING)
+            return had_any;
+        segdag_core_performed(&store->core);
+    }
+}
+
 /* ---- stores */
+
+segdag *store_make(void) {
+    segdag *made = calloc(1, sizeof *made);
+    if (!made)
+        return NULL;
+    made->thread = &here;
+    made->fd = -1;
+    return made;
+}
 
 segdag_status store_is_usable(const segdag *store) {
     if (!store)
@@ -183,10 +202,9 @@ segdag_status segdag_open(const char *path, uint32_t cache, segdag **store) {
         *store = NULL;
     if (!store || !path || cache == 0 || cache > MOST_CACHE)
         return SEGDAG_ARGUMENT;
-    segdag *made = calloc(1, sizeof *made);
+    segdag *made = store_make();
     if (!made)
         return SEGDAG_MEMORY;
-    made->thread = &here;
     segdag_status status = open_locked(path, &made->fd);
     if (status == SEGDAG_OK)
         status = load(made, path, cache);
@@ -208,6 +226,7 @@ segdag_status segdag_close(segdag **store) {
     store_fail(closed, SEGDAG_OK);
     segdag_text_free(&closed->reply);
     store_free_mirrors(closed);
+    free(closed->followed);
     free(closed);
     *store = NULL;
     return SEGDAG_OK;
@@ -257,8 +276,8 @@ static segdag_status answer_line(segdag *store, const char *line, size_t size, s
         return store_fail(store, status);
     if (status)
         return status;
-    if (perform(store))
-        return store_fail(store, SEGDAG_DISK);
+    if (store->followed ? store_drop_noted(store) : perform(store))
+        return store_fail(store, store->followed ? SEGDAG_FOLLOWS : SEGDAG_DISK);
     if (!grow_text(reply, wanted))
         return SEGDAG_MEMORY;
     status = segdag_core_reply(&store->core, 0, (uint8_t *)reply->bytes, wanted ? wanted : 1, &reply->size);
@@ -282,6 +301,9 @@ segdag_status segdag_line(segdag *store, const char *line, size_t size, segdag_t
     if (!grow_text(reply, SHORT_REPLY))
         return SEGDAG_MEMORY;
     reply->bytes[0] = 0;
+    status = store_before_line(store, line, size);
+    if (status)
+        return status;
     bool is_fresh = has_word(line, size, " clone") || has_word(line, size, " pull");
     status = is_fresh ? store_read_mirrors(store) : SEGDAG_OK;
     if (status == SEGDAG_OK)

@@ -1,7 +1,7 @@
 /* The commit graph store as a C library. Link libsegdag.a or libsegdag.so: nothing else is needed.
 
-   A store is one log, opened with its lock. README says what sessions, names, ids, expressions and refusals are; docs/CLIB.md says what
-   is proved of these calls and what isn't.
+   A store is one log, opened with its lock, or followed beside the process that has the lock. README says what sessions, names, ids,
+   expressions and refusals are; docs/CLIB.md says what is proved of these calls and what isn't.
 
    Each call answers a code and never ends the process. Seen, and answered by a code: a store that is NULL, any other pointer that is
    NULL where something is to be read or written, a session above 15, a text or a list that is too long, a thread that didn't open the
@@ -26,7 +26,7 @@ typedef enum segdag_status {
     SEGDAG_OK = 0,
     /* The log isn't open, or not any more. */
     SEGDAG_DISK = 3,          /* the log's disk failed, and the store is closed: the log is as it was, or with the change */
-    SEGDAG_NO_LOG = 4,        /* the file is larger than 2^30 bytes, damaged, or no log */
+    SEGDAG_NO_LOG = 4,        /* the file is larger than 2^30 bytes, damaged, or no log; one that is followed may have become so */
     SEGDAG_REPLY = 6,         /* no memory for a reply, and the store is closed: open it again to see what was done */
     SEGDAG_MEMORY = 7,        /* no memory; nothing was done */
     SEGDAG_NOT_OPENED = 9,    /* the file can't be opened, or is none */
@@ -35,6 +35,8 @@ typedef enum segdag_status {
     SEGDAG_OPEN = 18,         /* of segdag_core_load alone: a log is open */
     SEGDAG_ARGUMENT = 19,     /* an argument is none: see above */
     SEGDAG_THREAD = 20,       /* the store was opened by another thread */
+    SEGDAG_FOLLOWS = 21,      /* the store only follows its log: nothing of it was changed */
+    SEGDAG_REPLACED = 22,     /* another file stands at the path of a log that is followed, or none: close it and follow again */
     /* The store refuses, and nothing changed. README names these so. */
     SEGDAG_SYNTAX = 32,
     SEGDAG_UNKNOWN = 33,
@@ -77,6 +79,22 @@ segdag_status segdag_open(const char *path, uint32_t cache, segdag **store);
 
 /* Closes it, and makes *store NULL. What wasn't flushed is gone. */
 segdag_status segdag_close(segdag **store);
+
+/* ---- following
+
+   A follower is a store over a log that another process may be writing, for asking it. It takes no lock, never writes a byte, and may be
+   opened beside a writer and beside other followers. What is there when it is opened is loaded. What the writer stored since is taken by
+   segdag_more and by each reload, a call or a line, in the time that this takes; sessions see it once they are reloaded, with their pending
+   rows on top. A flush, a strip, a clone and a pull, as calls or lines, are refused with SEGDAG_FOLLOWS. */
+
+/* Opens the log at this path to follow it; SEGDAG_NOT_OPENED where there is none. Otherwise as segdag_open. */
+segdag_status segdag_follow(const char *path, uint32_t cache, segdag **store);
+
+/* Takes what was stored since, and tells how many changes came: none in a store that segdag_open opened, since nobody else writes its log. It,
+   and so a reload, ends with SEGDAG_REPLACED where another file stands at the path, as a log that was written anew; and with SEGDAG_NO_LOG where
+   the file became shorter, or its end is damaged. Then, and after SEGDAG_MEMORY, the follower answers what it has, and may be asked for more
+   again. *count says what came before such a failure, too. After SEGDAG_DISK it is closed. */
+segdag_status segdag_more(segdag *store, uint64_t *count);
 
 /* ---- mirrors */
 
@@ -189,6 +207,13 @@ uint32_t segdag_core_close(segdag_core *core);
 uint32_t segdag_core_next(segdag_core *core, uint32_t *kind, uint64_t *at, size_t *size);
 uint32_t segdag_core_piece(segdag_core *core, size_t from, uint8_t *out, size_t room, size_t *copied);
 uint32_t segdag_core_performed(segdag_core *core);
+
+/* What another process stores behind an open log. Where it goes on in the file: the place of its closed gate. And the file's bytes from there to
+   its end: how many changes were taken is told, also where the next one isn't: SEGDAG_NO_LOG where the bytes aren't whole, aren't lawful
+   behind the others, or too many; nothing is taken where an open gate has no whole change behind it. Each session stays where it is until it is
+   reloaded. */
+uint32_t segdag_core_end(segdag_core *core, uint64_t *at);
+uint32_t segdag_core_more(segdag_core *core, const uint8_t *bytes, size_t size, uint32_t *count);
 
 /* A mirror, by a number of yours: each call on it fails until it is renewed. Renewed it has a copy of these bytes, the whole of its file,
    or isn't there; SEGDAG_ARGUMENT where no mirror has this number, as of one that a line dropped. */

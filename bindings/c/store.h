@@ -10,7 +10,8 @@ typedef struct store_mirror {
 
 struct segdag {
     segdag_core core;
-    int fd;             /* the log's file, with its lock; -1 once the store was closed for a failure */
+    int fd;             /* the log's file, with its lock unless it is followed; -1 once the store was closed for a failure */
+    char *followed;     /* the path of a log that another process writes; else NULL */
     const void *thread; /* which thread opened it */
     segdag_text reply;  /* of lines that the shim makes */
     store_mirror *mirrors;
@@ -19,6 +20,18 @@ struct segdag {
 
 /* SEGDAG_OK where calls may go on with this store: it isn't NULL, is open, and was opened by this thread. */
 segdag_status store_is_usable(const segdag *store);
+
+/* A store that isn't open yet, of this thread; NULL where there is no memory. segdag_close lets it go. */
+segdag *store_make(void);
+
+/* Whether the file is the one that stands at the path. */
+bool store_is_at(int fd, const char *path);
+
+/* Lets go of what the core noted, without performing it, and tells whether there was anything. */
+bool store_drop_noted(segdag *store);
+
+/* What is done of a follower before it answers a line: SEGDAG_FOLLOWS where the line is a change, and a reload takes what came. */
+segdag_status store_before_line(segdag *store, const char *line, size_t size);
 
 /* Whether a call that ended so is to be made once more: all mirrors failed in it, and their files were read anew. */
 bool store_asks_again(segdag *store, segdag_status status);

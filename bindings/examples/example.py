@@ -16,6 +16,10 @@ def main(path: str) -> None:
         print("merge bases:", [name.hex() for name in store.gca(second, third)])
         print("ahead and behind:", store.ahead_behind([(second, third), (first, third)]))
         print("ids:", [store.id(name) for name in store.query("all")])
+        with segdag.follow(path) as reader:
+            store.add(bytes([4] * 20), [third])
+            store.flush()
+            print("taken by a follower:", reader.more(), "of", reader.sizes(), "and", reader.reload(), "pending, now", reader.sizes())
         try:
             store.add(bytes(20), [bytes(19) + b"x"])
         except segdag.Unknown as refusal:

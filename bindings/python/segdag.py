@@ -7,6 +7,10 @@
         store.flush(child)
         bases = list(store.gca(a, b))
 
+    with segdag.follow("log") as reader:             # in another process, beside the one that has the log
+        reader.reload()
+        heads = list(reader.query("heads(all)"))
+
 Names are 20 bytes. What the store refuses is raised as an exception named as the refusal: Unknown, Twice, NoRemote and so on, each a
 Refusal, which like any other failure is an Error with the library's code. A store belongs to the thread that opened it. SEGDAG_LIBRARY
 is the path of the library; else it stands beside this file, in ../../out, or where the system finds it.
@@ -53,6 +57,8 @@ Locked = _error("Locked", 16, Error, "Another process, or another store of this 
 Closed = _error("Closed", 17, Error, "The store is closed.")
 Argument = _error("Argument", 19, Error, "An argument is none: a session, a name, or how many there are.")
 WrongThread = _error("WrongThread", 20, Error, "The store was opened by another thread.")
+Follows = _error("Follows", 21, Error, "The store only follows its log: nothing of it was changed.")
+Replaced = _error("Replaced", 22, Error, "Another file stands at the path of a log that is followed, or none: close it and follow again.")
 Syntax = _error("Syntax", 32, Refusal, "The text is no expression or no command.")
 Unknown = _error("Unknown", 33, Refusal, "The commit isn't there.")
 Twice = _error("Twice", 34, Refusal, "A parent is given twice.")
@@ -111,6 +117,8 @@ def _load() -> ctypes.CDLL:
     number, sizes, names = (ctypes.POINTER(it) for it in (ctypes.c_uint64, _Sizes, _Names))
     calls = {
         "open": [text, ctypes.c_uint32, ctypes.POINTER(store)],
+        "follow": [text, ctypes.c_uint32, ctypes.POINTER(store)],
+        "more": [store, number],
         "close": [ctypes.POINTER(store)],
         "add_mirror": [store, text],
         "line": [store, text, size, ctypes.POINTER(_Text)],
@@ -161,10 +169,12 @@ def _joined(names: Iterable[bytes]) -> Tuple[bytes, int]:
 class Store:
     """An open log. `session`, 0 to 15, is whose pending rows and base a call works on."""
 
+    _open = _library.segdag_open
+
     def __init__(self, path: Union[str, "os.PathLike[str]"], cache: int = 4096, mirrors: Iterable[str] = ()) -> None:
         self._store = ctypes.c_void_p()
         self._text, self._names = _Text(), _Names()
-        _check(_library.segdag_open(os.fsencode(path), cache, ctypes.byref(self._store)), os.fspath(path))
+        _check(self._open(os.fsencode(path), cache, ctypes.byref(self._store)), os.fspath(path))
         for word in mirrors:
             self.add_mirror(word)
 
@@ -295,7 +305,28 @@ class Store:
         return [(it.ahead, it.behind) for it in distances[: done.value]]
 
 
+class Follower(Store):
+    """A log that another process may be writing, opened without its lock and for asking it alone: a flush, a strip, a clone and a pull are
+    refused as Follows. What was stored since is taken by `more` and by each reload, which raise Replaced where another file stands at the
+    path by then, and NoLog where the file is no log any more; it answers what it had all the same."""
+
+    _open = _library.segdag_follow
+
+    def __enter__(self) -> "Follower":
+        return self
+
+    def more(self) -> int:
+        """Takes what was stored since, and gives how many changes came. Each session stays where it is until it is reloaded."""
+        count = ctypes.c_uint64()
+        _check(_library.segdag_more(self._store, ctypes.byref(count)))
+        return count.value
+
+
 def open(path: Union[str, "os.PathLike[str]"], cache: int = 4096, mirrors: Iterable[str] = ()) -> Store:
     """Opens the log at this path, which is made where there is none, and takes its lock, beside these mirrors."""
     return Store(path, cache, mirrors)
 
+
+def follow(path: Union[str, "os.PathLike[str]"], cache: int = 4096, mirrors: Iterable[str] = ()) -> Follower:
+    """Follows the log at this path, which has to be there, beside the process that writes it, and beside these mirrors."""
+    return Follower(path, cache, mirrors)

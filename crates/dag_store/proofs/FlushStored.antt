@@ -13,7 +13,7 @@ use Rattle.name_map.specs.Added.{Placed, payloads_of, AllStand, StandsAt}
 use Rattle.change_rules.specs.declared.Limits.{Limits}
 use Rattle.change_rules.specs.Change.{text_of}
 use Rattle.change_rules.specs.Holding.{HoldPayloads}
-use Rattle.payload_tables.specs.Kept.{PlainTables}
+use Rattle.payload_tables.specs.Kept.{PlainTables, AreTablesOf}
 use Rattle.payload_tables.specs.Bases.{ArePending}
 use Rattle.change_rules.specs.Tables.{newest, other_names_in}
 use Rattle.std.proofs.lemmas.List.{length-drop}
@@ -125,66 +125,70 @@ length-push : (ps : List (List ℕ)) (p : List ℕ) → log_length (ps ++ p ∷ 
 length-push [] p = omega arith
 length-push (q ∷ ps) p = let e = length-push ps p in omega (arith, e)
 
-module _ (log : Held) (tables : PlainTables) (sessions : List PlainSession) (limits : Limits) (k : IsKept log tables sessions limits) (s : ℕ) (small : s < sixteen)
-    (reserved : Held) (after : PlainTables) (change : Change) (x : PlainSession) (r : IsReady limits log reserved after k.added change x) (new : Held) (b : IsBehind reserved change.payload new) where
-  abbrev last : Payload
-  last = r.last
-
+module _ (log : Held) (tables : PlainTables) (sessions : List PlainSession) (limits : Limits) (k : IsKept log tables sessions limits) (reserved : Held) (room : HasRoom log reserved) (after : PlainTables)
+    (text : List ℕ) (last : Payload) (spelled : text ≡ text_of last) (tables_of : AreTablesOf after (added_behind log k.added last)) (new : Held) (b : IsBehind reserved text new) where
   abbrev a : Placed
   a = record { at = next_place log; payload = last }
 
   same-payloads : reserved.payloads ≡ log.payloads
-  same-payloads = ap (λ (l : Held). l.payloads) r.room
+  same-payloads = ap (λ (l : Held). l.payloads) room
 
   same-bytes : log_bytes reserved ≡ log_bytes log
-  same-bytes = ap log_bytes r.room
+  same-bytes = ap log_bytes room
 
-  payload-is : change.payload ≡ text_of last
-  payload-is = r.storable.payload
+  new-payloads : new.payloads ≡ log.payloads ++ text ∷ []
+  new-payloads = b.payloads ∙ ap (λ l. l ++ text ∷ []) same-payloads
 
-  pub new-payloads : new.payloads ≡ log.payloads ++ change.payload ∷ []
-  new-payloads = b.payloads ∙ ap (λ l. l ++ change.payload ∷ []) same-payloads
-
-  new-bytes : log_bytes new ≡ batches log.payloads ++ (batch change.payload ++ new.gate ∷ [])
-  new-bytes = ap (λ l. batches l ++ new.gate ∷ []) new-payloads ∙ ap (λ l. l ++ new.gate ∷ []) (batches-push log.payloads change.payload) ∙ append_assoc (batches log.payloads) (batch change.payload) (new.gate ∷ [])
+  new-bytes : log_bytes new ≡ batches log.payloads ++ (batch text ++ new.gate ∷ [])
+  new-bytes = ap (λ l. batches l ++ new.gate ∷ []) new-payloads ∙ ap (λ l. l ++ new.gate ∷ []) (batches-push log.payloads text) ∙ append_assoc (batches log.payloads) (batch text) (new.gate ∷ [])
 
   old-size : length (log_bytes log) ≡ length (batches log.payloads) + 1
   old-size = length-append (batches log.payloads) (log.gate ∷ [])
 
-  new-size : length (log_bytes new) ≡ length (log_bytes log) + 9 + length change.payload
-  new-size = length-log new.payloads new.gate ∙ ap log_length new-payloads ∙ length-push log.payloads change.payload ∙ ap (λ n. n + 9 + length change.payload) (sym (length-log log.payloads log.gate))
+  new-size : length (log_bytes new) ≡ length (log_bytes log) + 9 + length text
+  new-size = length-log new.payloads new.gate ∙ ap log_length new-payloads ∙ length-push log.payloads text ∙ ap (λ n. n + 9 + length text) (sym (length-log log.payloads log.gate))
 
   stands-last : StandsAt (log_bytes new) a
   stands-last =
-      subst (λ (p : List ℕ). take (length p) (drop (next_place log) (log_bytes new)) ≡ p) payload-is
-      (subst (λ n. take (length change.payload) (drop (n + 8) (log_bytes new)) ≡ change.payload) (ap length same-bytes) b.place)
+      subst (λ (p : List ℕ). take (length p) (drop (next_place log) (log_bytes new)) ≡ p) spelled
+      (subst (λ n. take (length text) (drop (n + 8) (log_bytes new)) ≡ text) (ap length same-bytes) b.place)
 
   stands-old : AllStand (log_bytes new) k.added
   stands-old = subst (λ l. AllStand l k.added) (sym new-bytes)
-      (all-front (batches log.payloads) (log.gate ∷ []) (batch change.payload ++ new.gate ∷ []) (length (log_bytes log)) k.added old-size k.within k.stand)
+      (all-front (batches log.payloads) (log.gate ∷ []) (batch text ++ new.gate ∷ []) (length (log_bytes log)) k.added old-size k.within k.stand)
 
-  each-one : (i : ℕ) → i < sixteen → IsSessionOf (added_behind log k.added last) (session_at (set sessions s x) i)
+  -- it is kept, with sessions that are each on some of the payloads
+  pub behind-kept : (later : List PlainSession) → length later ≡ sixteen → ((i : ℕ) → i < sixteen → IsSessionOf (added_behind log k.added last) (session_at later i)) → IsKept new after later limits
+  behind-kept later count each = record {
+    added = added_behind log k.added last;
+    tables_of = tables_of;
+    stand = stand-more (log_bytes new) k.added a stands-old stands-last;
+    within = all-append (EndsWithin new) k.added (a ∷ []) (more-within (length (log_bytes log)) (length (log_bytes new)) k.added (let e = new-size in omega (arith, e)) k.within)
+        ((let e = new-size in let p = ap (length {A = ℕ}) spelled in omega (arith, e, p)), tt);
+    texts = new-payloads ∙ ap (λ l. l ++ text ∷ []) k.texts ∙ ap (λ t. map text_of (payloads_of k.added) ++ t ∷ []) spelled
+        ∙ sym (map-append text_of (payloads_of k.added) (last ∷ [])) ∙ ap (map text_of) (sym (map-append (λ (b : Placed). b.payload) k.added (a ∷ [])));
+    count = count;
+    each = each;
+    limits_fit = k.limits_fit;
+    limit = b.limit ∙ ap (λ (l : Held). l.limit) room ∙ k.limit;
+  }
+
+  -- it is kept with the sessions as they are
+  pub followed-kept : IsKept new after sessions limits
+  followed-kept = behind-kept sessions k.count (λ i lt. older-session k.added (next_place log) last (session_at sessions i) (k.each i lt))
+
+module _ (log : Held) (tables : PlainTables) (sessions : List PlainSession) (limits : Limits) (k : IsKept log tables sessions limits) (s : ℕ) (small : s < sixteen)
+    (reserved : Held) (after : PlainTables) (change : Change) (x : PlainSession) (r : IsReady limits log reserved after k.added change x) (new : Held) (b : IsBehind reserved change.payload new) where
+  each-one : (i : ℕ) → i < sixteen → IsSessionOf (added_behind log k.added r.last) (session_at (set sessions s x) i)
   each-one i lt = ⊎_elim
-      (λ (e : i ≡ s). subst (λ j. IsSessionOf (added_behind log k.added last) (session_at (set sessions s x) j)) (sym e)
-      (subst (IsSessionOf (added_behind log k.added last)) (sym (get_or-set_same sessions s x no_session (let c = k.count in omega (arith, small, c)))) r.session_of.0))
-      (λ (n : i ≡ s → ⊥). subst (IsSessionOf (added_behind log k.added last)) (sym (get_or-set_other sessions s i x no_session n))
-      (older-session k.added (next_place log) last (session_at sessions i) (k.each i lt)))
+      (λ (e : i ≡ s). subst (λ j. IsSessionOf (added_behind log k.added r.last) (session_at (set sessions s x) j)) (sym e)
+      (subst (IsSessionOf (added_behind log k.added r.last)) (sym (get_or-set_same sessions s x no_session (let c = k.count in omega (arith, small, c)))) r.session_of.0))
+      (λ (n : i ≡ s → ⊥). subst (IsSessionOf (added_behind log k.added r.last)) (sym (get_or-set_other sessions s i x no_session n))
+      (older-session k.added (next_place log) r.last (session_at sessions i) (k.each i lt)))
       (cases_eq i s)
 
   pub stored-kept : IsKept new after (set sessions s x) limits
-  stored-kept = record {
-    added = added_behind log k.added last;
-    tables_of = r.tables_of;
-    stand = stand-more (log_bytes new) k.added a stands-old stands-last;
-    within = all-append (EndsWithin new) k.added (a ∷ []) (more-within (length (log_bytes log)) (length (log_bytes new)) k.added (let e = new-size in omega (arith, e)) k.within)
-        ((let e = new-size in let p = ap (length {A = ℕ}) payload-is in omega (arith, e, p)), tt);
-    texts = new-payloads ∙ ap (λ l. l ++ change.payload ∷ []) k.texts ∙ ap (λ t. map text_of (payloads_of k.added) ++ t ∷ []) payload-is
-        ∙ sym (map-append text_of (payloads_of k.added) (last ∷ [])) ∙ ap (map text_of) (sym (map-append (λ (b : Placed). b.payload) k.added (a ∷ [])));
-    count = length-set sessions s x ∙ k.count;
-    each = each-one;
-    limits_fit = k.limits_fit;
-    limit = b.limit ∙ ap (λ (l : Held). l.limit) r.room ∙ k.limit;
-  }
+  stored-kept = behind-kept log tables sessions limits k reserved r.room after change.payload r.last r.storable.payload r.tables_of new b (set sessions s x) (length-set sessions s x ∙ k.count) each-one
 
 -- ---- another world is stored
 

@@ -27,6 +27,8 @@ pub mod Changed
 pub mod CloneSteps
 pub mod FlushStored
 pub mod FlushDisk
+pub mod Followers
+pub mod GoingOn
 pub mod FinishLemmas
 pub mod ChangeSteps
 pub mod FlushSteps

@@ -46,7 +46,7 @@ once a b (p ∷ ps) (q ∷ qs) h g e =
     both (one-payload p q h.0.whole g.0.whole first) (once (a ++ p ∷ []) (b ++ q ∷ []) ps qs h.1 g.1 rest)
 
 -- none of these is an id below
-none-below : (n id : ℕ) (ks : List Known) → AllByRecursion (λ (k : Known). n ≤ k.id) ks → id < n → is_in nat_eq id (map (λ (k : Known). k.id) ks) ≡ false
+pub none-below : (n id : ℕ) (ks : List Known) → AllByRecursion (λ (k : Known). n ≤ k.id) ks → id < n → is_in nat_eq id (map (λ (k : Known). k.id) ks) ≡ false
 none-below n id [] h lt = refl
 none-below n id (k ∷ ks) h lt =
     let x = h.0 in

@@ -9,6 +9,7 @@ pub mod Loading
 pub mod Flushes
 pub mod Clones
 pub mod Finishes
+pub mod Following
 pub mod Shown
 pub mod Pulls
 pub mod Whole

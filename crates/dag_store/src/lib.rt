@@ -4,8 +4,10 @@
 
 mod adding;
 mod cloning;
+mod elsewhere;
 mod finishing;
 mod flushing;
+mod following;
 mod laws;
 mod loading;
 mod names;
@@ -17,8 +19,9 @@ mod stripping;
 mod whole;
 
 pub use change_rules::{Limit, Limits};
+pub use following::{FollowFault, Followed};
 pub use high_segments::LevelCounts;
-pub use laws::stores_stand;
+pub use laws::{logs_go_on, stores_stand};
 pub use names::Names;
 pub use query::Found;
 pub use replies::{Added, Counts, Flushed, LoadFault};

@@ -10,3 +10,4 @@ pub mod Line
 pub mod Calls
 pub mod Answers
 pub mod Loads
+pub mod Following

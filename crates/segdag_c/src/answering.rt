@@ -49,7 +49,7 @@ fn answer_over(
 }
 
 /// Takes the store out, if it is there.
-fn take_store(held: &mut Held) -> Option<Store>
+pub(crate) fn take_store(held: &mut Held) -> Option<Store>
     ensures store { result ≡ held.old.store }
     ensures limits { IfSome result (λ store. store.limits ≡ standard) }
     ensures mirrors { shown_all held.new.mirrors.list.items ≡ shown_all held.old.mirrors.list.items }

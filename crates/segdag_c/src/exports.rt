@@ -14,10 +14,12 @@ ghost use Rattle.segdag_c.specs.Loads.{IsRightly, SlotOpened};
 ghost use Rattle.segdag_c.specs.Renewed.{AreRenewed};
 ghost use Rattle.segdag_c.specs.Typed.{id_told};
 ghost use Rattle.segdag_c.specs.Answers.{HeldAnswers, SlotAnswers};
+ghost use Rattle.segdag_c.specs.Following.{EndsAt, SlotFollows};
 
 use crate::answering::answer_line;
 use crate::calls::{add, count, id, query};
 use crate::codes::{DONE, Failure, code_of, code_of_stop};
+use crate::following::{end_of, take_more};
 use crate::held::Held;
 use crate::loading::load_log;
 use crate::mirroring::{add_mirror, renew_mirror};
@@ -467,6 +469,57 @@ pub extern "C" fn segdag_core_renew_mirror(
         Some(taken) => {
             let mut held = taken;
             let done = renew_mirror(alloc, &mut *held, number, is_there, bytes);
+            put(slot, held);
+            code_of_done(done)
+        }
+        None => closed(),
+    }
+}
+
+/// Tells where the log goes on, where there is one.
+fn tell_end(answer: Result<u64, Failure>, at: &mut u64) -> u32
+    ensures { Tells answer at.new result }
+{
+    match answer {
+        Ok(end) => {
+            *at = end;
+            DONE
+        }
+        Err(failure) => code_of(failure),
+    }
+}
+
+/// Says where in its file the log goes on: the place of its closed gate, from which on `segdag_core_more` takes bytes.
+#[unsafe(no_mangle)]
+pub extern "C" fn segdag_core_end(alloc: Global, slot: &mut Slot, at: &mut u64) -> u32
+    ensures end { result ≡ 0 → EndsAt slot.old.handle.held at.new }
+    ensures kept { result ≡ 0 → slot.new.handle.held ≡ slot.old.handle.held }
+{
+    match take(alloc, slot) {
+        Some(held) => {
+            let end = end_of(&held);
+            put(slot, held);
+            tell_end(end, at)
+        }
+        None => closed(),
+    }
+}
+
+/// Takes what another process has stored: these bytes, from the place that `segdag_core_end` says to the end of the file. Says how many
+/// payloads were taken. Each session stays where it is until it is reloaded.
+#[unsafe(no_mangle)]
+pub extern "C" fn segdag_core_more(
+    alloc: Global,
+    slot: &mut Slot,
+    bytes: &[u8],
+    count: &mut u32,
+) -> u32
+    ensures { result ≡ 0 → SlotFollows slot.old.handle.held bytes.now slot.new.handle.held }
+{
+    match take(alloc, slot) {
+        Some(taken) => {
+            let mut held = taken;
+            let done = take_more(alloc, &mut *held, bytes, count);
             put(slot, held);
             code_of_done(done)
         }

@@ -7,6 +7,7 @@ mod answering;
 mod calls;
 mod codes;
 mod exports;
+mod following;
 mod handle;
 mod held;
 mod loading;

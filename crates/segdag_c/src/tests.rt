@@ -1,9 +1,10 @@
 //! Every function that C calls, over a log in memory.
 
 use crate::exports::{
-    segdag_core_add, segdag_core_add_mirror, segdag_core_close, segdag_core_count, segdag_core_id,
-    segdag_core_line, segdag_core_load, segdag_core_names, segdag_core_next, segdag_core_performed,
-    segdag_core_piece, segdag_core_query, segdag_core_renew_mirror, segdag_core_reply,
+    segdag_core_add, segdag_core_add_mirror, segdag_core_close, segdag_core_count, segdag_core_end,
+    segdag_core_id, segdag_core_line, segdag_core_load, segdag_core_more, segdag_core_names,
+    segdag_core_next, segdag_core_performed, segdag_core_piece, segdag_core_query,
+    segdag_core_renew_mirror, segdag_core_reply,
 };
 use crate::slot::Slot;
 
@@ -187,6 +188,59 @@ fn mirrors_are_asked(rt: HostRuntime) {
         0
     );
     assert_eq!(rt; size, 12);
+    assert_eq!(rt;
+        segdag_core_id(alloc, &mut slot, 0, &SECOND, &mut number),
+        0
+    );
+    assert_eq!(rt; number, 0);
+    assert_eq!(rt; segdag_core_close(alloc, &mut slot), 0);
+    slot.forget();
+}
+
+#[test]
+fn a_store_follows_what_another_stores(rt: HostRuntime) {
+    let alloc = rt.alloc();
+    let mut slot = Slot::shut(alloc);
+    let mut at = 7;
+    let mut count = 7;
+    let mut number = 7;
+    assert_eq!(rt;
+        segdag_core_more(alloc, &mut slot, &MIRRORED, &mut count),
+        17
+    );
+    assert_eq!(rt; segdag_core_end(alloc, &mut slot, &mut at), 17);
+    assert_eq!(rt; segdag_core_load(alloc, &mut slot, b"", 1), 0);
+    assert_eq!(rt; segdag_core_end(alloc, &mut slot, &mut at), 0);
+    assert_eq!(rt; at, 0);
+    assert_eq!(rt;
+        segdag_core_more(alloc, &mut slot, &MIRRORED[..97], &mut count),
+        4
+    );
+    assert_eq!(rt;
+        segdag_core_more(alloc, &mut slot, &MIRRORED, &mut count),
+        0
+    );
+    assert_eq!(rt; count, 1);
+    assert_eq!(rt; segdag_core_end(alloc, &mut slot, &mut at), 0);
+    assert_eq!(rt; at, 97);
+    assert_eq!(rt;
+        segdag_core_more(alloc, &mut slot, &MIRRORED[97..], &mut count),
+        0
+    );
+    assert_eq!(rt; count, 0);
+    assert_eq!(rt;
+        segdag_core_more(alloc, &mut slot, &MIRRORED, &mut count),
+        4
+    );
+    assert_eq!(rt;
+        segdag_core_id(alloc, &mut slot, 0, &SECOND, &mut number),
+        33
+    );
+    let mut size = 0;
+    assert_eq!(rt;
+        segdag_core_line(alloc, &mut slot, b"0 reload", &mut size),
+        0
+    );
     assert_eq!(rt;
         segdag_core_id(alloc, &mut slot, 0, &SECOND, &mut number),
         0
