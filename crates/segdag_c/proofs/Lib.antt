@@ -1,6 +1,6 @@
 pub mod AsBox
 pub mod Beside
 mod Telling
-mod Loading
+mod Opening
 mod Joining
 mod Finding

@@ -142,3 +142,7 @@ refused-added Done (Err f) id code told many done = refused-code Done f code tol
 pub known-of : {X : Type 0} (o : Option X) (P Q : X → Type 0) → ((x : X) → P x → Q x) → IfSome o P → IfSome o Q
 known-of None P Q more p = tt
 known-of (Some x) P Q more p = more x p
+
+pub known-ok : {X E : Type 0} (r : Result X E) (P Q : X → Type 0) → ((x : X) → P x → Q x) → IfOk r P → IfOk r Q
+known-ok (Ok x) P Q more p = more x p
+known-ok (Err e) P Q more p = tt
