@@ -1,5 +1,5 @@
 -- What codes tell of answers.
-use Rattle.std.proofs.Common.{◌≡◌, ◌<◌, ◌≤◌, ◌⊎◌, inl, inr, ℕ, Option, Some, None, Ok, Err, IfOk, IfErr, IfSome, sym, ◌∙◌, subst, arith, lit<}
+use Rattle.std.proofs.Common.{◌≡◌, ◌<◌, ◌≤◌, ◌⊎◌, inl, inr, ℕ, List, MatchResult, Option, Some, None, Ok, Err, IfOk, IfErr, IfSome, sym, ◌∙◌, subst, arith, lit<}
 use Rattle.std.specs.declared.result.Result.{Result}
 use Rattle.step_rules.specs.Reply.{Reply, Added as IsAdded, Old as IsOld, Refused as IsRefused}
 use Rattle.step_rules.specs.declared.Refusal.{Refusal}
@@ -10,27 +10,30 @@ use Rattle.segdag_c.specs.declared.codes.Failure.{Failure}
 use Rattle.segdag_c.specs.declared.codes.Failure.TheVariants.{Disk, NoLog, Reply as NoReply, Memory, Closed, AlreadyOpen, Argument, Syntax, Refused}
 use Rattle.segdag_c.specs.Calls.{Tells, TellsAdded, IsRefusal}
 use Rattle.segdag_c.specs.Codes.{failure_code, refusal_code}
+use Rattle.segdag_c.specs.Loads.{IsRightly}
+use Rattle.segdag_c.specs.declared.held.Held.{Held}
 use Rattle.segdag_c.specs.Typed.{reply_of, added_reply, refusal_in, IsNoRefusal}
 
-pub refused-positive : (r : Refusal) → 0 < refusal_code r
-refused-positive why.Memory = lit< tt
-refused-positive (why.Unknown name) = lit< tt
-refused-positive (why.Twice name) = lit< tt
-refused-positive (why.Differs name) = lit< tt
-refused-positive (why.Conflict name) = lit< tt
-refused-positive (why.Lost name) = lit< tt
-refused-positive (why.InMaster name) = lit< tt
-refused-positive (why.Emptied count) = lit< tt
-refused-positive (why.Full what limit) = lit< tt
-refused-positive (why.Answer count) = lit< tt
-refused-positive (why.NotEmpty master others) = lit< tt
-refused-positive (why.Pending count) = lit< tt
-refused-positive why.NoRemote = lit< tt
-refused-positive (why.Remote count) = lit< tt
-refused-positive (why.MismatchPath name back) = lit< tt
-refused-positive (why.MismatchNames asked given) = lit< tt
-refused-positive (why.MismatchClone at) = lit< tt
-refused-positive (why.MismatchRow id) = lit< tt
+-- no refusal is told by 4 or less
+pub refused-above : (r : Refusal) → 4 < refusal_code r
+refused-above why.Memory = lit< tt
+refused-above (why.Unknown name) = lit< tt
+refused-above (why.Twice name) = lit< tt
+refused-above (why.Differs name) = lit< tt
+refused-above (why.Conflict name) = lit< tt
+refused-above (why.Lost name) = lit< tt
+refused-above (why.InMaster name) = lit< tt
+refused-above (why.Emptied count) = lit< tt
+refused-above (why.Full what limit) = lit< tt
+refused-above (why.Answer count) = lit< tt
+refused-above (why.NotEmpty master others) = lit< tt
+refused-above (why.Pending count) = lit< tt
+refused-above why.NoRemote = lit< tt
+refused-above (why.Remote count) = lit< tt
+refused-above (why.MismatchPath name back) = lit< tt
+refused-above (why.MismatchNames asked given) = lit< tt
+refused-above (why.MismatchClone at) = lit< tt
+refused-above (why.MismatchRow id) = lit< tt
 
 pub failure-positive : (f : Failure) → 0 < failure_code f
 failure-positive Disk = lit< tt
@@ -41,7 +44,7 @@ failure-positive Closed = lit< tt
 failure-positive AlreadyOpen = lit< tt
 failure-positive Argument = lit< tt
 failure-positive Syntax = lit< tt
-failure-positive (Refused refusal) = refused-positive refusal
+failure-positive (Refused refusal) = let above = refused-above refusal in omega (arith, above)
 
 -- no failure is told by 0
 pub no-zero : (f : Failure) (code : ℕ) → code ≡ failure_code f → code ≡ 0 → ⊥
@@ -146,3 +149,27 @@ known-of (Some x) P Q more p = more x p
 pub known-ok : {X E : Type 0} (r : Result X E) (P Q : X → Type 0) → ((x : X) → P x → Q x) → IfOk r P → IfOk r Q
 known-ok (Ok x) P Q more p = more x p
 known-ok (Err e) P Q more p = tt
+
+-- what 4 tells of a load
+pub told-rightly : (bytes : List ℕ) (f : Failure) (code : ℕ) → code ≡ failure_code f → IsRightly bytes f → code ≡ 4 → IsRightly bytes NoLog
+told-rightly bytes Disk code told is four = absurd (omega (arith, told, four))
+told-rightly bytes NoLog code told is four = is
+told-rightly bytes NoReply code told is four = absurd (omega (arith, told, four))
+told-rightly bytes Memory code told is four = absurd (omega (arith, told, four))
+told-rightly bytes Closed code told is four = absurd (omega (arith, told, four))
+told-rightly bytes AlreadyOpen code told is four = absurd (omega (arith, told, four))
+told-rightly bytes Argument code told is four = absurd (omega (arith, told, four))
+told-rightly bytes Syntax code told is four = absurd (omega (arith, told, four))
+told-rightly bytes (Refused refusal) code told is four = absurd (let above = refused-above refusal in omega (arith, told, four, above))
+
+-- a call that gives nothing, and is told by 0, was done
+pub told-done : {X : Type 0} (done : Result X Failure) (code : ℕ) (P : Type 0) → MatchResult done (λ x. code ≡ 0) (λ failure. code ≡ failure_code failure) → code ≡ 0
+    → IfOk done (λ x. P) → P
+told-done (Ok x) code P told zero p = p
+told-done (Err f) code P told zero p = absurd (no-zero f code told zero)
+
+-- what was done to what a handle holds
+pub slot-does : (old new : Option Held) (before after : Held) (X : Held → Held → Type 0) → old ≡ Some before → new ≡ Some after → X before after
+    → IfSome old (λ b. IfSome new (λ a. X b a))
+slot-does old new before after X was is x =
+    subst (λ (o : Option Held). IfSome o (λ b. IfSome new (λ a. X b a))) (sym was) (subst (λ (o : Option Held). IfSome o (λ a. X before a)) (sym is) x)
