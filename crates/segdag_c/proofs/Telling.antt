@@ -11,7 +11,6 @@ use Rattle.segdag_c.specs.declared.codes.Failure.TheVariants.{Disk, NoLog, Reply
 use Rattle.segdag_c.specs.Calls.{Tells, TellsAdded, IsRefusal}
 use Rattle.segdag_c.specs.Codes.{failure_code, refusal_code}
 use Rattle.segdag_c.specs.Loads.{IsRightly}
-use Rattle.segdag_c.specs.declared.held.Held.{Held}
 use Rattle.segdag_c.specs.Typed.{reply_of, added_reply, refusal_in, IsNoRefusal}
 
 -- no refusal is told by 4 or less
@@ -167,9 +166,3 @@ pub told-done : {X : Type 0} (done : Result X Failure) (code : ℕ) (P : Type 0)
     → IfOk done (λ x. P) → P
 told-done (Ok x) code P told zero p = p
 told-done (Err f) code P told zero p = absurd (no-zero f code told zero)
-
--- what was done to what a handle holds
-pub slot-does : (old new : Option Held) (before after : Held) (X : Held → Held → Type 0) → old ≡ Some before → new ≡ Some after → X before after
-    → IfSome old (λ b. IfSome new (λ a. X b a))
-slot-does old new before after X was is x =
-    subst (λ (o : Option Held). IfSome o (λ b. IfSome new (λ a. X b a))) (sym was) (subst (λ (o : Option Held). IfSome o (λ a. X before a)) (sym is) x)

@@ -453,6 +453,14 @@ pub extern "C" fn segdag_core_add_mirror(
     }
 }
 
+/// Gives a mirror of an open log other bytes, and gives the code.
+fn tell_renewed(alloc: Global, held: &mut Held, number: u32, is_there: bool, bytes: &[u8]) -> u32
+    ensures { result ≡ 0 → AreRenewed held.old.mirrors.list.items held.new.mirrors.list.items number is_there bytes.now }
+{
+    let done = renew_mirror(alloc, held, number, is_there, bytes);
+    code_of_done(done)
+}
+
 /// Gives the mirror with this number a copy of these bytes, the whole of its file, or says that it isn't there.
 #[unsafe(no_mangle)]
 pub extern "C" fn segdag_core_renew_mirror(
@@ -468,9 +476,9 @@ pub extern "C" fn segdag_core_renew_mirror(
     match take(alloc, slot) {
         Some(taken) => {
             let mut held = taken;
-            let done = renew_mirror(alloc, &mut *held, number, is_there, bytes);
+            let code = tell_renewed(alloc, &mut *held, number, is_there, bytes);
             put(slot, held);
-            code_of_done(done)
+            code
         }
         None => closed(),
     }
