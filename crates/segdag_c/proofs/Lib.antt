@@ -1,5 +1,6 @@
 pub mod AsBox
 pub mod Beside
+pub mod Followed
 mod Telling
 mod Opening
 mod Joining

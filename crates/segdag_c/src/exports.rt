@@ -9,12 +9,12 @@ ghost use Rattle.call_disk.specs.Noted.{said_of, first_call};
 ghost use Rattle.call_disk.specs.Awaited.{awaited};
 ghost use Rattle.segdag_c.specs.Awaits.{IsPerformed, IsSaid, piece_of};
 ghost use Rattle.segdag_c.specs.Calls.{Tells, TellsAdded, SlotDoes, SlotDoesOf, SlotAdds, SlotLists, IsRefusal, IsRefusedBy, IsCopied};
-ghost use Rattle.segdag_c.specs.Codes.{failure_code};
 ghost use Rattle.segdag_c.specs.Loads.{IsRightly, SlotOpened};
 ghost use Rattle.segdag_c.specs.Renewed.{AreRenewed};
 ghost use Rattle.segdag_c.specs.Typed.{id_told};
 ghost use Rattle.segdag_c.specs.Answers.{HeldAnswers, SlotAnswers};
 ghost use Rattle.segdag_c.specs.Following.{EndsAt, SlotFollows};
+ghost use Rattle.segdag_c.specs.Codes.{failure_code};
 
 use crate::answering::answer_line;
 use crate::calls::{add, count, id, query};
