@@ -1,5 +1,5 @@
 -- What typed calls do to what is held.
-use Rattle.std.specs.Prelude.{◌≡◌, ◌-◌, ◌++◌, ℕ, length, min, take, drop, List, Option, Result, Ok, Err, IfSome}
+use Rattle.std.specs.Prelude.{◌≡◌, ◌-◌, ◌++◌, ℕ, Bool, length, min, take, drop, List, Option, Result, Ok, Err, IfSome}
 use Rattle.std.specs.List.{concat}
 use Rattle.id_groups.specs.Name.{Name}
 use Rattle.set_expr.specs.Expr.{Expr}
@@ -14,6 +14,7 @@ use Rattle.segdag_c.specs.Codes.{failure_code, refusal_code}
 use Rattle.segdag_c.specs.Does.{Does}
 use Rattle.segdag_c.specs.Mirrors.{shown_all}
 use Rattle.segdag_c.specs.Names.{AreJoined}
+use Rattle.segdag_c.specs.Renewed.{AreRenewed}
 use Rattle.segdag_c.specs.Typed.{id_told}
 
 -- the command's step with this reply, of an open log beside its mirrors
@@ -47,6 +48,13 @@ HeldLists before after s text =
 -- and so many bytes
 abbrev pub SlotLists : Option Held → Option Held → ℕ → List ℕ → ℕ → Type 0
 SlotLists old new s text size = IfSome old (λ before. IfSome new (λ after. (size ≡ length after.names.items) × HeldLists before after s text))
+
+-- of an open log's mirrors, one with this number has these bytes, or isn't there
+abbrev pub HeldRenews : Held → Held → ℕ → Bool → List ℕ → Type 0
+HeldRenews before after number is_there bytes = AreRenewed before.mirrors.list.items after.mirrors.list.items number is_there bytes
+
+abbrev pub SlotRenews : Option Held → Option Held → ℕ → Bool → List ℕ → Type 0
+SlotRenews old new number is_there bytes = IfSome old (λ before. IfSome new (λ after. HeldRenews before after number is_there bytes))
 
 -- a call that tells a number, or why not
 abbrev pub Tells : Result ℕ Failure → ℕ → ℕ → Type 0

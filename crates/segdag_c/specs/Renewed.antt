@@ -36,6 +36,7 @@ abbrev pub AreOver : List Mirror → List Mirror → ℕ → OwnedDisk → Type 
 AreOver old new number disk = (k : ℕ) × (m : Mirror) × (slice_get old k ≡ Some m) × (number_of m ≡ number) × (new ≡ slice_set old k (renewed disk m))
 
 -- one with this number is over a disk with these bytes, or over one that isn't there, and the others are as they were
-abbrev pub AreRenewed : List Mirror → List Mirror → ℕ → Bool → List ℕ → Type 0
-AreRenewed old new number is_there bytes =
-    (disk : OwnedDisk) × (tells disk ≡ (if is_there then Some (fresh_disk bytes) else None)) × AreOver old new number disk
+pub record AreRenewed (old new : List Mirror) (number : ℕ) (is_there : Bool) (bytes : List ℕ) : Type 0 where
+  pub disk : OwnedDisk
+  pub told : tells disk ≡ (if is_there then Some (fresh_disk bytes) else None)
+  pub over : AreOver old new number disk

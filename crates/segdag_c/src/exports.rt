@@ -8,9 +8,8 @@ ghost use Rattle.change_rules.specs.Unlawful.{IsNoLog};
 ghost use Rattle.call_disk.specs.Noted.{said_of, first_call};
 ghost use Rattle.call_disk.specs.Awaited.{awaited};
 ghost use Rattle.segdag_c.specs.Awaits.{IsPerformed, IsSaid, piece_of};
-ghost use Rattle.segdag_c.specs.Calls.{Tells, TellsAdded, SlotDoes, SlotDoesOf, SlotAdds, SlotLists, IsRefusal, IsRefusedBy, IsCopied};
+ghost use Rattle.segdag_c.specs.Calls.{Tells, TellsAdded, HeldRenews, SlotDoes, SlotDoesOf, SlotAdds, SlotLists, SlotRenews, IsRefusal, IsRefusedBy, IsCopied};
 ghost use Rattle.segdag_c.specs.Loads.{IsRightly, SlotOpened};
-ghost use Rattle.segdag_c.specs.Renewed.{AreRenewed};
 ghost use Rattle.segdag_c.specs.Typed.{id_told};
 ghost use Rattle.segdag_c.specs.Answers.{HeldAnswers, SlotAnswers};
 ghost use Rattle.segdag_c.specs.Following.{EndsAt, SlotFollows};
@@ -455,7 +454,7 @@ pub extern "C" fn segdag_core_add_mirror(
 
 /// Gives a mirror of an open log other bytes, and gives the code.
 fn tell_renewed(alloc: Global, held: &mut Held, number: u32, is_there: bool, bytes: &[u8]) -> u32
-    ensures { result ≡ 0 → AreRenewed held.old.mirrors.list.items held.new.mirrors.list.items number is_there bytes.now }
+    ensures { result ≡ 0 → HeldRenews held.old held.new number is_there bytes.now }
 {
     let done = renew_mirror(alloc, held, number, is_there, bytes);
     code_of_done(done)
@@ -470,8 +469,7 @@ pub extern "C" fn segdag_core_renew_mirror(
     is_there: bool,
     bytes: &[u8],
 ) -> u32
-    ensures { result ≡ 0 → IfSome slot.old.handle.held (λ before. IfSome slot.new.handle.held (λ after.
-        AreRenewed before.mirrors.list.items after.mirrors.list.items number is_there bytes.now)) }
+    ensures { result ≡ 0 → SlotRenews slot.old.handle.held slot.new.handle.held number is_there bytes.now }
 {
     match take(alloc, slot) {
         Some(taken) => {
