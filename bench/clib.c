@@ -8,6 +8,7 @@
 
 /* How often each question is asked. */
 #define TIMES 20000
+#define FEWER 2000
 
 static double now(void) {
     struct timespec at;
@@ -28,6 +29,9 @@ static void told(const char *what, double began, int times) {
 static void ask(segdag *store, const segdag_name_bytes a, const segdag_name_bytes b, const char *first) {
     segdag_names bases = {0};
     segdag_text reply = {0};
+    segdag_pair pair;
+    segdag_distance distance = {0};
+    size_t done;
     uint64_t id;
     bool is;
     char line[128];
@@ -40,6 +44,13 @@ static void ask(segdag *store, const segdag_name_bytes a, const segdag_name_byte
     for (int i = 0; i < TIMES; i++)
         segdag_merge_bases(store, 0, a, b, &bases);
     told("merge bases", began, TIMES);
+    memcpy(pair.left, a, SEGDAG_NAME);
+    memcpy(pair.right, b, SEGDAG_NAME);
+    began = now();
+    for (int i = 0; i < FEWER; i++)
+        segdag_ahead_behind(store, 0, &pair, 1, &distance, &done);
+    told("ahead and behind", began, FEWER);
+    printf("%-24s %llu %llu\n", "they are", (unsigned long long)distance.ahead, (unsigned long long)distance.behind);
     began = now();
     for (int i = 0; i < TIMES; i++)
         segdag_id(store, 0, a, &id);

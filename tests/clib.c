@@ -1,10 +1,14 @@
 /* What tests/clib.sh runs over the library, by the header alone. `clib LOG [REMOTE].. -- run [--cache N]` answers lines as the program
    does, and ends with the library's status; `clib import LOG COUNT EVERY` imports rows; `clib typed LOG` tries the typed calls, and
-   `clib mirrors LOG THERE OTHER` those beside mirrors. */
+   `clib mirrors LOG THERE OTHER` those beside mirrors; `clib pulls LOG THERE COUNT` pulls beside a log that grows to so many rows. */
+#define _GNU_SOURCE
 #include "clib.h"
 #include <fcntl.h>
 #include <pthread.h>
 #include <stdlib.h>
+#include <sys/syscall.h>
+#include <sys/types.h>
+#include <unistd.h>
 
 /* ---- lines */
 
@@ -103,10 +107,30 @@ static void try_arguments(segdag *store, const char *path) {
     segdag_names_free(&found);
 }
 
+/* Each call with a store, from another thread than its own. */
 static void *try_thread(void *store) {
+    static const segdag_name_bytes names[2];
     segdag_sizes sizes;
+    segdag_text reply = {0};
+    segdag_names found = {0};
+    segdag_name_bytes name;
+    segdag_pair pair;
+    segdag_distance distance;
     segdag *copy = store;
+    uint64_t number;
+    size_t done;
+    bool is;
+    memset(&pair, 0, sizeof pair);
     WANTS(segdag_sizes_of(store, 0, &sizes) == SEGDAG_THREAD && segdag_close(&copy) == SEGDAG_THREAD && copy == store);
+    WANTS(segdag_line(store, "0 status", 8, &reply) == SEGDAG_THREAD && segdag_add_mirror(store, "/") == SEGDAG_THREAD);
+    WANTS(segdag_add(store, 0, names[0], NULL, 0, &number) == SEGDAG_THREAD && segdag_flush(store, 0, NULL, 0, &sizes) == SEGDAG_THREAD);
+    WANTS(segdag_strip(store, 0, names, 1, &sizes) == SEGDAG_THREAD && segdag_clone(store, 0, &number) == SEGDAG_THREAD);
+    WANTS(segdag_pull(store, 0, &sizes) == SEGDAG_THREAD && segdag_reload(store, 0, &number) == SEGDAG_THREAD);
+    WANTS(segdag_discard(store, 0, &number) == SEGDAG_THREAD && segdag_id(store, 0, names[0], &number) == SEGDAG_THREAD);
+    WANTS(segdag_name(store, 0, 0, name) == SEGDAG_THREAD && segdag_count(store, 0, "all", 3, &number) == SEGDAG_THREAD);
+    WANTS(segdag_list(store, 0, "all", 3, &found) == SEGDAG_THREAD && segdag_is_ancestor(store, 0, names[0], names[1], &is) == SEGDAG_THREAD);
+    WANTS(segdag_merge_bases(store, 0, names[0], names[1], &found) == SEGDAG_THREAD && found.count == 0);
+    WANTS(segdag_ahead_behind(store, 0, &pair, 1, &distance, &done) == SEGDAG_THREAD && done == 0);
     return NULL;
 }
 
@@ -199,6 +223,61 @@ static void write_bytes(const char *path, const char *bytes) {
     WANTS(file && fputs(bytes, file) >= 0 && fclose(file) == 0);
 }
 
+/* What is done before the next read of a file: the library reads by this pread. */
+static void (*before_read)(void);
+
+ssize_t pread(int fd, void *bytes, size_t size, off_t at) {
+    if (before_read)
+        before_read();
+    return syscall(SYS_pread64, fd, bytes, size, at);
+}
+
+/* The bytes of a log of 300 rows, whose last hundred came by one change, and how many there were before it. */
+static struct {
+    const char *path;
+    char bytes[1 << 16];
+    size_t before, size;
+} grown;
+
+static size_t read_bytes(void) {
+    FILE *file = fopen(grown.path, "rb");
+    size_t size = file ? fread(grown.bytes, 1, sizeof grown.bytes, file) : 0;
+    WANTS(file && size < sizeof grown.bytes && fclose(file) == 0);
+    return size;
+}
+
+/* Makes so many bytes of it those of the file, in place. */
+static void store_front(size_t size) {
+    FILE *file = fopen(grown.path, "wb");
+    WANTS(file && fwrite(grown.bytes, 1, size, file) == size && fclose(file) == 0);
+}
+
+/* The rest of the change, and its gate, which is open then. */
+static void store_whole(void) {
+    before_read = NULL;
+    store_front(grown.size);
+}
+
+/* A change of a mirror's log ends between the moment when the size is asked, within it, and the read. */
+static void try_growing(const char *path, const char *there) {
+    segdag *store = NULL;
+    uint64_t number = 0;
+    grown.path = there;
+    grow(there, 0, 200);
+    grown.before = read_bytes();
+    grow(there, 200, 300);
+    grown.size = read_bytes();
+    for (size_t more = 0; more < grown.size - grown.before; more += 97) {
+        grown.bytes[grown.before - 1] = 0;
+        store_front(grown.before + more);
+        WANTS(segdag_open(path, 3, &store) == SEGDAG_OK && segdag_add_mirror(store, there) == SEGDAG_OK);
+        grown.bytes[grown.before - 1] = 1;
+        before_read = store_whole;
+        WANTS(segdag_clone(store, 0, &number) == SEGDAG_OK && !before_read && number == 300 && are_found(store, 300));
+        WANTS(segdag_close(&store) == SEGDAG_OK && unlink(path) == 0);
+    }
+}
+
 /* A clone, its names, and pulls beside a log that grows, behind a file that isn't there and one that is no log. */
 static int try_mirrors(const char *path, const char *there, const char *other) {
     segdag *store = NULL;
@@ -225,7 +304,24 @@ static int try_mirrors(const char *path, const char *there, const char *other) {
     name_of(17, name);
     WANTS(segdag_id(store, 0, name, &number) == SEGDAG_NO_REMOTE && segdag_add_mirror(store, there) == SEGDAG_OK && are_found(store, 300));
     WANTS(segdag_close(&store) == SEGDAG_OK);
+    WANTS(unlink(path) == 0 && unlink(there) == 0);
+    try_growing(path, there);
     return failures != 0;
+}
+
+/* Pulls beside a log that another process extends, until it has so many rows: none may be refused. */
+static int pull_meanwhile(const char *path, char *there, uint64_t count) {
+    segdag *store = NULL;
+    segdag_sizes sizes = {0};
+    unsigned long pulls = 0;
+    segdag_status status = open_beside(path, 16, &there, 1, &store);
+    if (status == SEGDAG_OK)
+        status = segdag_clone(store, 0, &sizes.master);
+    for (; status == SEGDAG_OK && sizes.master < count; pulls++)
+        status = segdag_pull(store, 0, &sizes);
+    printf("pulled %lu\n", pulls);
+    segdag_close(&store);
+    return stopped("pull", status);
 }
 
 static int try_typed(const char *path) {
@@ -263,6 +359,8 @@ int main(int count, char **words) {
         return try_mirrors(words[2], words[3], words[4]);
     if (count == 3 && !strcmp(words[1], "typed"))
         return try_typed(words[2]);
+    if (count == 5 && !strcmp(words[1], "pulls"))
+        return pull_meanwhile(words[2], words[3], strtoull(words[4], NULL, 10));
     if (count == 5 && !strcmp(words[1], "import"))
         return import_rows(words[2], strtoull(words[3], NULL, 10), strtoull(words[4], NULL, 10));
     fputs("clib: words\n", stderr);

@@ -17,6 +17,7 @@ CLIB, PROGRAM, FOLDER = (os.path.abspath(word) for word in sys.argv[2:5])
 HISTORIES, RUNS, LINES = int(os.environ.get("HISTORIES", "17")), 3, 200  # 10,200 drawn lines
 ROWS, EVERY, KILLS = 100_000, 1_000, 30
 CLONES = int(os.environ.get("CLONES", "20"))  # how many logs are cloned beside mirrors
+GROWN = 3_000  # how many rows a log has at last beside which another one pulls
 BY_LINES = 5_000  # how many of these rows the program imports, too
 MASK = (1 << 64) - 1
 HANGS = 1800  # seconds behind which something is taken to hang
@@ -138,6 +139,23 @@ def by_python():
             fail(f"the module in Python pulled {sizes}")
 
 
+def growing():
+    """A clone and pulls beside a log that another process extends, one row at a time: none is refused."""
+    there, log = Path(FOLDER, "growing"), Path(FOLDER, "puller")
+    with subprocess.Popen([CLIB, "import", there, str(GROWN), "1"], stdout=subprocess.PIPE, text=True) as writer:
+        watch = threading.Timer(HANGS, writer.kill)
+        watch.start()
+        while not writer.stdout.readline().startswith("flushed"):
+            if writer.poll() is not None:
+                fail("the import beside which it pulls ended")
+        done = subprocess.run([CLIB, "pulls", log, there, str(GROWN)], stdout=subprocess.PIPE, text=True, timeout=HANGS)
+        writer.communicate()
+        watch.cancel()
+    if done.returncode or writer.returncode:
+        fail(f"beside a log that grows a pull ended with status {done.returncode}, and the import with {writer.returncode}: {done.stdout}")
+    return int(done.stdout.split()[1])
+
+
 def mirrors():
     """Clones, names and pulls beside mirrors: the same replies and logs as the program's with the same words."""
     replies = 0
@@ -146,7 +164,8 @@ def mirrors():
         beside.run()
         replies += beside.replies
     by_python()
-    print(f"clib: {CLONES} clones that are asked and pull, {replies} lines beside mirrors: the program's replies and logs")
+    pulls = growing()
+    print(f"clib: {CLONES} clones that are asked and pull, {replies} lines beside mirrors: the program's replies and logs; {pulls} pulls beside a log that grows")
 
 
 def name_of(number):

@@ -11,21 +11,54 @@
 /* A log or a bundle has at most so many bytes. */
 #define FILE_LIMIT ((off_t)1 << 30)
 
+/* How many times a file that has grown meanwhile is read on. */
+#define TURNS 1000
+
 /* What stands in front of the path of a bundle. */
 #define BUNDLE "bundle:"
 
 static const uint8_t nothing = 0;
 
-/* Reads the regular file, and makes *bytes its bytes. SEGDAG_NO_LOG where there are none to be had, as in a file that is too long. */
-static segdag_status read_open(int fd, uint8_t **bytes, size_t *size) {
+/* The size of the regular file; SEGDAG_NO_LOG where it is none, or too long. */
+static segdag_status size_of(int fd, size_t *size) {
     struct stat own;
     if (fstat(fd, &own) || !S_ISREG(own.st_mode) || own.st_size > FILE_LIMIT)
         return SEGDAG_NO_LOG;
     *size = (size_t)own.st_size;
-    *bytes = malloc(*size ? *size : 1);
-    if (!*bytes)
-        return SEGDAG_MEMORY;
-    return store_read_all(fd, *bytes, *size) ? SEGDAG_NO_LOG : SEGDAG_OK;
+    return SEGDAG_OK;
+}
+
+/* Reads the bytes from one place of the file up to another; SEGDAG_NO_LOG where it ends before. */
+static segdag_status read_on(int fd, uint8_t *bytes, size_t from, size_t end) {
+    while (from < end) {
+        ssize_t count = pread(fd, bytes + from, end - from, (off_t)from);
+        if (count < 0 && errno == EINTR)
+            continue;
+        if (count <= 0)
+            return SEGDAG_NO_LOG;
+        from += (size_t)count;
+    }
+    return SEGDAG_OK;
+}
+
+/* Reads the regular file, and makes *bytes its bytes. SEGDAG_NO_LOG where there are none to be had, as in a file that is too long.
+   A process that has the log open may extend it meanwhile. A payload, and the closed gate behind it, are on the disk before the gate in
+   front of it is opened: where a gate was read open, its payload stands within the size that is asked then. So it is read on behind
+   what was read, for as long as it grows; no byte is read before one in front of it, and none twice. */
+static segdag_status read_open(int fd, uint8_t **bytes, size_t *size) {
+    size_t room = 0, end = 0;
+    *size = 0;
+    segdag_status status = size_of(fd, &end);
+    for (int turn = 0; status == SEGDAG_OK && turn < TURNS && (turn == 0 || end > *size); turn++) {
+        void *grown = *bytes;
+        bool has_room = store_grow(&grown, &room, end ? end : 1, 1);
+        *bytes = grown;
+        status = has_room ? read_on(fd, *bytes, *size, end) : SEGDAG_MEMORY;
+        *size = end;
+        if (status == SEGDAG_OK)
+            status = size_of(fd, &end);
+    }
+    return status;
 }
 
 static segdag_status read_file(const char *path, uint8_t **bytes, size_t *size) {

@@ -81,7 +81,8 @@ static segdag_status open_locked(const char *path, int *fd) {
     return SEGDAG_LOCKED;
 }
 
-int store_read_all(int fd, uint8_t *bytes, size_t size) {
+/* Fills so many bytes from the front of a file; -1 where it hasn't as many. */
+static int read_all(int fd, uint8_t *bytes, size_t size) {
     for (size_t at = 0; at < size;) {
         ssize_t count = pread(fd, bytes + at, size - at, (off_t)at);
         if (count < 0 && errno == EINTR)
@@ -190,7 +191,7 @@ static segdag_status load(segdag *store, const char *path, uint32_t cache) {
     if (size && !bytes)
         return SEGDAG_MEMORY;
     segdag_status status = SEGDAG_DISK;
-    if (!store_read_all(store->fd, bytes, size))
+    if (!read_all(store->fd, bytes, size))
         status = segdag_core_load(&store->core, size ? bytes : &nothing, size, cache);
     free(bytes);
     return status == SEGDAG_OK && perform(store) ? SEGDAG_DISK : status;

@@ -7,7 +7,12 @@
    NULL where something is to be read or written, a session above 15, a text or a list that is too long, a thread that didn't open the
    store. Not seen, and so yours to keep: a store that was closed through another copy of its pointer; pointers that aren't valid for
    the lengths beside them; what is passed for writing that overlaps anything else that is passed; calls from a signal handler, or from
-   a child that was forked while the store was open. */
+   a child that was forked while the store was open.
+
+   Threads: each call with a store, segdag_close too, is made by the thread that opened it; any other gets SEGDAG_THREAD, and nothing
+   is read or changed. A thread that was started when the one that opened the store had ended may be taken for it, so close a
+   store before its thread ends. Stores of other logs, and what has no store, as segdag_word and segdag_text_free, are for any thread. A
+   core without a file knows no thread: of one core, make one call after another. */
 #ifndef SEGDAG_H
 #define SEGDAG_H
 #include <stdbool.h>
@@ -95,8 +100,9 @@ segdag_status segdag_more(segdag *store, uint64_t *count);
 
 /* Adds a mirror behind the others, as a word REMOTE of the program does: a log that this one may be a clone of, by its path, or
    `bundle:PATH`. Mirrors behind pipes are the program's alone. The file is read as a whole, without a lock: now, before each clone and pull,
-   and where all mirrors failed another call, which is then made once more. Between these nothing that becomes of it is seen. One that can't
-   be read, or is no log, is a mirror that fails when it is asked. At most 65536. */
+   and where all mirrors failed another call, which is then made once more. Between these nothing that becomes of it is seen. A log that
+   another process extends meanwhile is read on to its new end, up to a thousand times. One that can't be read, or is no log, is a mirror
+   that fails when it is asked. At most 65536. */
 segdag_status segdag_add_mirror(segdag *store, const char *word);
 
 /* ---- lines of the command language */

@@ -42,9 +42,6 @@ segdag_status store_read_mirrors(segdag *store);
 /* Lets go of what is kept of mirrors. */
 void store_free_mirrors(segdag *store);
 
-/* Fills so many bytes from the front of a file; -1 where it hasn't as many. */
-int store_read_all(int fd, uint8_t *bytes, size_t size);
-
 /* Closes the core and the file for a failure, and hands the status on. */
 segdag_status store_fail(segdag *store, segdag_status status);
 

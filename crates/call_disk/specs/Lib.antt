@@ -1,2 +1,4 @@
 pub mod Owned
 pub mod Tells
+pub mod Noted
+pub mod Awaited

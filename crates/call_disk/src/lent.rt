@@ -1,6 +1,7 @@
 //! The disk whose bytes are lent, while a log is loaded.
 
-ghost use Rattle.std.specs.Prelude.{◌≡◌, ◌≤◌, ◌-◌, ◌++◌, min, length, take, drop, None, Some, IfOk, IfSome, refl};
+ghost use Rattle.std.specs.Prelude.{◌≡◌, ◌≤◌, ◌-◌, ◌++◌, min, length, take, drop, [], None, Some, IfOk, IfSome, refl};
+ghost use Rattle.call_disk.specs.Noted.{calls_of};
 
 use crate::copied::copy_out;
 use crate::noted::NotedDisk;
@@ -18,6 +19,7 @@ impl<'a> LentDisk<'a> {
     /// One with nothing noted.
     pub fn new(alloc: Global, bytes: &'a [u8]) -> LentDisk<'a>
         ensures bytes { result.bytes.now ≡ bytes.now }
+        ensures noted { calls_of result.noted.noted.items ≡ [] }
     {
         LentDisk {
             bytes,
@@ -26,7 +28,9 @@ impl<'a> LentDisk<'a> {
     }
 
     /// What was noted, without the bytes.
-    pub fn into_noted(self) -> NotedDisk {
+    pub fn into_noted(self) -> NotedDisk
+        ensures { result ≡ self.entry.noted }
+    {
         self.noted
     }
 }

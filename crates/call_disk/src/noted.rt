@@ -1,6 +1,7 @@
 //! The disk whose calls are noted.
 
-ghost use Rattle.std.specs.Prelude.{◌≡◌, ◌≤◌, ◌<◌, ◌+◌, ◌*◌, ◌^◌, ◌%◌, [], min, length, None, Some, IfOk, OnErr};
+ghost use Rattle.std.specs.Prelude.{◌≡◌, ◌≤◌, ◌<◌, ◌+◌, ◌*◌, ◌^◌, ◌%◌, [], ◌∷◌, ◌++◌, min, length, None, Some, IfOk, OnErr, is_ok, is_some, if◌then◌else◌, option_copied};
+ghost use Rattle.call_disk.specs.Noted.{Write as ToWrite, Sync as ToSync, calls_of, said_of, first_call, behind_first};
 ghost use Rattle.outside.specs.Counts.{HasCause};
 ghost use Rattle.disk_trait.specs.Images.{last_moment};
 
@@ -32,7 +33,7 @@ pub struct NotedDisk {
 impl NotedDisk {
     /// One with nothing noted.
     pub fn new(alloc: Global) -> NotedDisk
-        ensures noted { result.noted.items ≡ [] }
+        ensures noted { calls_of result.noted.items ≡ [] }
         ensures faults { result.faults ≡ 0 }
     {
         NotedDisk {
@@ -44,12 +45,15 @@ impl NotedDisk {
     }
 
     /// The call that is to be performed next.
-    pub fn next(&self) -> Option<&NotedCall> {
+    pub fn next(&self) -> Option<&NotedCall>
+        ensures { said_of (option_copied result) ≡ first_call (calls_of self.now.noted.items) }
+    {
         self.noted.first()
     }
 
     /// Lets the next call go, which was performed.
     pub fn performed(&mut self)
+        ensures noted { calls_of self.new.noted.items ≡ behind_first (calls_of self.old.noted.items) }
         ensures faults { self.new.faults ≡ self.old.faults }
     {
         if !self.noted.is_empty() {
@@ -61,6 +65,7 @@ impl NotedDisk {
     pub(crate) fn begin(&mut self) -> Option<()>
         ensures calls { self.new.calls ≡ min (self.old.calls + 1) (2 ^ 61) }
         ensures faults { self.new.faults ≡ self.old.faults }
+        ensures noted { self.new.noted.items ≡ self.old.noted.items }
     {
         if self.calls >= CALL_LIMIT {
             return None;
@@ -73,6 +78,7 @@ impl NotedDisk {
     fn note_write(&mut self, at: u64, piece: &[u8]) -> Option<()>
         ensures calls { self.new.calls ≡ min (self.old.calls + 1) (2 ^ 61) }
         ensures faults { self.new.faults ≡ self.old.faults }
+        ensures noted { calls_of self.new.noted.items ≡ (if is_some result then calls_of self.old.noted.items ++ ToWrite at piece.now ∷ [] else calls_of self.old.noted.items) }
     {
         self.begin()?;
         let piece = Vec::from_slice(self.alloc, piece).ok()?;
@@ -83,6 +89,7 @@ impl NotedDisk {
     fn note_sync(&mut self) -> Option<()>
         ensures calls { self.new.calls ≡ min (self.old.calls + 1) (2 ^ 61) }
         ensures faults { self.new.faults ≡ self.old.faults }
+        ensures noted { calls_of self.new.noted.items ≡ (if is_some result then calls_of self.old.noted.items ++ ToSync ∷ [] else calls_of self.old.noted.items) }
     {
         self.begin()?;
         self.noted.push(NotedCall::Sync).ok()
@@ -92,7 +99,9 @@ impl NotedDisk {
     pub(crate) fn end<T: Drop>(&mut self, answer: Option<T>) -> Result<T, DiskFault>
         ensures cause { HasCause self.old.faults self.new.faults result }
         ensures value { IfOk result (λ value. answer ≡ Some value) }
+        ensures ok { is_ok result ≡ is_some answer }
         ensures calls { self.new.calls ≡ self.old.calls }
+        ensures noted { self.new.noted.items ≡ self.old.noted.items }
     {
         match answer {
             Some(value) => Ok(value),
@@ -101,6 +110,24 @@ impl NotedDisk {
                 Err(DiskFault)
             }
         }
+    }
+
+    /// Notes a write behind the calls that are noted, or fails and notes nothing.
+    pub fn add_write(&mut self, at: u64, piece: &[u8]) -> Result<(), DiskFault>
+        ensures noted { calls_of self.new.noted.items ≡ (if is_ok result then calls_of self.old.noted.items ++ ToWrite at piece.now ∷ [] else calls_of self.old.noted.items) }
+        ensures cause { HasCause self.old.faults self.new.faults result }
+    {
+        let answer = self.note_write(at, piece);
+        self.end(answer)
+    }
+
+    /// Notes a sync behind the calls that are noted, or fails and notes nothing.
+    pub fn add_sync(&mut self) -> Result<(), DiskFault>
+        ensures noted { calls_of self.new.noted.items ≡ (if is_ok result then calls_of self.old.noted.items ++ ToSync ∷ [] else calls_of self.old.noted.items) }
+        ensures cause { HasCause self.old.faults self.new.faults result }
+    {
+        let answer = self.note_sync();
+        self.end(answer)
     }
 
     /// How many calls were begun and have returned, together.
@@ -137,13 +164,11 @@ impl Disk for NotedDisk {
     }
 
     fn write(&mut self, at: u64, piece: &[u8]) -> Result<(), DiskFault> {
-        let answer = self.note_write(at, piece);
-        self.end(answer)
+        self.add_write(at, piece)
     }
 
     fn sync(&mut self) -> Result<(), DiskFault> {
-        let answer = self.note_sync();
-        self.end(answer)
+        self.add_sync()
     }
 
     fn clock(&self) -> u64 {

@@ -1,5 +1,5 @@
 -- A store beside mirrors.
-use Rattle.std.proofs.Common.{ℕ, List, Option, Ok, Err, IfOk, length, ◌≡◌, sym, subst}
+use Rattle.std.proofs.Common.{ℕ, List, Option, Ok, Err, IfOk, length, map, ◌≡◌, sym, subst}
 use Rattle.std.specs.declared.result.Result.{Result}
 use Rattle.outside.specs.Counts.{Rose}
 use Rattle.line_io.specs.Memory.{MemoryOutput}
@@ -8,12 +8,13 @@ use Rattle.span_set.specs.Members.{ids_of}
 use Rattle.set_expr.specs.Expr.{Expr}
 use Rattle.set_query.specs.declared.evaluation.Answer.{Answer}
 use Rattle.remote_rules.specs.Mirror.{Mirror}
-use Rattle.step_rules.specs.State.{State}
-use Rattle.step_rules.specs.Verb.{Count}
-use Rattle.step_rules.specs.Reply.{Counted}
+use Rattle.step_rules.specs.State.{State, Stored}
+use Rattle.step_rules.specs.Verb.{Count, Query}
+use Rattle.step_rules.specs.Reply.{Counted, Listed}
 use Rattle.dag_store.specs.Kept.{PlainStore}
-use Rattle.dag_store.specs.Stands.{StandsBeside, IsAnswerable}
-use Rattle.dag_store.specs.Steps.{CountStep, Leads}
+use Rattle.dag_store.specs.declared.query.Found.{Found}
+use Rattle.dag_store.specs.Stands.{Stands, StandsBeside, IsAnswerable}
+use Rattle.dag_store.specs.Steps.{AreIdsOf, CountStep, KeepsAll, Leads, QueryStep, known_name}
 use Rattle.dag_run.specs.Lines.{LineReplies}
 use Rattle.dag_run.specs.declared.stops.Stop.{Stop}
 use Rattle.segdag_c.specs.Does.{Does}
@@ -28,3 +29,12 @@ pub counts : (first left : List Mirror) (old new : PlainStore) (s : ℕ) (e : Ex
     → ((began : ℕ) (st : State) → StandsBeside began old first st → IsAnswerable st → CountStep began old.limits st s e (Ok answer) new left) → Does first old s (Count e) (Counted count) new left
 counts first left old new s e answer count same step =
     λ began st stands answerable. subst (λ n. Leads began old.limits st s (Count e) (Counted n) new left) (sym same) (step began st stands answerable).1
+
+-- a query, of which these names are told that are found in each state
+pub lists : (first left : List Mirror) (old new : PlainStore) (s : ℕ) (e : Expr Name) (found : Found) (listed : List Name) → KeepsAll old new
+    → ((began : ℕ) (st : Stored) (names : List Name) → Stands began new st → AreIdsOf st s (ids_of found.answer.set) (map known_name found.fetched) names → listed ≡ names)
+    → ((began : ℕ) (st : State) → StandsBeside began old first st → IsAnswerable st → QueryStep began old.limits st s e (Ok found) new left) → Does first old s (Query e) (Listed listed) new left
+lists first left old new s e found listed kept finds step = λ began st stands answerable.
+    let q = step began st stands answerable in
+    let same : listed ≡ q.0 = finds began st.store q.0 (subst (λ (n : PlainStore). Stands began n st.store) (sym kept) stands.stored) q.2 in
+    subst (λ names. Leads began old.limits st s (Query e) (Listed names) new left) (sym same) q.1

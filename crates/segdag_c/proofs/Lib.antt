@@ -1,3 +1,7 @@
 pub mod AsBox
 pub mod Beside
 pub mod Followed
+mod Telling
+mod Opening
+mod Joining
+mod Finding

@@ -1,9 +1,13 @@
 pub mod Owned
 pub mod Codes
 pub mod Mirrors
+pub mod Renewed
+pub mod Awaits
 pub mod Does
+pub mod Names
 pub mod Typed
 pub mod Line
 pub mod Calls
 pub mod Answers
+pub mod Loads
 pub mod Following

@@ -1,7 +1,9 @@
 -- The replies that the answers of typed calls are.
-use Rattle.std.specs.Prelude.{ℕ, Option, Some, None, Result, Ok, Err}
+use Rattle.std.specs.Prelude.{ℕ, ⊤, Option, Some, None, Result, Ok, Err}
+use Rattle.step_rules.specs.declared.Refusal.{Refusal}
 use Rattle.step_rules.specs.Reply.{Reply, Counted, Refused as IsRefused}
 use Rattle.dag_store.specs.declared.replies.Added.{Added}
+use Rattle.dag_store.specs.declared.replies.Added.TheVariants.{New, Old}
 use Rattle.dag_store.specs.Steps.{add_reply, id_reply as reply_of_id}
 use Rattle.segdag_c.specs.declared.codes.Failure.{Failure}
 use Rattle.segdag_c.specs.declared.codes.Failure.TheVariants.{Refused}
@@ -21,3 +23,18 @@ id_reply result = reply_of (λ id. reply_of_id (Ok id)) result
 
 abbrev pub counted_reply : Result ℕ Failure → Option Reply
 counted_reply result = reply_of Counted result
+
+-- the refusal that a failure is; none where the store wasn't asked
+abbrev pub refusal_in : Failure → Option Refusal
+refusal_in (Refused refusal) = Some refusal
+refusal_in failure = None
+
+-- the store wasn't asked
+abbrev pub IsNoRefusal : Failure → Type 0
+IsNoRefusal (Refused refusal) = ⊥
+IsNoRefusal failure = ⊤
+
+-- the id of a commit that was added, or was there
+abbrev pub id_told : Added → ℕ
+id_told (New id) = id
+id_told (Old id) = id

@@ -1,13 +1,21 @@
 //! The typed calls of an open log.
 
-ghost use Rattle.std.specs.Prelude.{◌≡◌, ◌<◌, ◌≤◌, length, Ok, IfOk, IfSome};
+ghost use Rattle.std.specs.Prelude.{◌≡◌, ◌<◌, ◌≤◌, ℕ, List, length, map, Ok, IfOk, IfErr, IfSome};
+ghost use Rattle.std.specs.List.{concat};
+ghost use Rattle.id_groups.specs.Name.{Name as NameBytes};
 ghost use Rattle.set_expr.specs.Whole.{tree_of};
 ghost use Rattle.set_expr.specs.Spelling.{SpellsExpr};
+ghost use Rattle.span_set.specs.Members.{ids_of};
+ghost use Rattle.step_rules.specs.State.{Stored};
+ghost use Rattle.step_rules.specs.Reply.{Listed, Refused as IsRefused};
+ghost use Rattle.dag_store.specs.Stands.{Stands};
+ghost use Rattle.dag_store.specs.Steps.{AreIdsOf, known_name};
 ghost use Rattle.step_rules.specs.Verb.{Add as ToAdd, Count as ToCount, IdOf, Query as ToQuery};
-ghost use Rattle.segdag_c.specs.Calls.{HeldDoes};
+ghost use Rattle.segdag_c.specs.Calls.{HeldDoes, HeldDoesOf, HeldAdds, HeldLists};
 ghost use Rattle.segdag_c.specs.Does.{Does};
 ghost use Rattle.segdag_c.specs.Mirrors.{shown_all};
-ghost use Rattle.segdag_c.specs.Typed.{added_reply, counted_reply, id_reply};
+ghost use Rattle.segdag_c.specs.Names.{AreJoined};
+ghost use Rattle.segdag_c.specs.Typed.{added_reply, counted_reply, id_reply, refusal_in, IsNoRefusal};
 
 use crate::codes::Failure;
 use crate::held::Held;
@@ -44,6 +52,36 @@ fn add_to(
     }
 }
 
+/// Adds a commit with these parents to a session.
+fn add_held(held: &mut Held, session: u8, name: &Name, parents: &[Name]) -> Result<Added, Failure>
+    requires session { session < 16 }
+    requires few { length parents.now ≤ 8 }
+    ensures { IfSome (added_reply result) (λ reply. HeldDoes held.old held.new session (ToAdd name.now parents.now) reply) }
+{
+    let Some(store) = &mut held.store else {
+        return Err(Failure::Disk);
+    };
+    add_to(store, &mut held.mirrors, session, name, parents)
+}
+
+/// The names of parents that these bytes are, 20 each.
+fn parents_in(alloc: Global, bytes: &[u8]) -> Result<Vec<Name>, Failure>
+    ensures few { IfOk result (λ parents. length parents.items ≤ 8) }
+    ensures joined { IfOk result (λ parents. AreJoined parents.items bytes.now) }
+    ensures fault { IfErr result (λ failure. IsNoRefusal failure) }
+{
+    if bytes.len() > MOST_PARENTS * NAME_SIZE {
+        return Err(Failure::Argument);
+    }
+    if bytes.len() % NAME_SIZE != 0 {
+        return Err(Failure::Argument);
+    }
+    match names_in(alloc, bytes) {
+        Ok(parents) => Ok(parents),
+        Err(_) => Err(Failure::Memory),
+    }
+}
+
 /// Adds a commit with these parents, 20 bytes each, to a session.
 pub(crate) fn add(
     alloc: Global,
@@ -51,20 +89,16 @@ pub(crate) fn add(
     session: u8,
     name: &Name,
     parents: &[u8],
-) -> Result<Added, Failure> {
-    if session >= SESSIONS || parents.len() > MOST_PARENTS * NAME_SIZE {
+) -> Result<Added, Failure>
+    ensures { IfSome (added_reply result) (λ reply. HeldAdds held.old held.new session name.now parents.now reply) }
+{
+    if session >= SESSIONS {
         return Err(Failure::Argument);
     }
-    if parents.len() % NAME_SIZE != 0 {
-        return Err(Failure::Argument);
+    match parents_in(alloc, parents) {
+        Ok(parents) => add_held(held, session, name, &parents),
+        Err(failure) => Err(failure),
     }
-    let Ok(parents) = names_in(alloc, parents) else {
-        return Err(Failure::Memory);
-    };
-    let Some(store) = &mut held.store else {
-        return Err(Failure::Disk);
-    };
-    add_to(store, &mut held.mirrors, session, name, &parents)
 }
 
 /// The id of a commit that a session of the store sees.
@@ -99,7 +133,8 @@ pub(crate) fn id(held: &mut Held, session: u8, name: &Name) -> Result<Id, Failur
 
 /// The expression that a text spells.
 fn expr_of(alloc: Global, text: &[u8]) -> Result<Expr, Failure>
-    ensures { IfOk result (λ e. SpellsExpr text.now (tree_of e)) }
+    ensures spells { IfOk result (λ e. SpellsExpr text.now (tree_of e)) }
+    ensures fault { IfErr result (λ failure. IsNoRefusal failure) }
 {
     match Expr::parse(alloc, text) {
         Ok(expr) => Ok(expr),
@@ -125,26 +160,41 @@ fn count_in(
     }
 }
 
+/// How many members an expression has in a session.
+fn count_held(held: &mut Held, session: u8, expr: &Expr) -> Result<u64, Failure>
+    requires { session < 16 }
+    ensures { IfSome (counted_reply result) (λ reply. HeldDoes held.old held.new session (ToCount (tree_of expr.now)) reply) }
+{
+    let Some(store) = &mut held.store else {
+        return Err(Failure::Disk);
+    };
+    count_in(store, &mut held.mirrors, session, expr)
+}
+
 /// How many members the expression that a text spells has in a session.
 pub(crate) fn count(
     alloc: Global,
     held: &mut Held,
     session: u8,
     text: &[u8],
-) -> Result<u64, Failure> {
+) -> Result<u64, Failure>
+    ensures { IfSome (counted_reply result) (λ reply. HeldDoesOf held.old held.new session text.now ToCount reply) }
+{
     if session >= SESSIONS {
         return Err(Failure::Argument);
     }
-    let expr = expr_of(alloc, text)?;
-    let Some(store) = &mut held.store else {
-        return Err(Failure::Disk);
-    };
-    count_in(store, &mut held.mirrors, session, &expr)
+    match expr_of(alloc, text) {
+        Ok(expr) => count_held(held, session, &expr),
+        Err(failure) => Err(failure),
+    }
 }
 
 /// The names of an answer, one behind the other.
 fn join_found(alloc: Global, store: &Store, session: u8, found: &Found) -> Result<Vec<u8>, Failure>
     requires { session < 16 }
+    ensures names { IfOk result (λ bytes. (listed : List NameBytes) × (concat listed ≡ bytes.items) × ((began : ℕ) (st : Stored) (names : List NameBytes) → Stands began store.now st
+        → AreIdsOf st session (ids_of found.now.answer.set) (map known_name found.now.fetched) names → listed ≡ names)) }
+    ensures fault { IfErr result (λ failure. IsNoRefusal failure) }
 {
     match join(alloc, store.names(session, found)) {
         Ok(names) => Ok(names),
@@ -161,11 +211,34 @@ fn query_in(
     expr: &Expr,
 ) -> Result<Vec<u8>, Failure>
     requires { session < 16 }
+    ensures listed { IfOk result (λ bytes. (listed : List NameBytes) × (concat listed ≡ bytes.items)
+        × Does (shown_all mirrors.old.list.items) store.old session (ToQuery (tree_of expr.now)) (Listed listed) store.new (shown_all mirrors.new.list.items)) }
+    ensures refused { IfErr result (λ failure. IfSome (refusal_in failure) (λ refusal.
+        Does (shown_all mirrors.old.list.items) store.old session (ToQuery (tree_of expr.now)) (IsRefused refusal) store.new (shown_all mirrors.new.list.items))) }
     ensures limits { store.new.limits ≡ store.old.limits }
 {
     match store.query(session, mirrors, expr) {
         Ok(found) => join_found(alloc, store, session, &found),
         Err(refusal) => Err(Failure::Refused(refusal)),
+    }
+}
+
+/// Finds the members of an expression in a session: their names stand in `names`. How many bytes they have.
+fn query_held(alloc: Global, held: &mut Held, session: u8, expr: &Expr) -> Result<usize, Failure>
+    requires { session < 16 }
+    ensures size { IfOk result (λ size. size ≡ length held.new.names.items) }
+    ensures listed { IfOk result (λ size. (listed : List NameBytes) × (concat listed ≡ held.new.names.items) × HeldDoes held.old held.new session (ToQuery (tree_of expr.now)) (Listed listed)) }
+    ensures refused { IfErr result (λ failure. IfSome (refusal_in failure) (λ refusal. HeldDoes held.old held.new session (ToQuery (tree_of expr.now)) (IsRefused refusal))) }
+{
+    let Some(store) = &mut held.store else {
+        return Err(Failure::Disk);
+    };
+    match query_in(alloc, store, &mut held.mirrors, session, expr) {
+        Ok(names) => {
+            held.names = names;
+            Ok(held.names.len())
+        }
+        Err(failure) => Err(failure),
     }
 }
 
@@ -175,14 +248,15 @@ pub(crate) fn query(
     held: &mut Held,
     session: u8,
     text: &[u8],
-) -> Result<usize, Failure> {
+) -> Result<usize, Failure>
+    ensures listed { IfOk result (λ size. (size ≡ length held.new.names.items) × HeldLists held.old held.new session text.now) }
+    ensures refused { IfErr result (λ failure. IfSome (refusal_in failure) (λ refusal. HeldDoesOf held.old held.new session text.now ToQuery (IsRefused refusal))) }
+{
     if session >= SESSIONS {
         return Err(Failure::Argument);
     }
-    let expr = expr_of(alloc, text)?;
-    let Some(store) = &mut held.store else {
-        return Err(Failure::Disk);
-    };
-    held.names = query_in(alloc, store, &mut held.mirrors, session, &expr)?;
-    Ok(held.names.len())
+    match expr_of(alloc, text) {
+        Ok(expr) => query_held(alloc, held, session, &expr),
+        Err(failure) => Err(failure),
+    }
 }

@@ -1,9 +1,16 @@
 //! The functions that C calls.
 
-ghost use Rattle.std.specs.Prelude.{◌≡◌, ◌≤◌, ◌-◌, ◌++◌, IfSome, MatchResult, false, length, min, take, drop};
-ghost use Rattle.step_rules.specs.Verb.{IdOf};
-ghost use Rattle.step_rules.specs.Reply.{Identified};
-ghost use Rattle.segdag_c.specs.Calls.{Tells, SlotDoes, IsRefusedBy, IsCopied};
+ghost use Rattle.std.specs.Prelude.{◌≡◌, ◌≤◌, ◌-◌, ◌++◌, ◌⊎◌, IfOk, IfSome, MatchResult, false, length, min, take, drop, option_copied};
+ghost use Rattle.step_rules.specs.Verb.{IdOf, Count as ToCount, Query as ToQuery};
+ghost use Rattle.step_rules.specs.Reply.{Identified, Counted, Added as IsAdded, Old as IsOld};
+ghost use Rattle.change_rules.specs.Standard.{standard};
+ghost use Rattle.change_rules.specs.Unlawful.{IsNoLog};
+ghost use Rattle.call_disk.specs.Noted.{said_of, first_call};
+ghost use Rattle.call_disk.specs.Awaited.{awaited};
+ghost use Rattle.segdag_c.specs.Awaits.{IsPerformed, IsSaid, piece_of};
+ghost use Rattle.segdag_c.specs.Calls.{Tells, TellsAdded, HeldRenews, SlotDoes, SlotDoesOf, SlotAdds, SlotLists, SlotRenews, IsRefusal, IsRefusedBy, IsCopied};
+ghost use Rattle.segdag_c.specs.Loads.{IsRightly, SlotOpened};
+ghost use Rattle.segdag_c.specs.Typed.{id_told};
 ghost use Rattle.segdag_c.specs.Answers.{HeldAnswers, SlotAnswers};
 ghost use Rattle.segdag_c.specs.Following.{EndsAt, SlotFollows};
 ghost use Rattle.segdag_c.specs.Codes.{failure_code};
@@ -31,12 +38,11 @@ fn closed() -> u32
 /// Loads the log that these bytes are, the whole of its file, with room for so many names of mirrors. What is to be written of a new log
 /// is noted.
 #[unsafe(no_mangle)]
-pub extern "C" fn segdag_core_load(
-    alloc: Global,
-    slot: &mut Slot,
-    bytes: &[u8],
-    cache: u32,
-) -> u32 {
+pub extern "C" fn segdag_core_load(alloc: Global, slot: &mut Slot, bytes: &[u8], cache: u32) -> u32
+    ensures opened { result ≡ 0 → SlotOpened bytes.now cache slot.new.handle.held }
+    ensures rightly { result ≡ 4 → IsRightly bytes.now Failure.NoLog }
+    ensures lawful { IsNoLog standard.log bytes.now → result ≡ 0 → ⊥ }
+{
     if slot.is_open {
         return code_of(Failure::AlreadyOpen);
     }
@@ -79,7 +85,9 @@ const WRITE: u32 = 1;
 const SYNC: u32 = 2;
 
 /// What is to be performed next: its kind, and of a write its place and how many bytes it has.
-fn parts_of(next: Option<&NotedCall>) -> (u32, u64, usize) {
+fn parts_of(next: Option<&NotedCall>) -> (u32, u64, usize)
+    ensures { IsSaid (said_of (option_copied next.entry)) result.0 result.1 result.2 }
+{
     match next {
         Some(NotedCall::Write(at, piece)) => (WRITE, *at, piece.len()),
         Some(NotedCall::Sync) => (SYNC, 0, 0),
@@ -95,7 +103,10 @@ pub extern "C" fn segdag_core_next(
     kind: &mut u32,
     at: &mut u64,
     size: &mut usize,
-) -> u32 {
+) -> u32
+    ensures said { result ≡ 0 → IfSome slot.old.handle.held (λ held. IsSaid (first_call (awaited held.log)) kind.new at.new size.new) }
+    ensures kept { result ≡ 0 → slot.new.handle.held ≡ slot.old.handle.held }
+{
     match take(alloc, slot) {
         Some(held) => {
             let parts = parts_of(held.log.next());
@@ -124,10 +135,12 @@ fn copy_from(bytes: &[u8], from: usize, out: &mut [u8]) -> usize
 }
 
 /// Copies of the piece that is to be written next.
-fn copy_piece(next: Option<&NotedCall>, from: usize, out: &mut [u8]) -> usize {
+fn copy_piece(next: Option<&NotedCall>, from: usize, out: &mut [u8]) -> usize
+    ensures { IsCopied (piece_of (said_of (option_copied next.entry))) from result out.old out.new }
+{
     match next {
         Some(NotedCall::Write(_, piece)) => copy_from(piece, from, out),
-        _ => 0,
+        Some(NotedCall::Sync) | None => copy_from(&[], from, out),
     }
 }
 
@@ -139,7 +152,10 @@ pub extern "C" fn segdag_core_piece(
     from: usize,
     out: &mut [u8],
     copied: &mut usize,
-) -> u32 {
+) -> u32
+    ensures copies { result ≡ 0 → IfSome slot.old.handle.held (λ held. IsCopied (piece_of (first_call (awaited held.log))) from copied.new out.old out.new) }
+    ensures kept { result ≡ 0 → slot.new.handle.held ≡ slot.old.handle.held }
+{
     match take(alloc, slot) {
         Some(held) => {
             *copied = copy_piece(held.log.next(), from, out);
@@ -152,7 +168,9 @@ pub extern "C" fn segdag_core_piece(
 
 /// Lets the next call of the disk go, which was performed.
 #[unsafe(no_mangle)]
-pub extern "C" fn segdag_core_performed(alloc: Global, slot: &mut Slot) -> u32 {
+pub extern "C" fn segdag_core_performed(alloc: Global, slot: &mut Slot) -> u32
+    ensures { result ≡ 0 → IfSome slot.old.handle.held (λ before. IfSome slot.new.handle.held (IsPerformed before)) }
+{
     match take(alloc, slot) {
         Some(taken) => {
             let mut held = taken;
@@ -220,7 +238,9 @@ pub extern "C" fn segdag_core_reply(
 }
 
 /// The id of what was added.
-fn id_of(added: Added) -> Id {
+fn id_of(added: Added) -> Id
+    ensures { result ≡ id_told added }
+{
     match added {
         Added::New(id) => id,
         Added::Old(id) => id,
@@ -228,7 +248,9 @@ fn id_of(added: Added) -> Id {
 }
 
 /// Tells what came of an add: its id, where there is one.
-fn tell_added(answer: Result<Added, Failure>, number: &mut u64) -> u32 {
+fn tell_added(answer: Result<Added, Failure>, number: &mut u64) -> u32
+    ensures { TellsAdded answer number.new result }
+{
     match answer {
         Ok(added) => {
             *number = id_of(added).number();
@@ -247,7 +269,11 @@ pub extern "C" fn segdag_core_add(
     name: &[u8; 20],
     parents: &[u8],
     number: &mut u64,
-) -> u32 {
+) -> u32
+    ensures does { result ≡ 0 → SlotAdds slot.old.handle.held slot.new.handle.held session name.now parents.now (IsAdded number.new)
+        ⊎ SlotAdds slot.old.handle.held slot.new.handle.held session name.now parents.now (IsOld number.new) }
+    ensures refused { 33 ≤ result → IsRefusal result (SlotAdds slot.old.handle.held slot.new.handle.held session name.now parents.now) }
+{
     match take(alloc, slot) {
         Some(taken) => {
             let mut held = taken;
@@ -322,7 +348,10 @@ pub extern "C" fn segdag_core_count(
     session: u8,
     text: &[u8],
     total: &mut u64,
-) -> u32 {
+) -> u32
+    ensures does { result ≡ 0 → SlotDoesOf slot.old.handle.held slot.new.handle.held session text.now ToCount (Counted total.new) }
+    ensures refused { 33 ≤ result → IsRefusal result (SlotDoesOf slot.old.handle.held slot.new.handle.held session text.now ToCount) }
+{
     match take(alloc, slot) {
         Some(taken) => {
             let mut held = taken;
@@ -335,7 +364,9 @@ pub extern "C" fn segdag_core_count(
 }
 
 /// Tells how many bytes names have, where there are some.
-fn tell_size(answer: Result<usize, Failure>, size: &mut usize) -> u32 {
+fn tell_size(answer: Result<usize, Failure>, size: &mut usize) -> u32
+    ensures { Tells answer size.new result }
+{
     match answer {
         Ok(bytes) => {
             *size = bytes;
@@ -354,7 +385,10 @@ pub extern "C" fn segdag_core_query(
     session: u8,
     text: &[u8],
     size: &mut usize,
-) -> u32 {
+) -> u32
+    ensures does { result ≡ 0 → SlotLists slot.old.handle.held slot.new.handle.held session text.now size.new }
+    ensures refused { 33 ≤ result → IsRefusal result (SlotDoesOf slot.old.handle.held slot.new.handle.held session text.now ToQuery) }
+{
     match take(alloc, slot) {
         Some(taken) => {
             let mut held = taken;
@@ -418,6 +452,14 @@ pub extern "C" fn segdag_core_add_mirror(
     }
 }
 
+/// Gives a mirror of an open log other bytes, and gives the code.
+fn tell_renewed(alloc: Global, held: &mut Held, number: u32, is_there: bool, bytes: &[u8]) -> u32
+    ensures { result ≡ 0 → HeldRenews held.old held.new number is_there bytes.now }
+{
+    let done = renew_mirror(alloc, held, number, is_there, bytes);
+    code_of_done(done)
+}
+
 /// Gives the mirror with this number a copy of these bytes, the whole of its file, or says that it isn't there.
 #[unsafe(no_mangle)]
 pub extern "C" fn segdag_core_renew_mirror(
@@ -426,13 +468,15 @@ pub extern "C" fn segdag_core_renew_mirror(
     number: u32,
     is_there: bool,
     bytes: &[u8],
-) -> u32 {
+) -> u32
+    ensures { result ≡ 0 → SlotRenews slot.old.handle.held slot.new.handle.held number is_there bytes.now }
+{
     match take(alloc, slot) {
         Some(taken) => {
             let mut held = taken;
-            let done = renew_mirror(alloc, &mut *held, number, is_there, bytes);
+            let code = tell_renewed(alloc, &mut *held, number, is_there, bytes);
             put(slot, held);
-            code_of_done(done)
+            code
         }
         None => closed(),
     }

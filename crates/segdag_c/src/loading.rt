@@ -1,6 +1,7 @@
 //! Loading a log whose bytes are lent.
 
-ghost use Rattle.std.specs.Prelude.{◌≡◌, ◌<◌, IfOk};
+ghost use Rattle.std.specs.Prelude.{◌≡◌, ◌<◌, [], Some, IfOk, IfErr};
+ghost use Rattle.segdag_c.specs.Loads.{load_failure, HoldsOpened, IsOpened, IsRightly};
 ghost use Rattle.change_rules.specs.Standard.{standard};
 
 use crate::codes::Failure;
@@ -12,7 +13,9 @@ use mirror_set::Mirrors;
 use std::alloc::Global;
 
 /// Why C is told that a log isn't loaded.
-fn failure_of(fault: LoadFault) -> Failure {
+fn failure_of(fault: LoadFault) -> Failure
+    ensures { result ≡ load_failure fault }
+{
     match fault {
         LoadFault::Disk(_) => Failure::Disk,
         LoadFault::Memory => Failure::Memory,
@@ -24,6 +27,8 @@ fn failure_of(fault: LoadFault) -> Failure {
 fn load_store(alloc: Global, bytes: &[u8], cache: u32) -> Result<(Store, NotedDisk), Failure>
     requires { 0 < cache }
     ensures limits { IfOk result (λ loaded. loaded.0.limits ≡ standard) }
+    ensures opened { IfOk result (λ loaded. IsOpened bytes.now cache loaded.0) }
+    ensures rightly { IfErr result (IsRightly bytes.now) }
 {
     let mut disk = LentDisk::new(alloc, bytes);
     match Store::load(alloc, &mut disk, Limits::standard(), cache) {
@@ -32,19 +37,32 @@ fn load_store(alloc: Global, bytes: &[u8], cache: u32) -> Result<(Store, NotedDi
     }
 }
 
-/// Loads the log that these bytes are. What is to be written of one that is fresh is noted.
-pub(crate) fn load_log(alloc: Global, bytes: &[u8], cache: u32) -> Result<Held, Failure>
-    requires { 0 < cache }
+/// An open log, beside no mirrors.
+fn held_of(alloc: Global, store: Store, log: NotedDisk, reply: MemorySink) -> Held
+    requires { store.limits ≡ standard }
+    ensures store { result.store ≡ Some store }
+    ensures mirrors { result.mirrors.list.items ≡ [] }
 {
-    let Ok(reply) = MemorySink::new(alloc, &[]) else {
-        return Err(Failure::Memory);
-    };
-    let (store, log) = load_store(alloc, bytes, cache)?;
-    Ok(Held {
+    Held {
         store: Some(store),
         log,
         mirrors: Mirrors::new(Vec::new(alloc)),
         reply,
         names: Vec::new(alloc),
-    })
+    }
+}
+
+/// Loads the log that these bytes are. What is to be written of one that is fresh is noted.
+pub(crate) fn load_log(alloc: Global, bytes: &[u8], cache: u32) -> Result<Held, Failure>
+    requires { 0 < cache }
+    ensures opened { IfOk result (HoldsOpened bytes.now cache) }
+    ensures rightly { IfErr result (IsRightly bytes.now) }
+{
+    let Ok(reply) = MemorySink::new(alloc, &[]) else {
+        return Err(Failure::Memory);
+    };
+    match load_store(alloc, bytes, cache) {
+        Ok((store, log)) => Ok(held_of(alloc, store, log, reply)),
+        Err(failure) => Err(failure),
+    }
 }

@@ -1,8 +1,9 @@
 //! The calls that add mirrors to an open log, and give them their bytes.
 
-ghost use Rattle.std.specs.Prelude.{◌≡◌, ◌<◌, length, Some, None, IfOk, IfSome, if◌then◌else◌};
+ghost use Rattle.std.specs.Prelude.{◌≡◌, ◌<◌, length, Some, None, IfOk, IfErr, IfSome, slice_get, if◌then◌else◌};
 ghost use Rattle.disk_trait.specs.Images.{fresh_disk};
 ghost use Rattle.call_disk.specs.Tells.{tells};
+ghost use Rattle.segdag_c.specs.Renewed.{bundle_over, log_over, number_of, renewed, AreOver, AreRenewed, HasNumber};
 
 use crate::codes::Failure;
 use crate::held::Held;
@@ -27,12 +28,16 @@ const MOST_MIRRORS: u32 = 1 << 16;
 const BUNDLE_LIMIT: u64 = 1 << 30;
 
 /// The log on this disk, which may have as many bytes as an open log.
-fn log_on(disk: OwnedDisk) -> StoreRemote<OwnedDisk> {
+fn log_on(disk: OwnedDisk) -> StoreRemote<OwnedDisk>
+    ensures { result ≡ log_over disk }
+{
     StoreRemote::new(disk, Limits::standard())
 }
 
 /// The bundle on this disk.
-fn bundle_on(disk: OwnedDisk) -> BundleRemote<OwnedDisk> {
+fn bundle_on(disk: OwnedDisk) -> BundleRemote<OwnedDisk>
+    ensures { result ≡ bundle_over disk }
+{
     BundleRemote::new(disk, BUNDLE_LIMIT)
 }
 
@@ -71,14 +76,18 @@ pub(crate) fn add_mirror(
 
 impl Mirror {
     /// The number by which C speaks of it.
-    fn number(&self) -> u32 {
+    fn number(&self) -> u32
+        ensures { result ≡ number_of self.now }
+    {
         match self {
             Mirror::Log(number, _) | Mirror::Bundle(number, _) => *number,
         }
     }
 
     /// Lets go of what it was read from, for this disk.
-    fn renew(&mut self, disk: OwnedDisk) {
+    fn renew(&mut self, disk: OwnedDisk)
+        ensures { self.new ≡ renewed disk self.old }
+    {
         match self {
             Mirror::Log(_, log) => drop(replace(log, log_on(disk))),
             Mirror::Bundle(_, bundle) => drop(replace(bundle, bundle_on(disk))),
@@ -88,7 +97,8 @@ impl Mirror {
 
 /// The place of the mirror with this number.
 fn place_of(list: &[Mirror], number: u32) -> Option<usize>
-    ensures { IfSome result (λ k. k < length list.now) }
+    ensures bound { IfSome result (λ k. k < length list.now) }
+    ensures number { IfSome result (HasNumber list.now number) }
 {
     'mirrors: for k in 0..list.len() {
         let mirror = &list[k];
@@ -113,7 +123,9 @@ fn disk_of(alloc: Global, is_there: bool, bytes: &[u8]) -> Result<OwnedDisk, Fai
 }
 
 /// Gives the mirror with this number another disk, if there is one.
-fn renew_in(mirrors: &mut Mirrors<Mirror>, number: u32, disk: OwnedDisk) -> Result<(), Failure> {
+fn renew_in(mirrors: &mut Mirrors<Mirror>, number: u32, disk: OwnedDisk) -> Result<(), Failure>
+    ensures { IfOk result (λ _. AreOver mirrors.old.list.items mirrors.new.list.items number disk) }
+{
     let Some(place) = place_of(&mirrors.list, number) else {
         return Err(Failure::Argument);
     };
@@ -129,7 +141,11 @@ pub(crate) fn renew_mirror(
     number: u32,
     is_there: bool,
     bytes: &[u8],
-) -> Result<(), Failure> {
-    let disk = disk_of(alloc, is_there, bytes)?;
-    renew_in(&mut held.mirrors, number, disk)
+) -> Result<(), Failure>
+    ensures { IfOk result (λ _. AreRenewed held.old.mirrors.list.items held.new.mirrors.list.items number is_there bytes.now) }
+{
+    match disk_of(alloc, is_there, bytes) {
+        Ok(disk) => renew_in(&mut held.mirrors, number, disk),
+        Err(failure) => Err(failure),
+    }
 }

@@ -1,0 +1,51 @@
+-- What loading lent bytes is told to C.
+use Rattle.std.specs.Prelude.{◌≡◌, ⊤, ℕ, List, [], length, Option, Some, None, Result, Ok, Err}
+use Rattle.id_groups.specs.Name.{Name}
+use Rattle.commit_graph.specs.World.{World}
+use Rattle.gated_log.specs.Holding.{IsLogWithin}
+use Rattle.batch_codec.specs.Payload.{Payload}
+use Rattle.change_rules.specs.Holding.{HoldAs}
+use Rattle.change_rules.specs.Standard.{standard}
+use Rattle.change_rules.specs.Unlawful.{IsNoLog}
+use Rattle.step_rules.specs.State.{start}
+use Rattle.dag_store.specs.Kept.{PlainStore}
+use Rattle.dag_store.specs.Stands.{Stands}
+use Rattle.dag_store.specs.declared.replies.LoadFault.{LoadFault}
+use Rattle.dag_store.specs.declared.replies.LoadFault.TheVariants as faults
+use Rattle.segdag_c.specs.declared.codes.Failure.{Failure}
+use Rattle.segdag_c.specs.declared.codes.Failure.TheVariants.{Disk, NoLog, Memory}
+use Rattle.segdag_c.specs.declared.held.Held.{Held}
+
+-- why a log isn't loaded, as C is told it
+abbrev pub load_failure : LoadFault → Failure
+load_failure (faults.Frame at) = NoLog
+load_failure (faults.TooLarge size) = NoLog
+load_failure (faults.Batch k) = NoLog
+load_failure (faults.Disk fault) = Disk
+load_failure faults.Memory = Memory
+
+-- The store is that of the log that these bytes are, with room for so many names of mirrors: it has its payloads, and stands for the start of a run over each
+-- world that they hold.
+pub record IsOpened (bytes : List ℕ) (cache : ℕ) (store : PlainStore) : Type 0 where
+  pub log : IsLogWithin standard.log store.log.payloads bytes
+  pub stands : (payloads : List Payload) (w : World Name) → HoldAs standard.log bytes payloads w → Stands (length payloads) store (start w payloads)
+  pub cache_is : store.cache ≡ record { entries = []; capacity = cache }
+  pub lawful : ¬ (IsNoLog standard.log bytes)
+
+-- where it isn't loaded since the bytes are no log, they are none, and hold no world
+abbrev pub IsRightly : List ℕ → Failure → Type 0
+IsRightly bytes NoLog = IsNoLog standard.log bytes × ((payloads : List Payload) (w : World Name) → ¬ (HoldAs standard.log bytes payloads w))
+IsRightly bytes failure = ⊤
+
+-- such a store is held, beside no mirrors
+abbrev pub HoldsOpened : List ℕ → ℕ → Held → Type 0
+HoldsOpened bytes cache held = IsOpenedIn held.store × (held.mirrors.list.items ≡ [])
+  where
+    IsOpenedIn : Option PlainStore → Type 0
+    IsOpenedIn None = ⊥
+    IsOpenedIn (Some store) = IsOpened bytes cache store
+
+-- behind a handle
+abbrev pub SlotOpened : List ℕ → ℕ → Option Held → Type 0
+SlotOpened bytes cache None = ⊥
+SlotOpened bytes cache (Some held) = HoldsOpened bytes cache held
