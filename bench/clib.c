@@ -6,10 +6,6 @@
 #include <string.h>
 #include <time.h>
 
-/* How often each question is asked. */
-#define TIMES 20000
-#define FEWER 2000
-
 static double now(void) {
     struct timespec at;
     clock_gettime(CLOCK_PROCESS_CPUTIME_ID, &at);
@@ -21,12 +17,20 @@ static void read_name(const char *text, segdag_name_bytes name) {
         sscanf(text + 2 * i, "%2hhx", &name[i]);
 }
 
-/* Prints what one of so many calls took, in microseconds. */
-static void told(const char *what, double began, int times) {
-    printf("%-24s %.2f\n", what, (now() - began) / times * 1e6);
-}
+/* Asks for at least a fifth of a second, and prints what one question took, in microseconds. */
+#define TOLD(what, question)                                                    \
+    do {                                                                        \
+        double began = now();                                                   \
+        int times = 0, failed = 0;                                              \
+        do {                                                                    \
+            for (int turn = 0; turn < 20; turn++)                               \
+                failed |= (question) != SEGDAG_OK;                              \
+            times += 20;                                                        \
+        } while (now() - began < 0.2);                                          \
+        printf("%-24s %.2f%s\n", what, (now() - began) / times * 1e6, failed ? " failed" : ""); \
+    } while (0)
 
-static void ask(segdag *store, const segdag_name_bytes a, const segdag_name_bytes b, const char *first) {
+static void ask(segdag *store, const char *first, const char *second) {
     segdag_names bases = {0};
     segdag_text reply = {0};
     segdag_pair pair;
@@ -36,29 +40,14 @@ static void ask(segdag *store, const segdag_name_bytes a, const segdag_name_byte
     bool is;
     char line[128];
     int size = snprintf(line, sizeof line, "0 id %s", first);
-    double began = now();
-    for (int i = 0; i < TIMES; i++)
-        segdag_is_ancestor(store, 0, a, b, &is);
-    told("is-ancestor", began, TIMES);
-    began = now();
-    for (int i = 0; i < TIMES; i++)
-        segdag_merge_bases(store, 0, a, b, &bases);
-    told("merge bases", began, TIMES);
-    memcpy(pair.left, a, SEGDAG_NAME);
-    memcpy(pair.right, b, SEGDAG_NAME);
-    began = now();
-    for (int i = 0; i < FEWER; i++)
-        segdag_ahead_behind(store, 0, &pair, 1, &distance, &done);
-    told("ahead and behind", began, FEWER);
+    read_name(first, pair.left);
+    read_name(second, pair.right);
+    TOLD("is-ancestor", segdag_is_ancestor(store, 0, pair.left, pair.right, &is));
+    TOLD("merge bases", segdag_merge_bases(store, 0, pair.left, pair.right, &bases));
+    TOLD("ahead and behind", segdag_ahead_behind(store, 0, &pair, 1, &distance, &done));
     printf("%-24s %llu %llu\n", "they are", (unsigned long long)distance.ahead, (unsigned long long)distance.behind);
-    began = now();
-    for (int i = 0; i < TIMES; i++)
-        segdag_id(store, 0, a, &id);
-    told("id", began, TIMES);
-    began = now();
-    for (int i = 0; i < TIMES; i++)
-        segdag_line(store, line, (size_t)size, &reply);
-    told("id, as a line", began, TIMES);
+    TOLD("id", segdag_id(store, 0, pair.left, &id));
+    TOLD("id, as a line", segdag_line(store, line, (size_t)size, &reply));
     segdag_names_free(&bases);
     segdag_text_free(&reply);
 }
@@ -68,12 +57,8 @@ int main(int count, char **words) {
     double began = now();
     if (count < 4 || segdag_open(words[1], 4096, &store))
         return 1;
-    told("open", began, 1);
-    for (int i = 2; i + 1 < count; i += 2) {
-        segdag_name_bytes a, b;
-        read_name(words[i], a);
-        read_name(words[i + 1], b);
-        ask(store, a, b, words[i]);
-    }
+    printf("%-24s %.2f\n", "open", (now() - began) * 1e6);
+    for (int i = 2; i + 1 < count; i += 2)
+        ask(store, words[i], words[i + 1]);
     return (int)segdag_close(&store);
 }

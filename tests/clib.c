@@ -130,6 +130,7 @@ static void *try_thread(void *store) {
     WANTS(segdag_name(store, 0, 0, name) == SEGDAG_THREAD && segdag_count(store, 0, "all", 3, &number) == SEGDAG_THREAD);
     WANTS(segdag_list(store, 0, "all", 3, &found) == SEGDAG_THREAD && segdag_is_ancestor(store, 0, names[0], names[1], &is) == SEGDAG_THREAD);
     WANTS(segdag_merge_bases(store, 0, names[0], names[1], &found) == SEGDAG_THREAD && found.count == 0);
+    WANTS(segdag_more(store, &number) == SEGDAG_THREAD);
     WANTS(segdag_ahead_behind(store, 0, &pair, 1, &distance, &done) == SEGDAG_THREAD && done == 0);
     return NULL;
 }
