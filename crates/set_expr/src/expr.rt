@@ -1,13 +1,13 @@
-//! Expressions that were parsed.
+//! Expressions with the names that stand in them.
 
-ghost use Rattle.std.specs.Prelude.{◌≡◌, ◌≤◌, length};
+ghost use Rattle.std.specs.Prelude.{◌≡◌, ◌≤◌, ◌∷◌, [], length};
 ghost use Rattle.set_expr.specs.Expr.{commits_in};
 ghost use Rattle.set_expr.specs.Tree.{tree_in};
 
 use crate::parse::{Reading, read_tree};
 use crate::{ExprFault, Tree};
 use id_groups::Name;
-use std::alloc::Global;
+use std::alloc::{AllocError, Global};
 
 /// How deep the calls of an expression may stand in one another.
 const MOST_LEVELS: u32 = 32;
@@ -15,7 +15,7 @@ const MOST_LEVELS: u32 = 32;
 /// How many nodes an expression may have: its names, words and calls.
 const MOST_NODES: u32 = 256;
 
-/// An expression over sets of commits. `Expr::parse` alone makes one.
+/// An expression over sets of commits: one that was parsed, or one of the forms that are asked of two commits.
 #[derive(Drop)]
 pub struct Expr {
     tree: Tree,
@@ -49,6 +49,17 @@ impl Expr {
             tree: front.tree,
             names: reading.names,
         })
+    }
+
+    /// The expression of this tree, which names these two.
+    pub(crate) fn of_pair(alloc: Global, x: &Name, y: &Name, tree: Tree) -> Result<Expr, AllocError>
+        requires { commits_in (tree_in tree) ≡ x.now ∷ y.now ∷ [] }
+        ensures { IfOk result (λ e. tree_of e ≡ tree_in tree) }
+    {
+        let mut names = Vec::new(alloc);
+        names.push(*x)?;
+        names.push(*y)?;
+        Ok(Expr { tree, names })
     }
 
     /// How the expression is made.

@@ -3,6 +3,7 @@
 //! Expressions over sets of commits: their trees, spelling and meaning, and the parser.
 
 mod expr;
+mod forms;
 mod laws;
 mod parse;
 mod tree;
