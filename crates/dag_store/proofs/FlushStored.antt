@@ -23,7 +23,8 @@ use Rattle.step_rules.specs.State.{Stored, session, world_at, base_of, with_stor
 use Rattle.step_rules.proofs.States.{alone, with_stored-state, at-newest}
 use Rattle.step_rules.proofs.Sessions.{newest-now, world_at-stored}
 use Rattle.store_plans.specs.Sessions.{PlainSession, IsSessionOf, base_added, IsOnNewest}
-use Rattle.dag_store.specs.Kept.{PlainStore, IsKept, EndsWithin, no_cache, session_at, no_session, sixteen}
+use Rattle.log_tables.specs.Within.{EndsWithin}
+use Rattle.dag_store.specs.Kept.{PlainStore, IsKept, no_cache, session_at, no_session, sixteen}
 use Rattle.dag_store.specs.Stands.{Stands}
 use Rattle.store_plans.specs.Changes.{HasRoom, AreOver, IsOn, IsReady, added_behind, next_place}
 use Rattle.dag_store.specs.Finishes.{IsBehind}

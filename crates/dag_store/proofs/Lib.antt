@@ -1,6 +1,5 @@
 pub mod Sees
 pub mod Standing
-pub mod Loads
 pub mod Lawful
 pub mod AddingIds
 pub mod QueryGraph

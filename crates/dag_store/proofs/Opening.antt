@@ -32,7 +32,8 @@ use Rattle.step_rules.proofs.States.{start-state, alone}
 use Rattle.dag_store.specs.declared.replies.LoadFault.{LoadFault}
 use Rattle.dag_store.specs.declared.replies.LoadFault.TheVariants.{Frame, TooLarge, Batch, Disk, Memory}
 use Rattle.store_plans.specs.Sessions.{PlainSession, base_added, IsSessionFor, IsOnNewest}
-use Rattle.dag_store.specs.Kept.{PlainStore, IsKept, EndsWithin, session_at, sixteen}
+use Rattle.log_tables.specs.Within.{EndsWithin}
+use Rattle.dag_store.specs.Kept.{PlainStore, IsKept, session_at, sixteen}
 use Rattle.dag_store.specs.Stands.{Stands}
 use Rattle.dag_store.specs.Loading.{fault_of, LoadAnswers, Opens, IsLoadedStore}
 use Rattle.dag_store.proofs.Sees.{once}

@@ -1,5 +1,6 @@
 -- What contracts see of a store, and of which payloads its parts are.
-use Rattle.std.specs.Prelude.{◌≡◌, ◌<◌, ◌+◌, ℕ, List, [], length, map, slice_index_or}
+use Rattle.log_tables.specs.Within.{EndsWithin}
+use Rattle.std.specs.Prelude.{◌≡◌, ◌<◌, ℕ, List, [], length, map, slice_index_or}
 use Rattle.std.specs.List.{AllByRecursion}
 use Rattle.gated_log.specs.Held.{Held, log_bytes}
 use Rattle.name_map.specs.Added.{Placed, payloads_of, AllStand}
@@ -37,10 +38,6 @@ session_at sessions s = slice_index_or sessions s no_session
 -- how many sessions there are
 abbrev pub sixteen : ℕ
 sixteen = 16
-
--- the payload ends before the closed gate of the log
-abbrev pub EndsWithin : Held → Placed → Type 0
-EndsWithin log a = a.at + length (text_of a.payload) < length (log_bytes log)
 
 -- The log has the payloads that were added, which stand in its bytes; the tables are those of all of them, and each session is on
 -- some of them.

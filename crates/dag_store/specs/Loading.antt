@@ -7,6 +7,8 @@ use Rattle.gated_log.specs.Log.{IsDamaged}
 use Rattle.gated_log.specs.Holding.{IsLogWithin, HasPayloads, IsOnDisk}
 use Rattle.gated_log.specs.declared.LoadLog.{LoadLog}
 use Rattle.gated_log.specs.declared.LoadLog.TheVariants as logs
+use Rattle.log_tables.specs.declared.reading.TablesFault.{TablesFault}
+use Rattle.log_tables.specs.declared.reading.TablesFault.TheVariants as reads
 use Rattle.batch_codec.specs.Payload.{Payload}
 use Rattle.change_rules.specs.declared.Limits.{Limits}
 use Rattle.change_rules.specs.Unlawful.{IsFirstUnlawful}
@@ -22,6 +24,11 @@ fault_of (logs.Damaged at) = Frame at
 fault_of (logs.TooLarge size) = TooLarge size
 fault_of (logs.Disk fault) = Disk fault
 fault_of logs.Memory = Memory
+
+-- that of its payloads as a store's
+abbrev pub fault_of_tables : TablesFault → LoadFault
+fault_of_tables (reads.Unlawful k) = Batch k
+fault_of_tables reads.Memory = Memory
 
 -- What loading answers over these bytes, by cases that exclude each other; the disk and the memory may fail at any place.
 abbrev pub LoadAnswers : Limits → List ℕ → Result PlainStore LoadFault → Type 0

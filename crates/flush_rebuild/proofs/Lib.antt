@@ -21,7 +21,6 @@ pub mod Moved
 pub mod LeftSoFar
 pub mod Stepping
 pub mod OnWorlds
-pub mod Following
 pub mod RowLemmas
 pub mod Changing
 pub mod Telling

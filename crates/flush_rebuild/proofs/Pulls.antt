@@ -1,5 +1,5 @@
 -- A pull is a flush of what was taken of a remote, put behind the world's others.
-use Rattle.std.proofs.Common.{◌≡◌, ◌<◌, ◌≤◌, ◌+◌, ◌-◌, ◌^◌, ℕ, Bool, true, false, not, ◌⊎◌, inl, inr, List, [], ◌∷◌, ◌++◌, length, map, take, drop, Some, None, refl, sym, ap, subst, ◌∙◌, ⊎_elim, if◌then◌else◌, arith, true≢false, length-append, lit≤}
+use Rattle.std.proofs.Common.{[], ◌≡◌, ◌<◌, ◌≤◌, ◌+◌, ◌-◌, ◌^◌, ℕ, not, ◌⊎◌, inl, inr, List, ◌∷◌, ◌++◌, length, map, take, drop, Some, None, refl, sym, ap, subst, ◌∙◌, ⊎_elim, if◌then◌else◌, arith, length-append, lit≤}
 use Rattle.std.specs.Prelude.{Result, Ok, Err, IfOk, MatchResult}
 use Rattle.std.specs.List.{AllByRecursion}
 use Rattle.std.proofs.lemmas.List.{map-append, length-map, take-append-drop}
@@ -8,12 +8,10 @@ use Rattle.id_groups.specs.Lists.{IsIn, is_in, AreAllIn}
 use Rattle.id_groups.specs.Name.{Name, same_name}
 use Rattle.id_groups.specs.Id.{is_master_id}
 use Rattle.id_groups.proofs.Names.{same_name-exact, same_name-self}
-use Rattle.commit_graph.specs.World.{Row, World, IsWorld, IsHistory, IsNamedWorld, empty_world, names_of, rows_of, with_pending}
+use Rattle.commit_graph.specs.World.{Row, World, IsWorld, IsHistory, empty_world, names_of, rows_of, with_pending}
 use Rattle.commit_graph.specs.Ids.{id_in}
 use Rattle.commit_graph.proofs.Down.{in-left, in-right}
-use Rattle.commit_graph.proofs.Naming.{named-by, name-of}
 use Rattle.commit_graph.proofs.Places.{at-name, world-master, below-master, chosen, id-in-master}
-use Rattle.batch_codec.specs.Payload.{Payload}
 use Rattle.assign_ids.specs.declared.graph.Node.{Node}
 use Rattle.assign_ids.specs.declared.graph.Node.TheVariants.{Placed as InMaster, Other}
 use Rattle.assign_ids.specs.Numbers.{others_of}
@@ -21,16 +19,11 @@ use Rattle.name_map.specs.Added.{Placed, payloads_of}
 use Rattle.remote_rules.specs.Known.{master_world}
 use Rattle.change_rules.specs.declared.Limits.{Limits}
 use Rattle.change_rules.specs.declared.Limit.TheVariants.{Others}
-use Rattle.change_rules.specs.Change.{flush_change}
-use Rattle.change_rules.specs.Lawful.{MayFollow}
 use Rattle.change_rules.specs.Rebase.{left_of, first_conflict}
-use Rattle.change_rules.specs.Flush.{flushed, rows_outside}
+use Rattle.change_rules.specs.Flush.{flushed}
 use Rattle.change_rules.specs.Pull.{pulled}
 use Rattle.change_rules.specs.Tables.{StandFor, cloned_count}
-use Rattle.change_rules.proofs.Changed.{pull-world, pull-names}
-use Rattle.change_rules.proofs.Changes.{change-stands}
 use Rattle.change_rules.proofs.Flushes.{rebase-world, name-in}
-use Rattle.change_rules.proofs.Lawful.{change-follows}
 use Rattle.mirror_set.specs.Fresh.{PlainFresh}
 use Rattle.payload_tables.specs.Kept.{PlainTables}
 use Rattle.payload_tables.specs.Pending.{PlainPending}
@@ -39,9 +32,8 @@ use Rattle.flush_rebuild.specs.declared.plan.Change.{Change}
 use Rattle.flush_rebuild.specs.declared.fault.PlanFault.{PlanFault}
 use Rattle.flush_rebuild.specs.declared.fault.PlanFault.TheVariants.{Memory, Full}
 use Rattle.flush_rebuild.specs.Moves.{node_of}
-use Rattle.flush_rebuild.specs.Plans.{first_fault, conflict_fault, size_refusal, MayMove, IsPlanOf, IsChangeOf, IsStorable, MayComeNext, MayBeStored}
-use Rattle.flush_rebuild.specs.Following.{with_payload, FollowChange, StandForNext}
-use Rattle.flush_rebuild.specs.Pulling.{MayPull, mismatch, pull_refusal}
+use Rattle.flush_rebuild.specs.Plans.{first_fault, conflict_fault, size_refusal, MayMove, IsPlanOf, IsChangeOf, MayComeNext, MayBeStored}
+use Rattle.flush_rebuild.specs.Pulling.{mismatch, pull_refusal}
 use Rattle.flush_rebuild.specs.Taken.{AreTaken, MayTake, MayPut, pull_sizes, any_others}
 use Rattle.flush_rebuild.proofs.Planning.{flush-small}
 use Rattle.flush_rebuild.proofs.Marking.{filter-short}
@@ -229,59 +221,3 @@ pub sizes-alone : (limits : Limits) (log : ℕ) (added : List Placed) (fresh : P
 sizes-alone limits log added fresh w rows new payload none calm =
     ap (λ o. first_fault o (first_fault (conflict_fault (first_conflict same_name w rows)) (pull_sizes limits log new payload))) none
     ∙ ap (λ o. first_fault (conflict_fault o) (pull_sizes limits log new payload)) calm
-
--- ---- the tables that follow
-
-pub pull-next : (tables : PlainTables) (bytes : List ℕ) (fresh : PlainFresh) (w : World Name) (rows : List (Row Name)) (m : MayPull tables bytes fresh w rows) (limits : Limits) (some : List Placed) (change : Change) (payload : List ℕ) (after : PlainTables)
-    → MayComeNext 1 limits (length bytes) some change → IsPlanOf change w (pulled same_name w (master_world rows)) payload → IsChangeOf w (pulled same_name w (master_world rows)) payload
-    → FollowChange after (length bytes) m.added change → StandForNext after (length bytes) m.added w (pulled same_name w (master_world rows))
-pull-next tables bytes fresh w rows m limits some change payload after stored plan is tables_after = by_same change.same refl
-  where
-    theirs : IsHistory [] rows
-    theirs = world-master rows m.theirs.world
-
-    new-named : IsNamedWorld (pulled same_name w (master_world rows))
-    new-named = named-by (pulled same_name w (master_world rows)) (pull-world same_name same_name-exact same_name-self w (master_world rows) m.world.world theirs)
-        (λ x i. ⊎_elim (λ j. name-of w m.world x j)
-        (λ j. name-of (master_world rows) m.theirs x (subst (IsIn x) (sym (map-append (λ (r : Row Name). r.name) rows [])) (in-left x (names_of rows) [] j)))
-        (pull-names same_name same_name-exact same_name-self w (master_world rows) m.world.world theirs x i))
-
-    rest : List (Row Name)
-    rest = rows_outside same_name rows (names_of w.master)
-
-    may-follow : (last : Payload) → IsStorable 1 limits (length bytes) some change last → MayFollow (payloads_of m.added) (flush_change w (pulled same_name w (master_world rows)))
-    may-follow last p =
-        let c = p.follows.whole.counts in
-        let cm = c.master in let co = c.others in let sm = p.master in let so = p.others in let ma = plan.master in let ot = plan.others in
-        let l = length-append (pulled same_name w (master_world rows)).master (pulled same_name w (master_world rows)).others in
-        change-follows (payloads_of m.added) w (pulled same_name w (master_world rows)) m.may.tables_of.lawful m.stand_for m.world.world new-named (rows_outside same_name rows (names_of w.master)) refl
-        (omega (arith, cm, sm, ma)) (omega (arith, co, so, ot))
-        (⊎_elim
-        (λ flush. ⊎_elim (λ a. omega (arith, a, sm, ma, l)) (λ b. omega (arith, b, so, ot, l)) flush.something)
-        (λ kinds. ⊎_elim (λ clone. let a = clone.something in omega (arith, a, sm, ma, l))
-        (λ store. ⊎_elim (λ a. omega (arith, a, sm, ma, l)) (λ b. omega (arith, b, so, ot, l)) store.something) kinds)
-        p.follows.whole.by_kind)
-
-    by_same : (b : Bool) → change.same ≡ b → StandForNext after (length bytes) m.added w (pulled same_name w (master_world rows))
-    by_same true e =
-        let stay : pulled same_name w (master_world rows) ≡ w = plan.same.0 e in
-        record {
-          after = m.added;
-          stays = λ t. refl;
-          changes = λ h. absurd (h stay);
-          tables_of = tables_after.stays e;
-          stand_for = subst (StandFor (payloads_of m.added)) (sym stay) m.stand_for;
-        }
-    by_same false e =
-        let h : pulled same_name w (master_world rows) ≡ w → ⊥ = λ t. true≢false (sym (plan.same.1 t) ∙ e) in
-        let last = stored.changes e in
-        let may = may-follow last.0 last.1 in
-        record {
-          after = with_payload (length bytes) m.added (flush_change w (pulled same_name w (master_world rows)));
-          stays = λ t. absurd (h t);
-          changes = λ d. refl;
-          tables_of = tables_after.changes e (flush_change w (pulled same_name w (master_world rows))) may.whole (plan.payload_is ∙ is.some h);
-          stand_for = subst (λ l. StandFor l (pulled same_name w (master_world rows)))
-              (sym (map-append (λ (a : Placed). a.payload) m.added (record { at = length bytes + 8; payload = flush_change w (pulled same_name w (master_world rows)) } ∷ [])))
-              (change-stands (payloads_of m.added) w (pulled same_name w (master_world rows)) m.world.world m.stand_for (rows_outside same_name rows (names_of w.master), refl));
-        }

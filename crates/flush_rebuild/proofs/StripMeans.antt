@@ -1,12 +1,11 @@
 -- What a strip by numbers means for the world and for the payloads.
-use Rattle.std.proofs.Common.{◌≡◌, ◌<◌, ◌≤◌, ℕ, ◌+◌, Bool, true, false, List, [], ◌∷◌, ◌++◌, length, Some, None, refl, sym, ap, subst, ◌∙◌, arith, append-nil, length-append, if◌then◌else◌, nat_lt, ⊎_elim, true≢false}
+use Rattle.std.proofs.Common.{[], ◌≡◌, ◌<◌, ◌≤◌, ℕ, ◌+◌, true, false, List, ◌∷◌, ◌++◌, length, Some, None, refl, sym, ap, subst, ◌∙◌, arith, append-nil, length-append, if◌then◌else◌, nat_lt, true≢false}
 use Rattle.std.proofs.lemmas.Bool.{lt-ltb}
-use Rattle.std.proofs.lemmas.List.{map-append}
 use Rattle.id_groups.specs.Name.{Name, same_name}
 use Rattle.id_groups.proofs.Names.{same_name-exact, same_name-self}
 use Rattle.commit_graph.specs.World.{World, IsNamedWorld, rows_of}
 use Rattle.commit_graph.proofs.Naming.{named-by, name-of}
-use Rattle.batch_codec.specs.Payload.{Payload, payload_bytes}
+use Rattle.batch_codec.specs.Payload.{payload_bytes}
 use Rattle.batch_codec.specs.Grammar.{IsPayload}
 use Rattle.name_map.specs.Added.{Placed, payloads_of}
 use Rattle.change_rules.specs.declared.Limits.{Limits}
@@ -19,13 +18,11 @@ use Rattle.change_rules.specs.Tables.{StandFor}
 use Rattle.change_rules.proofs.Changed.{strip-world, strip-names}
 use Rattle.change_rules.proofs.Changes.{change-stands}
 use Rattle.change_rules.proofs.Lawful.{change-follows}
-use Rattle.payload_tables.specs.Kept.{PlainTables}
 use Rattle.payload_tables.proofs.Lists.{names-length}
 use Rattle.flush_rebuild.specs.declared.plan.Change.{Change}
 use Rattle.flush_rebuild.specs.declared.fault.PlanFault.TheVariants.{Emptied}
-use Rattle.flush_rebuild.specs.Plans.{IsChangeOf, IsPlanOf, IsStorable, MayComeNext, over, first_fault, length_with}
-use Rattle.flush_rebuild.specs.Following.{with_payload, FollowChange, StandForNext}
-use Rattle.flush_rebuild.specs.Stripping.{AreKeptIds, IsStrip, MayStrip, strip_payload, emptied, strip_refusal}
+use Rattle.flush_rebuild.specs.Plans.{IsChangeOf, IsPlanOf, MayComeNext, over, first_fault, length_with}
+use Rattle.flush_rebuild.specs.Stripping.{AreKeptIds, IsStrip, strip_payload, emptied, strip_refusal}
 use Rattle.flush_rebuild.proofs.Refusing.{written, has-bytes, nothing-written}
 
 -- a strip of a world that payloads hold
@@ -141,46 +138,3 @@ module _ (added : List Placed) (names : List ℕ) (graph : List (List ℕ)) (n b
       },
     );
   }
-
--- the tables that follow a strip stand for the world after it
-pub strip-next : (tables : PlainTables) (bytes ids : List ℕ) (w : World Name) (given : List Name) (s : MayStrip tables bytes ids w given) (limits : Limits) (some : List Placed) (change : Change) (payload : List ℕ) (after : PlainTables)
-    → MayComeNext 1 limits (length bytes) some change → IsPlanOf change w (stripped same_name w given) payload → IsChangeOf w (stripped same_name w given) payload
-    → FollowChange after (length bytes) s.added change → StandForNext after (length bytes) s.added w (stripped same_name w given)
-strip-next tables bytes ids w given s limits some change payload after stored plan is tables_after = by_same change.same refl
-  where
-    hold : HoldPayloads (payloads_of s.added) w
-    hold = record { lawful = s.tables_of.lawful; stand = s.stand_for; world = s.world }
-
-    may-follow : (last : Payload) → IsStorable 1 limits (length bytes) some change last → MayFollow (payloads_of s.added) (flush_change w (stripped same_name w given))
-    may-follow last p =
-        let c = p.follows.whole.counts in
-        let cm = c.master in let co = c.others in let sm = p.master in let so = p.others in let ma = plan.master in let ot = plan.others in
-        let l = length-append w.master (stripped same_name w given).others in
-        follows s.added w given hold (omega (arith, cm, sm, ma)) (omega (arith, co, so, ot))
-        (⊎_elim
-        (λ flush. ⊎_elim (λ a. omega (arith, a, sm, ma, l)) (λ b. omega (arith, b, so, ot, l)) flush.something)
-        (λ kinds. ⊎_elim (λ clone. let a = clone.something in omega (arith, a, sm, ma, l))
-        (λ store. ⊎_elim (λ a. omega (arith, a, sm, ma, l)) (λ b. omega (arith, b, so, ot, l)) store.something) kinds)
-        p.follows.whole.by_kind)
-
-    by_same : (b : Bool) → change.same ≡ b → StandForNext after (length bytes) s.added w (stripped same_name w given)
-    by_same true e =
-        let stay : stripped same_name w given ≡ w = plan.same.0 e in
-        record {
-          after = s.added;
-          stays = λ t. refl;
-          changes = λ h. absurd (h stay);
-          tables_of = tables_after.stays e;
-          stand_for = subst (StandFor (payloads_of s.added)) (sym stay) s.stand_for;
-        }
-    by_same false e =
-        let h : stripped same_name w given ≡ w → ⊥ = λ t. true≢false (sym (plan.same.1 t) ∙ e) in
-        let last = stored.changes e in
-        let may = may-follow last.0 last.1 in
-        record {
-          after = with_payload (length bytes) s.added (flush_change w (stripped same_name w given));
-          stays = λ t. absurd (h t);
-          changes = λ d. refl;
-          tables_of = tables_after.changes e (flush_change w (stripped same_name w given)) may.whole (plan.payload_is ∙ is.some h);
-          stand_for = subst (λ l. StandFor l (stripped same_name w given)) (sym (map-append (λ (a : Placed). a.payload) s.added (record { at = length bytes + 8; payload = flush_change w (stripped same_name w given) } ∷ []))) (stands s.added w given hold);
-        }

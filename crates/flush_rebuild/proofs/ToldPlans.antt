@@ -1,27 +1,24 @@
 -- What the plan of a clone says, for what a remote told, and for the world of an honest one.
-use Rattle.std.proofs.Common.{◌≡◌, ◌<◌, ◌≤◌, ◌+◌, ℕ, Bool, true, false, inl, inr, List, [], ◌∷◌, length, Option, Some, None, is_some, refl, sym, ap, ap₂, subst, ◌∙◌, arith, true≢false, nat_lt, if◌then◌else◌}
+use Rattle.std.proofs.Common.{[], ◌≡◌, ◌<◌, ◌≤◌, ◌+◌, ℕ, inl, inr, List, ◌∷◌, length, Option, Some, None, is_some, refl, sym, ap, ap₂, subst, ◌∙◌, arith, true≢false, nat_lt, if◌then◌else◌}
 use Rattle.std.specs.Prelude.{MatchResult, ◌⊎◌, Result, Ok, Err}
 use Rattle.std.proofs.lemmas.Bool.{lt-ltb}
 use Rattle.id_groups.specs.Name.{Name}
 use Rattle.commit_graph.specs.World.{Row, World, IsNamedWorld, empty_world}
-use Rattle.batch_codec.specs.Payload.{payload_bytes}
 use Rattle.remote_rules.specs.CloneData.{CloneData, first_broken}
 use Rattle.remote_rules.specs.Known.{master_world}
 use Rattle.remote_rules.specs.Honest.{heads_of, clone_data_of, master_segments}
 use Rattle.change_rules.specs.declared.Limits.{Limits}
 use Rattle.change_rules.specs.declared.Limit.TheVariants.{Heads, Master, Log}
 use Rattle.change_rules.specs.Standard.{most_heads}
-use Rattle.change_rules.specs.Change.{clone_change, told_change, text_of}
+use Rattle.change_rules.specs.Change.{told_change, text_of}
 use Rattle.change_rules.proofs.Honest.{behind-all, never-broken}
-use Rattle.change_rules.proofs.Cloned.{follow, clone-held}
+use Rattle.change_rules.proofs.Cloned.{follow}
 use Rattle.change_rules.proofs.ToldClones.{told-clone}
-use Rattle.payload_tables.specs.Kept.{PlainTables}
 use Rattle.flush_rebuild.specs.declared.plan.Change.{Change}
 use Rattle.flush_rebuild.specs.declared.fault.PlanFault.{PlanFault}
 use Rattle.flush_rebuild.specs.declared.fault.PlanFault.TheVariants.{Memory}
 use Rattle.flush_rebuild.specs.Plans.{over, first_fault, length_with, IsPlanOf}
-use Rattle.flush_rebuild.specs.Following.{with_payload, FollowChange}
-use Rattle.flush_rebuild.specs.Cloning.{told_count, told_payload, clone_fault, counts_refusal, log_refusal, told_refusal, IsToldPlan, clone_payload, clone_refusal, IsToldBy, StandForClone}
+use Rattle.flush_rebuild.specs.Cloning.{told_count, told_payload, clone_fault, counts_refusal, log_refusal, told_refusal, IsToldPlan, clone_payload, clone_refusal, IsToldBy}
 use Rattle.flush_rebuild.proofs.Refusing.{over-none, written, has-bytes}
 
 pub first-here : (a b : Option PlanFault) (fault : PlanFault) → a ≡ Some fault → first_fault a b ≡ Some fault
@@ -88,33 +85,6 @@ honest-planned limits log told (Ok change) p rows by = (
 )
 honest-planned limits log told (Err fault) (inl m) rows by = inl m
 honest-planned limits log told (Err fault) (inr e) rows by = inr (sym (refusal-is rows by.world limits log) ∙ ap (told_refusal limits log) (sym by.told_is) ∙ e)
-
--- the tables that follow stand for the cloned world
-pub honest-stands : (log : ℕ) (tables : PlainTables) (change : Change) (rows : List (Row Name)) → IsNamedWorld (master_world rows) → length rows ≤ 16777216 → length (heads_of (master_world rows)) ≤ 65535
-    → IsPlanOf change empty_world (master_world rows) (clone_payload (master_world rows)) → FollowChange tables log [] change → StandForClone tables log (master_world rows)
-honest-stands log tables change [] named few heads plan f = record {
-  after = [];
-  stays = λ e. refl;
-  changes = λ lt. absurd (omega (arith, lt));
-  tables_of = f.stays (plan.same.1 refl);
-  stand_for = record { count = refl; master = refl; known = tt; others = refl; names = refl };
-}
-honest-stands log tables change (row ∷ rows) named few heads plan f =
-    let r = master_world (row ∷ rows) in
-    let some : 0 < length (row ∷ rows) = omega arith in
-    let held = clone-held r named some few heads in
-    let written : change.payload ≡ payload_bytes (clone_change r) = plan.payload_is ∙ ap (λ b. if b then text_of (clone_change r) else []) (lt-ltb 0 (length (row ∷ rows)) some) in
-    record {
-      after = with_payload log [] (clone_change r);
-      stays = λ e. absurd (let l = ap (length {A = Row Name}) e in omega (arith, l));
-      changes = λ lt. refl;
-      tables_of = f.changes (differs change.same refl) (clone_change r) held.lawful.0.whole written;
-      stand_for = held.stand;
-    }
-  where
-    differs : (b : Bool) → change.same ≡ b → change.same ≡ false
-    differs true e = absurd (let l = ap (λ (w : World Name). length w.master) (plan.same.0 e) in omega (arith, l))
-    differs false e = e
 
 first-none : (a b : Option PlanFault) → first_fault a b ≡ None → (a ≡ None) × (b ≡ None)
 first-none None b e = (refl, e)

@@ -1,9 +1,8 @@
 -- What a plan of a clone answers.
-use Rattle.std.specs.Prelude.{◌≡◌, ◌↔◌, ◌<◌, ℕ, List, [], Option, Some, None, length, nat_lt, IsTrue, if◌then◌else◌}
+use Rattle.std.specs.Prelude.{[], ◌≡◌, ◌↔◌, ℕ, List, Option, Some, None, length, nat_lt, IsTrue, if◌then◌else◌}
 use Rattle.id_groups.specs.Name.{Name}
 use Rattle.commit_graph.specs.World.{Row, World, IsNamedWorld}
 use Rattle.segment_codec.specs.Turns.{place_behind}
-use Rattle.name_map.specs.Added.{Placed, payloads_of}
 use Rattle.remote_rules.specs.CloneData.{CloneData, first_broken}
 use Rattle.remote_rules.specs.Known.{master_world}
 use Rattle.remote_rules.specs.Honest.{heads_of, clone_data_of}
@@ -11,13 +10,10 @@ use Rattle.change_rules.specs.declared.Limits.{Limits}
 use Rattle.change_rules.specs.declared.Limit.TheVariants.{Heads, Master, Log}
 use Rattle.change_rules.specs.Standard.{most_heads}
 use Rattle.change_rules.specs.Change.{clone_change, told_change, text_of}
-use Rattle.change_rules.specs.Tables.{StandFor}
-use Rattle.payload_tables.specs.Kept.{PlainTables, AreTablesOf}
 use Rattle.flush_rebuild.specs.declared.plan.Change.{Change}
 use Rattle.flush_rebuild.specs.declared.fault.PlanFault.{PlanFault}
 use Rattle.flush_rebuild.specs.declared.fault.PlanFault.TheVariants.{BadClone}
 use Rattle.flush_rebuild.specs.Plans.{over, first_fault, length_with}
-use Rattle.flush_rebuild.specs.Following.{with_payload}
 
 -- how many commits the segments have that a remote told
 abbrev pub told_count : CloneData → ℕ
@@ -65,12 +61,3 @@ clone_refusal limits log r =
 pub record IsToldBy (rows : List (Row Name)) (told : CloneData) : Type 0 where
   pub world : IsNamedWorld (master_world rows)
   pub told_is : told ≡ clone_data_of (master_world rows)
-
--- The tables that follow a clone over an empty log stand for the cloned world: where that is empty they are those of no payload, else
--- those of the clone's.
-pub record StandForClone (tables : PlainTables) (log : ℕ) (r : World Name) : Type 0 where
-  pub after : List Placed
-  pub stays : r.master ≡ [] → after ≡ []
-  pub changes : 0 < length r.master → after ≡ with_payload log [] (clone_change r)
-  pub tables_of : AreTablesOf tables after
-  pub stand_for : StandFor (payloads_of after) r

@@ -3,7 +3,6 @@ pub mod Moves
 pub mod Plans
 pub mod Asked
 pub mod Rebasing
-pub mod Following
 pub mod Rows
 pub mod LentRows
 pub mod Facts

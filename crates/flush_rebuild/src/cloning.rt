@@ -1,6 +1,6 @@
 //! The plan of a clone.
 
-ghost use Rattle.std.specs.Prelude.{◌≡◌, ◌<◌, ◌≤◌, ◌^◌, ◌⊎◌, [], None, Some, List, length, true, IfErr, IfOk, MatchResult};
+ghost use Rattle.std.specs.Prelude.{[], ◌≡◌, ◌<◌, ◌≤◌, ◌^◌, ◌⊎◌, None, Some, List, length, true, IfErr, IfOk, MatchResult};
 ghost use Rattle.id_groups.specs.Name.{Name as NameBytes};
 ghost use Rattle.commit_graph.specs.World.{Row, empty_world};
 ghost use Rattle.remote_rules.specs.CloneData.{first_broken};
@@ -9,11 +9,9 @@ ghost use Rattle.change_rules.specs.Standard.{AreLimits, most_heads};
 ghost use Rattle.payload_tables.specs.Kept.{AreTablesOf};
 ghost use Rattle.flush_rebuild.specs.declared.fault.PlanFault.TheVariants.{Memory};
 ghost use Rattle.flush_rebuild.specs.Plans.{IsPlanOf, MayBeStored};
-ghost use Rattle.flush_rebuild.specs.Following.{change_of, FollowChange};
-ghost use Rattle.flush_rebuild.specs.Cloning.{told_count, clone_fault, counts_refusal, log_refusal, told_refusal, IsToldPlan, clone_payload, clone_refusal, IsToldBy, StandForClone};
+ghost use Rattle.flush_rebuild.specs.Cloning.{told_count, clone_fault, counts_refusal, log_refusal, told_refusal, IsToldPlan, clone_payload, clone_refusal, IsToldBy};
 
 use crate::fault::PlanFault;
-use crate::flush::{Plan, plan_of, tables_after};
 use crate::plan::{Change, Payload, check};
 use crate::told::payload_told;
 use change_rules::{Limit, Limits};
@@ -164,35 +162,4 @@ pub fn plan_clone_change(
     check_items(alloc, cloned)?;
     let count = check_sizes(cloned, limits)?;
     change_told(alloc, tables, bytes, cloned, count, limits)
-}
-
-/// The change that a clone makes, as `plan_clone_change` answers it, with the tables that follow. The old tables, which are of no
-/// payload, stay; the new ones stand for the remote's master, the payload 8 places behind the end of the bytes.
-///
-/// `BadClone` has the number of the first item that breaks its rule; `Full` the first of the heads, the commits and the log's bytes
-/// that would exceed its limit.
-pub fn plan_clone(
-    alloc: Global,
-    tables: &Tables,
-    bytes: &[u8],
-    cloned: &CloneData,
-    limits: Limits,
-) -> Result<Plan, PlanFault>
-    requires limits { AreLimits limits }
-    requires log { length bytes.now ≤ 2 ^ 32 }
-    requires tables { AreTablesOf tables.now [] }
-    ensures told { MatchResult result
-        (λ plan. (told_refusal limits (length bytes.now) cloned.now ≡ None) × IsToldPlan (change_of plan) cloned.now)
-        (λ fault. (fault ≡ Memory) ⊎ (told_refusal limits (length bytes.now) cloned.now ≡ Some fault)) }
-    ensures honest { (rows : List (Row NameBytes)) → IsToldBy rows cloned.now → MatchResult result
-        (λ plan. (clone_refusal limits (length bytes.now) (master_world rows) ≡ None)
-        × IsPlanOf (change_of plan) empty_world (master_world rows) (clone_payload (master_world rows))
-        × StandForClone plan.tables (length bytes.now) (master_world rows))
-        (λ fault. (fault ≡ Memory) ⊎ (clone_refusal limits (length bytes.now) (master_world rows) ≡ Some fault)) }
-    ensures stored { IfOk result (λ plan. MayBeStored 2 limits (length bytes.now) [] (change_of plan) × FollowChange plan.tables (length bytes.now) [] (change_of plan)) }
-{
-    let mut after = tables.copy(alloc)?;
-    let change = plan_clone_change(alloc, &mut after, bytes, cloned, limits)?;
-    let tables = tables_after(after, bytes, &change)?;
-    Ok(plan_of(change, tables))
 }

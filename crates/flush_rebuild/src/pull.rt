@@ -12,12 +12,10 @@ ghost use Rattle.name_map.specs.Added.{Placed};
 ghost use Rattle.flush_rebuild.specs.declared.fault.PlanFault.TheVariants.{Memory};
 ghost use Rattle.flush_rebuild.specs.Moves.{node_of};
 ghost use Rattle.flush_rebuild.specs.Plans.{IsPlanOf, IsChangeOf, MayComeNext};
-ghost use Rattle.flush_rebuild.specs.Following.{change_of, FollowChange, StandForNext};
 ghost use Rattle.flush_rebuild.specs.Pulling.{MayPullOn, MayPull, mismatch, pull_refusal};
 ghost use Rattle.flush_rebuild.specs.Taken.{MayPut, pull_sizes, any_others};
 
 use crate::fault::PlanFault;
-use crate::flush::{Plan, plan_of, tables_after};
 use crate::plan::{Change, add_number, plan_moves};
 use crate::pulled::{Taken, taken_of};
 use change_rules::Limits;
@@ -113,39 +111,4 @@ pub fn plan_pull_change(
     let none = PendingRows::empty(alloc, u64::from(tables.others().count()));
     let taken = taken_of(alloc, tables, bytes, &none, fresh)?;
     moves_taken(alloc, tables, bytes, &taken, limits)
-}
-
-/// The change that a pull of these rows of a remote makes, as `plan_pull_change` answers it, with the tables that follow. The old tables stay;
-/// the new ones stand for the world after the pull, their newest payload 8 places behind the end of the bytes.
-///
-/// `BadClone` and `BadRow` come where what was taken disagrees with what is stored of the cloned commits, or a name of it can't be
-/// a new row's; then `Conflict` names the first row of the remote's that is there with other parents; `Full` is the first of the
-/// master rows and the log's bytes that would exceed its limit.
-pub fn plan_pull(
-    alloc: Global,
-    tables: &Tables,
-    bytes: &[u8],
-    fresh: &Fresh,
-    limits: Limits,
-) -> Result<Plan, PlanFault>
-    requires limits { AreLimits limits }
-    requires log { length bytes.now ≤ 2 ^ 32 }
-    requires tables { (added : List Placed) × MayPullOn tables.now bytes.now fresh.now added }
-    ensures worlds { (w : World NameBytes) (rows : List (Row NameBytes)) (payload : List ℕ) (m : MayPull tables.now bytes.now fresh.now w rows)
-        → IsChangeOf w (pulled same_name w (master_world rows)) payload
-        → MatchResult result
-        (λ plan. (pull_refusal limits (length bytes.now) m.added fresh.now w rows (pulled same_name w (master_world rows)) payload ≡ None)
-        × IsPlanOf (change_of plan) w (pulled same_name w (master_world rows)) payload
-        × StandForNext plan.tables (length bytes.now) m.added w (pulled same_name w (master_world rows)))
-        (λ fault. (fault ≡ Memory) ⊎ (pull_refusal limits (length bytes.now) m.added fresh.now w rows (pulled same_name w (master_world rows)) payload ≡ Some fault)) }
-    ensures mismatch { (added : List Placed) → MayPullOn tables.now bytes.now fresh.now added
-        → MatchResult result (λ plan. mismatch added fresh.now ≡ None)
-        (λ fault. (fault ≡ Memory) ⊎ ((mismatch added fresh.now ≡ None) ⊎ (mismatch added fresh.now ≡ Some fault))) }
-    ensures stored { (added : List Placed) → MayPullOn tables.now bytes.now fresh.now added
-        → IfOk result (λ plan. MayComeNext 1 limits (length bytes.now) added (change_of plan) × FollowChange plan.tables (length bytes.now) added (change_of plan)) }
-{
-    let mut after = tables.copy(alloc)?;
-    let change = plan_pull_change(alloc, &mut after, bytes, fresh, limits)?;
-    let tables = tables_after(after, bytes, &change)?;
-    Ok(plan_of(change, tables))
 }

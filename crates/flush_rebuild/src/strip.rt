@@ -1,6 +1,6 @@
 //! The plan of a strip.
 
-ghost use Rattle.std.specs.Prelude.{◌≡◌, ◌<◌, ◌≤◌, ◌+◌, ◌^◌, ◌⊎◌, ◌||◌, ◌-◌, ◌++◌, List, [], None, Some, ℕ, false, length, slice_index_or, IfOk, MatchResult};
+ghost use Rattle.std.specs.Prelude.{[], ◌≡◌, ◌<◌, ◌≤◌, ◌+◌, ◌^◌, ◌⊎◌, ◌||◌, ◌-◌, ◌++◌, List, None, Some, ℕ, false, length, slice_index_or, IfOk, MatchResult};
 ghost use Rattle.std.specs.List.{AllByRecursion, list_any};
 ghost use Rattle.id_groups.specs.Name.{Name as NameBytes, same_name};
 ghost use Rattle.id_groups.specs.Id.{other_id};
@@ -14,7 +14,6 @@ ghost use Rattle.flush_rebuild.specs.LentRows.{lent_row};
 ghost use Rattle.payload_tables.specs.Pending.{HoldsRows};
 ghost use Rattle.flush_rebuild.specs.declared.fault.PlanFault.TheVariants.{Memory};
 ghost use Rattle.flush_rebuild.specs.Plans.{IsPlanOf, IsChangeOf, MayComeNext};
-ghost use Rattle.flush_rebuild.specs.Following.{change_of, FollowChange, StandForNext};
 ghost use Rattle.batch_codec.specs.Payload.{payload_bytes};
 ghost use Rattle.batch_codec.specs.Grammar.{IsPayload};
 ghost use Rattle.flush_rebuild.specs.Rows.{AreRowsBelow};
@@ -22,7 +21,6 @@ ghost use Rattle.flush_rebuild.specs.Stripping.{is_marked, places_of, AreSpread,
 
 use crate::building::{FLUSH, Names, add_lent_section};
 use crate::fault::PlanFault;
-use crate::flush::{Plan, plan_of, tables_after};
 use crate::lent::{LentGraph, Row, before, lent_graph};
 use crate::numbers::{blank, marks_of, numbered, unmarked};
 use crate::plan::{Change, Payload, check, names_of};
@@ -268,35 +266,4 @@ pub fn plan_strip_change(
 {
     let none = PendingRows::empty(alloc, u64::from(tables.others().count()));
     strip_beside(alloc, tables, bytes, &none, ids, limits)
-}
-
-/// The change that a strip of these other ids makes, as `plan_strip_change` answers it, with the tables that follow. The old tables stay; the
-/// new ones stand for the world after the strip, their newest payload 8 places behind the end of the bytes.
-///
-/// `Emptied` comes exactly where nothing would be left; it tells how many rows there are. `Full` comes where the log would be too
-/// long.
-pub fn plan_strip(
-    alloc: Global,
-    tables: &Tables,
-    bytes: &[u8],
-    ids: &[Id],
-    limits: Limits,
-) -> Result<Plan, PlanFault>
-    requires limits { AreLimits limits }
-    requires log { length bytes.now ≤ 2 ^ 32 }
-    requires tables { (added : List Placed) × MayStripOn tables.now bytes.now ids.now added }
-    ensures worlds { (w : World NameBytes) (names : List NameBytes) (payload : List ℕ) (strip : MayStrip tables.now bytes.now ids.now w names)
-        → IsChangeOf w (stripped same_name w names) payload
-        → MatchResult result
-        (λ plan. (strip_refusal limits (length bytes.now) w (stripped same_name w names) payload ≡ None)
-        × IsPlanOf (change_of plan) w (stripped same_name w names) payload
-        × StandForNext plan.tables (length bytes.now) strip.added w (stripped same_name w names))
-        (λ fault. (fault ≡ Memory) ⊎ (strip_refusal limits (length bytes.now) w (stripped same_name w names) payload ≡ Some fault)) }
-    ensures stored { (added : List Placed) → MayStripOn tables.now bytes.now ids.now added
-        → IfOk result (λ plan. MayComeNext 1 limits (length bytes.now) added (change_of plan) × FollowChange plan.tables (length bytes.now) added (change_of plan)) }
-{
-    let after = tables.copy(alloc)?;
-    let change = plan_strip_change(alloc, tables, bytes, ids, limits)?;
-    let next = tables_after(after, bytes, &change)?;
-    Ok(plan_of(change, next))
 }

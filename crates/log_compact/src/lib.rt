@@ -2,7 +2,6 @@
 #![tactic(auto)]
 
 mod answer;
-mod reading;
 mod whole;
 mod writing;
 

@@ -1,12 +1,11 @@
 //! A log written anew in another one.
 
-ghost use Rattle.std.specs.Prelude.{◌≡◌, ◌≢◌, ◌≤◌, ◌⊎◌, ◌^◌, ℕ, List, [], map, IfOk, IfErr, IfSome, Err};
+ghost use Rattle.std.specs.Prelude.{◌≡◌, ◌≢◌, ◌≤◌, ◌⊎◌, ◌^◌, List, [], map, IfOk, IfErr, IfSome, Err};
 ghost use Rattle.disk_trait.specs.Since.{IsUntouched};
 ghost use Rattle.id_groups.specs.Name.{Name as NameBytes};
 ghost use Rattle.commit_graph.specs.World.{World};
 ghost use Rattle.outside.specs.Counts.{Rose};
 ghost use Rattle.disk_trait.specs.Calls.{Goes};
-ghost use Rattle.gated_log.specs.Log.{log_length};
 ghost use Rattle.gated_log.specs.Held.{log_bytes};
 ghost use Rattle.gated_log.specs.Holding.{HasPayloads, IsOnDisk};
 ghost use Rattle.gated_log.specs.Load.{LeavesOldOrFresh};
@@ -18,11 +17,11 @@ ghost use Rattle.payload_tables.specs.Kept.{AreTablesOf};
 ghost use Rattle.log_compact.specs.Compacts.{PlainWhole, whole_list, batch_of, IsMadeOf, MakesWhole, ReadsWhole, StoresWhole, AnswersWhole, WritesWhole, KeepsNoneOrNew, HasText, KeepsNoneOrWhole, HasWhole, Shrinks, IsReadAs, IsWrittenAs, IsOfFrom, IsUnstored, IsOfReading, from_answer, to_answer, written_to};
 
 use crate::answer::{Compacted, Shrunk};
-use crate::reading::tables_of;
 use crate::whole::whole_payload;
 use disk_trait::Disk;
 use gated_log::{Committed, LoadLog, Log};
-use payload_tables::{TableFault, Tables};
+use log_tables::{TablesFault, read_tables};
+use payload_tables::Tables;
 use std::alloc::{AllocError, Global};
 use std::marker::Model;
 
@@ -100,10 +99,10 @@ fn whole_of(alloc: Global, log: &Log) -> Result<Whole, Compacted>
     ensures made { MakesWhole log.now.payloads result }
     ensures err { IfErr result IsOfReading }
 {
-    let tables = match tables_of(alloc, log) {
+    let tables = match read_tables(alloc, log) {
         Ok(tables) => tables,
-        Err(TableFault::Unlawful) => return Err(Compacted::FromBad),
-        Err(TableFault::Memory) => return Err(Compacted::Memory),
+        Err(TablesFault::Unlawful(_)) => return Err(Compacted::FromBad),
+        Err(TablesFault::Memory) => return Err(Compacted::Memory),
     };
     match made_of(alloc, log, &tables) {
         Ok(whole) => Ok(whole),

@@ -7,9 +7,7 @@ ghost use Rattle.payload_tables.specs.Kept.{AreTablesOf};
 ghost use Rattle.payload_tables.specs.Pending.{MayPushRow};
 ghost use Rattle.flush_rebuild.specs.Asked.{MayStore};
 
-use flush_rebuild::{
-    Limit, Limits, PendingRows, Plan, PlanFault, Tables, plan_change, plan_flush, rebase,
-};
+use flush_rebuild::{Change, Limit, Limits, PendingRows, PlanFault, Tables, plan_change, rebase};
 use id_groups::{Id, Name};
 use std::alloc::{AllocError, Global};
 use std::test::Fail;
@@ -123,28 +121,28 @@ fn none_found(alloc: Global, count: usize) -> Result<Vec<Option<Id>>, AllocError
     Ok(found)
 }
 
-/// The plan of a flush of these rows, with these heads, onto a fresh log.
+/// The change that a flush of these rows makes, with these heads, onto a fresh log.
 fn planned(
     alloc: Global,
     pending: &PendingRows,
     heads: &[Name],
     limits: Limits,
-) -> Result<Plan, PlanFault>
+) -> Result<Change, PlanFault>
     requires limits { AreLimits limits }
     requires rows { MayStore pending.now [] }
 {
-    let tables = Tables::empty(alloc);
+    let mut tables = Tables::empty(alloc);
     let found = none_found(alloc, heads.len())?;
-    plan_flush(alloc, &tables, &FRESH, pending, heads, &found, limits)
+    plan_change(alloc, &mut tables, &FRESH, pending, heads, &found, limits)
 }
 
-/// The plan of these commits, with the heads of these last bytes.
-fn plan_of(
+/// The change that a flush of these commits makes, with the heads of these last bytes.
+fn change_of(
     alloc: Global,
     commits: &[Commit],
     heads: &[u8],
     limits: Limits,
-) -> Result<Plan, PlanFault>
+) -> Result<Change, PlanFault>
     requires { AreLimits limits }
 {
     let pending = pending_of(alloc, commits)?;
@@ -206,18 +204,16 @@ fn rows_are_left_and_written(rt: HostRuntime) -> Result<(), Fail> {
     Ok(())
 }
 
-/// Whether the plan writes this, and leaves so many rows in both groups.
-fn leaves(plan: &Plan, payload: &[u8], master: u64, others: u32) -> bool {
-    plan.payload.bytes() == payload
-        && plan.master == master
-        && plan.others == u64::from(others)
-        && plan.same == payload.is_empty()
-        && plan.tables.master_count() == master
-        && plan.tables.others().count() == others
+/// Whether the change writes this, and leaves so many rows in both groups.
+fn leaves(change: &Change, payload: &[u8], master: u64, others: u64) -> bool {
+    change.payload.bytes() == payload
+        && change.master == master
+        && change.others == others
+        && change.same == payload.is_empty()
 }
 
 /// Commits, heads by their last bytes, what a flush of them writes, and the rows that it leaves in both groups.
-type Planned = (&'static [Commit], &'static [u8], &'static [u8], u64, u32);
+type Planned = (&'static [Commit], &'static [u8], &'static [u8], u64, u64);
 
 /// Flushes that are planned.
 const PLANNED: [Planned; 4] = [
@@ -230,8 +226,8 @@ const PLANNED: [Planned; 4] = [
 /// Whether the flush is planned so.
 fn is_planned(alloc: Global, case: &Planned) -> Result<bool, PlanFault> {
     let (commits, heads, payload, master, others) = *case;
-    let plan = plan_of(alloc, commits, heads, Limits::standard())?;
-    Ok(leaves(&plan, payload, master, others))
+    let change = change_of(alloc, commits, heads, Limits::standard())?;
+    Ok(leaves(&change, payload, master, others))
 }
 
 #[test]
@@ -260,8 +256,8 @@ fn limits_of(others: u64, master: u64, log: u64) -> Limits
 fn fault_of(alloc: Global, commits: &[Commit], heads: &[u8], limits: Limits) -> Option<PlanFault>
     requires { AreLimits limits }
 {
-    match plan_of(alloc, commits, heads, limits) {
-        Ok(_plan) => None,
+    match change_of(alloc, commits, heads, limits) {
+        Ok(_change) => None,
         Err(fault) => Some(fault),
     }
 }

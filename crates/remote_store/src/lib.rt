@@ -5,7 +5,6 @@
 mod laws;
 mod loaded;
 mod names;
-mod reading;
 mod remote;
 
 pub use change_rules::Limits;

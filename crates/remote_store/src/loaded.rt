@@ -22,12 +22,12 @@ ghost use Rattle.remote_store.specs.Names.{AreLogNames};
 ghost use Rattle.remote_store.specs.Loaded.{Peeks, PeeksLog, PeeksGrown, PeeksLogGrown, MakesOf, HaveNames, IsRead};
 
 use crate::names::LogNames;
-use crate::reading::tables_of;
 use disk_trait::Disk;
 use gated_log::{LoadLog, Log};
 use high_segments::View;
 use id_groups::Name;
-use payload_tables::{PendingRows, TableFault, Tables};
+use log_tables::{TablesFault, read_tables};
+use payload_tables::{PendingRows, Tables};
 use remote_answers::{Reached, clone_of, find_path, put_names};
 use remote_trait::{CloneData, Path, RemoteFault};
 use std::alloc::{AllocError, Global};
@@ -65,12 +65,12 @@ fn log_fault(fault: LoadLog) -> RemoteFault
 }
 
 /// What the fault of tables is to who asks a remote.
-fn table_fault(fault: TableFault) -> RemoteFault
-    ensures { (result ≡ RemoteFault.Failed) → (fault ≡ TableFault.Unlawful) }
+fn table_fault(fault: TablesFault) -> RemoteFault
+    ensures { result ≡ RemoteFault.Failed → (k : ℕ) × (fault ≡ TablesFault.Unlawful k) }
 {
     match fault {
-        TableFault::Memory => RemoteFault::Memory,
-        TableFault::Unlawful => RemoteFault::Failed,
+        TablesFault::Memory => RemoteFault::Memory,
+        TablesFault::Unlawful(_) => RemoteFault::Failed,
     }
 }
 
@@ -92,11 +92,11 @@ fn peek_log<D: Disk>(alloc: Global, disk: &mut D, limit: u64) -> Result<Log, Rem
 }
 
 /// The tables of a log.
-fn read_tables(alloc: Global, log: &Log) -> Result<Tables, RemoteFault>
+fn tables_of(alloc: Global, log: &Log) -> Result<Tables, RemoteFault>
     requires { log.now.limit ≤ 2 ^ 32 }
     ensures { MakesOf log.now result }
 {
-    match tables_of(alloc, log) {
+    match read_tables(alloc, log) {
         Ok(tables) => Ok(tables),
         Err(fault) => Err(table_fault(fault)),
     }
@@ -157,7 +157,7 @@ impl Loaded {
         ensures failed { result ≡ Err FaultFailed → AreNoRemote log.payloads }
         ensures fit { OnOk result (AreNoRemote log.payloads → ⊥) }
     {
-        let tables = read_tables(alloc, &log)?;
+        let tables = tables_of(alloc, &log)?;
         if !is_named(&tables) {
             return Err(RemoteFault::Failed);
         }

@@ -11,7 +11,7 @@ use pipe_files::{PipeSink, PipeSource};
 use remote_bundle::BundleRemote;
 use remote_pipe::{Ends, PipeRemote};
 use remote_store::StoreRemote;
-use remote_trait::{CloneData, Path, Remote, RemoteFault};
+use remote_trait::{CloneData, Path, Remote, RemoteFault, Run};
 use std::alloc::Global;
 
 /// A mirror, by what the word of a remote names.
@@ -57,6 +57,20 @@ impl Remote for Mirror {
             Mirror::Log(log) => log.names_of(alloc, x, back, out),
             Mirror::Bundle(bundle) => bundle.names_of(alloc, x, back, out),
             Mirror::Pipe(pipe) => pipe.names_of(alloc, x, back, out),
+        }
+    }
+
+    fn may_expect(&self) -> bool {
+        match self {
+            Mirror::Log(_) | Mirror::Bundle(_) => false,
+            Mirror::Pipe(pipe) => pipe.may_expect(),
+        }
+    }
+
+    fn expect(&mut self, alloc: Global, runs: &[Run]) {
+        match self {
+            Mirror::Log(_) | Mirror::Bundle(_) => {}
+            Mirror::Pipe(pipe) => pipe.expect(alloc, runs),
         }
     }
 

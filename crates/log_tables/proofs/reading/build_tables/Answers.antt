@@ -2,8 +2,8 @@ use Rattle.std.proofs.Common.{◌+◌, ℕ, List, refl, sym, subst, ◌<◌, ◌
 use Rattle.name_map.specs.Added.{AllStand}
 use Rattle.gated_log.specs.Held.{log_bytes}
 use Rattle.payload_tables.specs.Build.{IsBuildOf}
-use Rattle.dag_store.proofs.Loads.{read-next, read-all}
-use Rattle.dag_store.proofs.loading.build_tables.Goals as goal
+use Rattle.log_tables.proofs.Loads.{read-next, read-all}
+use Rattle.log_tables.proofs.reading.build_tables.Goals as goal
 
 pub batches-preserved : goal.batches-preserved
 batches-preserved c =

@@ -3,8 +3,8 @@ use Rattle.std.proofs.lemmas.Result.{err_from_is_err_and}
 use Rattle.name_map.specs.Added.{AllStand}
 use Rattle.gated_log.specs.Held.{log_bytes}
 use Rattle.payload_tables.specs.Kept.{AreTablesOf}
-use Rattle.log_compact.proofs.InTurn.{read-next, read-unlawful, read-all}
-use Rattle.log_compact.proofs.reading.tables_of.Goals as goal
+use Rattle.log_tables.proofs.Loads.{read-next, read-unlawful, read-all}
+use Rattle.log_tables.proofs.reading.read_in_turn.Goals as goal
 
 pub returns-in_err-read_batch-clause-err : goal.returns-in_err-read_batch-clause-err
 returns-in_err-read_batch-clause-err c =
@@ -15,7 +15,7 @@ returns-in_err-read_batch-clause-err c =
     let p = err_from_is_err_and c.from_residual.result c.from_residual.ensures.1 in
     let stand = subst (λ (l : List ℕ). AllStand l r.added) (sym c.bytes-bytes.ensures.bytes) r.stand in
     rw (p.1, p.2) (⊎_elim (λ e. inl e)
-    (λ b. inr (b.0, (c.batches.k, read-unlawful c.batches.tables c.args.log.now.payloads _ c.batches.k c.batches.end r c.batch-payload.result.now lt c.batch-payload.ensures b.1)))
+    (λ b. inr (c.batches.k, b.0, read-unlawful c.batches.tables c.args.log.now.payloads _ c.batches.k c.batches.end r c.batch-payload.result.now lt c.batch-payload.ensures b.1))
     (c.in_err-read_batch.ensures.err r.added r.are stand))
 
 pub batches-preserved : goal.batches-preserved
