@@ -78,9 +78,7 @@ pub(crate) fn prepare_ask<R: Remote>(
     match ask {
         Ask::Flush(heads) => {
             are_names(heads);
-            prepare(
-                alloc, log, tables, session, cache, mirrors, heads, limits,
-            )
+            prepare(alloc, log, tables, session, cache, mirrors, heads, limits)
         }
         Ask::Strip(names) => prepare_strip(
             alloc, log, tables, session, cache, mirrors, names, limits,
