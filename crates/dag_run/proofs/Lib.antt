@@ -8,6 +8,7 @@ pub mod Staying
 pub mod Going
 pub mod Ending
 pub mod Doing
+pub mod Changing
 pub mod Statuses
 pub mod Usages
 pub mod Leading

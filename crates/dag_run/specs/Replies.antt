@@ -4,12 +4,22 @@ use Rattle.span_set.specs.Members.{ids_of}
 use Rattle.set_query.specs.declared.evaluation.Answer.{Answer}
 use Rattle.step_rules.specs.declared.Refusal.{Refusal}
 use Rattle.step_rules.specs.declared.Refusal.TheVariants as why
-use Rattle.step_rules.specs.Reply.{Reply, Counted, Refused, NoCommand}
+use Rattle.step_rules.specs.Reply.{Reply, Flushed, Stripped, Cloned, Pulled, Counted, Refused, NoCommand}
 use Rattle.step_rules.specs.Verb.{Verb}
 use Rattle.step_rules.specs.Step.{MayWantMemory}
 use Rattle.run_rules.specs.Grammar.{SpellsCommand}
+use Rattle.dag_store.specs.declared.asks.Ask.{Ask}
+use Rattle.dag_store.specs.declared.asks.Ask.TheVariants as asks
+use Rattle.dag_store.specs.declared.replies.Counts.{Counts}
 use Rattle.command_lines.specs.declared.command.CommandFault.{CommandFault}
 use Rattle.command_lines.specs.declared.command.CommandFault.TheVariants.{Syntax, Memory}
+
+-- of a change that is done, of these sizes
+abbrev pub reply_of_change : Ask → Counts → Reply
+reply_of_change (asks.Flush heads) counts = Flushed counts.master counts.others
+reply_of_change (asks.Strip names) counts = Stripped counts.master counts.others
+reply_of_change asks.Clone counts = Cloned counts.master
+reply_of_change asks.Pull counts = Pulled counts.master counts.others
 
 abbrev pub reply_of_count : Result Answer Refusal → Reply
 reply_of_count (Ok answer) = Counted (length (ids_of answer.set))

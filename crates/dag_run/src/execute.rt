@@ -7,9 +7,9 @@ ghost use Rattle.disk_trait.specs.Calls.{Goes};
 ghost use Rattle.gated_log.specs.Holding.{IsOnDisk};
 ghost use Rattle.line_io.specs.Next.{IsLine};
 ghost use Rattle.line_io.specs.Lines.{is_empty_or_comment};
-ghost use Rattle.step_rules.specs.Verb.{Clone as ToClone, Flush as ToFlush, Pull as ToPull, Strip as ToStrip};
 ghost use Rattle.run_rules.specs.Grammar.{SpellsCommand};
 ghost use Rattle.store_plans.specs.Changes.{HasRoom};
+ghost use Rattle.dag_store.specs.Asks.{verb_of};
 ghost use Rattle.command_lines.specs.Meant.{meant, HasRightCount};
 ghost use Rattle.dag_run.specs.Stops.{IsLineStop};
 ghost use Rattle.command_lines.specs.Told.{told};
@@ -17,13 +17,13 @@ ghost use Rattle.dag_run.specs.Replies.{IsUnreadFor};
 ghost use Rattle.dag_run.specs.Lines.{changes_with, CommandReplies, DoesBeside, DropsAt, IsBrief, LineReplies, LineLeaves, MayStore};
 
 use crate::replies::{
-    list, reply_of_add, reply_of_count, reply_of_id, reply_of_reload, tell, tell_fault, tell_unread,
+    list, reply_of_add, reply_of_change, reply_of_count, reply_of_id, reply_of_reload, tell,
+    tell_fault, tell_unread,
 };
 use crate::stops::Stop;
 use command_lines::{Command, CommandFault, Reply, Verb};
-use dag_store::{Flushed, Refusal, Store};
+use dag_store::{Ask, Flushed, Refusal, Store};
 use disk_trait::Disk;
-use id_groups::Name;
 use line_io::{Line, Sink};
 use mirror_set::Mirrors;
 use remote_trait::Remote;
@@ -52,162 +52,17 @@ fn note(changes: &mut Vec<u64>, clock: Option<u64>)
     }
 }
 
-/// Flushes a session. The memory for the change's moment is taken before.
-fn flush<D: Disk, O: Sink, R: Remote>(
-    store: Store,
-    log: &mut D,
-    mirrors: &mut Mirrors<R>,
-    changes: &mut Vec<u64>,
-    s: u8,
-    heads: &[Name],
-    output: &mut O,
-) -> Result<Store, Stop>
-    requires session { s < 16 }
-    requires begins { IfSome (D.told log.old) (IsOnDisk store.log) }
-    ensures step { let first = map R.shown mirrors.old.list.items in let left = map R.shown mirrors.new.list.items in
-        (payload : List ℕ) × (clock : Option ℕ) × (changes.new.items ≡ changes_with changes.old.items clock)
-        × Goes (LineLeaves store payload clock result) (D.told log.old) (D.told log.new)
-        × WhereTold (O.taken output.old) (O.taken output.new) (CommandReplies first left (Rose (O.faults output.old) (O.faults output.new)) store s (ToFlush heads.now) payload clock result) }
-    ensures limits { IfOk result (λ next. next.limits ≡ store.limits) }
-    ensures stop { IfErr result IsLineStop }
-    ensures disk { result ≡ Err Stop.NotStored → Rose (D.faults log.old) (D.faults log.new) }
-    ensures disk_later { D.faults log.old ≤ D.faults log.new }
-    ensures sink { result ≡ Err Stop.Sink → Rose (O.faults output.old) (O.faults output.new) }
-    ensures sink_later { O.faults output.old ≤ O.faults output.new }
+/// What a command asks of the store that may change what is stored.
+fn ask_of(verb: &Verb) -> Ask<'_>
+    requires { MayStore (meant verb.now) }
+    ensures { verb_of result ≡ meant verb.now }
 {
-    if changes.try_reserve(1).is_err() {
-        return tell(store, &Reply::Refused(Refusal::Memory), output);
-    }
-    let _limit = store.log_limit();
-    match store.flush(log, s, mirrors, heads) {
-        Flushed::Done(store, counts, clock) => {
-            note(changes, clock);
-            tell(store, &Reply::Flushed(counts), output)
-        }
-        Flushed::Refused(store, refusal) => tell(store, &Reply::Refused(refusal), output),
-        Flushed::Disk(_) => {
-            tell_fault(output);
-            Err(Stop::NotStored)
-        }
-    }
-}
-
-/// Takes commits out of what is stored. The memory for the change's moment is taken before.
-fn strip<D: Disk, O: Sink, R: Remote>(
-    store: Store,
-    log: &mut D,
-    mirrors: &mut Mirrors<R>,
-    changes: &mut Vec<u64>,
-    s: u8,
-    names: &[Name],
-    output: &mut O,
-) -> Result<Store, Stop>
-    requires session { s < 16 }
-    requires names { names.now ≢ [] }
-    requires begins { IfSome (D.told log.old) (IsOnDisk store.log) }
-    ensures step { let first = map R.shown mirrors.old.list.items in let left = map R.shown mirrors.new.list.items in
-        (payload : List ℕ) × (clock : Option ℕ) × (changes.new.items ≡ changes_with changes.old.items clock)
-        × Goes (LineLeaves store payload clock result) (D.told log.old) (D.told log.new)
-        × WhereTold (O.taken output.old) (O.taken output.new) (CommandReplies first left (Rose (O.faults output.old) (O.faults output.new)) store s (ToStrip names.now) payload clock result) }
-    ensures limits { IfOk result (λ next. next.limits ≡ store.limits) }
-    ensures stop { IfErr result IsLineStop }
-    ensures disk { result ≡ Err Stop.NotStored → Rose (D.faults log.old) (D.faults log.new) }
-    ensures disk_later { D.faults log.old ≤ D.faults log.new }
-    ensures sink { result ≡ Err Stop.Sink → Rose (O.faults output.old) (O.faults output.new) }
-    ensures sink_later { O.faults output.old ≤ O.faults output.new }
-{
-    if changes.try_reserve(1).is_err() {
-        return tell(store, &Reply::Refused(Refusal::Memory), output);
-    }
-    let _limit = store.log_limit();
-    match store.strip(log, s, mirrors, names) {
-        Flushed::Done(store, counts, at) => {
-            note(changes, at);
-            tell(store, &Reply::Stripped(counts), output)
-        }
-        Flushed::Refused(store, refusal) => tell(store, &Reply::Refused(refusal), output),
-        Flushed::Disk(_) => {
-            tell_fault(output);
-            Err(Stop::NotStored)
-        }
-    }
-}
-
-/// Stores the master of a mirror. The memory for the change's moment is taken before.
-fn take_clone<D: Disk, O: Sink, R: Remote>(
-    store: Store,
-    log: &mut D,
-    mirrors: &mut Mirrors<R>,
-    changes: &mut Vec<u64>,
-    s: u8,
-    output: &mut O,
-) -> Result<Store, Stop>
-    requires session { s < 16 }
-    requires begins { IfSome (D.told log.old) (IsOnDisk store.log) }
-    ensures step { let first = map R.shown mirrors.old.list.items in let left = map R.shown mirrors.new.list.items in
-        (payload : List ℕ) × (clock : Option ℕ) × (changes.new.items ≡ changes_with changes.old.items clock)
-        × Goes (LineLeaves store payload clock result) (D.told log.old) (D.told log.new)
-        × WhereTold (O.taken output.old) (O.taken output.new) (CommandReplies first left (Rose (O.faults output.old) (O.faults output.new)) store s ToClone payload clock result) }
-    ensures limits { IfOk result (λ next. next.limits ≡ store.limits) }
-    ensures stop { IfErr result IsLineStop }
-    ensures disk { result ≡ Err Stop.NotStored → Rose (D.faults log.old) (D.faults log.new) }
-    ensures disk_later { D.faults log.old ≤ D.faults log.new }
-    ensures sink { result ≡ Err Stop.Sink → Rose (O.faults output.old) (O.faults output.new) }
-    ensures sink_later { O.faults output.old ≤ O.faults output.new }
-{
-    if changes.try_reserve(1).is_err() {
-        return tell(store, &Reply::Refused(Refusal::Memory), output);
-    }
-    let _limit = store.log_limit();
-    match store.take_clone(log, s, mirrors) {
-        Flushed::Done(store, counts, moment) => {
-            note(changes, moment);
-            tell(store, &Reply::Cloned(counts.master), output)
-        }
-        Flushed::Refused(store, refusal) => tell(store, &Reply::Refused(refusal), output),
-        Flushed::Disk(_) => {
-            tell_fault(output);
-            Err(Stop::NotStored)
-        }
-    }
-}
-
-/// Stores the new rows of a mirror's master. The memory for the change's moment is taken before.
-fn take_pull<D: Disk, O: Sink, R: Remote>(
-    store: Store,
-    log: &mut D,
-    mirrors: &mut Mirrors<R>,
-    changes: &mut Vec<u64>,
-    s: u8,
-    output: &mut O,
-) -> Result<Store, Stop>
-    requires session { s < 16 }
-    requires begins { IfSome (D.told log.old) (IsOnDisk store.log) }
-    ensures step { let first = map R.shown mirrors.old.list.items in let left = map R.shown mirrors.new.list.items in
-        (payload : List ℕ) × (clock : Option ℕ) × (changes.new.items ≡ changes_with changes.old.items clock)
-        × Goes (LineLeaves store payload clock result) (D.told log.old) (D.told log.new)
-        × WhereTold (O.taken output.old) (O.taken output.new) (CommandReplies first left (Rose (O.faults output.old) (O.faults output.new)) store s ToPull payload clock result) }
-    ensures limits { IfOk result (λ next. next.limits ≡ store.limits) }
-    ensures stop { IfErr result IsLineStop }
-    ensures disk { result ≡ Err Stop.NotStored → Rose (D.faults log.old) (D.faults log.new) }
-    ensures disk_later { D.faults log.old ≤ D.faults log.new }
-    ensures sink { result ≡ Err Stop.Sink → Rose (O.faults output.old) (O.faults output.new) }
-    ensures sink_later { O.faults output.old ≤ O.faults output.new }
-{
-    if changes.try_reserve(1).is_err() {
-        return tell(store, &Reply::Refused(Refusal::Memory), output);
-    }
-    let _limit = store.log_limit();
-    match store.take_pull(log, s, mirrors) {
-        Flushed::Done(store, counts, stored) => {
-            note(changes, stored);
-            tell(store, &Reply::Pulled(counts), output)
-        }
-        Flushed::Refused(store, refusal) => tell(store, &Reply::Refused(refusal), output),
-        Flushed::Disk(_) => {
-            tell_fault(output);
-            Err(Stop::NotStored)
-        }
+    match verb {
+        Verb::Flush(heads) => Ask::Flush(heads.names()),
+        Verb::Strip(names) => Ask::Strip(names.names()),
+        Verb::Clone => Ask::Clone,
+        Verb::Pull => Ask::Pull,
+        _ => unreachable!(),
     }
 }
 
@@ -270,7 +125,7 @@ fn tell_brief<O: Sink, R: Remote>(
     tell(store, &reply, output)
 }
 
-/// Does what a command asks for that may store, and puts the reply.
+/// Does what a command asks for that may store, notes its moment, and puts the reply. The memory for the moment is taken before.
 fn tell_change<D: Disk, O: Sink, R: Remote>(
     store: Store,
     log: &mut D,
@@ -295,12 +150,22 @@ fn tell_change<D: Disk, O: Sink, R: Remote>(
     ensures sink { result ≡ Err Stop.Sink → Rose (O.faults output.old) (O.faults output.new) }
     ensures sink_later { O.faults output.old ≤ O.faults output.new }
 {
-    match verb {
-        Verb::Flush(heads) => flush(store, log, mirrors, changes, s, heads.names(), output),
-        Verb::Strip(names) => strip(store, log, mirrors, changes, s, names.names(), output),
-        Verb::Clone => take_clone(store, log, mirrors, changes, s, output),
-        Verb::Pull => take_pull(store, log, mirrors, changes, s, output),
-        _ => unreachable!(),
+    let ask = ask_of(verb);
+    if changes.try_reserve(1).is_err() {
+        return tell(store, &Reply::Refused(Refusal::Memory), output);
+    }
+    let _limit = store.log_limit();
+    match store.change(log, s, mirrors, ask) {
+        Flushed::Done(store, counts, clock) => {
+            note(changes, clock);
+            let reply = reply_of_change(ask, counts);
+            tell(store, &reply, output)
+        }
+        Flushed::Refused(store, refusal) => tell(store, &Reply::Refused(refusal), output),
+        Flushed::Disk(_) => {
+            tell_fault(output);
+            Err(Stop::NotStored)
+        }
     }
 }
 

@@ -13,11 +13,11 @@ ghost use Rattle.dag_store.specs.Stands.{Stands};
 ghost use Rattle.dag_store.specs.Steps.{AreIdsOf, KeepsAll, add_reply, id_reply, known_name, reload_reply};
 ghost use Rattle.command_lines.specs.Told.{told};
 ghost use Rattle.dag_run.specs.Lines.{CommandReplies, PutsReply, PutsFault};
-ghost use Rattle.dag_run.specs.Replies.{reply_of_count, reply_of_fault};
+ghost use Rattle.dag_run.specs.Replies.{reply_of_change, reply_of_count, reply_of_fault};
 
 use crate::stops::Stop;
 use command_lines::{CommandFault, Reply, put_disk_fault, put_names, put_reply};
-use dag_store::{Added, Answer, Expr, Found, Refusal, Store};
+use dag_store::{Added, Answer, Ask, Counts, Expr, Found, Refusal, Store};
 use id_groups::Id;
 use line_io::Sink;
 use mirror_set::Mirrors;
@@ -70,6 +70,18 @@ pub(crate) fn reply_of_count(answer: Result<Answer, Refusal>) -> Reply
     match answer {
         Ok(answer) => Reply::Counted(answer.count()),
         Err(refusal) => Reply::Refused(refusal),
+    }
+}
+
+/// What is told of a change that is done.
+pub(crate) fn reply_of_change(ask: Ask<'_>, counts: Counts) -> Reply
+    ensures { told result ≡ reply_of_change ask.entry counts }
+{
+    match ask {
+        Ask::Flush(_) => Reply::Flushed(counts),
+        Ask::Strip(_) => Reply::Stripped(counts),
+        Ask::Clone => Reply::Cloned(counts.master),
+        Ask::Pull => Reply::Pulled(counts),
     }
 }
 

@@ -36,4 +36,5 @@ pub mod FlushLeading
 pub mod PullTold
 pub mod PullSteps
 pub mod PullAgrees
+pub mod AskCases
 pub mod WholeLemmas

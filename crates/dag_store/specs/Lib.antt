@@ -13,3 +13,4 @@ pub mod Following
 pub mod Shown
 pub mod Pulls
 pub mod Whole
+pub mod Asks

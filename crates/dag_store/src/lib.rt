@@ -3,21 +3,20 @@
 //! Sixteen sessions over one log.
 
 mod adding;
-mod cloning;
+mod asks;
+mod changing;
 mod elsewhere;
 mod finishing;
-mod flushing;
 mod following;
 mod laws;
 mod loading;
 mod names;
-mod pulling;
 mod query;
 mod replies;
 mod store;
-mod stripping;
 mod whole;
 
+pub use asks::Ask;
 pub use change_rules::{Limit, Limits};
 pub use following::{FollowFault, Followed};
 pub use high_segments::LevelCounts;

@@ -40,7 +40,7 @@ pub enum LoadFault {
     Memory,
 }
 
-/// How a flush, a strip or a clone ended.
+/// How a change ended.
 #[derive(Drop)]
 pub enum Flushed {
     /// The store, the sizes of the stored world, and the clock at the acknowledgement, where something was stored.

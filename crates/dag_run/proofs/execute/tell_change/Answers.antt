@@ -1,50 +1,89 @@
-use Rattle.std.proofs.Common.{[], sym, ap, subst, ◌∙◌}
-use Rattle.std.specs.Prelude.{◌≢◌}
+use Rattle.std.proofs.Common.{[], None, Err, map, refl, sym, ap, subst, ◌∙◌}
 use Rattle.outside.specs.Counts.{Rose}
-use Rattle.step_rules.specs.Verb.{Clone, Flush, Pull, Strip}
+use Rattle.outside.specs.Told.{WhereTold}
+use Rattle.outside.proofs.ToldLemmas.{WhereTold-map}
+use Rattle.step_rules.specs.declared.Refusal.TheVariants as why
+use Rattle.step_rules.specs.Reply.{Reply, Refused}
 use Rattle.command_lines.specs.Meant.{meant, HasRightCount}
-use Rattle.dag_run.proofs.Doing.{told-as}
+use Rattle.dag_store.specs.Asks.{verb_of}
+use Rattle.dag_run.specs.Lines.{changes_with, CommandReplies, PutsFault, PutsReply}
+use Rattle.dag_run.specs.Replies.{reply_of_change}
+use Rattle.dag_run.specs.declared.stops.Stop.TheVariants as stops
+use Rattle.dag_run.proofs.Doing.{still-goes, flush-goes, refused-goes, short-goes, limit-of, memory-step, command-told, told-as}
+use Rattle.dag_run.proofs.Changing.{may-ask, may-want, change-done, change-refused, change-short}
 use Rattle.dag_run.proofs.execute.tell_change.Goals as goal
 
-pub returns-in-Flush-clause-step : goal.returns-in-Flush-clause-step
-returns-in-Flush-clause-step g c =
-    let step = c.flush.ensures.step in (
-      step.0,
-      step.1,
-      step.2,
-      step.3,
-      told-as _ _ (Rose (g.O.Sink.faults c.args.output.now) (g.O.Sink.faults c.flush.new.output)) c.args.store c.args.s (Flush c.names.result.now) (meant c.args.verb.now) step.0 step.1 c.flush.result (g.O.Sink.taken c.args.output.now) (g.O.Sink.taken c.flush.new.output) (ap meant c.in-Flush.is ∙ ap Flush (sym c.names.ensures)) step.4,
+pub change-requires-clause-asked : goal.change-requires-clause-asked
+change-requires-clause-asked g c = may-ask c.ask_of-ask.result (subst HasRightCount (sym c.ask_of-ask.ensures) c.requires.counted)
+
+pub returns-then-is_err-clause-step : goal.returns-then-is_err-clause-step
+returns-then-is_err-clause-step g c =
+    let store = c.args.store in
+    let o = g.O.Sink.taken c.args.output.now in let p = g.O.Sink.taken c.tell.new.output in
+    let failed : Type 0 = Rose (g.O.Sink.faults c.args.output.now) (g.O.Sink.faults c.tell.new.output) in
+    let ask = c.ask_of-ask.result in (
+      [],
+      None,
+      c.try_reserve.ensures.items,
+      still-goes store store [] c.tell.result (g.D.Disk.told c.args.log.now) c.tell.ensures.same c.tell.ensures.stop refl,
+      told-as _ _ failed store c.args.s (verb_of ask) (meant c.args.verb.now) [] None c.tell.result o p (sym c.ask_of-ask.ensures)
+          (command-told _ _ failed store store c.args.s (verb_of ask) [] None c.tell.result (Refused why.Memory) o p (λ began st h enough. (st, memory-step store.limits st c.args.s (verb_of ask) (may-want ask), (refl, refl), h)) c.tell.ensures.bytes),
     )
 
-pub strip-requires-clause-names : goal.strip-requires-clause-names
-strip-requires-clause-names g c = subst (λ l. l ≢ []) (sym c.names-in-Strip.ensures) (subst HasRightCount (ap meant c.in-Strip.is) c.requires.counted)
-
-pub returns-in-Strip-clause-step : goal.returns-in-Strip-clause-step
-returns-in-Strip-clause-step g c =
-    let step = c.strip.ensures.step in (
+pub returns-in-Done-clause-step : goal.returns-in-Done-clause-step
+returns-in-Done-clause-step g c =
+    let old = c.args.store in
+    let new = c.in-Done.store in
+    let counts = c.in-Done.counts in
+    let clock = c.in-Done.clock in
+    let step = c.in-Done.ensures.step in
+    let r = c.tell-in-Done.result in
+    let o = g.O.Sink.taken c.args.output.now in let p = g.O.Sink.taken c.tell-in-Done.new.output in
+    let failed : Type 0 = Rose (g.O.Sink.faults c.args.output.now) (g.O.Sink.faults c.tell-in-Done.new.output) in
+    let first = map g.R.Remote.shown c.args.mirrors.now.list.items in let left = map g.R.Remote.shown c.change.new.mirrors.list.items in
+    let ask = c.ask_of-ask.result in (
       step.0,
-      step.1,
-      step.2,
-      step.3,
-      told-as _ _ (Rose (g.O.Sink.faults c.args.output.now) (g.O.Sink.faults c.strip.new.output)) c.args.store c.args.s (Strip c.names-in-Strip.result.now) (meant c.args.verb.now) step.0 step.1 c.strip.result (g.O.Sink.taken c.args.output.now) (g.O.Sink.taken c.strip.new.output) (ap meant c.in-Strip.is ∙ ap Strip (sym c.names-in-Strip.ensures)) step.4,
+      clock,
+      c.note.ensures ∙ ap (λ l. changes_with l clock) c.try_reserve.ensures.items,
+      flush-goes old new step.0 r c.args.s counts clock (g.D.Disk.told c.args.log.now) (g.D.Disk.told c.change.new.disk) c.tell-in-Done.ensures.same c.tell-in-Done.ensures.stop
+          (limit-of old c.log_limit-limit.result c.log_limit-limit.ensures.limits c.log_limit-limit.ensures.log) c.in-Done.ensures.leaves step.1,
+      told-as first left failed old c.args.s (verb_of ask) (meant c.args.verb.now) step.0 clock r o p (sym c.ask_of-ask.ensures)
+          (command-told first left failed old new c.args.s (verb_of ask) step.0 clock r (reply_of_change ask counts) o p (change-done first left old c.args.s step.0 ask new counts clock step.2)
+          (subst (λ (y : Reply). WhereTold o p (PutsReply new y r)) c.reply_of_change-reply.ensures c.tell-in-Done.ensures.bytes)),
     )
 
-pub returns-in-Clone-clause-step : goal.returns-in-Clone-clause-step
-returns-in-Clone-clause-step g c =
-    let step = c.take_clone.ensures.step in (
+pub returns-in-Refused-clause-step : goal.returns-in-Refused-clause-step
+returns-in-Refused-clause-step g c =
+    let old = c.args.store in
+    let new = c.in-Refused.store in
+    let refusal = c.in-Refused.refusal in
+    let step = c.in-Refused.ensures.step in
+    let r = c.tell-in-Refused.result in
+    let o = g.O.Sink.taken c.args.output.now in let p = g.O.Sink.taken c.tell-in-Refused.new.output in
+    let failed : Type 0 = Rose (g.O.Sink.faults c.args.output.now) (g.O.Sink.faults c.tell-in-Refused.new.output) in
+    let first = map g.R.Remote.shown c.args.mirrors.now.list.items in let left = map g.R.Remote.shown c.change.new.mirrors.list.items in
+    let ask = c.ask_of-ask.result in (
       step.0,
-      step.1,
-      step.2,
-      step.3,
-      told-as _ _ (Rose (g.O.Sink.faults c.args.output.now) (g.O.Sink.faults c.take_clone.new.output)) c.args.store c.args.s Clone (meant c.args.verb.now) step.0 step.1 c.take_clone.result (g.O.Sink.taken c.args.output.now) (g.O.Sink.taken c.take_clone.new.output) (ap meant c.in-Clone.is) step.4,
+      None,
+      c.try_reserve.ensures.items,
+      refused-goes old new step.0 r refusal (g.D.Disk.told c.args.log.now) (g.D.Disk.told c.change.new.disk) c.tell-in-Refused.ensures.same c.tell-in-Refused.ensures.stop c.in-Refused.ensures.leaves.1 step.1,
+      told-as first left failed old c.args.s (verb_of ask) (meant c.args.verb.now) step.0 None r o p (sym c.ask_of-ask.ensures)
+          (command-told first left failed old new c.args.s (verb_of ask) step.0 None r (Refused refusal) o p (change-refused first left old c.args.s step.0 ask new refusal step.2) c.tell-in-Refused.ensures.bytes),
     )
 
-pub returns-in-Pull-clause-step : goal.returns-in-Pull-clause-step
-returns-in-Pull-clause-step g c =
-    let step = c.take_pull.ensures.step in (
+pub returns-in-Disk-clause-step : goal.returns-in-Disk-clause-step
+returns-in-Disk-clause-step g c =
+    let old = c.args.store in
+    let step = c.in-Disk.ensures.step in
+    let o = g.O.Sink.taken c.args.output.now in let p = g.O.Sink.taken c.tell_fault.new.output in
+    let failed : Type 0 = Rose (g.O.Sink.faults c.args.output.now) (g.O.Sink.faults c.tell_fault.new.output) in
+    let first = map g.R.Remote.shown c.args.mirrors.now.list.items in let left = map g.R.Remote.shown c.change.new.mirrors.list.items in
+    let ask = c.ask_of-ask.result in (
       step.0,
-      step.1,
-      step.2,
-      step.3,
-      told-as _ _ (Rose (g.O.Sink.faults c.args.output.now) (g.O.Sink.faults c.take_pull.new.output)) c.args.store c.args.s Pull (meant c.args.verb.now) step.0 step.1 c.take_pull.result (g.O.Sink.taken c.args.output.now) (g.O.Sink.taken c.take_pull.new.output) (ap meant c.in-Pull.is) step.4,
+      None,
+      c.try_reserve.ensures.items,
+      short-goes old step.0 None c.in-Disk.field-0 (g.D.Disk.told c.args.log.now) (g.D.Disk.told c.change.new.disk) (limit-of old c.log_limit-limit.result c.log_limit-limit.ensures.limits c.log_limit-limit.ensures.log) step.1,
+      told-as first left failed old c.args.s (verb_of ask) (meant c.args.verb.now) step.0 None (Err stops.NotStored) o p (sym c.ask_of-ask.ensures)
+          (WhereTold-map o p (PutsFault failed) (CommandReplies first left failed old c.args.s (verb_of ask) step.0 None (Err stops.NotStored))
+          (λ before now put began st h enough. let f = change-short first left old c.args.s step.0 ask c.in-Disk.field-0 step.2 began st h enough in (f.0, f.1, f.2, f.3, f.4, refl, put)) c.tell_fault.ensures.bytes),
     )

@@ -1,26 +1,28 @@
-//! Storing a session's rows, and going to the newest world.
+//! Going to the newest world, and making another one.
 
-ghost use Rattle.std.specs.Prelude.{◌≡◌, ◌<◌, ◌≤◌, ℕ, List, map, IfSome, OnErr, OnOk};
+ghost use Rattle.std.specs.Prelude.{◌≡◌, ◌<◌, ◌≤◌, ℕ, List, length, map, IfSome, OnErr, OnOk};
 ghost use Rattle.outside.specs.Counts.{Rose};
 ghost use Rattle.disk_trait.specs.Calls.{Goes};
+ghost use Rattle.gated_log.specs.Held.{log_bytes};
 ghost use Rattle.gated_log.specs.Holding.{IsOnDisk};
 ghost use Rattle.step_rules.specs.State.{State, Stored};
 ghost use Rattle.step_rules.specs.Tests.{tests};
-ghost use Rattle.step_rules.specs.Verb.{Flush as ToFlush, Reload as ToReload};
+ghost use Rattle.step_rules.specs.Verb.{Reload as ToReload};
 ghost use Rattle.dag_store.specs.Stands.{IsAnswerable, Stands, StandsBeside};
 ghost use Rattle.store_plans.specs.Looking.{AsksAlike, refusal_in};
 ghost use Rattle.dag_store.specs.Steps.{ChangesOnly, KeepsAll, Leads, reload_reply};
-ghost use Rattle.dag_store.specs.Flushes.{FlushStep, FlushLeaves, IsQuiet, LeavesStore, refused_flush};
+ghost use Rattle.dag_store.specs.Flushes.{FlushLeaves, IsQuiet, LeavesStore};
+ghost use Rattle.dag_store.specs.Asks.{verb_of, MayBeAsked, MayChange, AskStep, AskAnswers};
 
+use crate::asks::{Ask, prepare_ask};
 use crate::finishing::finish;
 use crate::replies::Flushed;
 use crate::store::Store;
 use disk_trait::Disk;
-use id_groups::Name;
 use mirror_set::Mirrors;
 use remote_trait::Remote;
 use step_rules::Refusal;
-use store_plans::{are_names, prepare, reloaded};
+use store_plans::reloaded;
 
 impl Store {
     /// Puts a session on the newest world, with its rows that this doesn't have, and answers how many these are.
@@ -52,25 +54,25 @@ impl Store {
         Ok(left)
     }
 
-    /// Puts the rows of a session behind the stored world, moves the heads and all that they reach into master, and stores the new
-    /// world, if it is another one. The session is on it then, without rows.
+    /// Does what a session asks for, and stores the new world, if it is another one. The session is on it then, without rows. Why each
+    /// is refused is said where it is asked for; nothing is stored then.
     ///
     /// All memory is taken before the first call of the disk. At each moment a crash leaves the payloads from before or, from the
     /// opening of the gate on, those with the new one.
-    pub fn flush<D: Disk, R: Remote>(
+    pub fn change<D: Disk, R: Remote>(
         self,
         disk: &mut D,
         s: u8,
         mirrors: &mut Mirrors<R>,
-        heads: &[Name],
+        ask: Ask<'_>,
     ) -> Flushed
         requires session { s < 16 }
+        requires asked { MayBeAsked (verb_of ask) }
         requires begins { IfSome (D.told disk.old) (IsOnDisk self.log) }
         ensures step { let first = map R.shown mirrors.old.list.items in let left = map R.shown mirrors.new.list.items in
             (payload : List ℕ) × Goes (FlushLeaves self payload result) (D.told disk.old) (D.told disk.new)
-            × ((began : ℕ) (st : State) → StandsBeside began self first st → IsAnswerable st → FlushStep began self st s heads.now left payload result) }
-        ensures asks { let first = map R.shown mirrors.old.list.items in let left = map R.shown mirrors.new.list.items in
-            (began : ℕ) (st : Stored) → Stands began self st → AsksAlike st.payloads st.stored (tests self.limits st s (ToFlush heads.now)) first left (refused_flush result) }
+            × ((began : ℕ) (st : State) → StandsBeside began self first st → MayChange (verb_of ask.entry) st first → AskStep began self left st s (verb_of ask.entry) payload result)
+            × ((began : ℕ) (st : Stored) → Stands began self st → AskAnswers self.limits st s (length (log_bytes self.log)) (verb_of ask.entry) first left payload result) }
         ensures leaves { LeavesStore self s result }
         ensures quiet { IsQuiet result → disk.new ≡ disk.old }
         ensures later { D.faults disk.old ≤ D.faults disk.new }
@@ -84,17 +86,16 @@ impl Store {
             limits,
             mut names,
         } = self;
-        are_names(heads);
         let at = usize::from(s);
         let list = &mut mirrors.list;
-        let next = prepare(
+        let next = prepare_ask(
             alloc,
             &mut log,
             &mut tables,
             &sessions[at],
             &mut names,
             list,
-            heads,
+            ask,
             limits,
         );
         finish(disk, alloc, log, tables, sessions, limits, names, at, next)
