@@ -11,6 +11,7 @@ ghost use Rattle.ancestor_query.specs.Graph.{table_graph};
 ghost use Rattle.ancestor_query.specs.Visits.{Keeps};
 ghost use Rattle.range_query.specs.Ends.{HeadsFrom};
 
+use crate::place::{flat_down, place_in};
 use ancestor_query::WorkList;
 use id_groups::{Id, IdSpan};
 use segment_codec::{SegmentRef, SegmentTable, Steps};
@@ -82,9 +83,10 @@ fn add_heads<T: SegmentTable>(
 {
     let low = span.low.number();
     let mut end = span.high.number() + 1;
+    let mut place = place_in(table, span, steps);
     'parts: while low < end {
         let id = Id::from_number(end - 1);
-        let segment = table.flat(id, steps).unwrap();
+        let segment = flat_down(table, id, &mut place, steps);
         add_head(answer, waiting, id)?;
         end = push_parents(waiting, segment, low)?;
     }
@@ -113,7 +115,8 @@ fn add_all_heads<T: SegmentTable>(
 }
 
 /// The members that are no parent of a member; another member may still reach them. Each member is an id of the table. It
-/// takes a look-up for each part of a span in one flat segment. `AllocError` only for want of memory.
+/// takes a look-up for each part of a span in one flat segment, and finds the place of a long span by halving. `AllocError`
+/// only for want of memory.
 pub fn heads<T: SegmentTable>(
     alloc: Global,
     table: &T,

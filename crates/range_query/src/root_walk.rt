@@ -10,6 +10,7 @@ ghost use Rattle.ancestor_query.specs.Graph.{table_graph};
 ghost use Rattle.range_query.specs.Parts.{HasParentOf};
 
 use crate::child_walk::has_parent_in;
+use crate::place::{flat_down, place_in};
 use id_groups::{Id, IdSpan};
 use segment_codec::{SegmentRef, SegmentTable, Steps};
 use span_set::IdSet;
@@ -65,15 +66,16 @@ fn add_roots<T: SegmentTable>(
 {
     let low = span.low.number();
     let mut end = span.high.number() + 1;
+    let mut place = place_in(table, span, steps);
     'parts: while low < end {
-        let segment = table.flat(Id::from_number(end - 1), steps).unwrap();
+        let segment = flat_down(table, Id::from_number(end - 1), &mut place, steps);
         end = add_lowest(answer, set, segment, low)?;
     }
     Ok(())
 }
 
 /// The members that are no child of a member. Each member is an id of the table. It takes a look-up for each part of a span
-/// in one flat segment. `AllocError` only for want of memory.
+/// in one flat segment, and finds the place of a long span by halving. `AllocError` only for want of memory.
 pub fn roots<T: SegmentTable>(
     alloc: Global,
     table: &T,
