@@ -18,7 +18,7 @@ use Rattle.ancestor_query.proofs.Counts.{has_first, one-more, first-met}
 -- where a single id is asked for: before the first turn nothing is on the work, after it nothing is left
 abbrev pub OneTurn : (ℕ → Type 0) → ℕ → List ℕ → ℕ → ℕ → Type 0
 OneTurn S a work start taken =
-    ((taken ≡ start) × (work ≡ [])) ⊎ ((taken ≤ start + 8) × ((w : ℕ) → ToVisit S work w → w < a → ⊥))
+    ((taken ≡ start) × (work ≡ []) × (a ≡ 2 ^ 57)) ⊎ ((taken ≤ start + 8) × ((w : ℕ) → ToVisit S work w → w < a → ⊥))
 
 module _ (flats : List Segment) (ending : ℕ → ℕ → Option Segment) (S : ℕ → Type 0) (floor start : ℕ) where
   abbrev Anc : ℕ → Type 0
@@ -39,7 +39,7 @@ module _ (flats : List Segment) (ending : ℕ → ℕ → Option Segment) (S : �
       exact = λ z. (λ m. absurd (subst (λ l. IsMember l z) f m), λ h. let lt = anc-bound flats lawful S inside z h.0 in let le = h.1 in absurd (omega arith));
       pending = frontier-none flats lawful S inside work (λ w i. absurd (subst (IsIn w) e i));
       few = omega arith;
-      one = λ y h w. inl (refl, e);
+      one = λ y h w. inl (refl, e, refl);
       bound = le_refl (2 ^ 57);
     }
 
@@ -61,7 +61,7 @@ module _ (flats : List Segment) (ending : ℕ → ℕ → Option Segment) (S : �
           λ k. let low = k.1 in (h.exact z).1 (k.0, ⊎_elim (λ (le : a ≤ z). le) (λ (lt : z < a). let le = at_most z k.0 lt in absurd (omega arith)) (le_or_lt a z), low),
         )
 
-        module _ (best : Segment) (b : IsBest flats ending 8 x best) (from : ℕ) (is : from ≡ max best.low floor) (in_floor : floor ≤ x) where
+        module _ (best : Segment) (b : IsBest flats ending 1 x best) (full : a ≡ 2 ^ 57 → IsBest flats ending 8 x best) (from : ℕ) (is : from ≡ max best.low floor) (in_floor : floor ≤ x) where
           pub going-down : (f : ℕ) → f ≡ best.low → f < a
           going-down f e = let o = b.jump.order in let u = next.greatest.under in omega arith
 
@@ -83,7 +83,7 @@ module _ (flats : List Segment) (ending : ℕ → ℕ → Option Segment) (S : �
             one-turn now le y is-y whole (inl e) =
                 let none : (w : ℕ) → IsIn w after → ⊥ = λ w i. subst (IsIn w) e.1 (next.keeps.kept w i) in
                 let same : x ≡ y = ⊎_elim (λ m. is-y x m) (λ i. absurd (none x i)) next.greatest.is in
-                let empty = ep ∙ best-whole flats lawful ending law x best b (subst (EndsWhole ending) (sym same) whole) in
+                let empty = ep ∙ best-whole flats lawful ending law x best (full e.2) (subst (EndsWhole ending) (sym same) whole) in
                 let o = b.jump.order in let t = e.0 in
                 inr (
                   omega arith,

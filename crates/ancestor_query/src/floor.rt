@@ -7,7 +7,7 @@ ghost use Rattle.span_set.specs.Members.{IsMember, IsCanonical};
 ghost use Rattle.ancestor_query.specs.Graph.{table_graph};
 ghost use Rattle.ancestor_query.specs.Counts.{count_met, IsOnly, EndsWhole};
 
-use crate::jump::best_jump;
+use crate::jump::{Pace, paced_jump};
 use crate::work_list::WorkList;
 use id_groups::{ID_END, Id, IdSpan};
 use segment_codec::{SegmentTable, Steps};
@@ -60,11 +60,12 @@ fn add_ancestors<T: SegmentTable>(
 {
     let least = floor.number();
     let mut frontier = ID_END;
+    let mut pace = Pace::new();
     'visit: while let Some(id) = work.next_id(set, frontier) {
         if id.number() < least {
             return Ok(());
         }
-        let segment = best_jump(table, id, steps);
+        let segment = paced_jump(table, id, &mut pace, steps);
         let low = segment.low().number();
         let from = Id::from_number(low.max(least));
         answer.insert_span(IdSpan {

@@ -1,6 +1,6 @@
 //! How far a visit may go down at once.
 
-ghost use Rattle.std.specs.Prelude.{◌≡◌, ◌+◌, ◌-◌, ◌≤◌, ◌<◌, ◌^◌, ◌⊎◌, IsTrue, MatchOption, min};
+ghost use Rattle.std.specs.Prelude.{◌≡◌, ◌+◌, ◌-◌, ◌≤◌, ◌<◌, ◌^◌, ◌⊎◌, IsTrue, MatchOption, min, true};
 ghost use Rattle.id_groups.specs.Lists.{IsIn};
 ghost use Rattle.segment_codec.specs.Table.{IsHeld};
 ghost use Rattle.segment_codec.specs.Lent.{segment_of};
@@ -97,4 +97,101 @@ pub fn best_jump<'a, T: SegmentTable>(table: &'a T, id: Id, steps: &mut Steps) -
     }
     pass_levels(level, steps);
     best
+}
+
+/// At so many ids the levels are asked in vain before a walk pauses.
+const MISSES: u32 = 32;
+
+/// A pause is of so many ids at first.
+const LEAST_PAUSE: u32 = 16;
+
+/// And of no more than so many.
+const MOST_PAUSE: u32 = 256;
+
+/// Whether a walk asks the levels at the next id. Where they often give no longer segment it asks none for a while, each time a
+/// longer one: so it saves look-ups in vain, and may take a few flat segments one by one.
+#[derive(Clone, Copy, Drop)]
+pub(crate) struct Pace {
+    misses: u32,
+    pause: u32,
+    next_pause: u32,
+}
+
+impl Pace {
+    /// Where a walk begins: the levels are asked.
+    pub(crate) fn new() -> Pace
+        ensures { result.pause ≡ 0 }
+    {
+        Pace {
+            misses: 0,
+            pause: 0,
+            next_pause: LEAST_PAUSE,
+        }
+    }
+
+    /// Whether no level is to be asked at this id.
+    #[inline(always)]
+    fn is_pausing(&mut self) -> bool
+        ensures { result ≡ true → 0 < self.old.pause }
+    {
+        if self.pause == 0 {
+            return false;
+        }
+        self.pause -= 1;
+        true
+    }
+
+    /// Notes of which level the segment is that was taken. One of a level above the first makes the next pause short again.
+    #[inline(always)]
+    fn note(&mut self, level: u8) {
+        if level > 0 {
+            self.misses = 0;
+        }
+        if level > 1 {
+            self.next_pause = LEAST_PAUSE;
+        }
+        self.misses = self.misses.saturating_add(1);
+        if self.misses > MISSES {
+            self.misses = 0;
+            self.pause = self.next_pause;
+            self.next_pause = self.next_pause.saturating_mul(2).min(MOST_PAUSE);
+        }
+    }
+}
+
+/// The flat segment that has the id. It counts as many look-ups as where the levels are asked.
+#[inline(always)]
+fn flat_jump<'a, T: SegmentTable>(table: &'a T, id: Id, steps: &mut Steps) -> SegmentRef<'a>
+    requires { IsHeld (T.flats table.now) id }
+    ensures best { IsBest (T.flats table.now) (T.ending_at table.now) 1 id (segment_of result) }
+    ensures few { steps.new.taken ≤ steps.old.taken + 8 }
+    ensures counted { min steps.old.taken (2 ^ 64 - 1) ≤ steps.new.taken }
+    ensures looked { min (steps.old.taken + 8) (2 ^ 64 - 1) ≤ steps.new.taken }
+{
+    let segment = table.flat(id, steps).unwrap();
+    pass_levels(1, steps);
+    segment
+}
+
+/// The segment by which a walk goes on from the id: that of `best_jump`, or the flat one while the walk asks no level.
+#[inline(always)]
+pub(crate) fn paced_jump<'a, T: SegmentTable>(
+    table: &'a T,
+    id: Id,
+    pace: &mut Pace,
+    steps: &mut Steps,
+) -> SegmentRef<'a>
+    requires { IsHeld (T.flats table.now) id }
+    ensures jump { IsBest (T.flats table.now) (T.ending_at table.now) 1 id (segment_of result) }
+    ensures best { pace.old.pause ≡ 0 → IsBest (T.flats table.now) (T.ending_at table.now) 8 id (segment_of result) }
+    ensures few { steps.new.taken ≤ steps.old.taken + 8 }
+    ensures counted { min steps.old.taken (2 ^ 64 - 1) ≤ steps.new.taken }
+    ensures looked { min (steps.old.taken + 8) (2 ^ 64 - 1) ≤ steps.new.taken }
+{
+    if pace.is_pausing() {
+        return flat_jump(table, id, steps);
+    }
+    let segment = best_jump(table, id, steps);
+    pace.note(segment.level());
+    segment
 }

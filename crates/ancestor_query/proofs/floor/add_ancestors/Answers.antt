@@ -1,7 +1,7 @@
 use Rattle.std.proofs.Common.{arith, ◌≡◌, ◌∙◌, max, subst, sym}
 use Rattle.segment_codec.specs.Lent.{segment_of, parents_left}
 use Rattle.span_set.specs.Members.{IsMember, IsCanonical}
-use Rattle.ancestor_query.proofs.Turns.{going-none, going-held, going-stop, going-turn, going-done, going-few, going-one}
+use Rattle.ancestor_query.proofs.Turns.{going-none, going-held, going-stop, going-down, going-turn, going-done, going-few, going-one}
 use Rattle.ancestor_query.proofs.floor.add_ancestors.Goals as goal
 
 pub visit-init : goal.visit-init
@@ -12,10 +12,11 @@ visit-init g c = record {
   counted = omega arith;
   looked = λ x m. absurd (subst (λ spans. IsMember spans x) c.requires.answer m);
   canonical = subst IsCanonical (sym c.requires.answer) tt;
+  first = λ whole. c.new-pace.ensures;
 }
 
-pub best_jump-segment-requires : goal.best_jump-segment-requires
-best_jump-segment-requires g c =
+pub paced_jump-segment-requires : goal.paced_jump-segment-requires
+paced_jump-segment-requires g c =
     going-held (g.T.SegmentTable.flats c.args.table.now) (g.T.SegmentTable.ending_at c.args.table.now) (IsMember c.args.set.now) c.args.floor c.args.steps.now.taken
     (g.met.T.SegmentTable.lawful c.args.table.now) (λ level id s e. g.met.T.SegmentTable.endings c.args.table.now level id s e) c.requires.held
     c.visit.frontier c.visit.work c.next_id.new.self c.visit.answer c.visit.steps.taken c.visit.invariant.going c.in-Some.id c.in-Some.ensures
@@ -26,15 +27,24 @@ visit-preserved g c = record {
       going-turn (g.T.SegmentTable.flats c.args.table.now) (g.T.SegmentTable.ending_at c.args.table.now) (IsMember c.args.set.now) c.args.floor c.args.steps.now.taken
       (g.met.T.SegmentTable.lawful c.args.table.now) (λ level id s e. g.met.T.SegmentTable.endings c.args.table.now level id s e) c.requires.held
       c.visit.frontier c.visit.work c.next_id.new.self c.visit.answer c.visit.steps.taken c.visit.invariant.going c.in-Some.id c.in-Some.ensures
-      (segment_of c.best_jump-segment.result) c.best_jump-segment.ensures.best
-      c.from_number-from.result (let m : c.max.result ≡ max (segment_of c.best_jump-segment.result).low c.args.floor = omega (arith, c.max.ensures, c.number-low.ensures.number, c.low.ensures, c.number-least.ensures.number) in c.from_number-from.ensures ∙ m)
+      (segment_of c.paced_jump-segment.result) c.paced_jump-segment.ensures.jump (λ whole. c.paced_jump-segment.ensures.best (c.visit.invariant.first whole))
+      c.from_number-from.result (let m : c.max.result ≡ max (segment_of c.paced_jump-segment.result).low c.args.floor = omega (arith, c.max.ensures, c.number-low.ensures.number, c.low.ensures, c.number-least.ensures.number) in c.from_number-from.ensures ∙ m)
       (omega (arith, c.if-number-least.false, c.number.ensures.number, c.number-least.ensures.number))
       (parents_left c.parents.result) c.push_all.new.self c.insert_span.new.self c.parents.ensures
       c.in_ok-push_all.ensures.all c.in_ok-insert_span.ensures.members
-      c.number-low.result (c.number-low.ensures.number ∙ c.low.ensures) c.best_jump-segment.new.steps.taken c.best_jump-segment.ensures.few;
-  counted = let b = c.best_jump-segment.ensures.counted in let k = c.visit.invariant.counted in omega arith;
-  looked = λ x m. (let b = c.best_jump-segment.ensures.looked in let k = c.visit.invariant.counted in omega arith);
+      c.number-low.result (c.number-low.ensures.number ∙ c.low.ensures) c.paced_jump-segment.new.steps.taken c.paced_jump-segment.ensures.few;
+  counted = let b = c.paced_jump-segment.ensures.counted in let k = c.visit.invariant.counted in omega arith;
+  looked = λ x m. (let b = c.paced_jump-segment.ensures.looked in let k = c.visit.invariant.counted in omega arith);
   canonical = c.in_ok-insert_span.ensures.canonical;
+  first = λ whole.
+      let lt = going-down (g.T.SegmentTable.flats c.args.table.now) (g.T.SegmentTable.ending_at c.args.table.now) (IsMember c.args.set.now) c.args.floor c.args.steps.now.taken
+      (g.met.T.SegmentTable.lawful c.args.table.now) (λ level id s e. g.met.T.SegmentTable.endings c.args.table.now level id s e) c.requires.held
+      c.visit.frontier c.visit.work c.next_id.new.self c.visit.answer c.visit.steps.taken c.visit.invariant.going c.in-Some.id c.in-Some.ensures
+      (segment_of c.paced_jump-segment.result) c.paced_jump-segment.ensures.jump (λ same. c.paced_jump-segment.ensures.best (c.visit.invariant.first same))
+      c.from_number-from.result (let m : c.max.result ≡ max (segment_of c.paced_jump-segment.result).low c.args.floor = omega (arith, c.max.ensures, c.number-low.ensures.number, c.low.ensures, c.number-least.ensures.number) in c.from_number-from.ensures ∙ m)
+      (omega (arith, c.if-number-least.false, c.number.ensures.number, c.number-least.ensures.number))
+      c.number-low.result (c.number-low.ensures.number ∙ c.low.ensures) in
+      let top = c.visit.invariant.going.bound in absurd (omega arith);
 }
 
 pub returns-clause-members : goal.returns-clause-members
