@@ -17,8 +17,8 @@ ghost use Rattle.dag_run.specs.Replies.{IsUnreadFor};
 ghost use Rattle.dag_run.specs.Lines.{changes_with, CommandReplies, DoesBeside, DropsAt, IsBrief, LineReplies, LineLeaves, MayStore};
 
 use crate::replies::{
-    list, reply_of_add, reply_of_change, reply_of_count, reply_of_id, reply_of_reload, tell,
-    tell_fault, tell_unread,
+    list, reply_of_add, reply_of_count, reply_of_id, reply_of_reload, tell, tell_done, tell_fault,
+    tell_refused, tell_unread,
 };
 use crate::stops::Stop;
 use command_lines::{Command, CommandFault, Reply, Verb};
@@ -152,16 +152,15 @@ fn tell_change<D: Disk, O: Sink, R: Remote>(
 {
     let ask = ask_of(verb);
     if changes.try_reserve(1).is_err() {
-        return tell(store, &Reply::Refused(Refusal::Memory), output);
+        return tell_refused(store, Refusal::Memory, output);
     }
     let _limit = store.log_limit();
     match store.change(log, s, mirrors, ask) {
         Flushed::Done(store, counts, clock) => {
             note(changes, clock);
-            let reply = reply_of_change(ask, counts);
-            tell(store, &reply, output)
+            tell_done(store, ask, counts, output)
         }
-        Flushed::Refused(store, refusal) => tell(store, &Reply::Refused(refusal), output),
+        Flushed::Refused(store, refusal) => tell_refused(store, refusal, output),
         Flushed::Disk(_) => {
             tell_fault(output);
             Err(Stop::NotStored)
