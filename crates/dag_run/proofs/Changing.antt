@@ -9,7 +9,6 @@ use Rattle.step_rules.specs.Verb.{Flush, Strip}
 use Rattle.step_rules.specs.Reply.{Reply, Flushed, Stripped, Cloned, Pulled, Refused}
 use Rattle.step_rules.specs.Worlds.{flush_of}
 use Rattle.step_rules.specs.Step.{CommandStep, MayWantMemory}
-use Rattle.command_lines.specs.Meant.{HasRightCount}
 use Rattle.store_plans.specs.PullPlans.{pull_of}
 use Rattle.dag_store.specs.declared.asks.Ask.{Ask}
 use Rattle.dag_store.specs.declared.asks.Ask.TheVariants as asks
@@ -19,20 +18,13 @@ use Rattle.dag_store.specs.declared.replies.Flushed.TheVariants as ends
 use Rattle.disk_trait.specs.declared.DiskFault.{DiskFault}
 use Rattle.dag_store.specs.Kept.{PlainStore}
 use Rattle.dag_store.specs.Stands.{StandsBeside}
-use Rattle.dag_store.specs.Asks.{verb_of, MayBeAsked, MayChange, AskStep}
+use Rattle.dag_store.specs.Asks.{verb_of, MayChange, AskStep}
 use Rattle.dag_store.specs.Clones.{beside, clone_end}
 use Rattle.dag_store.specs.Pulls.{AllBeginWith, pull_end}
 use Rattle.dag_run.specs.Enough.{IsEnoughFor}
 use Rattle.dag_run.specs.Lines.{Changes, HasChanged}
 use Rattle.dag_run.specs.Replies.{reply_of_change}
 use Rattle.dag_run.proofs.Doing.{flush-next, strip-next, flush-changes, change-of, refused-changes, clone-changes, clone-change}
-
--- a line that has the right count asks for something
-pub may-ask : (ask : Ask) → HasRightCount (verb_of ask) → MayBeAsked (verb_of ask)
-may-ask (asks.Flush heads) right = tt
-may-ask (asks.Strip names) right = right
-may-ask asks.Clone right = tt
-may-ask asks.Pull right = tt
 
 -- each may want memory
 pub may-want : (ask : Ask) → MayWantMemory (verb_of ask)

@@ -9,7 +9,7 @@ ghost use Rattle.line_io.specs.Next.{IsLine};
 ghost use Rattle.line_io.specs.Lines.{is_empty_or_comment};
 ghost use Rattle.run_rules.specs.Grammar.{SpellsCommand};
 ghost use Rattle.store_plans.specs.Changes.{HasRoom};
-ghost use Rattle.dag_store.specs.Asks.{verb_of};
+ghost use Rattle.dag_store.specs.Asks.{MayBeAsked, verb_of};
 ghost use Rattle.command_lines.specs.Meant.{meant, HasRightCount};
 ghost use Rattle.dag_run.specs.Stops.{IsLineStop};
 ghost use Rattle.command_lines.specs.Told.{told};
@@ -17,8 +17,8 @@ ghost use Rattle.dag_run.specs.Replies.{IsUnreadFor};
 ghost use Rattle.dag_run.specs.Lines.{changes_with, CommandReplies, DoesBeside, DropsAt, IsBrief, LineReplies, LineLeaves, MayStore};
 
 use crate::replies::{
-    list, reply_of_add, reply_of_change, reply_of_count, reply_of_id, reply_of_reload, tell,
-    tell_fault, tell_unread,
+    list, reply_of_add, reply_of_count, reply_of_id, reply_of_reload, tell, tell_done, tell_fault,
+    tell_refused, tell_unread,
 };
 use crate::stops::Stop;
 use command_lines::{Command, CommandFault, Reply, Verb};
@@ -125,24 +125,23 @@ fn tell_brief<O: Sink, R: Remote>(
     tell(store, &reply, output)
 }
 
-/// Does what a command asks for that may store, notes its moment, and puts the reply. The memory for the moment is taken before.
+/// Does what is asked for that may store, notes its moment, and puts the reply. The memory for the moment is taken before.
 fn tell_change<D: Disk, O: Sink, R: Remote>(
     store: Store,
     log: &mut D,
     mirrors: &mut Mirrors<R>,
     changes: &mut Vec<u64>,
     s: u8,
-    verb: &Verb,
+    ask: Ask<'_>,
     output: &mut O,
 ) -> Result<Store, Stop>
     requires session { s < 16 }
-    requires counted { HasRightCount (meant verb.now) }
-    requires stores { MayStore (meant verb.now) }
+    requires asked { MayBeAsked (verb_of ask) }
     requires begins { IfSome (D.told log.old) (IsOnDisk store.log) }
     ensures step { let first = map R.shown mirrors.old.list.items in let left = map R.shown mirrors.new.list.items in
         (payload : List ℕ) × (clock : Option ℕ) × (changes.new.items ≡ changes_with changes.old.items clock)
         × Goes (LineLeaves store payload clock result) (D.told log.old) (D.told log.new)
-        × WhereTold (O.taken output.old) (O.taken output.new) (CommandReplies first left (Rose (O.faults output.old) (O.faults output.new)) store s (meant verb.now) payload clock result) }
+        × WhereTold (O.taken output.old) (O.taken output.new) (CommandReplies first left (Rose (O.faults output.old) (O.faults output.new)) store s (verb_of ask.entry) payload clock result) }
     ensures limits { IfOk result (λ next. next.limits ≡ store.limits) }
     ensures stop { IfErr result IsLineStop }
     ensures disk { result ≡ Err Stop.NotStored → Rose (D.faults log.old) (D.faults log.new) }
@@ -150,18 +149,16 @@ fn tell_change<D: Disk, O: Sink, R: Remote>(
     ensures sink { result ≡ Err Stop.Sink → Rose (O.faults output.old) (O.faults output.new) }
     ensures sink_later { O.faults output.old ≤ O.faults output.new }
 {
-    let ask = ask_of(verb);
     if changes.try_reserve(1).is_err() {
-        return tell(store, &Reply::Refused(Refusal::Memory), output);
+        return tell_refused(store, Refusal::Memory, output);
     }
     let _limit = store.log_limit();
     match store.change(log, s, mirrors, ask) {
         Flushed::Done(store, counts, clock) => {
             note(changes, clock);
-            let reply = reply_of_change(ask, counts);
-            tell(store, &reply, output)
+            tell_done(store, ask, counts, output)
         }
-        Flushed::Refused(store, refusal) => tell(store, &Reply::Refused(refusal), output),
+        Flushed::Refused(store, refusal) => tell_refused(store, refusal, output),
         Flushed::Disk(_) => {
             tell_fault(output);
             Err(Stop::NotStored)
@@ -196,7 +193,8 @@ fn execute_command<D: Disk, O: Sink, R: Remote>(
     match &command.verb {
         Verb::Query(expr) => list(store, mirrors, s, expr, output),
         Verb::Flush(_) | Verb::Strip(_) | Verb::Clone | Verb::Pull => {
-            tell_change(store, log, mirrors, changes, s, &command.verb, output)
+            let ask = ask_of(&command.verb);
+            tell_change(store, log, mirrors, changes, s, ask, output)
         }
         verb => tell_brief(store, mirrors, s, verb, output),
     }

@@ -8,7 +8,7 @@ ghost use Rattle.span_set.specs.Members.{ids_of};
 ghost use Rattle.set_expr.specs.Whole.{tree_of};
 ghost use Rattle.step_rules.specs.State.{Stored};
 ghost use Rattle.step_rules.specs.Verb.{Query};
-ghost use Rattle.step_rules.specs.Reply.{Listed};
+ghost use Rattle.step_rules.specs.Reply.{Listed, Refused};
 ghost use Rattle.dag_store.specs.Stands.{Stands};
 ghost use Rattle.dag_store.specs.Steps.{AreIdsOf, KeepsAll, add_reply, id_reply, known_name, reload_reply};
 ghost use Rattle.command_lines.specs.Told.{told};
@@ -74,7 +74,7 @@ pub(crate) fn reply_of_count(answer: Result<Answer, Refusal>) -> Reply
 }
 
 /// What is told of a change that is done.
-pub(crate) fn reply_of_change(ask: Ask<'_>, counts: Counts) -> Reply
+fn reply_of_change(ask: Ask<'_>, counts: Counts) -> Reply
     ensures { told result ≡ reply_of_change ask.entry counts }
 {
     match ask {
@@ -104,6 +104,35 @@ pub(crate) fn tell<O: Sink>(store: Store, reply: &Reply, output: &mut O) -> Resu
 {
     put_reply(reply, output)?;
     Ok(store)
+}
+
+/// Puts the reply of a command that is refused, and hands the store back.
+pub(crate) fn tell_refused<O: Sink>(
+    store: Store,
+    refusal: Refusal,
+    output: &mut O,
+) -> Result<Store, Stop>
+    ensures bytes { WhereTold (O.taken output.old) (O.taken output.new) (PutsReply store (Refused refusal) result) }
+    ensures same { IfOk result (λ next. next ≡ store) }
+    ensures stop { IfErr result (λ stop. stop ≡ Stop.Sink) }
+    ensures cause { HasCause (O.faults output.old) (O.faults output.new) result }
+{
+    tell(store, &Reply::Refused(refusal), output)
+}
+
+/// Puts the reply of a change that is done, and hands the store back.
+pub(crate) fn tell_done<O: Sink>(
+    store: Store,
+    ask: Ask<'_>,
+    counts: Counts,
+    output: &mut O,
+) -> Result<Store, Stop>
+    ensures bytes { WhereTold (O.taken output.old) (O.taken output.new) (PutsReply store (reply_of_change ask.entry counts) result) }
+    ensures same { IfOk result (λ next. next ≡ store) }
+    ensures stop { IfErr result (λ stop. stop ≡ Stop.Sink) }
+    ensures cause { HasCause (O.faults output.old) (O.faults output.new) result }
+{
+    tell(store, &reply_of_change(ask, counts), output)
 }
 
 /// Puts the reply of a line that can't be read, and hands the store back.
@@ -153,7 +182,7 @@ pub(crate) fn list<O: Sink, R: Remote>(
     let mut store = store;
     match store.query(s, mirrors, expr) {
         Ok(found) => list_names(store, s, &found, output),
-        Err(refusal) => tell(store, &Reply::Refused(refusal), output),
+        Err(refusal) => tell_refused(store, refusal, output),
     }
 }
 

@@ -35,5 +35,5 @@ returns-in-Err-clause-told g c =
     let old = c.args.store in
     let s = c.args.s in
     let verb = Query (tree_of c.args.expr.now) in
-    command-told _ _ (Rose (g.O.Sink.faults c.args.output.now) (g.O.Sink.faults c.tell.new.output)) old c.query.new.self s verb [] None c.tell.result (Refused c.in-Err.refusal) (g.O.Sink.taken c.args.output.now) (g.O.Sink.taken c.tell.new.output)
-    (λ began st h enough. let l = c.in-Err.ensures.step began st h enough.0 in (l.0, l.1, refused-changes old.limits st s verb c.in-Err.refusal l.0 l.1, l.2)) c.tell.ensures.bytes
+    command-told _ _ (Rose (g.O.Sink.faults c.args.output.now) (g.O.Sink.faults c.tell_refused.new.output)) old c.query.new.self s verb [] None c.tell_refused.result (Refused c.in-Err.refusal) (g.O.Sink.taken c.args.output.now) (g.O.Sink.taken c.tell_refused.new.output)
+    (λ began st h enough. let l = c.in-Err.ensures.step began st h enough.0 in (l.0, l.1, refused-changes old.limits st s verb c.in-Err.refusal l.0 l.1, l.2)) c.tell_refused.ensures.bytes
