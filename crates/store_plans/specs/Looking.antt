@@ -49,12 +49,12 @@ pub record AreTablesBehind (tables : PlainTables) (bytes : List ℕ) (added : Li
 
 -- what is lent of a session is its base of these payloads, and rows that may stand behind it
 abbrev pub MaySee : Seen → List Placed → Type 0
-MaySee seen added = IsBaseOf seen.base added × MayView seen.base added seen.pending
+MaySee seen added = IsBaseOf seen.base added × MayView seen.base added seen.pending.now
 
 -- It shows this world and these rows behind it: over tables of the whole log, and with whether some name of the world isn't stored.
 pub record Shows (seen : Seen) (added : List Placed) (w : World Name) (rows : List (Row Name)) : Type 0 where
-  pub sees : Sees seen.base seen.pending added w rows
-  pub behind : AreTablesBehind seen.tables seen.bytes added
+  pub sees : Sees seen.base seen.pending.now added w rows
+  pub behind : AreTablesBehind seen.tables.now seen.bytes.now added
   pub unnamed : seen.unnamed ≡ has_lazy (payloads_of added) w
 
 -- the session's base stands for this world, and its rows are these behind it

@@ -28,8 +28,8 @@ returns-in-Some-id-clause-looks g c = λ added w rows h.
     (found-stored added w s.stand rows s.view.world c.args.name.now c.in-Some-id.id (subst (λ n. IsIn {X = Known} (record { id = c.in-Some-id.id; name = n }) (stored_in added)) c.lend-2.ensures i.1))
     (λ e. absurd (some-is-none e))
 
-pub returns-then-not-unnamed-clause-looks : goal.returns-then-not-unnamed-clause-looks
-returns-then-not-unnamed-clause-looks g c = λ added w rows h.
+pub returns-then-not-seen-clause-looks : goal.returns-then-not-seen-clause-looks
+returns-then-not-seen-clause-looks g c = λ added w rows h.
     let s = h.sees in
     looks-there (payloads_of added) w rows c.args.name.now None _ c.args.cache.now
     (found-nowhere added w s.stand rows s.view.world c.args.name.now

@@ -10,9 +10,11 @@ empty-none-requires g c = none-few c.args.tables.now c.requires.over.0 c.require
 
 pub look_up_others-requires-clause-view : goal.look_up_others-requires-clause-view
 look_up_others-requires-clause-view g c =
-    let r = c.requires.over in
-    (r.0, c.newest-newest.ensures.may r.0 r.1.tables_of (subst (λ l. AllStand l r.0) (sym c.bytes.ensures.bytes) r.1.stand)
-    (are-none c.args.tables.now r.0 r.1.tables_of c.others.result.now c.others.ensures c.count.result c.from.result c.count.ensures c.from.ensures c.empty-none.result c.empty-none.ensures.rows c.empty-none.ensures.first))
+    let r = c.requires.over in (
+      r.0,
+      c.newest-newest.ensures.may r.0 r.1.tables_of (subst (λ l. AllStand l r.0) (sym c.bytes.ensures.bytes) r.1.stand)
+          (are-none c.args.tables.now r.0 r.1.tables_of c.others.result.now c.others.ensures c.count.result c.from.result c.count.ensures c.from.ensures c.empty-none.result c.empty-none.ensures.rows c.empty-none.ensures.first),
+    )
 
 pub returns-clause-found : goal.returns-clause-found
 returns-clause-found g c = λ added v.
