@@ -36,9 +36,9 @@ find_names-requires-clause-view g c =
 
 pub view-requires : goal.view-requires
 view-requires g c =
-    let x = c.args.session.now in
     let (added, t, stand, of) = c.requires.session in
-    (base_added added x, c.seen-seen.ensures.may added of t stand)
+    let may = c.seen-seen.ensures.may added of t stand in
+    (base_added added c.args.session.now, may.0, may.1)
 
 pub eval-requires-clause-count : goal.eval-requires-clause-count
 eval-requires-clause-count g c =
