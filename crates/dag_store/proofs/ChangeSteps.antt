@@ -22,14 +22,14 @@ use Rattle.step_rules.specs.Asking.{TriesAll}
 use Rattle.step_rules.specs.Step.{CommandStep, GoesOutside}
 use Rattle.step_rules.proofs.Trying.{tried-all}
 use Rattle.store_plans.specs.declared.changing.Next.{Next}
-use Rattle.dag_store.specs.declared.replies.Flushed.{Flushed as Ended}
-use Rattle.dag_store.specs.declared.replies.Flushed.TheVariants as ends
+use Rattle.dag_store.specs.declared.replies.Changed.{Changed as Ended}
+use Rattle.dag_store.specs.declared.replies.Changed.TheVariants as ends
 use Rattle.store_plans.specs.Sessions.{PlainSession}
 use Rattle.dag_store.specs.Kept.{PlainStore, IsKept, sixteen}
 use Rattle.dag_store.specs.Stands.{Stands, StandsBeside}
 use Rattle.store_plans.specs.Looking.{AreRight, IsSoundCache, Tried, refusal_in}
 use Rattle.dag_store.specs.Steps.{Leads}
-use Rattle.dag_store.specs.Flushes.{ChangeStep, StoresBy, refused_flush}
+use Rattle.dag_store.specs.Changes.{ChangeStep, StoresBy, refused_flush}
 use Rattle.store_plans.specs.Changes.{HasRoom, IsPlanTo, IsPrepared, PreparesChange}
 use Rattle.dag_store.specs.Finishes.{FinishesAs, Finishes, payload_in}
 use Rattle.dag_store.proofs.Leading.{leads-to, next-goes, outside_next}

@@ -273,7 +273,7 @@ impl Store {
             &self.tables,
             self.limits.pending,
             session,
-            &mut self.names,
+            &mut self.cache,
             &mut mirrors.list,
             name,
             parents,
@@ -302,7 +302,7 @@ impl Store {
             self.log.bytes(),
             &self.tables,
             session,
-            &mut self.names,
+            &mut self.cache,
             &mut mirrors.list,
             name,
         )

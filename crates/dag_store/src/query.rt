@@ -210,7 +210,7 @@ impl Store {
         let bytes = self.log.bytes();
         let tables: &Tables = &self.tables;
         let most = self.limits.answer;
-        let cache = &mut self.names;
+        let cache = &mut self.cache;
         let list = &mut mirrors.list;
         let answer = members(self.alloc, bytes, tables, session, cache, list, expr)?;
         found_in(
@@ -245,7 +245,7 @@ impl Store {
             self.log.bytes(),
             &self.tables,
             session,
-            &mut self.names,
+            &mut self.cache,
             &mut mirrors.list,
             expr,
         )
