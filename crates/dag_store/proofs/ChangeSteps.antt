@@ -35,7 +35,7 @@ use Rattle.dag_store.specs.Finishes.{FinishesAs, Finishes, payload_in}
 use Rattle.dag_store.proofs.Leading.{leads-to, next-goes, outside_next}
 use Rattle.store_plans.proofs.ChangeSizes.{worlds-decided}
 use Rattle.dag_store.proofs.FlushStored.{stands-room}
-use Rattle.dag_store.proofs.Changed.{stands-as-before, stands-changed}
+use Rattle.dag_store.proofs.StandsChanged.{stands-as-before, stands-changed}
 
 -- What is known of a command that makes the stored world this one: which steps it takes behind its tests; and where none of these
 -- refuses it, that this is a world that the payloads hold with that of the change.

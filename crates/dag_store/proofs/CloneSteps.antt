@@ -57,7 +57,7 @@ use Rattle.store_plans.specs.ClonePlans.{RefusesAsked, RefusesClone, TakesTold, 
 use Rattle.store_plans.proofs.Counts.{others-many}
 use Rattle.dag_store.proofs.FlushStored.{on-of, stands-room}
 use Rattle.store_plans.proofs.CloneTold.{told-by, passed-empty, tests-told}
-use Rattle.dag_store.proofs.Changed.{stands-as-before, stands-changed}
+use Rattle.dag_store.proofs.StandsChanged.{stands-as-before, stands-changed}
 
 -- ---- steps
 

@@ -60,7 +60,7 @@ use Rattle.dag_store.specs.Pulls.{AllBeginWith, PullAnswers, PullStep, pull_end}
 use Rattle.store_plans.specs.PullPlans.{PlansPull, RefusesFresh, RefusesPull, RefusesTold, TakesFresh, fresh_refusal, mismatch_of, pull_of, rows_told}
 use Rattle.store_plans.proofs.ChangeSizes.{worlds-decided}
 use Rattle.dag_store.proofs.FlushStored.{on-of, stands-room}
-use Rattle.dag_store.proofs.Changed.{stands-as-before, stands-changed}
+use Rattle.dag_store.proofs.StandsChanged.{stands-as-before, stands-changed}
 use Rattle.dag_store.proofs.PullTold.{gives-clone, gives-names, never-gave-broken, never-gave-few, next-tells}
 
 -- ---- the new world
