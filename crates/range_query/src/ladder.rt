@@ -15,8 +15,8 @@ pub(crate) const HIGHEST_LEVEL: usize = 7;
 
 /// The level on which a walk down tries the next id, and for each level the lowest id of the segment that it went into
 /// last: down to there no other segment of the level ends. It goes up to `top`, one above the highest level on which it
-/// found a segment. Where segments of higher levels are no longer than flat ones it tries none for a while. All of this
-/// only saves look-ups in vain.
+/// found a segment. Where segments of higher levels are no longer than flat ones it tries none for a while, and goes by the
+/// places of flat ones. All of this only saves look-ups in vain.
 #[derive(Clone, Copy, Drop)]
 pub(crate) struct Ladder {
     level: usize,
@@ -25,6 +25,7 @@ pub(crate) struct Ladder {
     lows: [u64; 8],
     pause: u32,
     next_pause: u32,
+    place: u32,
     ghost within: { level ≤ top },
     ghost bound: { top ≤ most },
     ghost end: { most < 8 },
@@ -42,6 +43,7 @@ impl Ladder {
             lows: [u64::MAX; 8],
             pause: 0,
             next_pause: LEAST_PAUSE,
+            place: u32::MAX,
         }
     }
 
@@ -97,14 +99,29 @@ impl Ladder {
         self.level -= 1;
     }
 
-    /// Whether no level is to be tried for the next segment.
+    /// For how many flat segments no level is to be tried.
     #[inline(always)]
-    pub(crate) fn is_pausing(&mut self) -> bool {
-        if self.pause == 0 {
-            return false;
-        }
-        self.pause -= 1;
-        true
+    pub(crate) fn pause(&self) -> u32 {
+        self.pause
+    }
+
+    /// The place where the flat segment that has the next id is expected.
+    #[inline(always)]
+    pub(crate) fn place(&self) -> u32 {
+        self.place
+    }
+
+    /// Notes that the next flat segment is expected at the place.
+    #[inline(always)]
+    pub(crate) fn expect_at(&mut self, place: u32) {
+        self.place = place;
+    }
+
+    /// Notes the same, and for how many flat segments no level is to be tried.
+    #[inline(always)]
+    pub(crate) fn go_on_at(&mut self, place: u32, pause: u32) {
+        self.place = place;
+        self.pause = pause;
     }
 
     /// Whether a segment of this level with so many ids may be no longer than a flat one.
