@@ -17,6 +17,9 @@ use segment_codec::{SegmentRef, SegmentTable, Steps};
 use span_set::IdSet;
 use std::alloc::{AllocError, Global};
 
+/// To go past so many flat segments takes about as long as the look-up of one of a level.
+const FLATS_WORTH: u64 = 8;
+
 /// How many spans begin at the id or above it, of which `at` are known to.
 fn skip_from(spans: &[IdSpan], at: usize, id: Id) -> usize
     requires { at ≤ length spans.now }
@@ -237,21 +240,6 @@ fn flat_near<'a, T: SegmentTable>(
     segment
 }
 
-/// Tells the ladder whether the segment from `low` to the id, which it led to, is longer than the flat one. Of long ones it
-/// is taken for granted.
-fn weigh<T: SegmentTable>(table: &T, low: Id, id: Id, ladder: &mut Ladder, steps: &mut Steps)
-    requires held { IsHeld (T.flats table.now) id }
-    requires order { low ≤ id }
-    ensures counted { min steps.old.taken (2 ^ 64 - 1) ≤ steps.new.taken }
-{
-    if !ladder.is_short(id.number() - low.number()) {
-        ladder.note(true);
-        return;
-    }
-    let flat = flat_near(table, id, ladder, steps);
-    ladder.note(low < flat.low());
-}
-
 /// Goes past a segment above the flat ones none of whose ids up to this one, its highest, has a parent in the set. It answers
 /// its lowest id, and one above the id where it found none. The first `at` spans of the set stand from the id on.
 fn pass_level<T: SegmentTable>(
@@ -271,8 +259,9 @@ fn pass_level<T: SegmentTable>(
     ladder.climb(id);
     match childless_ending(table, set, at, id, ladder, steps) {
         Some(segment) => {
-            weigh(table, segment.low(), id, ladder, steps);
-            segment.low().number()
+            let low = segment.low().number();
+            ladder.note(id.number().saturating_sub(low));
+            low
         }
         None => id.number() + 1,
     }
@@ -294,7 +283,7 @@ fn pass<T: SegmentTable>(
     ensures none { LackChildren (table_graph (T.flats table.now)) set.now result id }
     ensures counted { min steps.old.taken (2 ^ 64 - 1) ≤ steps.new.taken }
 {
-    let from = end_at(set.spans(), at);
+    let from = end_at(set.spans(), at).max(ladder.floor());
     if id.number() <= from {
         return id.number() + 1;
     }
@@ -332,6 +321,13 @@ fn add_next<T: SegmentTable>(
     add_flat(answer, table, set, at, id, segment)
 }
 
+/// Over how many ids a level has to lead to be worth its look-up: as many as some flat segments have.
+fn ids_worth<T: SegmentTable>(table: &T) -> u64 {
+    let bounds = table.bounds();
+    let flats = u64::from(table.flat_count()) + 1;
+    (bounds.master / flats).saturating_mul(FLATS_WORTH)
+}
+
 /// Adds the children among the ids from `low` to before `end`, and maybe some that are lower. It goes down by segments of
 /// levels up to `top`.
 fn add_between<T: SegmentTable>(
@@ -352,7 +348,7 @@ fn add_between<T: SegmentTable>(
     ensures canonical { IsCanonical answer.old → IsCanonical answer.new }
     ensures counted { min steps.old.taken (2 ^ 64 - 1) ≤ steps.new.taken }
 {
-    let mut ladder = Ladder::new(top);
+    let mut ladder = Ladder::new(top, ids_worth(table), low);
     let mut below = end;
     let mut at = 0;
     'down: while low < below {

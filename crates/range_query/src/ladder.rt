@@ -4,7 +4,7 @@ ghost use Rattle.std.specs.Prelude.{◌≡◌, ◌+◌, ◌<◌, ◌≤◌, fals
 
 use id_groups::Id;
 
-/// For so many segments at first a walk tries no level where the last one that it tried had no longer segment.
+/// For so many flat segments at first a walk tries no level where the last one that it tried led over few ids.
 const LEAST_PAUSE: u32 = 8;
 
 /// For no more than so many segments.
@@ -15,8 +15,8 @@ pub(crate) const HIGHEST_LEVEL: usize = 7;
 
 /// The level on which a walk down tries the next id, and for each level the lowest id of the segment that it went into
 /// last: down to there no other segment of the level ends. It goes up to `top`, one above the highest level on which it
-/// found a segment. Where segments of higher levels are no longer than flat ones it tries none for a while, and goes by the
-/// places of flat ones. All of this only saves look-ups in vain.
+/// found a segment. Where segments of higher levels lead over few ids it tries none for a while, and goes by the places of
+/// flat ones; where there are no levels it never tries one. All of this only saves look-ups in vain.
 #[derive(Clone, Copy, Drop)]
 pub(crate) struct Ladder {
     level: usize,
@@ -26,14 +26,17 @@ pub(crate) struct Ladder {
     pause: u32,
     next_pause: u32,
     place: u32,
+    worth: u64,
+    floor: u64,
     ghost within: { level ≤ top },
     ghost bound: { top ≤ most },
     ghost end: { most < 8 },
 }
 
 impl Ladder {
-    /// Where a walk begins. No segment is of a higher level than `most`.
-    pub(crate) fn new(most: usize) -> Ladder
+    /// Where a walk down to the id `floor` begins. No segment is of a higher level than `most`. A level is worth its look-up
+    /// where it leads over so many ids.
+    pub(crate) fn new(most: usize, worth: u64, floor: u64) -> Ladder
         requires { most < 8 }
     {
         Ladder {
@@ -41,10 +44,18 @@ impl Ladder {
             top: most.min(1),
             most,
             lows: [u64::MAX; 8],
-            pause: 0,
+            pause: if most == 0 { u32::MAX } else { 0 },
             next_pause: LEAST_PAUSE,
             place: u32::MAX,
+            worth,
+            floor,
         }
+    }
+
+    /// The id at which the walk ends.
+    #[inline(always)]
+    pub(crate) fn floor(&self) -> u64 {
+        self.floor
     }
 
     /// The level.
@@ -78,7 +89,8 @@ impl Ladder {
         true
     }
 
-    /// Goes down by one level, as no segment of this one ends at the id.
+    /// Goes down by one level, as no segment of this one ends at the id. Where none of any level does it tries none for a
+    /// while.
     #[inline(always)]
     pub(crate) fn go_down(&mut self)
         requires { 0 < self.old.level }
@@ -86,6 +98,9 @@ impl Ladder {
         ensures top { self.new.top ≡ self.old.top }
     {
         self.level -= 1;
+        if self.level == 0 {
+            self.wait();
+        }
     }
 
     /// Goes into the segment of this level that begins at the id.
@@ -124,18 +139,20 @@ impl Ladder {
         self.pause = pause;
     }
 
-    /// Whether a segment of this level with so many ids may be no longer than a flat one.
-    #[inline(always)]
-    pub(crate) fn is_short(&self, ids: u64) -> bool {
-        self.level <= 1 || ids < 1 << (3 * self.level)
-    }
-
-    /// Notes whether the level was worth its look-up. Each that wasn't makes the next pause twice as long.
-    pub(crate) fn note(&mut self, is_longer: bool) {
-        if is_longer {
+    /// Notes over how many ids a level led.
+    pub(crate) fn note(&mut self, ids: u64) {
+        if ids >= self.worth {
             self.next_pause = LEAST_PAUSE;
             return;
         }
+        self.wait();
+    }
+
+    /// Tries no level for a while, next time for twice as long.
+    fn wait(&mut self)
+        ensures level { self.new.level ≡ self.old.level }
+        ensures top { self.new.top ≡ self.old.top }
+    {
         self.pause = self.next_pause;
         self.next_pause = self.next_pause.saturating_mul(2).min(MOST_PAUSE);
     }

@@ -9,4 +9,4 @@ returns-then-number-from-clause-none g c = lack-none (g.T.SegmentTable.flats c.a
 
 pub pass_flats-requires-clause-clear : goal.pass_flats-requires-clause-clear
 pass_flats-requires-clause-clear g c = λ x m le.
-    c.end_at-from.ensures c.args.id x (subst (λ l. StandFrom c.args.id (take c.args.at l)) (sym c.spans.ensures.same) c.requires.passed) (subst (λ l. IsMember l x) (sym c.spans.ensures.same) m) le
+    c.end_at.ensures c.args.id x (subst (λ l. StandFrom c.args.id (take c.args.at l)) (sym c.spans.ensures.same) c.requires.passed) (subst (λ l. IsMember l x) (sym c.spans.ensures.same) m) (let most = c.max-from.ensures in omega arith)
