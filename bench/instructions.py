@@ -14,7 +14,7 @@ import tempfile
 
 import growth
 
-CALLGRIND = ["valgrind", "--tool=callgrind", "--dump-before=write", "--compress-strings=no"]
+CALLGRIND = ["valgrind", "--tool=callgrind"]
 QUESTIONS = {
     "`count ancestors(X)`": "ancestors({x})",
     "`count inter(X,ancestors(Y))`": "inter({x},ancestors({y}))",
@@ -29,19 +29,19 @@ QUESTIONS = {
 }
 
 
-def counted(log, lines, folder):
-    """The instructions before each write of a run over the log, in turn, and behind the last."""
+def counted(log, lines, folder, *flags):
+    """The instructions of a run over the log, in turn those before each dump."""
     made = os.path.join(folder, "counted")
     text = "".join(line + "\n" for line in lines).encode()
-    words = [*CALLGRIND, f"--callgrind-out-file={made}", growth.PROGRAM, log, "--", "run"]
+    words = [*CALLGRIND, *flags, f"--callgrind-out-file={made}", growth.PROGRAM, log, "--", "run"]
     ran = subprocess.run(words, input=text, capture_output=True)
     if ran.returncode != 0 or b"err " in ran.stdout:
         sys.exit(f"instructions: status {ran.returncode}, {ran.stderr[-200:]}")
     found = {}
-    for path in glob.glob(made + "*"):
+    for path in glob.glob(f"{made}*"):
         with open(path) as dump:
-            text = dump.read()
-        found[int(re.search(r"^part: (\d+)", text, re.M)[1])] = int(re.search(r"^(?:totals|summary): (\d+)", text, re.M)[1])
+            told = dict(re.findall(r"^(part|summary): (\d+)", dump.read(), re.M))
+        found[int(told.get("part", 1))] = int(told["summary"])
         os.remove(path)
     return [found[part] for part in sorted(found)]
 
@@ -61,7 +61,9 @@ def measured(kind, commits, drawn, folder):
     rows, log = list(growth.KINDS[kind](commits)), os.path.join(folder, "log")
     growth.run(log, growth.stored_lines(rows))
     pairs = list(asked([child for child, _ in rows], drawn))
-    counts = counted(log, ["0 status", *(line for _, line in pairs)], folder)
+    counts = counted(log, ["0 status", *(line for _, line in pairs)], folder, "--dump-before=write")
+    if len(counts) != len(pairs) + 2:
+        sys.exit(f"instructions: {len(counts)} dumps of {len(pairs) + 1} replies")
     found = {}
     for (what, _), count in zip(pairs, counts[1:]):
         found.setdefault(what, []).append(count)

@@ -89,8 +89,7 @@ impl Ladder {
         true
     }
 
-    /// Goes down by one level, as no segment of this one ends at the id. Where none of any level does it tries none for a
-    /// while.
+    /// Goes down by one level, as no segment of this one ends at the id.
     #[inline(always)]
     pub(crate) fn go_down(&mut self)
         requires { 0 < self.old.level }
@@ -98,9 +97,6 @@ impl Ladder {
         ensures top { self.new.top ≡ self.old.top }
     {
         self.level -= 1;
-        if self.level == 0 {
-            self.wait();
-        }
     }
 
     /// Goes into the segment of this level that begins at the id.
@@ -139,20 +135,12 @@ impl Ladder {
         self.pause = pause;
     }
 
-    /// Notes over how many ids a level led.
+    /// Notes over how many ids a level led. Each time that these were few makes the next pause twice as long.
     pub(crate) fn note(&mut self, ids: u64) {
         if ids >= self.worth {
             self.next_pause = LEAST_PAUSE;
             return;
         }
-        self.wait();
-    }
-
-    /// Tries no level for a while, next time for twice as long.
-    fn wait(&mut self)
-        ensures level { self.new.level ≡ self.old.level }
-        ensures top { self.new.top ≡ self.old.top }
-    {
         self.pause = self.next_pause;
         self.next_pause = self.next_pause.saturating_mul(2).min(MOST_PAUSE);
     }
