@@ -6,7 +6,7 @@ set -eu
 cd "$(dirname "$0")/.."
 cc=${CC:-cc}
 commits=${1:-100000}
-times=1000
+times=200
 folder=$(mktemp -d)
 trap 'rm -rf "$folder"' EXIT
 "$cc" -O2 -I bindings/c bench/clib_cost.c "${LIBRARY:-out/libsegdag.a}" -o "$folder/cost"
@@ -38,5 +38,4 @@ ask is_ancestor dag_store::store::Store::count dag_store::query::members
 ask merge_bases dag_store::store::Store::query
 ask ahead_behind dag_store::store::Store::count dag_store::query::members
 ask id dag_store::store::Store::id
-ask sizes_of dag_store::store::Store::status
 ask name dag_store::store::Store::query
