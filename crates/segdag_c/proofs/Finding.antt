@@ -18,7 +18,7 @@ pub found-listed : (before after : Held) (s : ℕ) (text : List ℕ) (e : Expr N
     → IfOk answer (λ size. size ≡ length after.names.items)
     → IfOk answer (λ size. (listed : List Name) × (concat listed ≡ after.names.items) × HeldDoes before after s (Query e) (Listed listed))
     → IfOk answer (λ size. (size ≡ length after.names.items) × HeldLists before after s text)
-found-listed before after s text e (Ok size) spells same found = (same, (e, spells, found.0, found.1, found.2))
+found-listed before after s text e (Ok size) spells same found = (same, (e, spells, found))
 found-listed before after s text e (Err failure) spells same found = tt
 
 pub found-refused : (before after : Held) (s : ℕ) (text : List ℕ) (e : Expr Name) (answer : Result ℕ Failure) → SpellsExpr text e
