@@ -7,6 +7,7 @@ pub mod Does
 pub mod Names
 pub mod Typed
 pub mod Line
+pub mod Pairs
 pub mod Calls
 pub mod Answers
 pub mod Loads
