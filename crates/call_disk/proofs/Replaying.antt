@@ -3,7 +3,8 @@ use Rattle.std.proofs.Common.{◌≡◌, ◌⊎◌, inl, inr, ◌≤◌, ◌<◌
 use Rattle.std.specs.Prelude.{Result, Ok, Err, OnOk, OnErr}
 use Rattle.disk_trait.specs.Images.{Told, moment_of, last_moment}
 use Rattle.disk_trait.specs.Calls.{Passes, Writes, FailsToWrite, Syncs, Succeeds, OrRefuses, Goes}
-use Rattle.call_disk.specs.Noted.{Call, Write, Sync, Step}
+use Rattle.call_disk.specs.Noted.{Call, Write, Sync, Step, call_of, calls_in, calls_of, steps_of}
+use Rattle.call_disk.specs.declared.noted.Noted.{Noted}
 use Rattle.call_disk.specs.Tape.{Tape, IsCounted, IsNoted, IsPassed, IsIdle, count_of}
 use Rattle.call_disk.specs.Performed.{HonestDisk, Fits, AllFit, begun, done, passed, replayed}
 use Rattle.call_disk.specs.Telling.{FitOver, told_over, bytes_over}
@@ -31,6 +32,10 @@ count_push (step ∷ steps) idle call = let rest = count_push steps idle call in
 count_pass : (steps : List Step) (idle : ℕ) → count_of steps (idle + 1) ≡ count_of steps idle + 1
 count_pass [] idle = refl
 count_pass (step ∷ steps) idle = let rest = count_pass steps idle in omega (arith, rest)
+
+pub calls-are : (noted : List Noted) → calls_in (steps_of noted) ≡ calls_of noted
+calls-are [] = refl
+calls-are (n ∷ noted) = ap (λ calls. call_of n.call ∷ calls) (calls-are noted)
 
 -- ---- the counts
 

@@ -6,7 +6,7 @@ use Rattle.disk_trait.specs.Since.{SureSince}
 use Rattle.disk_trait.proofs.Loss.{last-append}
 use Rattle.disk_trait.proofs.Moments.{SureFrom, front, within_call, left-now, moment-call, started, goes_on, fails_past, fails_to_write, joined}
 use Rattle.call_disk.specs.Noted.{Call, Write, Sync, Step, calls_in}
-use Rattle.call_disk.specs.Performed.{Does, Fails, Performs, Stops, WasLeft, done, passed, replayed}
+use Rattle.call_disk.specs.Performed.{AllFit, Does, Fails, Fits, MayPerform, Performs, Stops, WasLeft, done, passed, replayed}
 
 -- ---- what was left stays among what was
 
@@ -52,6 +52,17 @@ performs-alike [] idle t a b alike performs = subst (AreAlike (passed idle t)) (
 performs-alike (step ∷ steps) idle t a b alike performs =
     let before = passed step.idle t in
     performs-alike steps idle (done step.call before) performs.0 b (alike-done step.call before a performs.0 (alike-passed step.idle t a alike) performs.1) performs.2
+
+alike-fits : (call : Call) (t a : Told) → AreAlike t a → Fits call t → Fits call a
+alike-fits (Write at piece) t a alike fits = subst (λ (bytes : List ℕ). at ≤ length bytes) alike.1 fits
+alike-fits Sync t a alike fits = tt
+
+pub may-perform : (steps : List Step) (t a : Told) → AreAlike t a → AllFit steps t → MayPerform (calls_in steps) a
+may-perform [] t a alike fit = tt
+may-perform (step ∷ steps) t a alike fit =
+    let before = passed step.idle t in
+    let same = alike-passed step.idle t a alike in
+    (alike-fits step.call before a same fit.0, λ next does. may-perform steps (done step.call before) next (alike-done step.call before a next same does) fit.1)
 
 -- ---- one call
 

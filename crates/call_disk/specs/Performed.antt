@@ -31,6 +31,16 @@ abbrev pub Stops : List Call → Told → Told → Type 0
 Stops [] old new = new ≡ old
 Stops (call ∷ calls) old new = (new ≡ old) ⊎ (Fails call old new ⊎ ((mid : Told) × Does call old mid × Stops calls mid new))
 
+-- a call that may be made: a write begins within the bytes
+abbrev pub Fits : Call → Told → Type 0
+Fits (Write at piece) t = at ≤ length t.bytes
+Fits Sync t = ⊤
+
+-- each of them may be made where those before it succeeded
+abbrev pub MayPerform : List Call → Told → Type 0
+MayPerform [] t = ⊤
+MayPerform (call ∷ calls) t = Fits call t × ((next : Told) → Does call t next → MayPerform calls next)
+
 -- ---- what they make of it where all succeed
 
 abbrev pub done : Call → Told → Told
@@ -47,11 +57,7 @@ abbrev pub replayed : List Step → ℕ → Told → Told
 replayed [] idle t = passed idle t
 replayed (step ∷ steps) idle t = replayed steps idle (done step.call (passed step.idle t))
 
--- each write begins within the bytes
-abbrev pub Fits : Call → Told → Type 0
-Fits (Write at piece) t = at ≤ length t.bytes
-Fits Sync t = ⊤
-
+-- each may be made
 abbrev pub AllFit : List Step → Told → Type 0
 AllFit [] t = ⊤
 AllFit (step ∷ steps) t = let before = passed step.idle t in Fits step.call before × AllFit steps (done step.call before)

@@ -6,7 +6,7 @@ ghost use Rattle.std.specs.Prelude.{◌≡◌, ℕ, List};
 ghost use Rattle.disk_trait.specs.Images.{Told};
 ghost use Rattle.disk_trait.specs.Since.{SureSince};
 ghost use Rattle.call_disk.specs.Noted.{Step, calls_in};
-ghost use Rattle.call_disk.specs.Performed.{Performs, Stops, WasLeft, begun, replayed};
+ghost use Rattle.call_disk.specs.Performed.{AllFit, MayPerform, Performs, Stops, WasLeft, begun, replayed};
 
 mod copied;
 mod disk;
@@ -26,4 +26,5 @@ pub fn performing_is_told()
     ensures stopped { (steps : List Step) (idle : ℕ) (old new : Told) → Stops (calls_in steps) old new → SureSince (λ moment. WasLeft (replayed steps idle (begun old))) old new }
     ensures whole { (steps : List Step) (idle : ℕ) (old new : Told) → Performs (calls_in steps) old new
         → let told = replayed steps idle (begun old) in (told.now ≡ new.now) × (told.bytes ≡ new.bytes) }
+    ensures within { (steps : List Step) (old : Told) → AllFit steps (begun old) → MayPerform (calls_in steps) old }
 {}
