@@ -48,7 +48,7 @@ other-byte : (u : Unsynced) (place byte : ℕ) → place < length u.stable → I
 other-byte u place byte lt written =
     let front : length (take place u.stable) ≡ place = length-take-le place u.stable (omega (arith, lt)) in
     let size : length (take place u.stable ++ byte ∷ drop (place + 1) u.stable) ≡ length u.stable =
-        omega (arith, length-append (take place u.stable) (byte ∷ drop (place + 1) u.stable), front, length-drop (place + 1) u.stable, lt) in
+    omega (arith, length-append (take place u.stable) (byte ∷ drop (place + 1) u.stable), front, length-drop (place + 1) u.stable, lt) in
     record {
       no_shorter = omega (arith, size);
       no_longer = omega (arith, size, le-longest (length u.stable) u.written);
