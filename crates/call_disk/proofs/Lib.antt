@@ -1,1 +1,3 @@
 pub mod Idle
+pub mod Replaying
+pub mod Stopping

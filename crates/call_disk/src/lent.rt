@@ -1,10 +1,10 @@
 //! The disk whose bytes are lent, while a log is loaded.
 
 ghost use Rattle.std.specs.Prelude.{◌≡◌, ◌≤◌, ◌-◌, ◌++◌, min, length, take, drop, [], None, Some, IfOk, IfSome, refl};
-ghost use Rattle.call_disk.specs.Noted.{calls_of};
+ghost use Rattle.call_disk.specs.Awaited.{awaited};
 
 use crate::copied::copy_out;
-use crate::noted::NotedDisk;
+use crate::noted::NotedCalls;
 use disk_trait::{Disk, DiskFault};
 use std::alloc::Global;
 
@@ -12,23 +12,23 @@ use std::alloc::Global;
 #[derive(Drop)]
 pub struct LentDisk<'a> {
     bytes: &'a [u8],
-    noted: NotedDisk,
+    noted: NotedCalls,
 }
 
 impl<'a> LentDisk<'a> {
     /// One with nothing noted.
     pub fn new(alloc: Global, bytes: &'a [u8]) -> LentDisk<'a>
         ensures bytes { result.bytes.now ≡ bytes.now }
-        ensures noted { calls_of result.noted.noted.items ≡ [] }
+        ensures noted { awaited result.noted ≡ [] }
     {
         LentDisk {
             bytes,
-            noted: NotedDisk::new(alloc),
+            noted: NotedCalls::new(alloc),
         }
     }
 
     /// What was noted, without the bytes.
-    pub fn into_noted(self) -> NotedDisk
+    pub fn into_noted(self) -> NotedCalls
         ensures { result ≡ self.entry.noted }
     {
         self.noted
@@ -51,23 +51,25 @@ impl<'a> Disk for LentDisk<'a> {
     ghost sound = { λ d. tt };
 
     fn size(&mut self) -> Result<u64, DiskFault> {
-        let begun = self.noted.begin();
-        self.noted.end(begun)?;
-        Ok(self.bytes.len() as u64)
+        match self.noted.pass() {
+            Some(()) => Ok(self.bytes.len() as u64),
+            None => Err(self.noted.fault()),
+        }
     }
 
     fn read(&mut self, at: u64, out: &mut [u8]) -> Result<usize, DiskFault> {
-        let begun = self.noted.begin();
-        self.noted.end(begun)?;
-        Ok(copy_out(self.bytes, at, out))
+        match self.noted.pass() {
+            Some(()) => Ok(copy_out(self.bytes, at, out)),
+            None => Err(self.noted.fault()),
+        }
     }
 
     fn write(&mut self, at: u64, piece: &[u8]) -> Result<(), DiskFault> {
-        self.noted.write(at, piece)
+        self.noted.add_write(at, piece)
     }
 
     fn sync(&mut self) -> Result<(), DiskFault> {
-        self.noted.sync()
+        self.noted.add_sync()
     }
 
     fn clock(&self) -> u64 {

@@ -2,12 +2,29 @@
 
 //! Disks that reach no file: their bytes are lent or their own, and what is to be written is noted for who performs it.
 
+ghost use Rattle.std.specs.Prelude.{◌≡◌, ℕ, List};
+ghost use Rattle.disk_trait.specs.Images.{Told};
+ghost use Rattle.disk_trait.specs.Since.{SureSince};
+ghost use Rattle.call_disk.specs.Noted.{Step, calls_in};
+ghost use Rattle.call_disk.specs.Performed.{AllFit, MayPerform, Performs, Stops, WasLeft, begun, replayed};
+
 mod copied;
+mod disk;
 mod lent;
 mod noted;
 mod owned;
 mod still;
 
+pub use crate::disk::{Beneath, NotedDisk};
 pub use crate::lent::LentDisk;
-pub use crate::noted::{NotedCall, NotedDisk};
+pub use crate::noted::{NotedCall, NotedCalls};
 pub use crate::owned::OwnedDisk;
+
+/// Where another disk performs the calls that were noted, in order, up to any one, which may fail, it leaves at each moment only what the disk
+/// that notes them told that it may leave at some moment; where it performs all, it has what that one told last.
+pub fn performing_is_told()
+    ensures stopped { (steps : List Step) (idle : ℕ) (old new : Told) → Stops (calls_in steps) old new → SureSince (λ moment. WasLeft (replayed steps idle (begun old))) old new }
+    ensures whole { (steps : List Step) (idle : ℕ) (old new : Told) → Performs (calls_in steps) old new
+        → let told = replayed steps idle (begun old) in (told.now ≡ new.now) × (told.bytes ≡ new.bytes) }
+    ensures within { (steps : List Step) (old : Told) → AllFit steps (begun old) → MayPerform (calls_in steps) old }
+{}

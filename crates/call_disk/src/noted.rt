@@ -1,12 +1,13 @@
-//! The disk whose calls are noted.
+//! The calls that are noted.
 
-ghost use Rattle.std.specs.Prelude.{◌≡◌, ◌≤◌, ◌<◌, ◌+◌, ◌*◌, ◌^◌, ◌%◌, [], ◌∷◌, ◌++◌, min, length, None, Some, IfOk, OnErr, is_ok, is_some, if◌then◌else◌, option_copied};
-ghost use Rattle.call_disk.specs.Noted.{Write as ToWrite, Sync as ToSync, calls_of, said_of, first_call, behind_first};
-ghost use Rattle.outside.specs.Counts.{HasCause};
+ghost use Rattle.std.specs.Prelude.{◌≡◌, ◌≤◌, ◌<◌, ◌+◌, ◌*◌, ◌^◌, ◌%◌, [], ◌++◌, None, IfOk, IfSome, OnOk, OnErr, option_copied};
+ghost use Rattle.call_disk.specs.Noted.{Write as ToWrite, Sync as ToSync, call_of, calls_of, said_of, first_call, behind_first, steps_of};
+ghost use Rattle.call_disk.specs.Tape.{IsIdle, IsNoted};
+ghost use Rattle.outside.specs.Counts.{HasCause, Rose};
 ghost use Rattle.disk_trait.specs.Images.{last_moment};
 
-use disk_trait::{Disk, DiskFault};
-use std::alloc::Global;
+use disk_trait::DiskFault;
+use std::alloc::{AllocError, Global};
 
 /// How many calls may be made: as many as fit the clock, on which each counts twice.
 const CALL_LIMIT: u64 = 1 << 61;
@@ -20,25 +21,38 @@ pub enum NotedCall {
     Sync,
 }
 
-/// A disk that notes its writes and syncs in order, for who performs them. It can't be read.
+/// A call that was noted, behind so many that changed nothing.
 #[derive(Drop)]
-pub struct NotedDisk {
+pub(crate) struct Noted {
+    pub(crate) idle: u64,
+    pub(crate) call: NotedCall,
+}
+
+/// Writes and syncs of a disk, in order, for who performs them.
+#[derive(Drop)]
+pub struct NotedCalls {
     alloc: Global,
-    noted: Vec<NotedCall>,
+    noted: Vec<Noted>,
+    idle: u64,
     calls: u64,
     faults: u64,
     ghost few: { calls ≤ 2 ^ 61 },
+    ghost fewer: { idle ≤ calls },
 }
 
-impl NotedDisk {
-    /// One with nothing noted.
-    pub fn new(alloc: Global) -> NotedDisk
-        ensures noted { calls_of result.noted.items ≡ [] }
+impl NotedCalls {
+    ghost use Rattle.call_disk.specs.Awaited.{awaited, tape_of};
+
+    /// None.
+    pub fn new(alloc: Global) -> NotedCalls
+        ensures noted { awaited result ≡ [] }
+        ensures tape { tape_of result ≡ record { steps = []; idle = 0; calls = 0 } }
         ensures faults { result.faults ≡ 0 }
     {
-        NotedDisk {
+        NotedCalls {
             alloc,
             noted: Vec::new(alloc),
+            idle: 0,
             calls: 0,
             faults: 0,
         }
@@ -46,88 +60,123 @@ impl NotedDisk {
 
     /// The call that is to be performed next.
     pub fn next(&self) -> Option<&NotedCall>
-        ensures { said_of (option_copied result) ≡ first_call (calls_of self.now.noted.items) }
+        ensures { said_of (option_copied result) ≡ first_call (awaited self.now) }
     {
-        self.noted.first()
+        match self.noted.first() {
+            Some(noted) => Some(&noted.call),
+            None => None,
+        }
     }
 
     /// Lets the next call go, which was performed.
     pub fn performed(&mut self)
-        ensures noted { calls_of self.new.noted.items ≡ behind_first (calls_of self.old.noted.items) }
-        ensures faults { self.new.faults ≡ self.old.faults }
+        ensures { awaited self.new ≡ behind_first (awaited self.old) }
     {
         if !self.noted.is_empty() {
             self.noted.remove(0);
         }
     }
 
-    /// Begins a call: counts it, unless there were as many as may be.
-    pub(crate) fn begin(&mut self) -> Option<()>
-        ensures calls { self.new.calls ≡ min (self.old.calls + 1) (2 ^ 61) }
+    /// Puts others behind these, or leaves these as they are.
+    pub fn append(&mut self, others: NotedCalls) -> Result<(), AllocError>
+        ensures ok { OnOk result (awaited self.new ≡ awaited self.old ++ awaited others) }
+        ensures err { OnErr result (awaited self.new ≡ awaited self.old) }
+    {
+        let mut others = others;
+        self.noted.append(&mut others.noted)
+    }
+
+    /// Makes a call that changes nothing. `None` where there were as many as may be.
+    pub(crate) fn pass(&mut self) -> Option<()>
+        ensures idle { IsIdle (tape_of self.old) (tape_of self.new) }
+        ensures some { IfSome result (λ _. self.old.calls < 2 ^ 61) }
         ensures faults { self.new.faults ≡ self.old.faults }
-        ensures noted { self.new.noted.items ≡ self.old.noted.items }
     {
         if self.calls >= CALL_LIMIT {
             return None;
         }
         self.calls += 1;
+        self.idle += 1;
         Some(())
     }
 
-    /// Notes a write. `None` for want of memory too.
-    fn note_write(&mut self, at: u64, piece: &[u8]) -> Option<()>
-        ensures calls { self.new.calls ≡ min (self.old.calls + 1) (2 ^ 61) }
+    /// Notes a call behind the others. `None` for want of memory too.
+    fn note(&mut self, call: NotedCall) -> Option<()>
+        ensures noted { IfSome result (λ _. IsNoted (call_of call) (tape_of self.old) (tape_of self.new)) }
+        ensures none { result ≡ None → IsIdle (tape_of self.old) (tape_of self.new) }
         ensures faults { self.new.faults ≡ self.old.faults }
-        ensures noted { calls_of self.new.noted.items ≡ (if is_some result then calls_of self.old.noted.items ++ ToWrite at piece.now ∷ [] else calls_of self.old.noted.items) }
     {
-        self.begin()?;
-        let piece = Vec::from_slice(self.alloc, piece).ok()?;
-        self.noted.push(NotedCall::Write(at, piece)).ok()
-    }
-
-    /// Notes a sync. `None` for want of memory too.
-    fn note_sync(&mut self) -> Option<()>
-        ensures calls { self.new.calls ≡ min (self.old.calls + 1) (2 ^ 61) }
-        ensures faults { self.new.faults ≡ self.old.faults }
-        ensures noted { calls_of self.new.noted.items ≡ (if is_some result then calls_of self.old.noted.items ++ ToSync ∷ [] else calls_of self.old.noted.items) }
-    {
-        self.begin()?;
-        self.noted.push(NotedCall::Sync).ok()
-    }
-
-    /// Ends a call, and counts a fault where it failed.
-    pub(crate) fn end<T: Drop>(&mut self, answer: Option<T>) -> Result<T, DiskFault>
-        ensures cause { HasCause self.old.faults self.new.faults result }
-        ensures value { IfOk result (λ value. answer ≡ Some value) }
-        ensures ok { is_ok result ≡ is_some answer }
-        ensures calls { self.new.calls ≡ self.old.calls }
-        ensures noted { self.new.noted.items ≡ self.old.noted.items }
-    {
-        match answer {
-            Some(value) => Ok(value),
-            None => {
-                self.faults = self.faults.saturating_add(1);
-                Err(DiskFault)
+        if self.calls >= CALL_LIMIT {
+            return None;
+        }
+        let idle = self.idle;
+        match self.noted.push(Noted { idle, call }) {
+            Ok(()) => {
+                self.calls += 1;
+                self.idle = 0;
+                Some(())
+            }
+            Err(_) => {
+                self.calls += 1;
+                self.idle += 1;
+                None
             }
         }
     }
 
+    /// A write of these bytes, where there is memory for them.
+    fn write_of(&self, at: u64, piece: &[u8]) -> Option<NotedCall>
+        ensures { IfSome result (λ call. call_of call ≡ ToWrite at piece.now) }
+    {
+        let piece = Vec::from_slice(self.alloc, piece).ok()?;
+        Some(NotedCall::Write(at, piece))
+    }
+
+    /// Counts a fault.
+    pub(crate) fn fault(&mut self) -> DiskFault
+        ensures cause { Rose self.old.faults self.new.faults }
+        ensures later { self.old.faults ≤ self.new.faults }
+        ensures tape { tape_of self.new ≡ tape_of self.old }
+    {
+        self.faults = self.faults.saturating_add(1);
+        DiskFault
+    }
+
+    /// Makes a call that fails, and changes nothing.
+    pub(crate) fn fail(&mut self) -> DiskFault
+        ensures cause { Rose self.old.faults self.new.faults }
+        ensures later { self.old.faults ≤ self.new.faults }
+        ensures idle { IsIdle (tape_of self.old) (tape_of self.new) }
+    {
+        self.pass();
+        self.fault()
+    }
+
     /// Notes a write behind the calls that are noted, or fails and notes nothing.
     pub fn add_write(&mut self, at: u64, piece: &[u8]) -> Result<(), DiskFault>
-        ensures noted { calls_of self.new.noted.items ≡ (if is_ok result then calls_of self.old.noted.items ++ ToWrite at piece.now ∷ [] else calls_of self.old.noted.items) }
+        ensures noted { OnOk result (IsNoted (ToWrite at piece.now) (tape_of self.old) (tape_of self.new)) }
+        ensures idle { OnErr result (IsIdle (tape_of self.old) (tape_of self.new)) }
         ensures cause { HasCause self.old.faults self.new.faults result }
     {
-        let answer = self.note_write(at, piece);
-        self.end(answer)
+        let Some(call) = self.write_of(at, piece) else {
+            return Err(self.fail());
+        };
+        match self.note(call) {
+            Some(()) => Ok(()),
+            None => Err(self.fault()),
+        }
     }
 
     /// Notes a sync behind the calls that are noted, or fails and notes nothing.
     pub fn add_sync(&mut self) -> Result<(), DiskFault>
-        ensures noted { calls_of self.new.noted.items ≡ (if is_ok result then calls_of self.old.noted.items ++ ToSync ∷ [] else calls_of self.old.noted.items) }
+        ensures noted { OnOk result (IsNoted ToSync (tape_of self.old) (tape_of self.new)) }
+        ensures idle { OnErr result (IsIdle (tape_of self.old) (tape_of self.new)) }
         ensures cause { HasCause self.old.faults self.new.faults result }
     {
-        let answer = self.note_sync();
-        self.end(answer)
+        match self.note(NotedCall::Sync) {
+            Some(()) => Ok(()),
+            None => Err(self.fault()),
+        }
     }
 
     /// How many calls were begun and have returned, together.
@@ -137,41 +186,5 @@ impl NotedDisk {
         ensures bound { result ≤ last_moment }
     {
         2 * self.calls
-    }
-}
-
-impl Disk for NotedDisk {
-    ghost use Rattle.std.specs.Prelude.{None, ⊤};
-
-    ghost bytes = { λ d. None };
-
-    ghost told = { λ d. None };
-
-    ghost meanwhile = { λ d. None };
-
-    ghost faults = { λ d. d.faults };
-
-    ghost tells = { λ d. tt };
-
-    ghost sound = { λ d. tt };
-
-    fn size(&mut self) -> Result<u64, DiskFault> {
-        self.end(None)
-    }
-
-    fn read(&mut self, _at: u64, _out: &mut [u8]) -> Result<usize, DiskFault> {
-        self.end(None)
-    }
-
-    fn write(&mut self, at: u64, piece: &[u8]) -> Result<(), DiskFault> {
-        self.add_write(at, piece)
-    }
-
-    fn sync(&mut self) -> Result<(), DiskFault> {
-        self.add_sync()
-    }
-
-    fn clock(&self) -> u64 {
-        self.moment()
     }
 }

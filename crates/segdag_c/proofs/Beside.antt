@@ -1,8 +1,6 @@
 -- A store beside mirrors.
 use Rattle.std.proofs.Common.{ℕ, List, Option, Ok, Err, IfOk, length, map, ◌≡◌, sym, subst}
 use Rattle.std.specs.declared.result.Result.{Result}
-use Rattle.outside.specs.Counts.{Rose}
-use Rattle.line_io.specs.Memory.{MemoryOutput}
 use Rattle.id_groups.specs.Name.{Name}
 use Rattle.span_set.specs.Members.{ids_of}
 use Rattle.set_expr.specs.Expr.{Expr}
@@ -16,16 +14,8 @@ use Rattle.dag_store.specs.Kept.{PlainStore}
 use Rattle.dag_store.specs.declared.query.Found.{Found}
 use Rattle.dag_store.specs.Stands.{Stands, StandsBeside, IsAnswerable}
 use Rattle.dag_store.specs.Steps.{AreIdsOf, CountStep, KeepsAll, Leads, QueryStep, known_name}
-use Rattle.dag_run.specs.Lines.{LineReplies}
-use Rattle.dag_run.specs.declared.stops.Stop.{Stop}
 use Rattle.dag_run.proofs.Doing.{same-outside}
 use Rattle.segdag_c.specs.Does.{Does}
-use Rattle.segdag_c.specs.Line.{LineDoes}
-
-pub line-does : (first left : List Mirror) (old : ℕ) (store : PlainStore) (line payload : List ℕ) (clock : Option ℕ) (r : Result PlainStore Stop) (before : List ℕ) (sink : MemoryOutput)
-    → LineReplies first left (Rose old sink.faults) store line payload clock r before sink.taken → IfOk r (λ next. LineDoes first store line next left old before sink)
-line-does first left old store line payload clock (Ok next) before sink told = (payload, clock, told)
-line-does first left old store line payload clock (Err stop) before sink told = tt
 
 pub counts : (first left : List Mirror) (old new : PlainStore) (s : ℕ) (e : Expr Name) (answer : Answer) (count : ℕ) → count ≡ length (ids_of answer.set)
     → ((began : ℕ) (st : State) → StandsBeside began old first st → IsAnswerable st → CountStep began old.limits st s e (Ok answer) new left) → Does first old s (Count e) (Counted count) new left

@@ -5,3 +5,5 @@ mod Telling
 mod Opening
 mod Joining
 mod Finding
+mod Deciding
+mod Storing

@@ -6,6 +6,7 @@ pub mod Awaits
 pub mod Does
 pub mod Names
 pub mod Typed
+pub mod Stores
 pub mod Line
 pub mod Pairs
 pub mod Calls

@@ -7,6 +7,7 @@ ghost use Rattle.change_rules.specs.Standard.{standard};
 ghost use Rattle.change_rules.specs.Unlawful.{IsNoLog};
 ghost use Rattle.call_disk.specs.Noted.{said_of, first_call};
 ghost use Rattle.call_disk.specs.Awaited.{awaited};
+ghost use Rattle.call_disk.specs.Performed.{HonestDisk};
 ghost use Rattle.segdag_c.specs.Awaits.{IsPerformed, IsSaid, piece_of};
 ghost use Rattle.segdag_c.specs.Calls.{Tells, TellsAdded, HeldRenews, SlotDoes, SlotDoesOf, SlotAdds, SlotLists, SlotRenews, IsRefusal, IsRefusedBy, IsCopied};
 ghost use Rattle.segdag_c.specs.Loads.{IsRightly, SlotOpened};
@@ -184,7 +185,8 @@ pub extern "C" fn segdag_core_performed(alloc: Global, slot: &mut Slot) -> u32
 
 /// Answers a command line of an open log, says how many bytes the reply has, and gives the code.
 fn tell_line(alloc: Global, held: &mut Held, line: &[u8], reply_size: &mut usize) -> u32
-    ensures { result ≡ 0 → HeldAnswers held.old line.now held.new }
+    ghost disk: { HonestDisk }
+    ensures { result ≡ 0 → HeldAnswers held.old line.now held.new disk.told }
 {
     let answered = answer_line(alloc, held, line);
     *reply_size = held.reply.bytes().len();
@@ -194,7 +196,8 @@ fn tell_line(alloc: Global, held: &mut Held, line: &[u8], reply_size: &mut usize
     }
 }
 
-/// Answers a command line, and says how many bytes the reply has. A line with no reply has an empty one.
+/// Answers a command line, and says how many bytes the reply has. A line with no reply has an empty one. What is said of the disk holds of
+/// each that has the log, once all that was noted before is performed.
 #[unsafe(no_mangle)]
 pub extern "C" fn segdag_core_line(
     alloc: Global,
@@ -202,7 +205,8 @@ pub extern "C" fn segdag_core_line(
     line: &[u8],
     reply_size: &mut usize,
 ) -> u32
-    ensures { result ≡ 0 → SlotAnswers slot.old.handle.held line.now slot.new.handle.held }
+    ghost disk: { HonestDisk }
+    ensures { result ≡ 0 → SlotAnswers slot.old.handle.held line.now slot.new.handle.held disk.told }
 {
     match take(alloc, slot) {
         Some(taken) => {

@@ -5,7 +5,7 @@ ghost use Rattle.std.specs.Option.{ForSome};
 ghost use Rattle.change_rules.specs.Standard.{standard};
 
 use crate::mirror::Mirror;
-use call_disk::NotedDisk;
+use call_disk::NotedCalls;
 use dag_store::Store;
 use line_io::MemorySink;
 use mirror_set::Mirrors;
@@ -15,7 +15,7 @@ use mirror_set::Mirrors;
 #[derive(Drop)]
 pub struct Held {
     pub(crate) store: Option<Store>,
-    pub(crate) log: NotedDisk,
+    pub(crate) log: NotedCalls,
     pub(crate) mirrors: Mirrors<Mirror>,
     pub(crate) reply: MemorySink,
     pub(crate) names: Vec<u8>,

@@ -6,7 +6,7 @@ ghost use Rattle.change_rules.specs.Standard.{standard};
 
 use crate::codes::Failure;
 use crate::held::Held;
-use call_disk::{LentDisk, NotedDisk};
+use call_disk::{LentDisk, NotedCalls};
 use dag_store::{Limits, LoadFault, Store};
 use line_io::MemorySink;
 use mirror_set::Mirrors;
@@ -24,7 +24,7 @@ fn failure_of(fault: LoadFault) -> Failure
 }
 
 /// The store of the log that these bytes are, with room for so many names of mirrors, and what is to be written of one that is fresh.
-fn load_store(alloc: Global, bytes: &[u8], cache: u32) -> Result<(Store, NotedDisk), Failure>
+fn load_store(alloc: Global, bytes: &[u8], cache: u32) -> Result<(Store, NotedCalls), Failure>
     requires { 0 < cache }
     ensures limits { IfOk result (λ loaded. loaded.0.limits ≡ standard) }
     ensures opened { IfOk result (λ loaded. IsOpened bytes.now cache loaded.0) }
@@ -38,7 +38,7 @@ fn load_store(alloc: Global, bytes: &[u8], cache: u32) -> Result<(Store, NotedDi
 }
 
 /// An open log, beside no mirrors.
-fn held_of(alloc: Global, store: Store, log: NotedDisk, reply: MemorySink) -> Held
+fn held_of(alloc: Global, store: Store, log: NotedCalls, reply: MemorySink) -> Held
     requires { store.limits ≡ standard }
     ensures store { result.store ≡ Some store }
     ensures mirrors { result.mirrors.list.items ≡ [] }
