@@ -1,6 +1,5 @@
 -- A store beside mirrors.
-use Rattle.std.proofs.Common.{ℕ, List, Option, Ok, Err, IfOk, length, map, ◌≡◌, sym, subst}
-use Rattle.std.specs.declared.result.Result.{Result}
+use Rattle.std.proofs.Common.{ℕ, List, Ok, length, map, ◌≡◌, sym, subst}
 use Rattle.id_groups.specs.Name.{Name}
 use Rattle.span_set.specs.Members.{ids_of}
 use Rattle.set_expr.specs.Expr.{Expr}
