@@ -134,7 +134,7 @@ impl<R: Remote> Link for MemoryLink<R> {
 
 /// The remote that asks this one over a link, whose answers come so. Where they come as they are it is known to be this one.
 pub fn piped<R: Remote>(alloc: Global, remote: R, way: Way) -> PipeRemote<MemoryLink<R>>
-    ensures served { served_by result.asker.line.peer ≡ served_over way.wrong (R.shown remote) }
+    ensures served { served_by result.line.peer ≡ served_over way.wrong (R.shown remote) }
     ensures mirror { mirror_of result ≡ mirror_by (served_over way.wrong (R.shown remote)) 0 0 }
 {
     let link = MemoryLink::new(alloc, remote, way);

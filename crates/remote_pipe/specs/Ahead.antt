@@ -14,7 +14,7 @@ use Rattle.remote_serve.specs.Answers.{Answer, Named, answer_bytes, frame_of, lo
 use Rattle.remote_pipe.specs.Answering.{Answers, Fits, IsAnswerLength, IsRefusal}
 use Rattle.remote_pipe.specs.Peer.{Peer, request_frame, PutsWhole, PutsFront}
 use Rattle.remote_pipe.specs.Exchange.{Took, HasAnswer}
-use Rattle.remote_pipe.specs.Line.{PlainLine, PlainAsker, Keeps, HasFaultCause, CountsOne}
+use Rattle.remote_pipe.specs.Line.{PlainLine, Keeps, HasFaultCause, CountsOne}
 use Rattle.remote_pipe.specs.Remote.{AsksNames}
 use Rattle.remote_pipe.specs.declared.fault.PipeFault.{PipeFault}
 use Rattle.remote_pipe.specs.declared.fault.PipeFault.TheVariants.{NotPut, NotTaken, Ended, BadLength, NoAnswer, Memory}
@@ -51,14 +51,13 @@ AsksBehind (run ∷ more) before now = (mid : PlainLine) × AsksAhead run before
 
 -- Of the runs that are told the first are asked ahead, as far as there is room, and memory, and one is a request: their frames are put in order,
 -- and they wait behind those that wait already. Or the frame behind these isn't put whole, and no more is asked.
-pub record PutsAll (runs : List Run) (before now : PlainAsker) : Type 0 where
+pub record PutsAll (runs queue : List Run) (before : PlainLine) (later : List Run) (now : PlainLine) : Type 0 where
   pub put : List Run
   pub rest : List Run
   pub parts : runs ≡ put ++ rest
   pub mid : PlainLine
-  pub asks : AsksBehind put before.line mid
-  pub end : ((now.line ≡ mid) × (now.queue ≡ before.queue ++ put))
-      ⊎ ((run : Run) × (more : List Run) × (rest ≡ run ∷ more) × BreaksAt run mid now.line)
+  pub asks : AsksBehind put before mid
+  pub end : ((now ≡ mid) × (later ≡ queue ++ put)) ⊎ ((run : Run) × (more : List Run) × (rest ≡ run ∷ more) × BreaksAt run mid now)
 
 -- ---- an answer that is taken to what was asked ahead
 
@@ -123,10 +122,10 @@ pub record Passes (request : Request) (before now : PlainLine) (result : Result 
 -- The answers to all that was asked ahead are taken and thrown away, in order, and behind them it comes to this; or one of them isn't taken,
 -- and the call fails as that does.
 abbrev pub PassesTo : {T : Type 0} → (PlainLine → PlainLine → Result T RemoteFault → Type 0) → List Run → PlainLine → List Run → PlainLine → Result T RemoteFault → Type 0
-PassesTo P [] before queue now result = (queue ≡ []) × P before now result
-PassesTo P (run ∷ more) before queue now result =
-    ((mid : PlainLine) × Passes (request_of run) before mid (Ok tt) × PassesTo P more mid queue now result)
-    ⊎ ((fault : RemoteFault) × (result ≡ Err fault) × (queue ≡ more) × Passes (request_of run) before now (Err fault))
+PassesTo P [] before later now result = (later ≡ []) × P before now result
+PassesTo P (run ∷ more) before later now result =
+    ((mid : PlainLine) × Passes (request_of run) before mid (Ok tt) × PassesTo P more mid later now result)
+    ⊎ ((fault : RemoteFault) × (result ≡ Err fault) × (later ≡ more) × Passes (request_of run) before now (Err fault))
 
 -- it comes to nothing more
 abbrev pub Done : PlainLine → PlainLine → Result Unit RemoteFault → Type 0
@@ -143,11 +142,10 @@ IsNext x back room (run ∷ more) = IsWanted x back room run
 
 -- Names that were asked for ahead, before all else: their answer is taken, and nothing is put. Others are asked for behind all that was asked
 -- ahead, whose answers are thrown away.
-abbrev pub NamesAhead : Name → ℕ → ℕ → PlainAsker → PlainAsker → Result ℕ RemoteFault → List Name → Type 0
-NamesAhead x back room before now result out =
-    ((more : List Run) × (before.queue ≡ record { from = x; back = back; count = room } ∷ more) × (now.queue ≡ more) × IsRequest (ToNames x back room)
-        × TakesAhead (ToNames x back room) out before.line now.line result)
-    ⊎ ((IsNext x back room before.queue → ⊥) × PassesTo (λ mid end told. AsksNames x back room mid end told out) before.queue before.line now.queue now.line result)
+abbrev pub NamesAhead : Name → ℕ → ℕ → List Run → PlainLine → List Run → PlainLine → Result ℕ RemoteFault → List Name → Type 0
+NamesAhead x back room queue before later now result out =
+    ((run : Run) × (queue ≡ run ∷ later) × IsWanted x back room run × TakesAhead (ToNames x back room) out before now result)
+    ⊎ ((IsNext x back room queue → ⊥) × PassesTo (λ mid end told. AsksNames x back room mid end told out) queue before later now result)
 
 -- ---- over who serves a mirror
 

@@ -5,7 +5,6 @@ use Rattle.std.specs.declared.alloc.Global.{Global}
 use Rattle.outside.specs.Counts.{Rose, last_count}
 use Rattle.outside.specs.Told.{WhereTold}
 use Rattle.remote_rules.specs.Mirror.{Mirror}
-use Rattle.remote_trait.specs.Runs.{Run}
 use Rattle.remote_trait.specs.declared.fault.RemoteFault.{RemoteFault}
 use Rattle.remote_trait.specs.declared.fault.RemoteFault.TheVariants as remote
 use Rattle.remote_serve.specs.Frames.{frame}
@@ -26,11 +25,6 @@ pub record PlainLine : Type 0 where
   pub stopped : Option PipeFault
   -- how many calls failed
   pub faults : ℕ
-
-pub record PlainAsker : Type 0 where
-  pub line : PlainLine
-  -- what was asked ahead whose answers weren't taken yet, in order
-  pub queue : List Run
 
 -- the mirror that is served at the other end, where one is
 abbrev pub served_by : Option Peer → Option Mirror

@@ -2,13 +2,16 @@
 use Rattle.std.specs.Prelude.{◌≡◌, ◌<◌, ◌≤◌, ◌+◌, ◌-◌, ◌⊎◌, ℕ, false, List, [], ◌∷◌, ◌++◌, length, take, flat_map, min, Option, Some, None, Result, Ok, Err}
 use Rattle.id_groups.specs.Name.{Name}
 use Rattle.remote_rules.specs.Mirror.{Mirror}
+use Rattle.remote_trait.specs.Runs.{Run}
 use Rattle.remote_trait.specs.declared.fault.RemoteFault.{RemoteFault}
 use Rattle.remote_serve.specs.Requests.{ToNames, most_names}
 use Rattle.remote_serve.specs.Answers.{Answer, Refreshed, Named}
-use Rattle.remote_pipe.specs.Line.{PlainLine, PlainAsker, Asks, served_by}
+use Rattle.remote_pipe.specs.Line.{PlainLine, Asks, served_by}
 
 pub record PlainPipe : Type 0 where
-  pub asker : PlainAsker
+  pub line : PlainLine
+  -- what was asked ahead whose answers weren't taken yet, in order
+  pub queue : List Run
   -- for how many names and paths it was asked
   pub asked : ℕ
 
@@ -19,7 +22,7 @@ mirror_by (Some m) faults asked = record { master = m.master; cloned = m.cloned;
 -- What it means as a remote: it tells what the mirror tells that is served at the other end, and counts its own failures and asks. Which
 -- failures are to come isn't told.
 abbrev pub mirror_of : PlainPipe → Mirror
-mirror_of r = mirror_by (served_by r.asker.line.peer) r.asker.line.faults r.asked
+mirror_of r = mirror_by (served_by r.line.peer) r.line.faults r.asked
 
 -- full blocks of names were asked for in turn, back from x, and came
 abbrev pub AsksBlocks : Name → ℕ → List (List Name) → PlainLine → PlainLine → Type 0

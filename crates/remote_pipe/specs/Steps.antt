@@ -15,7 +15,7 @@ use Rattle.remote_pipe.specs.Answering.{Fits, IsRefusal, IsAnswerLength}
 use Rattle.remote_pipe.specs.Reading.{answer_at}
 use Rattle.remote_pipe.specs.Peer.{Peer}
 use Rattle.remote_pipe.specs.Exchange.{Asked, Took, HasAnswer, StopsAs}
-use Rattle.remote_pipe.specs.Line.{PlainLine, PlainAsker, HasFaultCause, CountsOne}
+use Rattle.remote_pipe.specs.Line.{PlainLine, HasFaultCause, CountsOne}
 use Rattle.remote_pipe.specs.Ahead.{AsksAhead, BreaksAt}
 use Rattle.remote_trait.specs.Runs.{Run}
 use Rattle.remote_pipe.specs.declared.fault.PipeFault.{PipeFault}
@@ -163,7 +163,7 @@ ReadsNames room out body result = (x : Name) (back : ℕ) → Reads (ToNames x b
 abbrev pub ReadsPath : List ℕ → Result (Option Path) ReadFault → Type 0
 ReadsPath body result = (heads : List Name) (name : Name) → Reads (ToPath heads name) Led body result
 
--- One run is asked ahead, or nothing was done, or its frame wasn't put whole.
-abbrev pub PutsOne : Run → PlainAsker → PlainAsker → Bool → Type 0
-PutsOne run before now true = AsksAhead run before.line now.line × (now.queue ≡ before.queue ++ run ∷ [])
-PutsOne run before now false = (now ≡ before) ⊎ BreaksAt run before.line now.line
+-- one run is asked ahead, or nothing was done, or its frame wasn't put whole
+abbrev pub PutsOne : Run → List Run → PlainLine → List Run → PlainLine → Bool → Type 0
+PutsOne run queue before later now true = AsksAhead run before now × (later ≡ queue ++ run ∷ [])
+PutsOne run queue before later now false = ((now ≡ before) × (later ≡ queue)) ⊎ BreaksAt run before now

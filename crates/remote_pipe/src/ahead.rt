@@ -18,7 +18,6 @@ use id_groups::Name;
 use remote_trait::{CloneData, Path, RemoteFault, Run};
 use std::alloc::{AllocError, Global};
 use std::collections::VecDeque;
-use std::marker::Model;
 
 /// The most requests that are put ahead. Their frames are 37 bytes each and 2,368 together, less than any pipe holds: so one that is put
 /// behind them never waits for the other end to take bytes, while that waits for this one to take answers.
@@ -27,26 +26,15 @@ const MOST_AHEAD: usize = 64;
 /// A line, and what was asked ahead over it, whose answers weren't taken yet.
 #[derive(Drop)]
 pub(crate) struct Asker<L: Link + Drop> {
-    line: Line<L>,
-    queue: VecDeque<Run>,
-}
-
-impl<L: Link + Drop> Model for Asker<L> {
-    ghost use Rattle.std.specs.Prelude.{◌≤◌, length};
-    ghost use Rattle.remote_pipe.specs.Line.{PlainAsker};
-    ghost use Rattle.remote_pipe.specs.Ahead.{most_ahead};
-
-    ghost Value = { PlainAsker };
-
-    ghost view = { λ a. record { line = a.line; queue = a.queue.items } };
-
-    ghost invariant = { λ a. length a.queue.items ≤ most_ahead };
+    pub(crate) line: Line<L>,
+    pub(crate) queue: VecDeque<Run>,
 }
 
 impl<L: Link + Drop> Asker<L> {
     /// Nothing was asked yet.
     pub(crate) fn new(alloc: Global, link: L) -> Asker<L>
-        ensures { result ≡ record { line = record { peer = L.peer link; put_faults = L.put_faults link; take_faults = L.take_faults link; stopped = None; faults = 0 }; queue = [] } }
+        ensures line { result.line ≡ record { peer = L.peer link; put_faults = L.put_faults link; take_faults = L.take_faults link; stopped = None; faults = 0 } }
+        ensures queue { result.queue.items ≡ [] }
     {
         Asker {
             line: Line::new(link),
@@ -63,21 +51,23 @@ impl<L: Link + Drop> Asker<L> {
 
     /// Whether a run may be asked ahead.
     fn may_put(&self, run: &Run) -> bool
-        ensures { IsTrue result → (self.now.line.stopped ≡ None) × (length self.now.queue < most_ahead) × IsRequest (request_of run.now) }
+        ensures { IsTrue result → (self.now.line.stopped ≡ None) × (length self.now.queue.items < most_ahead) × IsRequest (request_of run.now) }
     {
-        name_size(&run.x);
-        self.line.stopped().is_none()
-            && self.queue.len() < MOST_AHEAD
-            && 1 <= run.count
-            && run.count <= MOST_NAMES
+        if self.line.stopped().is_some() {
+            return false;
+        }
+        if self.queue.len() >= MOST_AHEAD {
+            return false;
+        }
+        is_request(&run.x, run.back, run.count)
     }
 
     /// Puts a run behind what was asked ahead, and answers its frame.
     fn keep(&mut self, alloc: Global, run: &Run) -> Result<Vec<u8>, AllocError>
-        requires { length self.old.queue < most_ahead }
         ensures frame { IfOk result (λ frame. frame.items ≡ request_frame (request_of run.now)) }
-        ensures kept { OnOk result (self.new ≡ record self.old { queue = self.old.queue ++ run.now ∷ [] }) }
-        ensures same { OnErr result (self.new ≡ self.old) }
+        ensures line { self.new.line ≡ self.old.line }
+        ensures kept { OnOk result (self.new.queue.items ≡ self.old.queue.items ++ run.now ∷ []) }
+        ensures same { OnErr result (self.new.queue.items ≡ self.old.queue.items) }
     {
         let frame = names_frame(alloc, &run.x, run.back, run.count)?;
         self.queue.push_back(*run)?;
@@ -86,7 +76,8 @@ impl<L: Link + Drop> Asker<L> {
 
     /// Asks for a run ahead, unless that may not be or memory is wanting, and answers whether its frame was put.
     fn put(&mut self, alloc: Global, run: &Run) -> bool
-        ensures { PutsOne run.now self.old self.new result }
+        ensures puts { PutsOne run.now self.old.queue.items self.old.line self.new.queue.items self.new.line result }
+        ensures few { length self.old.queue.items ≤ most_ahead → length self.new.queue.items ≤ most_ahead }
     {
         if !self.may_put(run) {
             return false;
@@ -99,8 +90,8 @@ impl<L: Link + Drop> Asker<L> {
 
     /// Asks for the first of the runs ahead, as many as may be.
     pub(crate) fn expect(&mut self, alloc: Global, runs: &[Run])
-        ensures puts { PutsAll runs.now self.old self.new }
-        ensures few { length self.new.queue ≤ most_ahead }
+        ensures puts { PutsAll runs.now self.old.queue.items self.old.line self.new.queue.items self.new.line }
+        ensures few { length self.old.queue.items ≤ most_ahead → length self.new.queue.items ≤ most_ahead }
     {
         'runs: for run in runs {
             if !self.put(alloc, run) {
@@ -111,9 +102,7 @@ impl<L: Link + Drop> Asker<L> {
 
     /// Takes the answers to all that was asked ahead, and throws them away.
     fn pass_all(&mut self, alloc: Global) -> Result<(), RemoteFault>
-        ensures passes { PassesTo Done self.old.queue self.old.line self.new.queue self.new.line result }
-        ensures fewer { length self.new.queue ≤ length self.old.queue }
-        ensures none { OnOk result (self.new.queue ≡ []) }
+        ensures { PassesTo Done self.old.queue.items self.old.line self.new.queue.items self.new.line result }
     {
         'passes: loop {
             let Some(run) = self.queue.pop_front() else {
@@ -128,7 +117,7 @@ impl<L: Link + Drop> Asker<L> {
 
     /// Asks for a refresh.
     pub(crate) fn refresh(&mut self, alloc: Global) -> Result<(), RemoteFault>
-        ensures { PassesTo (Asks ToRefresh (λ _. Refreshed)) self.old.queue self.old.line self.new.queue self.new.line result }
+        ensures { PassesTo (Asks ToRefresh (λ _. Refreshed)) self.old.queue.items self.old.line self.new.queue.items self.new.line result }
     {
         match self.pass_all(alloc) {
             Ok(()) => self.line.refresh(alloc),
@@ -138,7 +127,7 @@ impl<L: Link + Drop> Asker<L> {
 
     /// Asks for clone data.
     pub(crate) fn clone_data(&mut self, alloc: Global) -> Result<CloneData, RemoteFault>
-        ensures { PassesTo (Asks ToClone (λ told. Cloned told)) self.old.queue self.old.line self.new.queue self.new.line result }
+        ensures { PassesTo (Asks ToClone (λ told. Cloned told)) self.old.queue.items self.old.line self.new.queue.items self.new.line result }
     {
         match self.pass_all(alloc) {
             Ok(()) => self.line.clone_data(alloc),
@@ -153,7 +142,7 @@ impl<L: Link + Drop> Asker<L> {
         heads: &[Name],
         name: &Name,
     ) -> Result<Option<Path>, RemoteFault>
-        ensures { PassesTo (Asks (ToPath heads.now name.now) (λ found. Led found)) self.old.queue self.old.line self.new.queue self.new.line result }
+        ensures { PassesTo (Asks (ToPath heads.now name.now) (λ found. Led found)) self.old.queue.items self.old.line self.new.queue.items self.new.line result }
     {
         match self.pass_all(alloc) {
             Ok(()) => self.line.path(alloc, heads, name),
@@ -163,8 +152,8 @@ impl<L: Link + Drop> Asker<L> {
 
     /// Whether these names were asked for ahead, before all else.
     fn is_next(&self, x: &Name, back: u64, room: usize) -> bool
-        ensures yes { IsTrue result → IsNext x.now back room self.now.queue }
-        ensures other { result ≡ false → IsNext x.now back room self.now.queue → ⊥ }
+        ensures yes { IsTrue result → IsNext x.now back room self.now.queue.items }
+        ensures other { result ≡ false → IsNext x.now back room self.now.queue.items → ⊥ }
     {
         match self.queue.front() {
             Some(run) => is_wanted(run, x, back, room),
@@ -182,7 +171,7 @@ impl<L: Link + Drop> Asker<L> {
     ) -> Result<u32, RemoteFault>
         requires { length out.old < 2 ^ 32 }
         ensures count { IfOk result (λ n. n ≤ length out.old) }
-        ensures asks { PassesTo (λ before now told. AsksNames x.now back (length out.old) before now told out.new) self.old.queue self.old.line self.new.queue self.new.line result }
+        ensures asks { PassesTo (λ before now told. AsksNames x.now back (length out.old) before now told out.new) self.old.queue.items self.old.line self.new.queue.items self.new.line result }
     {
         match self.pass_all(alloc) {
             Ok(()) => self.line.names(alloc, x, back, out),
@@ -194,7 +183,7 @@ impl<L: Link + Drop> Asker<L> {
     fn take_names(&mut self, alloc: Global, out: &mut [Name]) -> Result<u32, RemoteFault>
         requires { length out.old ≤ most_names }
         ensures count { IfOk result (λ n. n ≤ length out.old) }
-        ensures queue { self.new.queue ≡ drop 1 self.old.queue }
+        ensures queue { self.new.queue.items ≡ drop 1 self.old.queue.items }
         ensures takes { (x : NameBytes) (back : ℕ) → TakesAhead (ToNames x back (length out.old)) out.new self.old.line self.new.line result }
     {
         self.queue.pop_front();
@@ -211,13 +200,27 @@ impl<L: Link + Drop> Asker<L> {
     ) -> Result<u32, RemoteFault>
         requires { length out.old < 2 ^ 32 }
         ensures count { IfOk result (λ n. n ≤ length out.old) }
-        ensures asks { NamesAhead x.now back (length out.old) self.old self.new result out.new }
+        ensures asks { NamesAhead x.now back (length out.old) self.old.queue.items self.old.line self.new.queue.items self.new.line result out.new }
     {
         if self.is_next(x, back, out.len()) {
             return self.take_names(alloc, out);
         }
         self.ask_names(alloc, x, back, out)
     }
+}
+
+/// Whether one request may be for these names.
+fn is_request(x: &Name, back: u64, count: u32) -> bool
+    ensures { IsTrue result → IsRequest (ToNames x.now back count) }
+{
+    name_size(x);
+    if count == 0 {
+        return false;
+    }
+    if count > MOST_NAMES {
+        return false;
+    }
+    true
 }
 
 /// Whether a run is of these names, and those are what one request may be for.

@@ -46,8 +46,8 @@ pub fn answers_ahead_are_allowed()
 /// A remote over a link to who serves a mirror means what that mirror means: it is sound where the mirror is, and serves a world that the
 /// mirror serves.
 pub fn served_mirrors_serve()
-    ensures sound { (r : PlainPipe) (m : Mirror) → served_by r.asker.line.peer ≡ Some m → IsSoundMirror m → IsSoundMirror (mirror_of r) }
-    ensures serves { (r : PlainPipe) (m : Mirror) (cloned : ℕ) (w : World NameBytes) → served_by r.asker.line.peer ≡ Some m → IsServing cloned w m → IsServing cloned w (mirror_of r) }
+    ensures sound { (r : PlainPipe) (m : Mirror) → served_by r.line.peer ≡ Some m → IsSoundMirror m → IsSoundMirror (mirror_of r) }
+    ensures serves { (r : PlainPipe) (m : Mirror) (cloned : ℕ) (w : World NameBytes) → served_by r.line.peer ≡ Some m → IsServing cloned w m → IsServing cloned w (mirror_of r) }
 {}
 
 /// The server of `remote_serve` is at the other end of a link who serves its mirror there: of the frame of a body comes the frame of the answer

@@ -18,7 +18,8 @@ mod told;
 pub use ends::Ends;
 pub use fault::{LinkFault, PipeFault};
 pub use laws::{
-    answers_ahead_are_allowed, answers_are_one, served_answers_are_allowed, served_mirrors_serve, servers_are_peers,
+    answers_ahead_are_allowed, answers_are_one, served_answers_are_allowed, served_mirrors_serve,
+    servers_are_peers,
 };
 pub use link::Link;
 pub use remote::PipeRemote;

@@ -282,11 +282,7 @@ impl<L: Link + Drop> Line<L> {
     }
 
     /// Takes the answer to a request for as many names as there is room for, which was put ahead.
-    pub(crate) fn take_names(
-        &mut self,
-        alloc: Global,
-        out: &mut [Name],
-    ) -> Result<u32, RemoteFault>
+    pub(crate) fn take_names(&mut self, alloc: Global, out: &mut [Name]) -> Result<u32, RemoteFault>
         requires { length out.old ≤ most_names }
         ensures len { length out.new ≡ length out.old }
         ensures count { IfOk result (λ n. n ≤ length out.old) }

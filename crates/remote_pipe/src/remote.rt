@@ -36,16 +36,16 @@ impl<L: Link + Drop> Model for PipeRemote<L> {
 
     ghost Value = { PlainPipe };
 
-    ghost view = { λ r. record { asker = r.asker; asked = r.asked } };
+    ghost view = { λ r. record { line = r.asker.line; queue = r.asker.queue.items; asked = r.asked } };
 
-    ghost invariant = { λ r. r.asker.line.stopped ≡ None → Awaits r.asker.queue r.asker.line.peer };
+    ghost invariant = { λ r. r.asker.line.stopped ≡ None → Awaits r.asker.queue.items r.asker.line.peer };
 }
 
 impl<L: Link + Drop> PipeRemote<L> {
     /// The mirror at the other end. Nothing is asked yet.
     pub fn new(alloc: Global, link: L) -> PipeRemote<L>
         requires { AwaitsNothing (L.peer link) }
-        ensures { result ≡ record { asker = record { line = record { peer = L.peer link; put_faults = L.put_faults link; take_faults = L.take_faults link; stopped = None; faults = 0 }; queue = [] }; asked = 0 } }
+        ensures { result ≡ record { line = record { peer = L.peer link; put_faults = L.put_faults link; take_faults = L.take_faults link; stopped = None; faults = 0 }; queue = []; asked = 0 } }
     {
         PipeRemote {
             asker: Asker::new(alloc, link),
@@ -55,7 +55,7 @@ impl<L: Link + Drop> PipeRemote<L> {
 
     /// Why no more is asked, if no more is.
     pub fn stopped(&self) -> Option<PipeFault>
-        ensures { result ≡ self.now.asker.line.stopped }
+        ensures { result ≡ self.now.line.stopped }
     {
         self.asker.stopped()
     }
@@ -69,7 +69,7 @@ impl<L: Link + Drop> Remote for PipeRemote<L> {
     fn refresh(&mut self, alloc: Global) -> Result<(), RemoteFault>
         ensures left { Refreshes (mirror_of self.old) (mirror_of self.new) }
         ensures failed { IsErrOf result FaultFailed → Fails (mirror_of self.old) (mirror_of self.new) }
-        ensures asks { PassesTo (Asks ToRefresh (λ _. Refreshed)) self.old.asker.queue self.old.asker.line self.new.asker.queue self.new.asker.line result }
+        ensures asks { PassesTo (Asks ToRefresh (λ _. Refreshed)) self.old.queue self.old.line self.new.queue self.new.line result }
     {
         self.asker.refresh(alloc)
     }
@@ -79,7 +79,7 @@ impl<L: Link + Drop> Remote for PipeRemote<L> {
         ensures failed { IsErrOf result FaultFailed → Fails (mirror_of self.old) (mirror_of self.new) }
         ensures told { IfOk result (λ given. IfSome (mirror_of self.old).cloned (λ told. given ≡ told)) }
         ensures honest { IfOk result (λ given. IfSome (mirror_of self.old).master (λ rows. IsCloneOf rows given)) }
-        ensures asks { PassesTo (Asks ToClone (λ told. Cloned told)) self.old.asker.queue self.old.asker.line self.new.asker.queue self.new.asker.line result }
+        ensures asks { PassesTo (Asks ToClone (λ told. Cloned told)) self.old.queue self.old.line self.new.queue self.new.line result }
     {
         self.asker.clone_data(alloc)
     }
@@ -96,22 +96,22 @@ impl<L: Link + Drop> Remote for PipeRemote<L> {
         ensures left { Leaves (raised (length out.old)) (mirror_of self.old) (mirror_of self.new) }
         ensures failed { IsErrOf result FaultFailed → Fails (mirror_of self.old) (mirror_of self.new) }
         ensures honest { IfOk result (λ n. IfSome (mirror_of self.old).master (λ rows. AreNamesOf rows x.now back (length out.old) (take n out.new))) }
-        ensures asks { NamesAhead x.now back (length out.old) self.old.asker self.new.asker result out.new }
+        ensures asks { NamesAhead x.now back (length out.old) self.old.queue self.old.line self.new.queue self.new.line result out.new }
     {
         self.asked = self.asked.saturating_add(out.len() as u64);
         self.asker.names(alloc, x, back, out)
     }
 
     fn may_expect(&self) -> bool
-        ensures { IsTrue result ↔ (self.now.asker.line.stopped ≡ None) }
+        ensures { IsTrue result ↔ (self.now.line.stopped ≡ None) }
     {
         self.asker.stopped().is_none()
     }
 
     fn expect(&mut self, alloc: Global, runs: &[Run])
         ensures shown { mirror_of self.new ≡ mirror_of self.old }
-        ensures puts { PutsAll runs.now self.old.asker self.new.asker }
-        ensures few { length self.new.asker.queue ≤ most_ahead }
+        ensures puts { PutsAll runs.now self.old.queue self.old.line self.new.queue self.new.line }
+        ensures few { length self.old.queue ≤ most_ahead → length self.new.queue ≤ most_ahead }
     {
         self.asker.expect(alloc, runs);
     }
@@ -125,7 +125,7 @@ impl<L: Link + Drop> Remote for PipeRemote<L> {
         ensures left { Leaves (raised 1) (mirror_of self.old) (mirror_of self.new) }
         ensures failed { IsErrOf result FaultFailed → Fails (mirror_of self.old) (mirror_of self.new) }
         ensures honest { IfOk result (λ found. IfSome (mirror_of self.old).master (λ rows. IsPathOf rows heads.now name.now found)) }
-        ensures asks { PassesTo (Asks (ToPath heads.now name.now) (λ found. Led found)) self.old.asker.queue self.old.asker.line self.new.asker.queue self.new.asker.line result }
+        ensures asks { PassesTo (Asks (ToPath heads.now name.now) (λ found. Led found)) self.old.queue self.old.line self.new.queue self.new.line result }
     {
         self.asked = self.asked.saturating_add(1);
         self.asker.path(alloc, heads, name)
