@@ -1,7 +1,8 @@
 //! Bytes that are to come.
 
-ghost use Rattle.std.specs.Prelude.{◌≡◌, ◌≤◌, ◌<◌, [], length, take, true, false, ◌++◌, OnOk, OnErr};
+ghost use Rattle.std.specs.Prelude.{◌≡◌, ◌≤◌, ◌<◌, ◌+◌, [], length, take, drop, ◌++◌, OnOk, OnErr};
 ghost use Rattle.remote_serve.specs.Answers.{IsAnswerTo, Answer, frame_of};
+ghost use Rattle.link_memory.specs.Over.{coming_of};
 
 use crate::wrong::{Wrong, spoil};
 use remote_serve::answer_frame;
@@ -19,12 +20,12 @@ pub(crate) struct Coming {
 }
 
 impl Model for Coming {
-    ghost use Rattle.std.specs.Prelude.{List, ℕ, drop, ◌≤◌, ◌++◌, length, flat_map, Vec};
-    ghost use Rattle.std.specs.declared.alloc.Global.{Global};
+    ghost use Rattle.std.specs.Prelude.{List, ℕ, ◌≤◌, length};
+    ghost use Rattle.link_memory.specs.Over.{coming_of};
 
     ghost Value = { List ℕ };
 
-    ghost view = { λ c. drop c.at c.first.items ++ flat_map (λ (f : Vec ℕ Global). f.items) c.later.items };
+    ghost view = { λ c. coming_of c.at c.first.items c.later.items };
 
     ghost invariant = { λ c. c.at ≤ length c.first.items };
 }
@@ -66,29 +67,15 @@ impl Coming {
         }
     }
 
-    /// Moves on to the next frame while all of the first one came.
-    fn move_on(&mut self)
-        ensures same { self.new ≡ self.old }
-        ensures end { self.new.inside.at < length self.new.inside.first.items ⊎ (self.new ≡ []) }
-    {
-        'frames: while self.at == self.first.len() {
-            let Some(frame) = self.later.pop_front() else {
-                return;
-            };
-            self.first = frame;
-            self.at = 0;
-        }
-    }
-
     /// Whether some are.
     pub(crate) fn has_some(&mut self) -> bool
-        ensures same { self.new ≡ self.old }
+        ensures { self.new ≡ self.old }
     {
-        self.move_on();
+        move_on(&mut self.first, &mut self.at, &mut self.later);
         self.at < self.first.len()
     }
 
-    /// Takes as many as fit of one answer, and at most so many, to the front of `out`.
+    /// Takes as many of one answer as fit, and at most so many, to the front of `out`.
     pub(crate) fn take(&mut self, out: &mut [u8], most: usize) -> usize
         requires some { 0 < most }
         requires room { 0 < length out.old }
@@ -97,11 +84,44 @@ impl Coming {
         ensures parts { self.old ≡ take result out.new ++ self.new }
         ensures end { result ≡ 0 → self.new ≡ [] }
     {
-        self.move_on();
-        let left = self.first.len() - self.at;
-        let count = left.min(out.len()).min(most);
-        out[..count].copy_from_slice(&self.first[self.at..self.at + count]);
-        self.at += count;
-        count
+        move_on(&mut self.first, &mut self.at, &mut self.later);
+        take_part(&self.first, &mut self.at, out, most)
     }
+}
+
+/// Moves on to the next frame while all of the first one came.
+fn move_on(first: &mut Vec<u8>, at: &mut usize, later: &mut VecDeque<Vec<u8>>)
+    requires { at.old ≤ length first.old.items }
+    ensures within { at.new ≤ length first.new.items }
+    ensures same { coming_of at.new first.new.items later.new.items ≡ coming_of at.old first.old.items later.old.items }
+    ensures end { length first.new.items ≤ at.new → later.new.items ≡ [] }
+{
+    'frames: while *at >= first.len() {
+        match later.pop_front() {
+            Some(frame) => {
+                *first = frame;
+                *at = 0;
+            }
+            None => return,
+        }
+    }
+}
+
+/// Takes as many bytes of a frame, behind those that came, as fit, and at most so many.
+fn take_part(frame: &[u8], at: &mut usize, out: &mut [u8], most: usize) -> usize
+    requires some { 0 < most }
+    requires room { 0 < length out.old }
+    requires within { at.old ≤ length frame.now }
+    ensures within { at.new ≤ length frame.now }
+    ensures len { length out.new ≡ length out.old }
+    ensures bound { result ≤ length out.new }
+    ensures parts { drop at.old frame.now ≡ take result out.new ++ drop at.new frame.now }
+    ensures moved { at.new ≡ at.old + result }
+    ensures end { result ≡ 0 → length frame.now ≤ at.old }
+{
+    let left = frame.len() - *at;
+    let count = left.min(out.len()).min(most);
+    out[..count].copy_from_slice(&frame[*at..*at + count]);
+    *at += count;
+    count
 }

@@ -95,6 +95,21 @@ impl<R: Remote> MemoryLink<R> {
         }
     }
 
+    /// Whether the link fails where bytes are taken: it is broken, and all that were to come before came.
+    fn is_spent(&mut self) -> bool
+        ensures to_come { self.new.to_come ≡ self.old.to_come }
+        ensures remote { self.new.remote ≡ self.old.remote }
+        ensures way { self.new.way ≡ self.old.way }
+        ensures asked { self.new.asked.items ≡ self.old.asked.items }
+        ensures put_faults { self.new.put_faults ≡ self.old.put_faults }
+        ensures take_faults { self.new.take_faults ≡ self.old.take_faults }
+    {
+        if !self.is_broken {
+            return false;
+        }
+        !self.to_come.has_some()
+    }
+
     /// The most bytes that come at once.
     fn most(&self) -> usize
         ensures { 0 < result }
@@ -123,7 +138,7 @@ impl<R: Remote> Link for MemoryLink<R> {
     }
 
     fn take(&mut self, out: &mut [u8]) -> Result<usize, LinkFault> {
-        if self.is_broken && !self.to_come.has_some() {
+        if self.is_spent() {
             self.take_faults = self.take_faults.saturating_add(1);
             return Err(LinkFault);
         }
