@@ -19,7 +19,9 @@ behind-more (x ∷ put) run a b c h g = (h.0, h.1, behind-more put run h.0 b c h
 
 -- the runs before the next one, and that one
 pub turn-more : (runs : List Run) (i : ℕ) (run : Run) → i < length runs → run ≡ get_or runs i run → take (i + 1) runs ≡ take i runs ++ run ∷ []
-turn-more runs i run lt e = take-suc runs i run lt ∙ ap (λ (r : Run). take i runs ++ r ∷ []) (sym e)
+turn-more runs i run lt e =
+    let more : suc i ≡ i + 1 = omega arith in
+    subst (λ (k : ℕ). take k runs ≡ take i runs ++ run ∷ []) more (take-suc runs i run lt ∙ ap (λ (r : Run). take i runs ++ r ∷ []) (sym e))
 
 turn-rest : (runs : List Run) (i : ℕ) (run : Run) → i < length runs → run ≡ get_or runs i run → drop i runs ≡ run ∷ drop (i + 1) runs
 turn-rest runs i run lt e = drop_more runs i run lt ∙ ap (λ (r : Run). r ∷ drop (i + 1) runs) (sym e)
