@@ -30,6 +30,12 @@ pub still-served : (w : Option (ℕ × Wrong)) (m n : Mirror) (l k t u : List �
 still-served None m n l k t u = refl
 still-served (Some x) m n l k t u = refl
 
+-- it is who it was
+pub same-peer : (w v : Option (ℕ × Wrong)) (m n : Mirror) (l k t u : List ℕ) → v ≡ w → n ≡ m → k ≡ l → u ≡ t → peer_over v n k u ≡ peer_over w m l t
+same-peer w v m n l k t u a b c d =
+    ap (λ (x : Option (ℕ × Wrong)). peer_over x n k u) a ∙ ap (λ (x : Mirror). peer_over w x k u) b
+    ∙ ap (λ (x : List ℕ). peer_over w m x u) c ∙ ap (λ (x : List ℕ). peer_over w m l x) d
+
 pub served-is : (w : Option (ℕ × Wrong)) (m : Mirror) (l t : List ℕ) → served_by (peer_over w m l t) ≡ served_over w m
 served-is None m l t = refl
 served-is (Some x) m l t = refl

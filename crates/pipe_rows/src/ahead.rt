@@ -15,7 +15,9 @@ type Names = (u8, u64, u32);
 
 /// Three runs of it.
 const A: Names = (0x19, 0, 3);
+
 const B: Names = (0x19, 3, 4);
+
 const C: Names = (0x12, 0, 8);
 
 /// What is asked.
@@ -60,7 +62,11 @@ const SECOND_STOPS: &[(Asked, bool)] = &[
 ];
 
 /// What is asked ahead is thrown away at the second.
-const THROWN_AWAY: &[(Asked, bool)] = &[(Asked::Names(A), true), (Asked::Path, true), (Asked::Names(B), true)];
+const THROWN_AWAY: &[(Asked, bool)] = &[
+    (Asked::Names(A), true),
+    (Asked::Path, true),
+    (Asked::Names(B), true),
+];
 
 /// The same, where something is wrong about what is thrown away.
 const THROWING_STOPS: &[(Asked, bool)] = &[
@@ -73,11 +79,18 @@ const THROWING_STOPS: &[(Asked, bool)] = &[
 const RIGHT: [&[(Asked, bool)]; 7] = [
     IN_TURN,
     THROWN_AWAY,
-    &[(Asked::Names(A), true), (Asked::Refresh, true), (Asked::Names(B), true)],
+    &[
+        (Asked::Names(A), true),
+        (Asked::Refresh, true),
+        (Asked::Names(B), true),
+    ],
     &[(Asked::Clone, true), (Asked::Names(A), true)],
     &[(Asked::Names(B), true), (Asked::Names(A), true)],
     &[(Asked::Names((0x19, 0, 4)), true), (Asked::Names(B), true)],
-    &[(Asked::Names((0x18, 0, 3)), true), (Asked::Names((0x19, 1, 3)), true)],
+    &[
+        (Asked::Names((0x18, 0, 3)), true),
+        (Asked::Names((0x19, 1, 3)), true),
+    ],
 ];
 
 /// What is wrong about the second answer, and why no more is asked behind it; nothing, where it is.
@@ -91,8 +104,14 @@ const WRONG: [(Wrong, Option<PipeFault>); 15] = [
     (Wrong::Longer, Some(PipeFault::NoAnswer)),
     (Wrong::Instead(&[0, 0, 0, 0]), Some(PipeFault::BadLength)),
     (Wrong::Instead(&[0x40, 0, 0, 1]), Some(PipeFault::BadLength)),
-    (Wrong::Instead(&[0, 0, 0, 1, 0x85]), Some(PipeFault::NoAnswer)),
-    (Wrong::Instead(&[0, 0, 0, 2, 0xff, 5]), Some(PipeFault::NoAnswer)),
+    (
+        Wrong::Instead(&[0, 0, 0, 1, 0x85]),
+        Some(PipeFault::NoAnswer),
+    ),
+    (
+        Wrong::Instead(&[0, 0, 0, 2, 0xff, 5]),
+        Some(PipeFault::NoAnswer),
+    ),
     (Wrong::Instead(&[0, 0, 0, 2, 0xff, 1]), None),
     (Wrong::Instead(&[0, 0, 0, 2, 0xff, 2]), None),
     (Wrong::Instead(&[0, 0, 0, 2, 0xff, 3]), None),
@@ -111,7 +130,11 @@ const OTHERS: [Case; 6] = [
     // nothing is asked ahead behind what is no request
     Case {
         told: &[A, (0x19, 0, 0), C],
-        asked: &[(Asked::Names(A), true), (Asked::Names(C), false), (Asked::Names(C), true)],
+        asked: &[
+            (Asked::Names(A), true),
+            (Asked::Names(C), false),
+            (Asked::Names(C), true),
+        ],
         wrong: Some((2, Wrong::Instead(&[0, 0, 0, 2, 0xff, 1]))),
         stopped: None,
     },
@@ -296,7 +319,11 @@ fn many_come(alloc: Global, refused: u64) -> Result<u32, AllocError> {
     tell(alloc, &mut remote, &told)?;
     let mut right = 0;
     for k in 0..70 {
-        let asked = if k == 64 { Asked::Path } else { Asked::Names(A) };
+        let asked = if k == 64 {
+            Asked::Path
+        } else {
+            Asked::Names(A)
+        };
         if comes(alloc, &mut remote, asked) == Ok(true) {
             right += 1;
         }
