@@ -317,7 +317,7 @@ fn many_come(alloc: Global, refused: u64) -> Result<u32, AllocError> {
     let mut remote = piped(alloc, mirror, way);
     let told = [A; 70];
     tell(alloc, &mut remote, &told)?;
-    let mut right = 0;
+    let mut right: u32 = 0;
     for k in 0..70 {
         let asked = if k == 64 {
             Asked::Path
@@ -325,7 +325,7 @@ fn many_come(alloc: Global, refused: u64) -> Result<u32, AllocError> {
             Asked::Names(A)
         };
         if comes(alloc, &mut remote, asked) == Ok(true) {
-            right += 1;
+            right = right.saturating_add(1);
         }
     }
     Ok(right)
