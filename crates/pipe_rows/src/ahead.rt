@@ -1,6 +1,7 @@
 //! What is asked ahead, and answers to that about which something is wrong.
 
 use crate::chain::{chain_mirror, name};
+use id_groups::Name;
 use link_memory::{MemoryLink, Way, Wrong, piped};
 use remote_memory::MemoryRemote;
 use remote_pipe::{PipeFault, PipeRemote};
@@ -11,7 +12,7 @@ use std::alloc::{AllocError, Global};
 type Piped = PipeRemote<MemoryLink<MemoryRemote>>;
 
 /// Names of the chain: so many, from so many steps on from the commit with this last byte.
-type Names = (u8, u64, u32);
+type Names = (u8, u8, u32);
 
 /// Three runs of it.
 const A: Names = (0x19, 0, 3);
@@ -185,7 +186,7 @@ fn tell(alloc: Global, remote: &mut Piped, told: &[Names]) -> Result<(), AllocEr
     for (last, back, count) in told {
         runs.push(Run {
             x: name(*last),
-            back: *back,
+            back: u64::from(*back),
             count: *count,
         })?;
     }
@@ -194,32 +195,29 @@ fn tell(alloc: Global, remote: &mut Piped, told: &[Names]) -> Result<(), AllocEr
 }
 
 /// Whether these are the names of the chain from so many steps on: each commit's last byte is one more than its parent's.
-fn are_names(names: &[u8], last: u8, back: u64, room: u32) -> bool {
-    let first = u64::from(last).saturating_sub(back);
-    let there = first.saturating_sub(0x0f).min(u64::from(room));
-    if names.len() as u64 != there {
+fn are_names(names: &[Name], asked: Names) -> bool {
+    let (last, back, room) = asked;
+    let mut wanted = last.saturating_sub(back);
+    if names.len() != (wanted.saturating_sub(0x0f) as usize).min(room as usize) {
         return false;
     }
-    for k in 0..names.len() {
-        if u64::from(names[k]) != first.saturating_sub(k as u64) {
+    for own in names {
+        if *own != name(wanted) {
             return false;
         }
+        wanted = wanted.saturating_sub(1);
     }
     true
 }
 
-/// Whether the right names come.
+/// Whether the right names come, of ten at most.
 fn names_come(alloc: Global, remote: &mut Piped, asked: Names) -> Result<bool, RemoteFault> {
     let (last, back, room) = asked;
     let mut out = [name(0); 10];
-    let some = (room as usize).min(out.len());
-    let count = remote.names_of(alloc, &name(last), back, &mut out[..some])?;
-    let mut lasts = [0; 10];
-    for k in 0..10 {
-        lasts[k] = out[k].lend().bytes[19];
-    }
-    let came = (count as usize).min(lasts.len());
-    Ok(are_names(&lasts[..came], last, back, room))
+    let some = (room as usize).min(10);
+    let count = remote.names_of(alloc, &name(last), u64::from(back), &mut out[..some])?;
+    let came = (count as usize).min(10);
+    Ok(are_names(&out[..came], asked))
 }
 
 /// Whether the right answer comes.
