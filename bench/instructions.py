@@ -1,8 +1,8 @@
 #!/usr/bin/env python3
 """Counts the instructions a question by callgrind, over two kinds of history: instructions.py PROGRAM COMMITS [DRAWN].
 
-One process a kind answers all. What is counted is dumped before each write of a reply, so a question's count holds neither the load
-nor another question. What an import takes is counted over a tenth of the commits, its start included.
+One process a kind answers all. It is only counted from its load's reply on, and what is counted is dumped before each write of a reply,
+so a question's count holds neither the load nor another question. An import is counted over a tenth of the commits, its start included.
 """
 import glob
 import os
@@ -14,7 +14,6 @@ import tempfile
 
 import growth
 
-CALLGRIND = ["valgrind", "--tool=callgrind"]
 QUESTIONS = {
     "`count ancestors(X)`": "ancestors({x})",
     "`count inter(X,ancestors(Y))`": "inter({x},ancestors({y}))",
@@ -29,14 +28,13 @@ QUESTIONS = {
 }
 
 
-def counted(log, lines, folder, *flags):
-    """The instructions of a run over the log, in turn those before each dump."""
-    made = os.path.join(folder, "counted")
-    text = "".join(line + "\n" for line in lines).encode()
-    words = [*CALLGRIND, *flags, f"--callgrind-out-file={made}", growth.PROGRAM, log, "--", "run"]
-    ran = subprocess.run(words, input=text, capture_output=True)
-    if ran.returncode != 0 or b"err " in ran.stdout:
-        sys.exit(f"instructions: status {ran.returncode}, {ran.stderr[-200:]}")
+def started(log, made, *flags):
+    words = ["valgrind", "--tool=callgrind", *flags, f"--callgrind-out-file={made}", growth.PROGRAM, log, "--", "run"]
+    return subprocess.Popen(words, stdin=subprocess.PIPE, stdout=subprocess.PIPE, stderr=subprocess.DEVNULL)
+
+
+def dumped(made):
+    """What each dump counted, in turn."""
     found = {}
     for path in glob.glob(f"{made}*"):
         with open(path) as dump:
@@ -44,6 +42,32 @@ def counted(log, lines, folder, *flags):
         found[int(told.get("part", 1))] = int(told["summary"])
         os.remove(path)
     return [found[part] for part in sorted(found)]
+
+
+def whole(log, lines, made):
+    """The instructions of a run."""
+    with started(log, made) as child:
+        replies, _ = child.communicate("".join(line + "\n" for line in lines).encode())
+    if child.returncode != 0 or b"err " in replies:
+        sys.exit(f"instructions: the program ended with {child.returncode}")
+    return sum(dumped(made))
+
+
+def each(log, lines, made):
+    """The instructions of each line, behind a load that isn't counted."""
+    with started(log, made, "--instr-atstart=no", "--dump-before=write") as child:
+        for at, line in enumerate(["0 status", *lines]):
+            child.stdin.write(line.encode() + b"\n")
+            child.stdin.flush()
+            if not child.stdout.readline().startswith(b"ok"):
+                sys.exit(f"instructions: no answer to {line}")
+            if at == 0:
+                subprocess.run(["callgrind_control", "-i", "on", str(child.pid)], check=True, capture_output=True)
+        child.stdin.close()
+    counts = dumped(made)
+    if len(counts) != len(lines) + 1:
+        sys.exit(f"instructions: {len(counts)} dumps of {len(lines)} replies")
+    return counts[:-1]
 
 
 def asked(names, drawn):
@@ -60,18 +84,16 @@ def measured(kind, commits, drawn, folder):
     """What each takes, in instructions."""
     rows, log = list(growth.KINDS[kind](commits)), os.path.join(folder, "log")
     growth.run(log, growth.stored_lines(rows))
+    made = os.path.join(folder, "counted")
     pairs = list(asked([child for child, _ in rows], drawn))
-    counts = counted(log, ["0 status", *(line for _, line in pairs)], folder, "--dump-before=write")
-    if len(counts) != len(pairs) + 2:
-        sys.exit(f"instructions: {len(counts)} dumps of {len(pairs) + 1} replies")
     found = {}
-    for (what, _), count in zip(pairs, counts[1:]):
+    for (what, _), count in zip(pairs, each(log, [line for _, line in pairs], made)):
         found.setdefault(what, []).append(count)
-    taken = {what: sum(each) // len(each) for what, each in found.items()}
-    taken["a load"] = counts[0]
+    taken = {what: sum(counts) // len(counts) for what, counts in found.items()}
+    taken["a load"] = whole(log, ["0 status"], made)
     os.remove(log)
     few = commits // 10
-    taken["an import, a commit"] = sum(counted(log, list(growth.stored_lines(rows[:few])), folder)) // few
+    taken["an import, a commit"] = whole(log, growth.stored_lines(rows[:few]), made) // few
     os.remove(log)
     return taken
 
