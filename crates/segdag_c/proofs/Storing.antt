@@ -20,7 +20,7 @@ use Rattle.call_disk.specs.Telling.{FitOver, told_over}
 use Rattle.call_disk.proofs.Stopping.{may-perform, performs-alike, stops-told}
 use Rattle.remote_rules.specs.Mirror.{Mirror}
 use Rattle.store_plans.specs.Changes.{HasRoom}
-use Rattle.dag_store.specs.Flushes.{HasStored}
+use Rattle.dag_store.specs.Changes.{HasStored}
 use Rattle.dag_store.specs.Kept.{PlainStore}
 use Rattle.dag_run.specs.Lines.{LineLeaves, LineReplies}
 use Rattle.dag_run.specs.declared.stops.Stop.{Stop}
