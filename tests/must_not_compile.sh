@@ -24,7 +24,7 @@ compile() {
     cat > "$copy/crates/lent/src/main.rt" << END
 #![tactic(auto)]
 
-use dag_store::{Flushed, Found, Store};
+use dag_store::{Ask, Changed, Found, Store};
 use disk_trait::Disk;
 use gated_log::{Committed, Log};
 use mirror_set::Mirrors;
@@ -41,7 +41,7 @@ fn flush<D: Disk, R: Remote>(
     disk: &mut D,
     mirrors: &mut Mirrors<R>,
     found: &Found,
-) -> Flushed {
+) -> Changed {
     let mut lent = store.names(0, found);
 $2
 }
@@ -69,12 +69,12 @@ try() {
 commits='    let _size = lent.len();
     log.commit(disk, payload)'
 flushes='    let _first = lent.next();
-    store.flush(disk, 0, mirrors, &[])'
+    store.change(disk, 0, mirrors, Ask::Flush(&[]))'
 try "a commit and a flush behind the loans are refused" "run=ended status=0" "$commits" "$flushes"
 try "a commit while bytes are lent isn't refused" "borrow-e0505" '    let committed = log.commit(disk, payload);
     let _size = lent.len();
     committed' "$flushes"
-try "a flush while names are lent isn't refused" "borrow-e0505" "$commits" '    let flushed = store.flush(disk, 0, mirrors, &[]);
+try "a flush while names are lent isn't refused" "borrow-e0505" "$commits" '    let flushed = store.change(disk, 0, mirrors, Ask::Flush(&[]));
     let _first = lent.next();
     flushed'
 echo "must_not_compile: a commit while bytes are lent is refused, and a flush while names are"
