@@ -104,6 +104,10 @@ idle_told (Some disk) old new counted (inr p) = inr (
   ap (λ (t : Tape). replayed t.steps t.idle (begun disk.told)) p.1,
 )
 
+pub pass_told : (disk : Option HonestDisk) (old new : Tape) → IsCounted old → IsPassed old new → Goes (Succeeds Passes) (told_over disk old) (told_over disk new)
+pass_told None old new counted p = tt
+pass_told (Some disk) old new counted p = (early_over disk old counted p.early, idle_passed disk old new p)
+
 pub fail_told : (disk : Option HonestDisk) (at : ℕ) (piece : List ℕ) (old new : Tape) → IsCounted old → IsIdle old new → Goes (OrRefuses (FailsToWrite at piece)) (told_over disk old) (told_over disk new)
 fail_told None at piece old new counted idle = tt
 fail_told (Some disk) at piece old new counted idle = weaker (idle_told (Some disk) old new counted idle)
