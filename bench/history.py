@@ -30,6 +30,19 @@ def drawn(commits):
         yield parents
 
 
+def by_demo(commits):
+    """The same by the demonstration's rule: one in sixteen is a merge, and one begins a branch, few of which come back."""
+    x = 0
+    for i in range(commits):
+        parents = [i - 1] if i else []
+        if i >= 2:
+            x = (x * 6364136223846793005 + 1442695040888963407) % 2**64
+            drawn = x >> 33
+            far = i - 2 - drawn // 16 % (min(i, 65) - 1)
+            parents = {0: [i - 1, far], 1: [far]}.get(drawn % 16, parents)
+        yield parents
+
+
 def lines(commits, each):
     names = [name(i) for i in range(commits)]
     for i, parents in enumerate(drawn(commits)):

@@ -4,7 +4,7 @@
 
 A clone is timed from the start of its processes to their end, all else from a line to its reply, behind one that lets the mirror read
 its log. Of three times in turn the least is told. Names are printed too where both ends have one processor. Then the same is asked behind
-a pipe whose answers come 20 ms late (bench/late.py), with the number of ways there and back.
+a pipe whose answers come 20 ms late (bench/late.py), with the number of ways there and back: what is asked ahead shares one.
 """
 import os
 import random
@@ -145,10 +145,10 @@ class Place:
         path, pipe = (min(times) for times in zip(*taken))
         print(f"{self.kind}: {what}: at the path {path:.3f} s, behind a pipe {pipe:.3f} s, {pipe / path:.2f} times (aim {aim})", flush=True)
 
-    def late(self, what, log, asked, late=LATE):
+    def late(self, what, log, asked):
         """Lines behind a late pipe, each told with its ways there and back, those of one kind together."""
         shutil.copy(log, self.new) if log else self.new.unlink(missing_ok=True)
-        with self.behind(late) as mirror, Run(self.new, mirror.word) as ran:
+        with self.behind(LATE) as mirror, Run(self.new, mirror.word) as ran:
             if log:
                 ran.say(f"0 id {self.lazy[0]}")
             before, taken = mirror.trips(), 0
@@ -156,7 +156,7 @@ class Place:
                 seconds, last = ran.say(line)
                 taken += seconds
             trips = mirror.trips() - before
-        print(f"{self.kind}, {late} ms late: {what}: {trips} ways, {taken:.3f} s; {last}", flush=True)
+        print(f"{self.kind}, {LATE} ms late: {what}: {trips} ways, {taken:.3f} s; {last}", flush=True)
 
 
 def measure(kind, history, commits, folder):
@@ -170,11 +170,7 @@ def measure(kind, history, commits, folder):
     place.on_one(f"the {names} newest names printed", printed)
     lazy = place.lazy[1:]
     place.late("a clone", None, ["0 clone"])
-    if kind == "a chain":
-        place.late(f"{names} names printed", place.here, [printed])
-    else:
-        place.late(f"{names} names printed", place.here, [printed], late=0)
-        place.late("1000 names printed", place.here, ["0 query top(all,1000)"])
+    place.late(f"{names} names printed", place.here, [printed])
     place.late(f"{SINGLE} drawn names found", place.here, [f"0 id {own}" for own in lazy[:SINGLE]])
     place.late("is one an ancestor of the other", place.here, [f"0 count inter({lazy[SINGLE]},ancestors({lazy[SINGLE + 1]}))"])
     run(place.there, place.later)

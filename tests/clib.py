@@ -168,6 +168,67 @@ def mirrors():
     print(f"clib: {CLONES} clones that are asked and pull, {replies} lines beside mirrors: the program's replies and logs; {pulls} pulls beside a log that grows")
 
 
+def answer(text):
+    """What a reply of the program tells: the word of a refusal, the names before its last line, or the numbers in it."""
+    *names, last = text.splitlines()
+    words = last.split()
+    return words[1] if words[0] == "err" else names or [int(word) for word in words if word.isdigit()]
+
+
+def told(call):
+    """What a typed call answers, in the same form."""
+    import segdag
+
+    try:
+        return call()
+    except segdag.Refusal as refused:
+        return type(refused).__name__.lower()
+
+
+def questions(store, draw, session, names):
+    """Lines about two drawn commits and about the session, with the typed calls that ask the same."""
+    x, y = (draw.choice(names) for _ in range(2))
+    a, b = bytes.fromhex(x), bytes.fromhex(y)
+    yield f"count inter({x},ancestors({y}))", lambda: [int(store.is_ancestor(a, b, session))]
+    yield f"count only({x},{y})", lambda: [store.ahead_behind([(a, b)], session)[0][0]]
+    yield f"count only({y},{x})", lambda: [store.ahead_behind([(a, b)], session)[0][1]]
+    yield f"query gca(union({x},{y}))", lambda: [name.hex() for name in store.gca(a, b, session)] or [0]
+    yield f"query {x}", lambda: [store.name(store.id(a, session), session).hex()]
+    yield "status", lambda: [*store.sizes(session)]
+    if draw.random() < 0.2:
+        yield "reload", lambda: [store.reload(session)]
+    if draw.random() < 0.01:
+        yield "discard", lambda: [store.discard(session)]
+
+
+def beside():
+    """Typed calls amid drawn lines: each answers what the program's line does, and the logs are the same."""
+    import segdag
+
+    logs, asked, refused = [Path(FOLDER, word) for word in ("by_library", "by_program")], 0, 0
+    for seed in range(HISTORIES):
+        draw = random.Random(seed)
+        lines, added = Lines(draw), []
+        for log in logs:
+            log.unlink(missing_ok=True)
+        program = Asked(PROGRAM, logs[1], [], 4096)
+        with segdag.open(logs[0]) as store:
+            for line in filter(lambda line: line and line[0] != "#", (lines.line() for _ in range(LINES))):
+                reply = program.reply(line)
+                if store.line(line) != reply:
+                    fail(f"history {seed}: another reply to {line}")
+                added += line.split()[2:3] if reply.startswith("ok added") else []
+                session = draw.choice([0, 0, 0, 0, 0, 1, draw.randrange(16)])
+                for line, call in questions(store, draw, session, added if added and draw.random() < 0.9 else lines.names):
+                    wanted, got = answer(program.reply(f"{session} {line}")), told(call)
+                    if got != wanted:
+                        fail(f"history {seed}: a typed call for {session} {line} answers {got} in place of {wanted}")
+                    asked, refused = asked + 1, refused + isinstance(got, str)
+        if program.end() != 0 or logs[0].read_bytes() != logs[1].read_bytes():
+            fail(f"history {seed}: other logs behind typed calls")
+    print(f"clib: {asked} typed calls answer what the program's lines do, {refused} of them with its refusals")
+
+
 def name_of(number):
     """The name that clib.c gives the row with this number."""
     name = bytearray([7] * 20)
@@ -258,4 +319,4 @@ def memory():
     print(f"clib: each of {calls} calls for memory found none:", ", ".join(f"{came} {told[came]}" for came in sorted(told)))
 
 
-{"drawn": drawn, "mirrors": mirrors, "killed": killed, "memory": memory}[sys.argv[1]]()
+{"drawn": drawn, "beside": beside, "mirrors": mirrors, "killed": killed, "memory": memory}[sys.argv[1]]()

@@ -41,6 +41,7 @@ typed() {
     else
         untried sanitizers "$cc has no sanitizers"
     fi
+    PYTHONPATH=bindings/python SEGDAG_LIBRARY=$(dirname "$library")/libsegdag.so python tests/clib.py beside "$folder/clib" "$program" "$folder"
 }
 
 # Builds what lets a call for memory find none.

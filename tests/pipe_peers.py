@@ -11,9 +11,9 @@ from pathlib import Path
 def relay(to, come, command, how, draw):
     """Passes requests from one pipe to a server and answers to another, as it is told; a process of its own.
 
-    `ones`: bytes come one by one. `late`: each answer comes so many seconds later. `answers`: behind so many it closes its ends. `limit`:
-    of the answers only so many bytes come, and then as `end` says: `stop` closes its ends, `lie` changes a byte, `tag` the tag of the
-    answer.
+    `ones`: bytes come one by one. `late`: each answer comes so many seconds later. `hold`: the first answer comes when so many requests
+    have. `answers`: behind so many it closes its ends. `limit`: of the answers only so many bytes come, and then as `end` says: `stop`
+    closes its ends, `lie` changes a byte, `tag` the tag of the answer.
     """
     asked = os.open(to, os.O_RDONLY)
     server = subprocess.Popen(command, stdin=subprocess.PIPE, stdout=subprocess.PIPE)
@@ -28,19 +28,25 @@ def relay(to, come, command, how, draw):
             data += more
         return data
 
+    def requests():
+        """Each whole request; the first of them only when as many have come as are held."""
+        held, hold = [], how.get("hold", 1)
+        while (head := exactly(4)) is not None and (body := exactly(int.from_bytes(head, "big"))) is not None:
+            held.append(head + body)
+            if len(held) == hold:
+                yield from held
+                held, hold = [], 1
+
     def give(data):
         step = 1 if how.get("ones") else len(data)
         for at in range(0, len(data), max(step, 1)):
             os.write(told, data[at : at + step])
 
     try:
-        while (head := exactly(4)) is not None:
-            body = exactly(int.from_bytes(head, "big"))
-            if body is None:
-                break
+        for request in requests():
             if told is None:
                 told = os.open(come, os.O_WRONLY)
-            server.stdin.write(head + body)
+            server.stdin.write(request)
             server.stdin.flush()
             size = server.stdout.read(4)
             answer = size + server.stdout.read(int.from_bytes(size, "big"))

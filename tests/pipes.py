@@ -191,6 +191,60 @@ def closed_run(program, draw, folder):
             fail("what was flushed behind a peer that closed its ends is lost")
 
 
+def diamonds(count):
+    """Lines that put merges of two lines of three commits each, one behind another: a clone has to ask for the first two of each."""
+    name, lines, tip = (f"{number:040x}" for number in range(1, 10 * count)), [], ""
+    for _ in range(count):
+        ends = []
+        for _ in range(2):
+            parent = tip
+            for _ in range(3):
+                own = next(name)
+                lines.append(f"0 add {own} {parent}".rstrip())
+                parent = own
+            ends.append(parent)
+        tip = next(name)
+        lines.append(f"0 add {tip} {ends[0]} {ends[1]}")
+    return [*lines, f"0 flush {tip}"]
+
+
+AHEAD = [{"hold": 2}, {"hold": 64}, {"hold": 20, "ones": True}, {"late": 0.002}]
+BROKEN_AHEAD = [{"hold": 9, "answers": 1}, {"answers": 7}, {"answers": 64}, *({"hold": 5, "limit": limit, "end": end} for limit in (2, 60, 700) for end in ("stop", "tag"))]
+
+
+def ahead_run(program, draw, folder):
+    """Names that are asked ahead, by many requests before the first answer: they are the right ones. A peer that breaks off or lies in the
+    midst of them is passed over beside a path, and alone it loses nothing and answers when it is started again."""
+    there, here, log = (Path(folder, name) for name in ("there", "here", "log"))
+    if told(program, there, [], diamonds(45), 4096)[0] != 0 or told(program, here, [there], ["0 clone"], 4096) != (0, "ok cloned 315\n"):
+        fail("the diamonds aren't cloned")
+    lines = ["0 query all", "0 query top(all,40)"]
+
+    def beside(words):
+        log.write_bytes(here.read_bytes())
+        return told(program, log, words, lines, 4096)
+
+    def behind(how, *others):
+        peer = Behind(program, there, folder, how, draw)
+        try:
+            return beside([peer.word, *others])
+        finally:
+            peer.end()
+
+    wanted = beside([there])
+    for how in AHEAD:
+        if (found := behind(how)) != wanted:
+            fail(f"what was asked ahead ({how}) is\n{found[1]}in place of\n{wanted[1]}")
+    for how in BROKEN_AHEAD:
+        if (found := behind(how, there)) != wanted:
+            fail(f"beside a peer that breaks off ahead ({how}) it told\n{found[1]}in place of\n{wanted[1]}")
+        status, text = behind(how)
+        if status != 0 or not text.startswith("err remote 1\n"):
+            fail(f"a peer that breaks off ahead ({how}) told {status}\n{text}")
+        if behind(None) != wanted:
+            fail(f"behind a peer that broke off ahead ({how}) another one answers otherwise")
+
+
 SSH = """#!/bin/sh
 [ "$1" = -- ] || exit 97
 printf '%s' "$2" > "$TOLD"
@@ -314,7 +368,7 @@ def main():
     program, runs, seed = os.path.abspath(sys.argv[1]), int(sys.argv[2] if len(sys.argv) > 2 else 20), int(sys.argv[3] if len(sys.argv) > 3 else 1)
     for number in range(runs):
         draw = random.Random(f"{seed} {number}")
-        for run in (one_run, broken_run, closed_run, *((words_run, quiet_run, tool_run, killed_run) if number % 10 == 0 else ())):
+        for run in (one_run, broken_run, closed_run, *((words_run, quiet_run, ahead_run, tool_run, killed_run) if number % 10 == 0 else ())):
             with tempfile.TemporaryDirectory() as folder:
                 run(program, draw, folder)
                 if left := left_behind(folder):

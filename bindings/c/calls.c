@@ -1,5 +1,5 @@
-/* Typed calls. Those that change the disk, and those that are asked seldom, are lines of the command language; the others are calls of
-   the core. */
+/* Typed calls. Those that change what is stored are lines of the command language; the others are calls of the core, which make no text but
+   for the name of an id. */
 #include "store.h"
 #include <inttypes.h>
 #include <stdio.h>
@@ -68,12 +68,6 @@ static char *put_name(char *at, const uint8_t *name) {
     return at;
 }
 
-/* The form of two names, as `head HEX middle HEX tail`, in room for 128 bytes. */
-static size_t put_pair(char *out, const char *head, const uint8_t *a, const char *middle, const uint8_t *b, const char *tail) {
-    char *at = put_name(put_text(out, head), a);
-    return (size_t)(put_text(put_name(put_text(at, middle), b), tail) - out);
-}
-
 /* ---- calls that are lines */
 
 /* Answers the session's line of this word and these names, and keeps its reply. */
@@ -132,28 +126,6 @@ segdag_status segdag_pull(segdag *store, uint8_t session, segdag_sizes *sizes) {
     return change(store, session, "pull", NULL, 0, sizes);
 }
 
-static segdag_status let_go(segdag *store, uint8_t session, const char *word, uint64_t *pending) {
-    if (!pending)
-        return SEGDAG_ARGUMENT;
-    segdag_status status = answer(store, session, word, NULL, 0);
-    return status ? status : read_numbers(store, &pending, 1);
-}
-
-segdag_status segdag_reload(segdag *store, uint8_t session, uint64_t *pending) {
-    return let_go(store, session, "reload", pending);
-}
-
-segdag_status segdag_discard(segdag *store, uint8_t session, uint64_t *pending) {
-    return let_go(store, session, "discard", pending);
-}
-
-segdag_status segdag_sizes_of(segdag *store, uint8_t session, segdag_sizes *sizes) {
-    if (!sizes)
-        return SEGDAG_ARGUMENT;
-    segdag_status status = answer(store, session, "status", NULL, 0);
-    return status ? status : read_numbers(store, (uint64_t *[]){&sizes->master, &sizes->others, &sizes->pending}, 3);
-}
-
 /* ---- calls of the core */
 
 segdag_status segdag_add(segdag *store, uint8_t session, const segdag_name_bytes name, const segdag_name_bytes *parents, size_t count, uint64_t *id) {
@@ -195,6 +167,28 @@ void segdag_names_free(segdag_names *names) {
     *names = (segdag_names){0};
 }
 
+/* Finds the members of an expression, and tells how many bytes the names have that the core keeps. */
+static segdag_status find(segdag *store, uint8_t session, const char *expression, size_t size, size_t *bytes) {
+    const uint8_t *text = (const uint8_t *)expression;
+    segdag_status status = segdag_core_query(&store->core, session, text, size, bytes);
+    return store_asks_again(store, status) ? segdag_core_query(&store->core, session, text, size, bytes) : status;
+}
+
+/* Copies the names of so many bytes that the core keeps, where they were found. */
+static segdag_status take_found(segdag *store, segdag_status found, size_t bytes, segdag_names *members) {
+    members->count = 0;
+    if (found || bytes == 0)
+        return found;
+    void *names = members->names;
+    bool has_room = store_grow(&names, &members->room, bytes / SEGDAG_NAME, SEGDAG_NAME);
+    members->names = names;
+    if (!has_room)
+        return SEGDAG_MEMORY;
+    segdag_status status = segdag_core_names(&store->core, 0, members->names[0], bytes, &bytes);
+    members->count = bytes / SEGDAG_NAME;
+    return status;
+}
+
 segdag_status segdag_list(segdag *store, uint8_t session, const char *expression, size_t size, segdag_names *members) {
     segdag_status status = store_is_usable(store);
     if (status)
@@ -202,35 +196,26 @@ segdag_status segdag_list(segdag *store, uint8_t session, const char *expression
     if (!expression || !members || size > LONGEST_LINE)
         return SEGDAG_ARGUMENT;
     size_t bytes = 0;
-    members->count = 0;
-    const uint8_t *text = (const uint8_t *)expression;
-    status = segdag_core_query(&store->core, session, text, size, &bytes);
-    if (store_asks_again(store, status))
-        status = segdag_core_query(&store->core, session, text, size, &bytes);
-    if (status || bytes == 0)
-        return status;
-    void *names = members->names;
-    bool has_room = store_grow(&names, &members->room, bytes / SEGDAG_NAME, SEGDAG_NAME);
-    members->names = names;
-    if (!has_room)
-        return SEGDAG_MEMORY;
-    status = segdag_core_names(&store->core, 0, members->names[0], bytes, &bytes);
-    members->count = bytes / SEGDAG_NAME;
-    return status;
+    status = find(store, session, expression, size, &bytes);
+    return take_found(store, status, bytes, members);
 }
 
 /* The name of the one commit that so many have ids from which on, counted from the greatest id, itself included. */
 static segdag_status name_from_top(segdag *store, uint8_t session, uint64_t place, segdag_name_bytes name) {
     char text[96];
     int size = snprintf(text, sizeof text, "minus(top(all,%" PRIu64 "),top(all,%" PRIu64 "))", place, place - 1);
-    segdag_names found = {0};
-    segdag_status status = segdag_list(store, session, text, (size_t)size, &found);
-    if (status == SEGDAG_OK && found.count == 1)
-        memcpy(name, found.names[0], SEGDAG_NAME);
-    else if (status == SEGDAG_OK)
-        status = SEGDAG_UNKNOWN;
-    segdag_names_free(&found);
-    return status;
+    size_t bytes = 0;
+    segdag_status status = find(store, session, text, (size_t)size, &bytes);
+    if (status)
+        return status;
+    return bytes == SEGDAG_NAME ? segdag_core_names(&store->core, 0, name, bytes, &bytes) : SEGDAG_UNKNOWN;
+}
+
+segdag_status segdag_sizes_of(segdag *store, uint8_t session, segdag_sizes *sizes) {
+    segdag_status status = store_is_usable(store);
+    if (status)
+        return status;
+    return sizes ? segdag_core_sizes(&store->core, session, &sizes->master, &sizes->others, &sizes->pending) : SEGDAG_ARGUMENT;
 }
 
 segdag_status segdag_name(segdag *store, uint8_t session, uint64_t id, segdag_name_bytes name) {
@@ -248,26 +233,59 @@ segdag_status segdag_name(segdag *store, uint8_t session, uint64_t id, segdag_na
     return SEGDAG_UNKNOWN;
 }
 
+segdag_status segdag_reload(segdag *store, uint8_t session, uint64_t *pending) {
+    uint64_t came;
+    segdag_status status = store_is_usable(store);
+    if (status)
+        return status;
+    if (!pending || session > 15)
+        return SEGDAG_ARGUMENT;
+    status = segdag_more(store, &came);
+    if (status)
+        return status;
+    status = segdag_core_reload(&store->core, session, pending);
+    return store_asks_again(store, status) ? segdag_core_reload(&store->core, session, pending) : status;
+}
+
+segdag_status segdag_discard(segdag *store, uint8_t session, uint64_t *pending) {
+    segdag_status status = store_is_usable(store);
+    if (status)
+        return status;
+    return pending ? segdag_core_discard(&store->core, session, pending) : SEGDAG_ARGUMENT;
+}
+
+/* ---- two commits */
+
 segdag_status segdag_is_ancestor(segdag *store, uint8_t session, const segdag_name_bytes a, const segdag_name_bytes b, bool *is) {
-    char text[128];
-    uint64_t count = 0;
+    segdag_status status = store_is_usable(store);
+    if (status)
+        return status;
     if (!a || !b || !is)
         return SEGDAG_ARGUMENT;
-    segdag_status status = segdag_count(store, session, text, put_pair(text, "inter(", a, ",ancestors(", b, "))"), &count);
+    uint64_t count = 0;
+    status = segdag_core_is_ancestor(&store->core, session, a, b, &count);
+    if (store_asks_again(store, status))
+        status = segdag_core_is_ancestor(&store->core, session, a, b, &count);
     *is = count == 1;
     return status;
 }
 
 segdag_status segdag_merge_bases(segdag *store, uint8_t session, const segdag_name_bytes a, const segdag_name_bytes b, segdag_names *bases) {
-    char text[128];
-    if (!a || !b)
+    segdag_status status = store_is_usable(store);
+    if (status)
+        return status;
+    if (!a || !b || !bases)
         return SEGDAG_ARGUMENT;
-    return segdag_list(store, session, text, put_pair(text, "gca(union(", a, ",", b, "))"), bases);
+    size_t bytes = 0;
+    status = segdag_core_merge_bases(&store->core, session, a, b, &bytes);
+    if (store_asks_again(store, status))
+        status = segdag_core_merge_bases(&store->core, session, a, b, &bytes);
+    return take_found(store, status, bytes, bases);
 }
 
 static segdag_status count_only(segdag *store, uint8_t session, const uint8_t *a, const uint8_t *b, uint64_t *count) {
-    char text[128];
-    return segdag_count(store, session, text, put_pair(text, "only(", a, ",", b, ")"), count);
+    segdag_status status = segdag_core_only(&store->core, session, a, b, count);
+    return store_asks_again(store, status) ? segdag_core_only(&store->core, session, a, b, count) : status;
 }
 
 segdag_status segdag_ahead_behind(segdag *store, uint8_t session, const segdag_pair *pairs, size_t count, segdag_distance *distances, size_t *done) {

@@ -227,6 +227,17 @@ uint32_t segdag_core_count(segdag_core *core, uint8_t session, const uint8_t *te
 uint32_t segdag_core_query(segdag_core *core, uint8_t session, const uint8_t *text, size_t size, size_t *names_size);
 uint32_t segdag_core_names(segdag_core *core, size_t from, uint8_t *out, size_t room, size_t *copied);
 
+/* Of two commits, for which no text is read: 1 where a is b or an ancestor of b, and else 0; how many commits a reaches that b doesn't; the merge
+   bases, whose names are kept as those of a query are. */
+uint32_t segdag_core_is_ancestor(segdag_core *core, uint8_t session, const uint8_t a[20], const uint8_t b[20], uint64_t *is);
+uint32_t segdag_core_only(segdag_core *core, uint8_t session, const uint8_t a[20], const uint8_t b[20], uint64_t *count);
+uint32_t segdag_core_merge_bases(segdag_core *core, uint8_t session, const uint8_t a[20], const uint8_t b[20], size_t *names_size);
+
+/* Of a session: how many rows it works on, a reload and a discard, which tell its pending rows. */
+uint32_t segdag_core_sizes(segdag_core *core, uint8_t session, uint64_t *master, uint64_t *others, uint64_t *pending);
+uint32_t segdag_core_reload(segdag_core *core, uint8_t session, uint64_t *pending);
+uint32_t segdag_core_discard(segdag_core *core, uint8_t session, uint64_t *pending);
+
 #ifdef __cplusplus
 }
 #endif

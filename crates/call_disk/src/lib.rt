@@ -14,6 +14,8 @@ mod lent;
 mod noted;
 mod owned;
 mod still;
+#[cfg(test)]
+mod tests;
 
 pub use crate::disk::{Beneath, NotedDisk};
 pub use crate::lent::LentDisk;

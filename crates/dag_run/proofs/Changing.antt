@@ -13,8 +13,8 @@ use Rattle.store_plans.specs.PullPlans.{pull_of}
 use Rattle.dag_store.specs.declared.asks.Ask.{Ask}
 use Rattle.dag_store.specs.declared.asks.Ask.TheVariants as asks
 use Rattle.dag_store.specs.declared.replies.Counts.{Counts}
-use Rattle.dag_store.specs.declared.replies.Flushed.{Flushed as Ended}
-use Rattle.dag_store.specs.declared.replies.Flushed.TheVariants as ends
+use Rattle.dag_store.specs.declared.replies.Changed.{Changed as Ended}
+use Rattle.dag_store.specs.declared.replies.Changed.TheVariants as ends
 use Rattle.disk_trait.specs.declared.DiskFault.{DiskFault}
 use Rattle.dag_store.specs.Kept.{PlainStore}
 use Rattle.dag_store.specs.Stands.{StandsBeside}

@@ -43,10 +43,10 @@ use Rattle.dag_store.specs.Kept.{PlainStore}
 use Rattle.dag_store.specs.Stands.{Stands, StandsBeside, IsOutsideOf, IsAnswerable}
 use Rattle.dag_store.specs.Steps.{AreIdsOf, CountStep, ChangesOnly, KeepsAll, Leads}
 use Rattle.store_plans.specs.Changes.{HasRoom}
-use Rattle.dag_store.specs.Flushes.{HasStored, Stores, StoresBy, FlushLeaves, LeavesStore, flush_end}
+use Rattle.dag_store.specs.Changes.{HasStored, Stores, StoresBy, ChangeLeaves, LeavesStore, flush_end}
 use Rattle.dag_store.specs.Clones.{StoresClone, StoresCloneBy, clone_end}
 use Rattle.dag_store.specs.declared.replies.Counts.{Counts}
-use Rattle.dag_store.specs.declared.replies.Flushed.TheVariants as flushes
+use Rattle.dag_store.specs.declared.replies.Changed.TheVariants as flushes
 use Rattle.dag_run.specs.Enough.{IsEnoughFor}
 use Rattle.dag_run.specs.Lines.{Changes, HasChanged, IsBrief, PutsReply, IsLimited, Replies, CommandReplies, DoesBeside, DropsAt, LineReplies, LineLeaves}
 use Rattle.dag_run.specs.Replies.{reply_of_count}
@@ -72,23 +72,23 @@ module _ (kept store : PlainStore) (payload : List ℕ) where
   stored-leaves (Err s) clock a b same stop limited has = subst (λ t. LineLeaves kept payload (Some clock) (Err t) a b) (sym stop) (limited, store, has)
 
   flush-leaves : (r : Result PlainStore Stop) (s : ℕ) (counts : Counts) (clock : Option ℕ) (a b : Disk) → IfOk r (λ next. next ≡ store) → IfErr r (λ stop. stop ≡ stops.Sink) → IsLimited kept
-      → LeavesStore kept s (flushes.Done store counts clock) → FlushLeaves kept payload (flushes.Done store counts clock) a b → LineLeaves kept payload clock r a b
+      → LeavesStore kept s (flushes.Done store counts clock) → ChangeLeaves kept payload (flushes.Done store counts clock) a b → LineLeaves kept payload clock r a b
   flush-leaves r s counts None a b same stop limited left h = subst (λ t. LineLeaves kept payload None r a t) (sym h) (still-leaves r a same stop left.1)
   flush-leaves r s counts (Some clock) a b same stop limited left h = stored-leaves r clock a b same stop limited h
 
   pub flush-goes : (r : Result PlainStore Stop) (s : ℕ) (counts : Counts) (clock : Option ℕ) (d e : Option Disk) → IfOk r (λ next. next ≡ store) → IfErr r (λ stop. stop ≡ stops.Sink) → IsLimited kept
-      → LeavesStore kept s (flushes.Done store counts clock) → Goes (FlushLeaves kept payload (flushes.Done store counts clock)) d e → Goes (LineLeaves kept payload clock r) d e
+      → LeavesStore kept s (flushes.Done store counts clock) → Goes (ChangeLeaves kept payload (flushes.Done store counts clock)) d e → Goes (LineLeaves kept payload clock r) d e
   flush-goes r s counts clock d e same stop limited left h =
-      goes-map (FlushLeaves kept payload (flushes.Done store counts clock)) (LineLeaves kept payload clock r) d e (λ a b f. flush-leaves r s counts clock a b same stop limited left f) h
+      goes-map (ChangeLeaves kept payload (flushes.Done store counts clock)) (LineLeaves kept payload clock r) d e (λ a b f. flush-leaves r s counts clock a b same stop limited left f) h
 
 pub refused-goes : (kept store : PlainStore) (payload : List ℕ) (r : Result PlainStore Stop) (refusal : Refusal) (d e : Option Disk) → IfOk r (λ next. next ≡ store) → IfErr r (λ stop. stop ≡ stops.Sink) → HasRoom kept.log store.log
-    → Goes (FlushLeaves kept payload (flushes.Refused store refusal)) d e → Goes (LineLeaves kept payload None r) d e
+    → Goes (ChangeLeaves kept payload (flushes.Refused store refusal)) d e → Goes (LineLeaves kept payload None r) d e
 refused-goes kept store payload r refusal d e same stop room h =
-    goes-map (FlushLeaves kept payload (flushes.Refused store refusal)) (LineLeaves kept payload None r) d e (λ a b f. subst (λ t. LineLeaves kept payload None r a t) (sym f) (still-leaves kept store payload r a same stop room)) h
+    goes-map (ChangeLeaves kept payload (flushes.Refused store refusal)) (LineLeaves kept payload None r) d e (λ a b f. subst (λ t. LineLeaves kept payload None r a t) (sym f) (still-leaves kept store payload r a same stop room)) h
 
-pub short-goes : (kept : PlainStore) (payload : List ℕ) (clock : Option ℕ) (fault : DiskFault) (d e : Option Disk) → IsLimited kept → Goes (FlushLeaves kept payload (flushes.Disk fault)) d e → Goes (LineLeaves kept payload clock (Err stops.NotStored)) d e
-short-goes kept payload None fault d e limited h = goes-map (FlushLeaves kept payload (flushes.Disk fault)) (LineLeaves kept payload None (Err stops.NotStored)) d e (λ a b f. (limited, f)) h
-short-goes kept payload (Some clock) fault d e limited h = goes-map (FlushLeaves kept payload (flushes.Disk fault)) (LineLeaves kept payload (Some clock) (Err stops.NotStored)) d e (λ a b f. (limited, f)) h
+pub short-goes : (kept : PlainStore) (payload : List ℕ) (clock : Option ℕ) (fault : DiskFault) (d e : Option Disk) → IsLimited kept → Goes (ChangeLeaves kept payload (flushes.Disk fault)) d e → Goes (LineLeaves kept payload clock (Err stops.NotStored)) d e
+short-goes kept payload None fault d e limited h = goes-map (ChangeLeaves kept payload (flushes.Disk fault)) (LineLeaves kept payload None (Err stops.NotStored)) d e (λ a b f. (limited, f)) h
+short-goes kept payload (Some clock) fault d e limited h = goes-map (ChangeLeaves kept payload (flushes.Disk fault)) (LineLeaves kept payload (Some clock) (Err stops.NotStored)) d e (λ a b f. (limited, f)) h
 
 pub limit-of : (kept : PlainStore) (limit : ℕ) → limit ≡ kept.limits.log → limit ≡ kept.log.limit → IsLimited kept
 limit-of kept limit e f = sym f ∙ e

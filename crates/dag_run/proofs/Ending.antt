@@ -28,7 +28,7 @@ use Rattle.gated_log.specs.Holding.{IsLogWithin}
 use Rattle.run_rules.specs.Stopped.{Stopped, ArePrefixes}
 use Rattle.segment_codec.proofs.Tables.{le_or_lt}
 use Rattle.run_rules.proofs.Nothing.{loaded-later}
-use Rattle.dag_store.specs.Flushes.{CutShort}
+use Rattle.dag_store.specs.Changes.{CutShort}
 use Rattle.dag_store.specs.Kept.{PlainStore}
 use Rattle.dag_run.specs.Seen.{Seen, streams}
 use Rattle.dag_run.specs.Ends.{Begins}

@@ -22,7 +22,7 @@ use Rattle.run_rules.proofs.Nothing.{take-all}
 use Rattle.run_rules.proofs.Starts.{same-texts}
 use Rattle.run_rules.proofs.GoesOn.{goes-on, goes-on-sure, cut-short, cut-short-sure}
 use Rattle.dag_store.specs.Kept.{PlainStore}
-use Rattle.dag_store.specs.Flushes.{HasStored, CutShort}
+use Rattle.dag_store.specs.Changes.{HasStored, CutShort}
 use Rattle.dag_store.specs.Loading.{IsLoadedStore}
 use Rattle.dag_run.specs.Lines.{HasChanged, IsLimited}
 use Rattle.dag_run.specs.Between.{Stays}

@@ -17,7 +17,7 @@ use Rattle.run_rules.specs.Ends.{disk_text}
 use Rattle.dag_store.specs.Kept.{PlainStore}
 use Rattle.dag_store.specs.Stands.{StandsBeside}
 use Rattle.store_plans.specs.Changes.{HasRoom}
-use Rattle.dag_store.specs.Flushes.{HasStored, CutShort}
+use Rattle.dag_store.specs.Changes.{HasStored, CutShort}
 use Rattle.dag_run.specs.Enough.{HasEnough, IsEnoughFor, IsEnoughOn}
 use Rattle.dag_run.specs.declared.stops.Stop.{Stop}
 use Rattle.dag_run.specs.declared.stops.Stop.TheVariants.{Sink, NotStored}

@@ -22,7 +22,7 @@ use crate::replies::{
 };
 use crate::stops::Stop;
 use command_lines::{Command, CommandFault, Reply, Verb};
-use dag_store::{Ask, Flushed, Refusal, Store};
+use dag_store::{Ask, Changed, Refusal, Store};
 use disk_trait::Disk;
 use line_io::{Line, Sink};
 use mirror_set::Mirrors;
@@ -154,12 +154,12 @@ fn tell_change<D: Disk, O: Sink, R: Remote>(
     }
     let _limit = store.log_limit();
     match store.change(log, s, mirrors, ask) {
-        Flushed::Done(store, counts, clock) => {
+        Changed::Done(store, counts, clock) => {
             note(changes, clock);
             tell_done(store, ask, counts, output)
         }
-        Flushed::Refused(store, refusal) => tell_refused(store, refusal, output),
-        Flushed::Disk(_) => {
+        Changed::Refused(store, refusal) => tell_refused(store, refusal, output),
+        Changed::Disk(_) => {
             tell_fault(output);
             Err(Stop::NotStored)
         }

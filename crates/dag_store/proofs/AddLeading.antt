@@ -25,8 +25,8 @@ use Rattle.dag_store.specs.declared.replies.Added.TheVariants.{New, Old}
 use Rattle.store_plans.specs.Sessions.{PlainSession, base_added}
 use Rattle.dag_store.specs.Kept.{PlainStore, IsKept, session_at, no_cache, sixteen}
 use Rattle.dag_store.specs.Stands.{IsAnswerable, Stands, StandsBeside}
-use Rattle.store_plans.specs.Looking.{AreRight, AsksAlike, IsSoundCache, refusal_in, seen_tests}
-use Rattle.dag_store.specs.Adding.{AddsRow, IsSeen, add_tests, room_test}
+use Rattle.store_plans.specs.Looking.{AreRight, AsksAlike, IsSoundCache, refusal_in, seen_tests, IsSeen}
+use Rattle.dag_store.specs.Adding.{AddsRow, add_tests, room_test}
 use Rattle.dag_store.specs.Steps.{Leads, add_reply}
 use Rattle.dag_store.proofs.AddingWorlds.{pending-named}
 use Rattle.dag_store.proofs.Leading.{leads-to, next-goes, payloads-are, right-base, session-seen, sound-of, test-same, tests-same}

@@ -27,8 +27,8 @@ use Rattle.dag_store.specs.declared.adding.Sought.TheVariants as sought
 use Rattle.dag_store.specs.declared.replies.Added.{Added}
 use Rattle.dag_store.specs.declared.replies.Added.TheVariants.{New, Old}
 use Rattle.store_plans.specs.Sessions.{PlainSession, base_added}
-use Rattle.store_plans.specs.Looking.{AreRight, test_in, seen_tests}
-use Rattle.dag_store.specs.Adding.{AddsRow, Appends, IsSeen, Seeks, add_tests, room_test}
+use Rattle.store_plans.specs.Looking.{AreRight, test_in, seen_tests, IsSeen}
+use Rattle.dag_store.specs.Adding.{AddsRow, Appends, Seeks, add_tests, room_test}
 use Rattle.dag_store.proofs.AddingRows.{next-id, next-pending}
 use Rattle.store_plans.proofs.Lines.{all-there}
 use Rattle.store_plans.proofs.Trials.{tried-last, tried-memory, tried-stop, tried-then}

@@ -18,9 +18,8 @@ use Rattle.change_rules.specs.Lawful.{AreLawful}
 use Rattle.name_map.specs.Added.{Placed, payloads_of}
 use Rattle.flat_segments.specs.Placed.{PlacedSegment, placed_segments}
 use Rattle.change_rules.specs.Tables.{StandFor, newest, other_names_in}
-use Rattle.payload_tables.specs.declared.base.BaseRef.{BaseRef}
 use Rattle.payload_tables.specs.Pending.{HeldRow, PlainPending, HoldsRows, row_names, segments_from}
-use Rattle.payload_tables.specs.Bases.{IsBaseOf, MayView, ArePending, held_row}
+use Rattle.payload_tables.specs.Bases.{ArePending, held_row}
 use Rattle.payload_tables.proofs.Lists.{all-append, names-length, parents-known}
 use Rattle.payload_tables.proofs.Naming.{whole-names}
 use Rattle.payload_tables.proofs.Rows.{count-rows}
@@ -29,8 +28,8 @@ use Rattle.flush_rebuild.proofs.Numbered.{AllRows, Behind}
 use Rattle.flush_rebuild.proofs.Invented.{FitBehind, some-world}
 use Rattle.flush_rebuild.proofs.Asking.{stored-names, lawful-small}
 use Rattle.store_plans.specs.Sessions.{PlainSession, IsSessionOf, base_added}
-use Rattle.store_plans.specs.Looking.{Sees, IsViewId}
-use Rattle.dag_store.specs.Adding.{IsSeen, MayBeParents, Appends}
+use Rattle.store_plans.specs.Looking.{IsViewId, IsSeen}
+use Rattle.dag_store.specs.Adding.{MayBeParents, Appends}
 use Rattle.dag_store.specs.declared.replies.Added.{Added}
 use Rattle.dag_store.specs.declared.replies.Added.TheVariants.{New, Old}
 use Rattle.step_rules.specs.declared.Refusal.{Refusal}
@@ -128,18 +127,6 @@ module _ (added : List Placed) (w : World Name) (stand : StandFor (payloads_of a
     distinct = subst AreDistinct (sym (names-of-rows (with_pending w rows) rows)) (history-distinct (names_of (rows_of w)) rows parts);
     fresh = λ x i j. history-apart (names_of (rows_of w)) rows x parts (stored-there added w stand rows p.view x j) (subst (IsIn x) (names-of-rows (with_pending w rows) rows) i);
   }
-
--- pending rows that may be stored may be seen behind the base
-pub may-view : (base : BaseRef) (added : List Placed) (pending : PlainPending) → IsBaseOf base added → MayStore pending added → MayView base added pending
-may-view base added pending b s = record {
-  rows = s.rows;
-  held = s.held;
-  first = s.first;
-  parents = subst (λ n. HaveParents n s.rows) (sym b.count) s.parents;
-}
-
-pub sees-of : (base : BaseRef) (added : List Placed) (x : PlainSession) (w : World Name) (rows : List (Row Name)) → IsBaseOf base (base_added added x) → IsSeen added x w rows → Sees base x.pending (base_added added x) w rows
-sees-of base added x w rows b s = record { base_of = b; stand = s.stand; world = s.world; pending_rows = s.pending_rows; view = s.view }
 
 pub seen-small : (added : List Placed) (x : PlainSession) (w : World Name) (rows : List (Row Name)) → AreLawful [] (payloads_of added) → IsSeen added x w rows → length w.master ≤ 16777216
 seen-small added x w rows lawful s = let n = lawful-small (base_added added x) (base-lawful added x.payloads lawful) in let c = s.stand.count in omega (arith, n, c)

@@ -17,13 +17,13 @@ use Rattle.step_rules.specs.Worlds.{flush_of}
 use Rattle.store_plans.specs.declared.changing.Next.{Next}
 use Rattle.dag_store.specs.declared.asks.Ask.{Ask}
 use Rattle.dag_store.specs.declared.asks.Ask.TheVariants as asks
-use Rattle.dag_store.specs.declared.replies.Flushed.{Flushed}
+use Rattle.dag_store.specs.declared.replies.Changed.{Changed}
 use Rattle.store_plans.specs.Sessions.{PlainSession}
 use Rattle.store_plans.specs.Looking.{IsSoundCache}
 use Rattle.store_plans.specs.Changes.{HasRoom, IsOn, IsPrepared, strip_of}
 use Rattle.dag_store.specs.Kept.{PlainStore, IsKept, session_at, sixteen}
 use Rattle.dag_store.specs.Stands.{Stands, StandsBeside}
-use Rattle.dag_store.specs.Flushes.{FlushLeaves}
+use Rattle.dag_store.specs.Changes.{ChangeLeaves}
 use Rattle.dag_store.specs.Finishes.{FinishesAs, payload_in}
 use Rattle.dag_store.specs.Asks.{verb_of, MayBeAsked, HasNames, KeepsCache, PreparesAsk, MayChange, AskStep, AskAnswers}
 use Rattle.dag_store.proofs.FlushStored.{on-of}
@@ -38,8 +38,8 @@ use Rattle.dag_store.proofs.PullSteps.{pull-ends}
 module _ (log : Held) (tables : PlainTables) (sessions : List PlainSession) (limits : Limits) (k : IsKept log tables sessions limits) (s : ℕ) (small : s < sixteen) (a b : PlainCache) (first left : List Mirror)
     (q : PlainStore) (view : record { log = log; sessions = sessions; limits = limits; cache = a } ≡ q) (x : PlainSession) (there : x ≡ session_at sessions s) (reserved : Held) (room : HasRoom log reserved) (told then : Option Told)
     (sound : IsSoundCache a → IsSoundCache b) (after : PlainTables) (next : Result Next Refusal)
-    (made : MatchResult next (λ ready. IsPrepared limits log reserved tables after k.added ready.change ready.session) (λ refusal. after ≡ tables)) (at : ℕ) (is : at ≡ s) (end : Flushed)
-    (ends : FinishesAs reserved sessions limits b at next end) (leaves : Goes (FlushLeaves (record { log = log; sessions = sessions; limits = limits; cache = a }) (payload_in next) end) told then) where
+    (made : MatchResult next (λ ready. IsPrepared limits log reserved tables after k.added ready.change ready.session) (λ refusal. after ≡ tables)) (at : ℕ) (is : at ≡ s) (end : Changed)
+    (ends : FinishesAs reserved sessions limits b at next end) (leaves : Goes (ChangeLeaves (record { log = log; sessions = sessions; limits = limits; cache = a }) (payload_in next) end) told then) where
   abbrev kept : PlainStore
   kept = record { log = log; sessions = sessions; limits = limits; cache = a }
 
@@ -48,7 +48,7 @@ module _ (log : Held) (tables : PlainTables) (sessions : List PlainSession) (lim
 
   abbrev pub Answers : Verb → Type 0
   Answers verb =
-      (payload : List ℕ) × Goes (FlushLeaves q payload end) told then
+      (payload : List ℕ) × Goes (ChangeLeaves q payload end) told then
       × ((began : ℕ) (st : State) → StandsBeside began q first st → MayChange verb st first → AskStep began q left st s verb payload end)
       × ((began : ℕ) (st : Stored) → Stands began q st → AskAnswers q.limits st s (length (log_bytes q.log)) verb first left payload end)
 

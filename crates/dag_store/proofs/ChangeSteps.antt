@@ -22,20 +22,20 @@ use Rattle.step_rules.specs.Asking.{TriesAll}
 use Rattle.step_rules.specs.Step.{CommandStep, GoesOutside}
 use Rattle.step_rules.proofs.Trying.{tried-all}
 use Rattle.store_plans.specs.declared.changing.Next.{Next}
-use Rattle.dag_store.specs.declared.replies.Flushed.{Flushed as Ended}
-use Rattle.dag_store.specs.declared.replies.Flushed.TheVariants as ends
+use Rattle.dag_store.specs.declared.replies.Changed.{Changed as Ended}
+use Rattle.dag_store.specs.declared.replies.Changed.TheVariants as ends
 use Rattle.store_plans.specs.Sessions.{PlainSession}
 use Rattle.dag_store.specs.Kept.{PlainStore, IsKept, sixteen}
 use Rattle.dag_store.specs.Stands.{Stands, StandsBeside}
 use Rattle.store_plans.specs.Looking.{AreRight, IsSoundCache, Tried, refusal_in}
 use Rattle.dag_store.specs.Steps.{Leads}
-use Rattle.dag_store.specs.Flushes.{ChangeStep, StoresBy, refused_flush}
+use Rattle.dag_store.specs.Changes.{ChangeStep, StoresBy, refused_flush}
 use Rattle.store_plans.specs.Changes.{HasRoom, IsPlanTo, IsPrepared, PreparesChange}
 use Rattle.dag_store.specs.Finishes.{FinishesAs, Finishes, payload_in}
 use Rattle.dag_store.proofs.Leading.{leads-to, next-goes, outside_next}
 use Rattle.store_plans.proofs.ChangeSizes.{worlds-decided}
 use Rattle.dag_store.proofs.FlushStored.{stands-room}
-use Rattle.dag_store.proofs.Changed.{stands-as-before, stands-changed}
+use Rattle.dag_store.proofs.StandsChanged.{stands-as-before, stands-changed}
 
 -- What is known of a command that makes the stored world this one: which steps it takes behind its tests; and where none of these
 -- refuses it, that this is a world that the payloads hold with that of the change.

@@ -44,20 +44,20 @@ use Rattle.step_rules.specs.Step.{CommandStep, AnsweredFirst, Clones, TakesFrom,
 use Rattle.step_rules.proofs.Kept.{step-state}
 use Rattle.step_rules.proofs.Plain.{all-tries}
 use Rattle.store_plans.specs.declared.changing.Next.{Next}
-use Rattle.dag_store.specs.declared.replies.Flushed.{Flushed as Ended}
-use Rattle.dag_store.specs.declared.replies.Flushed.TheVariants as ends
+use Rattle.dag_store.specs.declared.replies.Changed.{Changed as Ended}
+use Rattle.dag_store.specs.declared.replies.Changed.TheVariants as ends
 use Rattle.store_plans.specs.Sessions.{PlainSession}
 use Rattle.dag_store.specs.Kept.{PlainStore, IsKept, sixteen}
 use Rattle.dag_store.specs.Stands.{IsOutsideOf, Stands, StandsBeside}
 use Rattle.store_plans.specs.Changes.{HasRoom, IsPrepared, refusal_of}
-use Rattle.dag_store.specs.Flushes.{FlushLeaves}
+use Rattle.dag_store.specs.Changes.{ChangeLeaves}
 use Rattle.dag_store.specs.Finishes.{FinishesAs, Finishes, payload_in}
 use Rattle.dag_store.specs.Clones.{clone_end, StoresCloneBy, beside, CloneStep, CloneAnswers}
 use Rattle.store_plans.specs.ClonePlans.{RefusesAsked, RefusesClone, TakesTold, PlansClone}
 use Rattle.store_plans.proofs.Counts.{others-many}
 use Rattle.dag_store.proofs.FlushStored.{on-of, stands-room}
 use Rattle.store_plans.proofs.CloneTold.{told-by, passed-empty, tests-told}
-use Rattle.dag_store.proofs.Changed.{stands-as-before, stands-changed}
+use Rattle.dag_store.proofs.StandsChanged.{stands-as-before, stands-changed}
 
 -- ---- steps
 
@@ -304,7 +304,7 @@ nothing-kept began kept tables k st h s small passed =
 
 abbrev Answers : PlainStore → ℕ → List Mirror → List Mirror → Ended → Option Told → Option Told → Type 0
 Answers q s first left end a b =
-    (payload : List ℕ) × Goes (FlushLeaves q payload end) a b
+    (payload : List ℕ) × Goes (ChangeLeaves q payload end) a b
     × ((began : ℕ) (st : State) → StandsBeside began q first st → (length (rows_of st.store.stored) ≡ 0 → IsServed st) → CloneStep began q left st s payload end)
     × ((began : ℕ) (st : Stored) → Stands began q st → CloneAnswers q.limits st s (length (log_bytes q.log)) first left payload end)
 
@@ -312,7 +312,7 @@ module _ (kept q : PlainStore) (is : kept ≡ q) (tables : PlainTables) (k : IsK
     (reserved : Held) (room : HasRoom kept.log reserved) (a b : Option Told) where
   clone-done : (after : PlainTables) (ready : Next) → IsPrepared kept.limits kept.log reserved tables after k.added ready.change ready.session
       → ((began : ℕ) (st : Stored) → Stands began kept st → PlansClone kept.limits st s (length (log_bytes kept.log)) first left ready.change)
-      → (end : Ended) → Finishes reserved (set kept.sessions s ready.session) kept.limits kept.cache ready.change end → Goes (FlushLeaves kept ready.change.payload end) a b → Answers q s first left end a b
+      → (end : Ended) → Finishes reserved (set kept.sessions s ready.session) kept.limits kept.cache ready.change end → Goes (ChangeLeaves kept ready.change.payload end) a b → Answers q s first left end a b
   clone-done after ready p asks end f goes_so = subst (λ v. Answers v s first left end a b) is (
     ready.change.payload,
     goes_so,
@@ -323,7 +323,7 @@ module _ (kept q : PlainStore) (is : kept ≡ q) (tables : PlainTables) (k : IsK
   )
 
   clone-not-done : (same : PlainStore) → same ≡ record { log = reserved; sessions = kept.sessions; limits = kept.limits; cache = kept.cache } → (refusal : Refusal)
-      → ((began : ℕ) (st : Stored) → Stands began kept st → RefusesClone kept.limits st s (length (log_bytes kept.log)) first left refusal) → Goes (FlushLeaves kept [] (ends.Refused same refusal)) a b
+      → ((began : ℕ) (st : Stored) → Stands began kept st → RefusesClone kept.limits st s (length (log_bytes kept.log)) first left refusal) → Goes (ChangeLeaves kept [] (ends.Refused same refusal)) a b
       → Answers q s first left (ends.Refused same refusal) a b
   clone-not-done same same_is refusal asks goes_so = subst (λ v. Answers v s first left (ends.Refused same refusal) a b) is (
     [],
@@ -337,11 +337,11 @@ module _ (kept q : PlainStore) (is : kept ≡ q) (tables : PlainTables) (k : IsK
   pub clone-ends : (after : PlainTables) (next : Result Next Refusal) → MatchResult next (λ ready. IsPrepared kept.limits kept.log reserved tables after k.added ready.change ready.session) (λ refusal. after ≡ tables)
       → ((began : ℕ) (st : Stored) → Stands began kept st → MatchResult next
       (λ ready. PlansClone kept.limits st s (length (log_bytes kept.log)) first left ready.change) (RefusesClone kept.limits st s (length (log_bytes kept.log)) first left))
-      → (at : ℕ) → at ≡ s → (end : Ended) → FinishesAs reserved kept.sessions kept.limits kept.cache at next end → Goes (FlushLeaves kept (payload_in next) end) a b
-      → (payload : List ℕ) × Goes (FlushLeaves q payload end) a b
+      → (at : ℕ) → at ≡ s → (end : Ended) → FinishesAs reserved kept.sessions kept.limits kept.cache at next end → Goes (ChangeLeaves kept (payload_in next) end) a b
+      → (payload : List ℕ) × Goes (ChangeLeaves q payload end) a b
       × ((began : ℕ) (st : State) → StandsBeside began q first st → (length (rows_of st.store.stored) ≡ 0 → IsServed st) → CloneStep began q left st s payload end)
       × ((began : ℕ) (st : Stored) → Stands began q st → CloneAnswers q.limits st s (length (log_bytes q.log)) first left payload end)
   clone-ends after (Ok ready) p asks at same end e goes_so = clone-done after ready p asks end (subst (λ n. Finishes reserved (set kept.sessions n ready.session) kept.limits kept.cache ready.change end) same e) goes_so
   clone-ends after (Err refusal) p asks at same end e goes_so =
       let handed : PlainStore = record { log = reserved; sessions = kept.sessions; limits = kept.limits; cache = kept.cache } in
-      subst (λ z. Answers q s first left z a b) (sym e) (clone-not-done handed refl refusal asks (subst (λ z. Goes (FlushLeaves kept [] z) a b) e goes_so))
+      subst (λ z. Answers q s first left z a b) (sym e) (clone-not-done handed refl refusal asks (subst (λ z. Goes (ChangeLeaves kept [] z) a b) e goes_so))

@@ -9,11 +9,11 @@ use Rattle.payload_tables.specs.Kept.{PlainTables}
 use Rattle.lazy_names.specs.Cache.{PlainCache}
 use Rattle.step_rules.specs.declared.Refusal.{Refusal}
 use Rattle.store_plans.specs.declared.changing.Next.{Next}
-use Rattle.dag_store.specs.declared.replies.Flushed.{Flushed}
+use Rattle.dag_store.specs.declared.replies.Changed.{Changed}
 use Rattle.store_plans.specs.Sessions.{PlainSession}
 use Rattle.dag_store.specs.Kept.{PlainStore, IsKept}
 use Rattle.store_plans.specs.Changes.{IsPrepared}
-use Rattle.dag_store.specs.Flushes.{FlushLeaves}
+use Rattle.dag_store.specs.Changes.{ChangeLeaves}
 use Rattle.dag_store.specs.Finishes.{IsBehind, IsToFinish, payload_in}
 use Rattle.dag_store.proofs.FlushStored.{kept-room, newest-kept, stored-kept}
 use Rattle.dag_store.proofs.FlushDisk.{leaves-room}
@@ -46,10 +46,10 @@ module _ (old log : Held) (before after : PlainTables) (sessions : List PlainSes
       kept-room old log after sessions limits m.room (subst (λ t. IsKept old t sessions limits) (sym stays) m.kept)
 
 -- a disk is left as the commit leaves it, whichever sessions the store has then
-pub finish-leaves : (log : Held) (sessions later : List PlainSession) (limits : Limits) (cache : PlainCache) (next : Result Next Refusal) (ready : Next) → next ≡ Ok ready → (end : Flushed) (a b : Option Told)
-    → Goes (FlushLeaves (record { log = log; sessions = later; limits = limits; cache = cache }) ready.change.payload end) a b
-    → Goes (FlushLeaves (record { log = log; sessions = sessions; limits = limits; cache = cache }) (payload_in next) end) a b
+pub finish-leaves : (log : Held) (sessions later : List PlainSession) (limits : Limits) (cache : PlainCache) (next : Result Next Refusal) (ready : Next) → next ≡ Ok ready → (end : Changed) (a b : Option Told)
+    → Goes (ChangeLeaves (record { log = log; sessions = later; limits = limits; cache = cache }) ready.change.payload end) a b
+    → Goes (ChangeLeaves (record { log = log; sessions = sessions; limits = limits; cache = cache }) (payload_in next) end) a b
 finish-leaves log sessions later limits cache next ready is end a b h =
     let kept : PlainStore = record { log = log; sessions = sessions; limits = limits; cache = cache } in
-    subst (λ n. Goes (FlushLeaves (record { log = log; sessions = sessions; limits = limits; cache = cache }) (payload_in n) end) a b) (sym is)
+    subst (λ n. Goes (ChangeLeaves (record { log = log; sessions = sessions; limits = limits; cache = cache }) (payload_in n) end) a b) (sym is)
     (leaves-room kept log refl later cache ready.change.payload end a b h)

@@ -10,12 +10,12 @@ use Rattle.lazy_names.specs.Cache.{PlainCache}
 use Rattle.flush_rebuild.specs.declared.plan.Change.{Change}
 use Rattle.step_rules.specs.declared.Refusal.{Refusal}
 use Rattle.store_plans.specs.declared.changing.Next.{Next}
-use Rattle.dag_store.specs.declared.replies.Flushed.{Flushed}
-use Rattle.dag_store.specs.declared.replies.Flushed.TheVariants.{Done, Refused, Disk}
+use Rattle.dag_store.specs.declared.replies.Changed.{Changed}
+use Rattle.dag_store.specs.declared.replies.Changed.TheVariants.{Done, Refused, Disk}
 use Rattle.store_plans.specs.Sessions.{PlainSession}
 use Rattle.dag_store.specs.Kept.{PlainStore}
 use Rattle.store_plans.specs.Changes.{HasRoom}
-use Rattle.dag_store.specs.Flushes.{HasStored, FlushLeaves, LeavesStore}
+use Rattle.dag_store.specs.Changes.{HasStored, ChangeLeaves, LeavesStore}
 use Rattle.dag_store.specs.Finishes.{FinishesAs, Finishes}
 
 -- the payload is stored
@@ -39,7 +39,7 @@ module _ (kept : PlainStore) (reserved : Held) (room : HasRoom kept.log reserved
   since : (payload : List ℕ) (a b : Told) → KeepsOldOrNew reserved payload a b → KeepsOldOrNew kept.log payload a b
   since payload a b h = subst (λ l. KeepsOldOrNew l payload a b) room h
 
-  leaves : (payload : List ℕ) (end : Flushed) (a b : Told) → FlushLeaves other payload end a b → FlushLeaves kept payload end a b
+  leaves : (payload : List ℕ) (end : Changed) (a b : Told) → ChangeLeaves other payload end a b → ChangeLeaves kept payload end a b
   leaves payload (Done new counts (Some clock)) a b h = record {
     now = h.now;
     calls = h.calls;
@@ -51,10 +51,10 @@ module _ (kept : PlainStore) (reserved : Held) (room : HasRoom kept.log reserved
   leaves payload (Refused same refusal) a b h = h
   leaves payload (Disk fault) a b h = record { calls = h.calls; since = since payload a b h.since }
 
-  pub leaves-room : (payload : List ℕ) (end : Flushed) (a b : Option Told) → Goes (FlushLeaves other payload end) a b → Goes (FlushLeaves kept payload end) a b
-  leaves-room payload end a b h = goes-map (FlushLeaves other payload end) (FlushLeaves kept payload end) a b (leaves payload end) h
+  pub leaves-room : (payload : List ℕ) (end : Changed) (a b : Option Told) → Goes (ChangeLeaves other payload end) a b → Goes (ChangeLeaves kept payload end) a b
+  leaves-room payload end a b h = goes-map (ChangeLeaves other payload end) (ChangeLeaves kept payload end) a b (leaves payload end) h
 
-  pub leaves-store : (s : ℕ) (x : PlainSession) (change : Change) (end : Flushed) → sessions ≡ set kept.sessions s x → Finishes reserved sessions kept.limits cache change end → LeavesStore kept s end
+  pub leaves-store : (s : ℕ) (x : PlainSession) (change : Change) (end : Changed) → sessions ≡ set kept.sessions s x → Finishes reserved sessions kept.limits cache change end → LeavesStore kept s end
   leaves-store s x change (Done new counts (Some clock)) e f =
       let names : cache ≡ new.cache = sym (ap (λ (v : PlainStore). v.cache) f.1) in
       ((x, f.1 ∙ ap₂ (λ (l : List PlainSession) (n : PlainCache). record { log = new.log; sessions = l; limits = kept.limits; cache = n }) e names), f.3.2)
@@ -73,7 +73,7 @@ module _ (kept : PlainStore) (reserved : Held) (room : HasRoom kept.log reserved
   leaves-store s x change (Disk fault) e f = tt
 
 -- the same of what was prepared or refused
-pub leaves-ends : (kept : PlainStore) (reserved : Held) (room : HasRoom kept.log reserved) (cache : PlainCache) (s at : ℕ) → at ≡ s → (next : Result Next Refusal) (end : Flushed) → FinishesAs reserved kept.sessions kept.limits cache at next end → LeavesStore kept s end
+pub leaves-ends : (kept : PlainStore) (reserved : Held) (room : HasRoom kept.log reserved) (cache : PlainCache) (s at : ℕ) → at ≡ s → (next : Result Next Refusal) (end : Changed) → FinishesAs reserved kept.sessions kept.limits cache at next end → LeavesStore kept s end
 leaves-ends kept reserved room cache s at is (Ok ready) end e =
     leaves-store kept reserved room (set kept.sessions at ready.session) cache s ready.session ready.change end (ap (λ n. set kept.sessions n ready.session) is) e
 leaves-ends kept reserved room cache s at is (Err refusal) end e =

@@ -17,13 +17,13 @@ use Rattle.step_rules.specs.Tests.{tests}
 use Rattle.step_rules.specs.Reply.{Reply}
 use Rattle.step_rules.specs.Verb.{Verb, Reload}
 use Rattle.store_plans.specs.declared.changing.Next.{Next}
-use Rattle.dag_store.specs.declared.replies.Flushed.{Flushed}
+use Rattle.dag_store.specs.declared.replies.Changed.{Changed}
 use Rattle.store_plans.specs.Sessions.{PlainSession, IsSessionOf}
 use Rattle.dag_store.specs.Kept.{PlainStore, IsKept, session_at, sixteen}
 use Rattle.dag_store.specs.Stands.{IsAnswerable, Stands, StandsBeside}
 use Rattle.store_plans.specs.Looking.{AreRight, AsksAlike, IsSoundCache, refusal_in}
 use Rattle.dag_store.specs.Steps.{Leads, reload_reply}
-use Rattle.dag_store.specs.Flushes.{ChangeStep, FlushLeaves}
+use Rattle.dag_store.specs.Changes.{ChangeStep, ChangeLeaves}
 use Rattle.store_plans.specs.Changes.{HasRoom, AreOver, IsOn, IsPrepared, PreparesChange, Reloads}
 use Rattle.dag_store.specs.Finishes.{FinishesAs, payload_in}
 use Rattle.dag_store.proofs.Leading.{right-now, sound-of}
@@ -87,15 +87,15 @@ module _ (log : Held) (tables : PlainTables) (sessions : List PlainSession) (lim
 
     module _ (verb : Verb) (sizes : ℕ → ℕ → Reply) (new_of : Stored → World Name) (can : (began : ℕ) (st : State) → IsOn began k.added x st.store s → MakesWorld limits st s verb sizes (new_of st.store))
         (reserved : Held) (room : HasRoom log reserved) (told then : Option Told) where
-      abbrev Answers : PlainStore → Flushed → Type 0
-      Answers v end = (payload : List ℕ) × Goes (FlushLeaves v payload end) told then
+      abbrev Answers : PlainStore → Changed → Type 0
+      Answers v end = (payload : List ℕ) × Goes (ChangeLeaves v payload end) told then
           × ((began : ℕ) (st : State) → StandsBeside began v old st → IsAnswerable st → ChangeStep began v st s verb sizes (new_of st.store) new payload end)
 
       pub change-ends-at : (sound : IsSoundCache a → IsSoundCache b) (after : PlainTables) (next : Result Next Refusal)
           → MatchResult next (λ ready. IsPrepared limits log reserved tables after k.added ready.change ready.session) (λ refusal. after ≡ tables)
           → ((began : ℕ) (st : Stored) → IsOn began k.added x st s → PreparesChange limits st s verb (new_of st) old new a b next)
-          → (at : ℕ) → at ≡ s → (end : Flushed) → FinishesAs reserved sessions limits b at next end → Goes (FlushLeaves (kept_with a) (payload_in next) end) told then
-          → (payload : List ℕ) × Goes (FlushLeaves q payload end) told then × ((began : ℕ) (st : State) → StandsBeside began q old st → IsAnswerable st → ChangeStep began q st s verb sizes (new_of st.store) new payload end)
+          → (at : ℕ) → at ≡ s → (end : Changed) → FinishesAs reserved sessions limits b at next end → Goes (ChangeLeaves (kept_with a) (payload_in next) end) told then
+          → (payload : List ℕ) × Goes (ChangeLeaves q payload end) told then × ((began : ℕ) (st : State) → StandsBeside began q old st → IsAnswerable st → ChangeStep began q st s verb sizes (new_of st.store) new payload end)
       change-ends-at sound after next p f at is end ends leaves = subst (λ v. Answers v end) view (
         payload_in next,
         leaves,

@@ -3,7 +3,7 @@ use Rattle.std.proofs.Common.{◌≡◌, ◌≤◌, refl, inl, inr, ⊎_elim, �
 use Rattle.std.specs.List.{AllByRecursion}
 use Rattle.std.proofs.lemmas.List.{append_cancel_left}
 use Rattle.segment_codec.proofs.Tables.{le_or_lt}
-use Rattle.gated_log.specs.Log.{IsLog, HasLength, batches, batch}
+use Rattle.gated_log.specs.Log.{IsLog, HasLength, batches}
 use Rattle.gated_log.proofs.Growth.{batches-append}
 use Rattle.payload_tables.proofs.Lists.{all-append}
 

@@ -1,7 +1,7 @@
 -- A call that looks names up is a step of the state.
 use Rattle.std.proofs.Common.{◌≡◌, ◌<◌, ◌≤◌, ◌+◌, ◌&&◌, ℕ, zero, suc, Bool, true, false, inl, inr, ◌⊎◌, List, [], ◌∷◌, ◌++◌, length, map, flat_map, take, drop, nat_eq, Option, Some, None, Result, Ok, Err, is_some, refl, sym, ap, ap₂, subst, ◌∙◌, ⊎_elim, arith, true≢false, if◌then◌else◌, le_refl, length-append}
 use Rattle.std.specs.Prelude.{◌↔◌}
-use Rattle.std.proofs.lemmas.List.{length-map, take-append-drop}
+use Rattle.std.proofs.lemmas.List.{length-map}
 use Rattle.id_groups.specs.Lists.{IsIn, AreAllIn, AreDistinct, is_in}
 use Rattle.id_groups.specs.Name.{Name, same_name}
 use Rattle.commit_graph.specs.World.{Row, World, GrowsMaster, names_of}
@@ -10,11 +10,11 @@ use Rattle.commit_graph.proofs.Naming.{each, all-each}
 use Rattle.batch_codec.specs.Payload.{Payload}
 use Rattle.change_rules.specs.Lawful.{AreLawful}
 use Rattle.gated_log.specs.Held.{Held}
-use Rattle.name_map.specs.Added.{Placed, payloads_of, AllStand}
+use Rattle.name_map.specs.Added.{payloads_of}
 use Rattle.change_rules.specs.declared.Limits.{Limits}
 use Rattle.change_rules.specs.Lazy.{is_lazy}
 use Rattle.change_rules.specs.Tables.{cloned_count}
-use Rattle.payload_tables.specs.Kept.{PlainTables, AreTablesOf}
+use Rattle.payload_tables.specs.Kept.{PlainTables}
 use Rattle.payload_tables.proofs.Lists.{same-self, same-exact}
 use Rattle.remote_rules.specs.CloneData.{KnownName}
 use Rattle.remote_rules.specs.Mirror.{Mirror}
@@ -33,8 +33,7 @@ use Rattle.step_rules.proofs.Sessions.{newest-now}
 use Rattle.store_plans.specs.Sessions.{PlainSession, base_added}
 use Rattle.dag_store.specs.Kept.{PlainStore, IsKept, session_at, no_cache, sixteen}
 use Rattle.dag_store.specs.Stands.{IsAnswerable, Stands, IsOutsideOf, StandsBeside}
-use Rattle.store_plans.specs.Looking.{AreRight, AreTablesBehind, AsksAlike, IsSoundCache, entries_of, found_in, refusal_in, test_in, FindsOne}
-use Rattle.dag_store.specs.Adding.{IsSeen}
+use Rattle.store_plans.specs.Looking.{AreRight, AsksAlike, IsSoundCache, entries_of, found_in, refusal_in, test_in, FindsOne, IsSeen}
 use Rattle.dag_store.specs.Querying.{Evaluates}
 use Rattle.dag_store.specs.Steps.{CountStep, Leads, id_reply}
 use Rattle.set_expr.specs.Expr.{Expr, commits_in}
@@ -243,12 +242,6 @@ module _ (log : Held) (tables : PlainTables) (sessions : List PlainSession) (lim
 
   pub payloads-are : payloads_of (base_added k.added (session_at sessions s)) ≡ take (began + (session st s).base) st.payloads
   payloads-are = base-are log tables sessions limits k began st h s lt
-
--- all tables, behind those of a session's base
-pub tables-behind : (tables : PlainTables) (bytes : List ℕ) (added : List Placed) (x : PlainSession) → AreTablesOf tables added → AllStand bytes added → AreTablesBehind tables bytes (base_added added x)
-tables-behind tables bytes added x t stand =
-    let whole = sym (take-append-drop x.payloads added) in
-    record { behind = drop x.payloads added; tables_of = subst (AreTablesOf tables) whole t; stand = subst (AllStand bytes) whole stand }
 
 -- the cache of a store that stands for a state
 pub sound-of : (began : ℕ) (kept : PlainStore) (mirrors : List Mirror) (st : State) → StandsBeside began kept mirrors st → IsSoundCache kept.cache

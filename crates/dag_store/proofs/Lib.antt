@@ -22,7 +22,7 @@ pub mod AddingRows
 pub mod AddingWorlds
 pub mod AddingSession
 pub mod AddLeading
-pub mod Changed
+pub mod StandsChanged
 pub mod CloneSteps
 pub mod FlushStored
 pub mod FlushDisk

@@ -52,8 +52,7 @@ use Rattle.dag_store.specs.declared.query.Found.{Found}
 use Rattle.store_plans.specs.Sessions.{PlainSession, IsSessionOf, base_added}
 use Rattle.dag_store.specs.Kept.{PlainStore, IsKept, session_at, no_cache, sixteen}
 use Rattle.dag_store.specs.Stands.{IsAnswerable, Stands, StandsBeside}
-use Rattle.store_plans.specs.Looking.{AreRight, AsksAlike, IsSoundCache, IsViewId, entries_of, found_in, refusal_in, seen_tests}
-use Rattle.dag_store.specs.Adding.{IsSeen}
+use Rattle.store_plans.specs.Looking.{AreRight, AsksAlike, IsSoundCache, IsViewId, entries_of, found_in, refusal_in, seen_tests, IsSeen}
 use Rattle.dag_store.specs.Querying.{AreNamesIn, AreViewIds, AsksQuery, Evaluates, Fetches, FetchesSo, FindsMembers, IsRightEnd, Prints, absent_ids, absent_of, lazy_ids, printing}
 use Rattle.dag_store.specs.Steps.{Leads, QueryStep, known_name}
 use Rattle.dag_store.proofs.AddingWorlds.{seen-small}

@@ -19,7 +19,7 @@ use Rattle.change_rules.specs.Tables.{newest, other_names_in}
 use Rattle.payload_tables.specs.declared.base.BaseRef.{BaseRef}
 use Rattle.payload_tables.specs.Kept.{PlainTables, AreTablesOf}
 use Rattle.payload_tables.specs.Pending.{HeldRow, PlainPending, HoldsRows, row_names, segments_from}
-use Rattle.payload_tables.specs.Bases.{IsBaseOf, MayView, held_row}
+use Rattle.payload_tables.specs.Bases.{IsBaseOf, held_row}
 use Rattle.payload_tables.proofs.Lists.{names-length}
 use Rattle.payload_tables.proofs.Naming.{whole-names}
 use Rattle.flush_rebuild.specs.Asked.{others_count, HaveParents, MayStore}
@@ -27,8 +27,7 @@ use Rattle.flush_rebuild.proofs.Asking.{stored-names}
 use Rattle.flush_rebuild.proofs.Numbered.{AllRows, Behind}
 use Rattle.flush_rebuild.proofs.Invented.{FitBehind, some-world}
 use Rattle.store_plans.specs.Sessions.{PlainSession, IsSessionOf, base_added}
-use Rattle.store_plans.specs.Looking.{Sees}
-use Rattle.dag_store.specs.Adding.{IsSeen}
+use Rattle.store_plans.specs.Looking.{Sees, IsSeen}
 use Rattle.store_plans.proofs.LawfulParts.{lawful-front}
 
 parents-fit : (m k id : ℕ) → id ≡ 2 ^ 56 + k → (ps : List ℕ) → AllByRecursion (λ p. p < id) ps → AllByRecursion (λ p. (p < m) ⊎ (2 ^ 56 ≤ p)) ps → AllByRecursion (λ p. (p < m) ⊎ ((2 ^ 56 ≤ p) × (p < 2 ^ 56 + k))) ps
@@ -85,10 +84,6 @@ module _ (tables : PlainTables) (added : List Placed) (x : PlainSession) (t : Ar
       )
 
   module _ (base : BaseRef) (b : IsBaseOf base (base_added added x)) where
-    -- its rows may stand behind its base
-    pub may-view : MayView base (base_added added x) x.pending
-    may-view = record { rows = of.pending.rows; held = of.pending.held; first = of.pending.first; parents = subst (λ n. HaveParents n of.pending.rows) (sym b.count) of.pending.parents }
-
-    -- and what it is said to see, it sees through the base
+    -- what it is said to see, it sees through the base
     pub seen-by : (w : World Name) (rows : List (Row Name)) → IsSeen added x w rows → Sees base x.pending (base_added added x) w rows
     seen-by w rows h = record { base_of = b; stand = h.stand; world = h.world; pending_rows = h.pending_rows; view = h.view }

@@ -4,12 +4,10 @@ use Rattle.std.specs.List.{AllByRecursion}
 use Rattle.id_groups.specs.Lists.{IsIn, AreDistinct}
 use Rattle.id_groups.specs.Name.{Name, same_name}
 use Rattle.id_groups.specs.Id.{other_id}
-use Rattle.commit_graph.specs.World.{Row, World, IsNamedWorld, names_of, with_pending}
+use Rattle.commit_graph.specs.World.{Row, World, names_of, with_pending}
 use Rattle.commit_graph.specs.Ids.{id_in}
 use Rattle.batch_codec.specs.Payload.{Payload}
-use Rattle.name_map.specs.Added.{Placed, payloads_of}
 use Rattle.change_rules.specs.Lazy.{stored_names}
-use Rattle.change_rules.specs.Tables.{StandFor}
 use Rattle.change_rules.specs.declared.Limit.TheVariants as limit
 use Rattle.payload_tables.specs.Bases.{ArePending}
 use Rattle.payload_tables.specs.Pending.{HeldRow, PlainPending, HoldsRows}
@@ -23,7 +21,7 @@ use Rattle.dag_store.specs.declared.adding.Sought.{Sought}
 use Rattle.dag_store.specs.declared.adding.Sought.TheVariants as sought
 use Rattle.dag_store.specs.declared.replies.Added.{Added}
 use Rattle.dag_store.specs.declared.replies.Added.TheVariants.{New, Old}
-use Rattle.store_plans.specs.Sessions.{PlainSession, base_added}
+use Rattle.store_plans.specs.Sessions.{PlainSession}
 use Rattle.store_plans.specs.Looking.{AreRight, IsViewId, Tried, refusal_in, test_in, seen_tests}
 
 -- a parent that is given twice
@@ -81,13 +79,6 @@ Appends most old rows name ids (Ok (Old id)) new = ⊥
 Appends most old rows name ids (Err (why.Full what n)) new = (most ≤ length rows) × (what ≡ limit.Pending) × (n ≡ most)
 Appends most old rows name ids (Err why.Memory) new = ⊤
 Appends most old rows name ids (Err _) new = ⊥
-
--- the session sees this world with these rows behind it
-pub record IsSeen (added : List Placed) (x : PlainSession) (w : World Name) (rows : List (Row Name)) : Type 0 where
-  pub stand : StandFor (payloads_of (base_added added x)) w
-  pub world : IsNamedWorld w
-  pub pending_rows : ArePending w x.pending rows
-  pub view : IsNamedWorld (with_pending w rows)
 
 -- whether there is room for the row, where it isn't there
 abbrev pub room_test : ℕ → World Name → List (Row Name) → Name → Test

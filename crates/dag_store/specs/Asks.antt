@@ -19,10 +19,10 @@ use Rattle.store_plans.specs.ClonePlans.{PlansClone, RefusesClone}
 use Rattle.store_plans.specs.PullPlans.{PlansPull, RefusesPull}
 use Rattle.dag_store.specs.declared.asks.Ask.{Ask}
 use Rattle.dag_store.specs.declared.asks.Ask.TheVariants as asks
-use Rattle.dag_store.specs.declared.replies.Flushed.{Flushed}
+use Rattle.dag_store.specs.declared.replies.Changed.{Changed}
 use Rattle.dag_store.specs.Kept.{PlainStore}
 use Rattle.dag_store.specs.Stands.{IsAnswerable}
-use Rattle.dag_store.specs.Flushes.{FlushStep, StripStep, refused_flush}
+use Rattle.dag_store.specs.Changes.{FlushStep, StripStep, refused_flush}
 use Rattle.dag_store.specs.Clones.{CloneStep, CloneAnswers}
 use Rattle.dag_store.specs.Pulls.{AllBeginWith, PullStep, PullAnswers}
 
@@ -73,7 +73,7 @@ MayChange Pull st mirrors = AllBeginWith st.store mirrors
 MayChange _ st mirrors = ⊥
 
 -- what a change answers for a state that the store stands for
-abbrev pub AskStep : ℕ → PlainStore → List Mirror → State → ℕ → Verb → List ℕ → Flushed → Type 0
+abbrev pub AskStep : ℕ → PlainStore → List Mirror → State → ℕ → Verb → List ℕ → Changed → Type 0
 AskStep began old left st s (Flush heads) payload end = FlushStep began old st s heads left payload end
 AskStep began old left st s (Strip names) payload end = StripStep began old st s names left payload end
 AskStep began old left st s Clone payload end = CloneStep began old left st s payload end
@@ -81,7 +81,7 @@ AskStep began old left st s Pull payload end = PullStep began old left st s payl
 AskStep began old left st s _ payload end = ⊥
 
 -- what it asks the mirrors and answers by what they tell, whoever they are, over a log of so many bytes
-abbrev pub AskAnswers : Limits → Stored → ℕ → ℕ → Verb → List Mirror → List Mirror → List ℕ → Flushed → Type 0
+abbrev pub AskAnswers : Limits → Stored → ℕ → ℕ → Verb → List Mirror → List Mirror → List ℕ → Changed → Type 0
 AskAnswers limits st s log (Flush heads) first left payload end = AsksAlike st.payloads st.stored (tests limits st s (Flush heads)) first left (refused_flush end)
 AskAnswers limits st s log (Strip names) first left payload end = AsksAlike st.payloads st.stored (tests limits st s (Strip names)) first left (refused_flush end)
 AskAnswers limits st s log Clone first left payload end = CloneAnswers limits st s log first left payload end

@@ -13,8 +13,8 @@ use Rattle.step_rules.specs.Verb.{Clone}
 use Rattle.step_rules.specs.Reply.{Cloned, Refused as IsRefusal}
 use Rattle.step_rules.specs.Worlds.{after_change}
 use Rattle.step_rules.specs.Step.{CommandStep, AnsweredFirst}
-use Rattle.dag_store.specs.declared.replies.Flushed.{Flushed}
-use Rattle.dag_store.specs.declared.replies.Flushed.TheVariants.{Done, Refused, Disk}
+use Rattle.dag_store.specs.declared.replies.Changed.{Changed}
+use Rattle.dag_store.specs.declared.replies.Changed.TheVariants.{Done, Refused, Disk}
 use Rattle.dag_store.specs.Kept.{PlainStore}
 use Rattle.dag_store.specs.Stands.{StandsBeside}
 use Rattle.store_plans.specs.ClonePlans.{RefusesClone, TakesTold}
@@ -43,7 +43,7 @@ beside st now left = record { store = now; outside = record { cache = st.outside
 -- What a clone answers for a state that the store stands for, beside mirrors that serve it where nothing is stored: the step's reply, and a store that stands
 -- for the state after it, whose master has the rows of the mirror that is first then; or the refusal, and the store as it was; or,
 -- at a fault of the disk, the store is gone, and the payload is the one of the step that was to be taken.
-abbrev pub CloneStep : ℕ → PlainStore → List Mirror → State → ℕ → List ℕ → Flushed → Type 0
+abbrev pub CloneStep : ℕ → PlainStore → List Mirror → State → ℕ → List ℕ → Changed → Type 0
 CloneStep began old left st s payload (Done new counts clock) =
     (rows : List (Row Name)) × AnsweredFirst left rows
     × CommandStep old.limits st s Clone (Cloned counts.master) (beside st (clone_end st.store s rows) left)
@@ -56,7 +56,7 @@ CloneStep began old left st s payload (Disk fault) =
     × StoresCloneBy st.store s rows payload
 
 -- What a clone answers by what the mirrors told, over a log of so many bytes. The payload is that of what was told.
-abbrev pub CloneAnswers : Limits → Stored → ℕ → ℕ → List Mirror → List Mirror → List ℕ → Flushed → Type 0
+abbrev pub CloneAnswers : Limits → Stored → ℕ → ℕ → List Mirror → List Mirror → List ℕ → Changed → Type 0
 CloneAnswers limits st s log first left payload (Done new counts clock) =
     (told : CloneData) × TakesTold limits st s log first left told × (payload ≡ told_payload told) × (counts.master ≡ told_count told)
 CloneAnswers limits st s log first left payload (Refused same refusal) = RefusesClone limits st s log first left refusal

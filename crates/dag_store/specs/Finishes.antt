@@ -9,8 +9,8 @@ use Rattle.payload_tables.specs.Kept.{PlainTables}
 use Rattle.step_rules.specs.declared.Refusal.{Refusal}
 use Rattle.store_plans.specs.declared.changing.Next.{Next}
 use Rattle.dag_store.specs.declared.replies.Counts.{Counts}
-use Rattle.dag_store.specs.declared.replies.Flushed.{Flushed}
-use Rattle.dag_store.specs.declared.replies.Flushed.TheVariants.{Done, Refused, Disk}
+use Rattle.dag_store.specs.declared.replies.Changed.{Changed}
+use Rattle.dag_store.specs.declared.replies.Changed.TheVariants.{Done, Refused, Disk}
 use Rattle.store_plans.specs.Sessions.{PlainSession}
 use Rattle.dag_store.specs.Kept.{IsKept, sixteen}
 use Rattle.store_plans.specs.Changes.{IsPrepared, HasRoom}
@@ -26,7 +26,7 @@ pub record IsBehind (old : Held) (payload : List ℕ) (new : Held) : Type 0 wher
   pub place : StandsFrom (length (log_bytes old) + 8) payload (log_bytes new)
 
 -- Nothing to store, or stored: the log has one payload more.
-abbrev pub Finishes : Held → List PlainSession → Limits → PlainCache → Change → Flushed → Type 0
+abbrev pub Finishes : Held → List PlainSession → Limits → PlainCache → Change → Changed → Type 0
 Finishes log sessions limits cache change (Done new counts None) =
     (change.same ≡ true) × (new ≡ record { log = log; sessions = sessions; limits = limits; cache = cache }) × CountsOf change counts
 Finishes log sessions limits cache change (Done new counts (Some clock)) =
@@ -48,6 +48,6 @@ payload_in (Ok ready) = ready.change.payload
 payload_in (Err refusal) = []
 
 -- The change of what was prepared ends, with its session in this place; or the store is handed back with the refusal.
-abbrev pub FinishesAs : Held → List PlainSession → Limits → PlainCache → ℕ → Result Next Refusal → Flushed → Type 0
+abbrev pub FinishesAs : Held → List PlainSession → Limits → PlainCache → ℕ → Result Next Refusal → Changed → Type 0
 FinishesAs log sessions limits cache at (Ok ready) end = Finishes log (slice_set sessions at ready.session) limits cache ready.change end
 FinishesAs log sessions limits cache at (Err refusal) end = end ≡ Refused (record { log = log; sessions = sessions; limits = limits; cache = cache }) refusal

@@ -6,7 +6,7 @@ pub mod Querying
 pub mod Bounds
 pub mod Steps
 pub mod Loading
-pub mod Flushes
+pub mod Changes
 pub mod Clones
 pub mod Finishes
 pub mod Following

@@ -15,12 +15,12 @@ use Rattle.step_rules.specs.Verb.{Pull}
 use Rattle.step_rules.specs.Reply.{Pulled, Refused as IsRefusal}
 use Rattle.step_rules.specs.Worlds.{after_flush}
 use Rattle.step_rules.specs.Step.{CommandStep, AnsweredFirst}
-use Rattle.dag_store.specs.declared.replies.Flushed.{Flushed}
-use Rattle.dag_store.specs.declared.replies.Flushed.TheVariants.{Done, Refused, Disk}
+use Rattle.dag_store.specs.declared.replies.Changed.{Changed}
+use Rattle.dag_store.specs.declared.replies.Changed.TheVariants.{Done, Refused, Disk}
 use Rattle.dag_store.specs.Kept.{PlainStore}
 use Rattle.dag_store.specs.Stands.{StandsBeside}
 use Rattle.dag_store.specs.Clones.{beside}
-use Rattle.dag_store.specs.Flushes.{Stores, StoresBy}
+use Rattle.dag_store.specs.Changes.{Stores, StoresBy}
 use Rattle.store_plans.specs.PullPlans.{pull_of, rows_told, RefusesPull, TakesFresh}
 
 -- what is stored after it
@@ -35,7 +35,7 @@ AllBeginWith st mirrors = AllByRecursion (BeginsWith (cloned_count st.payloads) 
 -- reply, and a store that stands for the state after it, whose master has the new rows of the mirror that is first then; or the
 -- refusal, and the store as it was; or, at a fault of the disk, the store is gone, and the payload is the one of the step that was to
 -- be taken.
-abbrev pub PullStep : ℕ → PlainStore → List Mirror → State → ℕ → List ℕ → Flushed → Type 0
+abbrev pub PullStep : ℕ → PlainStore → List Mirror → State → ℕ → List ℕ → Changed → Type 0
 PullStep began old left st s payload (Done new counts clock) =
     (rows : List (Row Name)) × AnsweredFirst left rows
     × CommandStep old.limits st s Pull (Pulled counts.master counts.others) (beside st (pull_end st.store s rows) left)
@@ -48,7 +48,7 @@ PullStep began old left st s payload (Disk fault) =
     × StoresBy st.store s (pull_of st.store rows) payload
 
 -- What a pull answers by what the mirrors told: the payload is that of the change to the world with the rows that were told.
-abbrev pub PullAnswers : Limits → Stored → ℕ → List Mirror → List Mirror → List ℕ → Flushed → Type 0
+abbrev pub PullAnswers : Limits → Stored → ℕ → List Mirror → List Mirror → List ℕ → Changed → Type 0
 PullAnswers limits st s first left payload (Done new counts clock) =
     (fresh : PlainFresh) × TakesFresh limits st s first left fresh
     × (AreMaster (rows_told st fresh) → IsChangeOf st.stored (pull_of st (rows_told st fresh)) payload

@@ -5,29 +5,27 @@ ghost use Rattle.id_groups.specs.Lists.{IsIn, AreDistinct, is_in};
 ghost use Rattle.id_groups.specs.Name.{Name as NameBytes, same_name};
 ghost use Rattle.commit_graph.specs.World.{Row, World};
 ghost use Rattle.name_map.specs.Added.{Placed, payloads_of, AllStand};
-ghost use Rattle.change_rules.specs.Lazy.{has_lazy};
 ghost use Rattle.payload_tables.specs.Kept.{AreTablesOf};
-ghost use Rattle.payload_tables.specs.Bases.{IsBaseOf, MayView};
 ghost use Rattle.payload_tables.specs.Pending.{HeldRow, HoldsRows, row_names};
 ghost use Rattle.step_rules.specs.State.{State, Stored, base_of, session};
 ghost use Rattle.step_rules.specs.Tests.{twice, tests};
 ghost use Rattle.step_rules.specs.Verb.{Add as ToAdd, IdOf};
 ghost use Rattle.store_plans.specs.Sessions.{IsSessionOf, base_added};
-ghost use Rattle.store_plans.specs.Looking.{AreTablesBehind, Sees, AsksAlike, IsSoundCache, refusal_in, FindsOne, FindsAll, items_of};
-ghost use Rattle.dag_store.specs.Adding.{FindsParents, IsTwice, Seeks, MayBeParents, Appends, IsSeen, AddsRow};
+ghost use Rattle.store_plans.specs.Looking.{MaySee, Shows, AsksAlike, IsSoundCache, refusal_in, FindsOne, FindsAll, items_of, IsSeen};
+ghost use Rattle.dag_store.specs.Adding.{FindsParents, IsTwice, Seeks, MayBeParents, Appends, AddsRow};
 ghost use Rattle.dag_store.specs.Stands.{IsAnswerable, Stands, StandsBeside};
 ghost use Rattle.dag_store.specs.Steps.{ChangesOnly, KeepsAll, Leads, add_reply, id_reply};
 
 use crate::replies::Added;
 use crate::store::Store;
-use flush_rebuild::{BaseRef, Limit, PendingRows, Tables};
+use flush_rebuild::{Limit, PendingRows, Tables};
 use id_groups::{Id, Name};
 use lazy_names::LazyNames;
 use mirror_set::Mirrors;
 use remote_trait::Remote;
 use std::alloc::Global;
 use step_rules::Refusal;
-use store_plans::{Session, are_names, find, find_seen, has_parents, has_unnamed};
+use store_plans::{Seen, Session, are_names, find, find_seen, has_parents};
 
 /// What an add comes to before it changes anything.
 #[derive(Drop)]
@@ -66,19 +64,14 @@ fn refuse_twice(parents: &[Name]) -> Result<(), Refusal>
 /// The ids of names in a session's view, in order. They are looked up from left to right.
 fn find_all<R: Remote>(
     alloc: Global,
-    bytes: &[u8],
-    tables: &Tables,
-    base: &BaseRef<'_>,
-    unnamed: bool,
-    pending: &PendingRows,
+    seen: &Seen<'_>,
     cache: &mut LazyNames,
     mirrors: &mut Vec<R>,
     names: &[Name],
 ) -> Result<Vec<Id>, Refusal>
     requires mirrors { length mirrors.old.items < 2 ^ 32 }
-    requires view { (added : List Placed) × IsBaseOf base.now added × MayView base.now added pending.now }
-    ensures finds { (added : List Placed) (w : World NameBytes) (rows : List (Row NameBytes)) → Sees base.now pending.now added w rows → AreTablesBehind tables.now bytes.now added
-        → unnamed ≡ has_lazy (payloads_of added) w
+    requires view { (added : List Placed) × MaySee seen.now added }
+    ensures finds { (added : List Placed) (w : World NameBytes) (rows : List (Row NameBytes)) → Shows seen.now added w rows
         → FindsAll (payloads_of added) w rows names.now (map R.shown mirrors.old.items) (map R.shown mirrors.new.items) cache.old cache.new (items_of result) }
     ensures count { IfOk result (λ ids. length ids.items ≡ length names.now) }
     ensures sound { IsSoundCache cache.old → IsSoundCache cache.new }
@@ -88,9 +81,7 @@ fn find_all<R: Remote>(
         return Err(Refusal::Memory);
     };
     'names: for name in names {
-        let id = find_seen(
-            alloc, bytes, tables, base, unnamed, pending, cache, mirrors, name,
-        )?;
+        let id = find_seen(alloc, seen, cache, mirrors, name)?;
         let Ok(()) = ids.push(id) else {
             return Err(Refusal::Memory);
         };
@@ -126,27 +117,20 @@ fn refuse_same(ids: &[Id], parents: &[Name]) -> Result<(), Refusal>
 /// The ids of parents, in order, no two of which may be the same.
 fn find_parents<R: Remote>(
     alloc: Global,
-    bytes: &[u8],
-    tables: &Tables,
-    base: &BaseRef<'_>,
-    unnamed: bool,
-    pending: &PendingRows,
+    seen: &Seen<'_>,
     cache: &mut LazyNames,
     mirrors: &mut Vec<R>,
     parents: &[Name],
 ) -> Result<Vec<Id>, Refusal>
     requires mirrors { length mirrors.old.items < 2 ^ 32 }
-    requires view { (added : List Placed) × IsBaseOf base.now added × MayView base.now added pending.now }
-    ensures finds { (added : List Placed) (w : World NameBytes) (rows : List (Row NameBytes)) → Sees base.now pending.now added w rows → AreTablesBehind tables.now bytes.now added
-        → unnamed ≡ has_lazy (payloads_of added) w
+    requires view { (added : List Placed) × MaySee seen.now added }
+    ensures finds { (added : List Placed) (w : World NameBytes) (rows : List (Row NameBytes)) → Shows seen.now added w rows
         → FindsParents (payloads_of added) w rows parents.now (map R.shown mirrors.old.items) (map R.shown mirrors.new.items) cache.old cache.new (items_of result) }
     ensures distinct { IfOk result (λ ids. AreDistinct ids.items) }
     ensures sound { IsSoundCache cache.old → IsSoundCache cache.new }
     ensures len { length mirrors.new.items ≡ length mirrors.old.items }
 {
-    let ids = find_all(
-        alloc, bytes, tables, base, unnamed, pending, cache, mirrors, parents,
-    )?;
+    let ids = find_all(alloc, seen, cache, mirrors, parents)?;
     refuse_twice(parents)?;
     refuse_same(&ids, parents)?;
     Ok(ids)
@@ -155,35 +139,26 @@ fn find_parents<R: Remote>(
 /// Looks up a commit and its parents, and refuses it for all but the number of rows.
 fn seek<R: Remote>(
     alloc: Global,
-    bytes: &[u8],
-    tables: &Tables,
-    base: &BaseRef<'_>,
-    unnamed: bool,
-    pending: &PendingRows,
+    seen: &Seen<'_>,
     cache: &mut LazyNames,
     mirrors: &mut Vec<R>,
     name: &Name,
     parents: &[Name],
 ) -> Result<Sought, Refusal>
     requires mirrors { length mirrors.old.items < 2 ^ 32 }
-    requires view { (added : List Placed) × IsBaseOf base.now added × MayView base.now added pending.now }
+    requires view { (added : List Placed) × MaySee seen.now added }
     requires few { length parents.now ≤ 8 }
-    ensures seeks { (added : List Placed) (w : World NameBytes) (rows : List (Row NameBytes)) → Sees base.now pending.now added w rows → AreTablesBehind tables.now bytes.now added
-        → unnamed ≡ has_lazy (payloads_of added) w
+    ensures seeks { (added : List Placed) (w : World NameBytes) (rows : List (Row NameBytes)) → Shows seen.now added w rows
         → Seeks (payloads_of added) w rows name.now parents.now (map R.shown mirrors.old.items) (map R.shown mirrors.new.items) cache.old cache.new result }
     ensures sound { IsSoundCache cache.old → IsSoundCache cache.new }
     ensures len { length mirrors.new.items ≡ length mirrors.old.items }
 {
-    let found = find(
-        alloc, bytes, tables, base, unnamed, pending, cache, mirrors, name,
-    )?;
-    let ids = find_parents(
-        alloc, bytes, tables, base, unnamed, pending, cache, mirrors, parents,
-    )?;
+    let found = find(alloc, seen, cache, mirrors, name)?;
+    let ids = find_parents(alloc, seen, cache, mirrors, parents)?;
     let Some(id) = found else {
         return Ok(Sought::New(ids));
     };
-    if !has_parents(&base.view(pending), id, &ids) {
+    if !has_parents(&seen.base.view(seen.pending), id, &ids) {
         return Err(Refusal::Differs(*name));
     }
     Ok(Sought::Old(id))
@@ -237,20 +212,8 @@ fn add_row<R: Remote>(
     ensures sound { IsSoundCache cache.old → IsSoundCache cache.new }
     ensures len { length mirrors.new.items ≡ length mirrors.old.items }
 {
-    let base = session.base(bytes, tables);
-    let unnamed = has_unnamed(tables, session.below);
-    match seek(
-        alloc,
-        bytes,
-        tables,
-        &base,
-        unnamed,
-        &session.pending,
-        cache,
-        mirrors,
-        name,
-        parents,
-    )? {
+    let seen = session.seen(bytes, tables);
+    match seek(alloc, &seen, cache, mirrors, name, parents)? {
         Sought::Old(id) => Ok(Added::Old(id)),
         Sought::New(ids) => append(&mut session.pending, most, name, &ids),
     }
@@ -274,19 +237,8 @@ fn find_id<R: Remote>(
     ensures sound { IsSoundCache cache.old → IsSoundCache cache.new }
     ensures len { length mirrors.new.items ≡ length mirrors.old.items }
 {
-    let base = session.base(bytes, tables);
-    let unnamed = has_unnamed(tables, session.below);
-    find_seen(
-        alloc,
-        bytes,
-        tables,
-        &base,
-        unnamed,
-        &session.pending,
-        cache,
-        mirrors,
-        name,
-    )
+    let seen = session.seen(bytes, tables);
+    find_seen(alloc, &seen, cache, mirrors, name)
 }
 
 impl Store {
@@ -321,7 +273,7 @@ impl Store {
             &self.tables,
             self.limits.pending,
             session,
-            &mut self.names,
+            &mut self.cache,
             &mut mirrors.list,
             name,
             parents,
@@ -350,7 +302,7 @@ impl Store {
             self.log.bytes(),
             &self.tables,
             session,
-            &mut self.names,
+            &mut self.cache,
             &mut mirrors.list,
             name,
         )

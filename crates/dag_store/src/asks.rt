@@ -17,7 +17,9 @@ use lazy_names::LazyNames;
 use remote_trait::Remote;
 use std::alloc::Global;
 use step_rules::Refusal;
-use store_plans::{Next, Session, are_names, prepare, prepare_clone, prepare_pull, prepare_strip};
+use store_plans::{
+    Next, Session, are_names, prepare_clone, prepare_flush, prepare_pull, prepare_strip,
+};
 
 /// What a session asks of a store that may change what is stored.
 #[derive(Clone, Copy)]
@@ -78,7 +80,7 @@ pub(crate) fn prepare_ask<R: Remote>(
     match ask {
         Ask::Flush(heads) => {
             are_names(heads);
-            prepare(alloc, log, tables, session, cache, mirrors, heads, limits)
+            prepare_flush(alloc, log, tables, session, cache, mirrors, heads, limits)
         }
         Ask::Strip(names) => prepare_strip(
             alloc, log, tables, session, cache, mirrors, names, limits,

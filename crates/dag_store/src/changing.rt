@@ -11,12 +11,12 @@ ghost use Rattle.step_rules.specs.Verb.{Reload as ToReload};
 ghost use Rattle.dag_store.specs.Stands.{IsAnswerable, Stands, StandsBeside};
 ghost use Rattle.store_plans.specs.Looking.{AsksAlike, refusal_in};
 ghost use Rattle.dag_store.specs.Steps.{ChangesOnly, KeepsAll, Leads, reload_reply};
-ghost use Rattle.dag_store.specs.Flushes.{FlushLeaves, IsQuiet, LeavesStore};
+ghost use Rattle.dag_store.specs.Changes.{ChangeLeaves, IsQuiet, LeavesStore};
 ghost use Rattle.dag_store.specs.Asks.{verb_of, MayBeAsked, MayChange, AskStep, AskAnswers};
 
 use crate::asks::{Ask, prepare_ask};
 use crate::finishing::finish;
-use crate::replies::Flushed;
+use crate::replies::Changed;
 use crate::store::Store;
 use disk_trait::Disk;
 use mirror_set::Mirrors;
@@ -46,7 +46,7 @@ impl Store {
             &self.log,
             &self.tables,
             &self.sessions[at],
-            &mut self.names,
+            &mut self.cache,
             &mut mirrors.list,
         )?;
         let left = next.pending.len();
@@ -65,18 +65,18 @@ impl Store {
         s: u8,
         mirrors: &mut Mirrors<R>,
         ask: Ask<'_>,
-    ) -> Flushed
+    ) -> Changed
         requires session { s < 16 }
         requires asked { MayBeAsked (verb_of ask) }
         requires begins { IfSome (D.told disk.old) (IsOnDisk self.log) }
         ensures step { let first = map R.shown mirrors.old.list.items in let left = map R.shown mirrors.new.list.items in
-            (payload : List ℕ) × Goes (FlushLeaves self payload result) (D.told disk.old) (D.told disk.new)
+            (payload : List ℕ) × Goes (ChangeLeaves self payload result) (D.told disk.old) (D.told disk.new)
             × ((began : ℕ) (st : State) → StandsBeside began self first st → MayChange (verb_of ask.entry) st first → AskStep began self left st s (verb_of ask.entry) payload result)
             × ((began : ℕ) (st : Stored) → Stands began self st → AskAnswers self.limits st s (length (log_bytes self.log)) (verb_of ask.entry) first left payload result) }
         ensures leaves { LeavesStore self s result }
         ensures quiet { IsQuiet result → disk.new ≡ disk.old }
         ensures later { D.faults disk.old ≤ D.faults disk.new }
-        ensures cause { (fault : _) → result ≡ Flushed.Disk fault → Rose (D.faults disk.old) (D.faults disk.new) }
+        ensures cause { (fault : _) → result ≡ Changed.Disk fault → Rose (D.faults disk.old) (D.faults disk.new) }
     {
         let Store {
             alloc,
@@ -84,7 +84,7 @@ impl Store {
             mut tables,
             sessions,
             limits,
-            mut names,
+            cache: mut names,
         } = self;
         let at = usize::from(s);
         let list = &mut mirrors.list;

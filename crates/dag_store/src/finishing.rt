@@ -7,10 +7,10 @@ ghost use Rattle.gated_log.specs.Held.{Held, longer};
 ghost use Rattle.gated_log.specs.Holding.{IsOnDisk};
 ghost use Rattle.payload_tables.specs.Kept.{PlainTables};
 ghost use Rattle.dag_store.specs.Kept.{IsKept};
-ghost use Rattle.dag_store.specs.Flushes.{FlushLeaves, IsQuiet};
+ghost use Rattle.dag_store.specs.Changes.{ChangeLeaves, IsQuiet};
 ghost use Rattle.dag_store.specs.Finishes.{FinishesAs, Finishes, IsBehind, IsToFinish, payload_in};
 
-use crate::replies::{Counts, Flushed};
+use crate::replies::{Changed, Counts};
 use crate::store::Store;
 use disk_trait::Disk;
 use flush_rebuild::{Change, Limits, Tables};
@@ -30,17 +30,17 @@ fn commit<D: Disk>(
     limits: Limits,
     names: LazyNames,
     change: Change,
-) -> Flushed
+) -> Changed
     requires begins { IfSome (D.told disk.old) (IsOnDisk log) }
     requires limit { log.limit ≡ limits.log }
     requires same { change.same ≡ true → IsKept log tables.value sessions.items limits }
     requires room { change.same ≡ false → (longer log change.payload ≤ log.limit) × (longer log change.payload ≤ log.room) }
     requires stored { (new : Held) → change.same ≡ false → IsBehind log change.payload new → IsKept new tables.value sessions.items limits }
     ensures finishes { Finishes log sessions.items limits names change result }
-    ensures leaves { Goes (FlushLeaves (record { log = log; sessions = sessions.items; limits = limits; cache = names }) change.payload result) (D.told disk.old) (D.told disk.new) }
+    ensures leaves { Goes (ChangeLeaves (record { log = log; sessions = sessions.items; limits = limits; cache = names }) change.payload result) (D.told disk.old) (D.told disk.new) }
     ensures quiet { change.same ≡ true → disk.new ≡ disk.old }
     ensures later { D.faults disk.old ≤ D.faults disk.new }
-    ensures cause { (fault : _) → result ≡ Flushed.Disk fault → Rose (D.faults disk.old) (D.faults disk.new) }
+    ensures cause { (fault : _) → result ≡ Changed.Disk fault → Rose (D.faults disk.old) (D.faults disk.new) }
 {
     let counts = Counts {
         master: change.master,
@@ -54,9 +54,9 @@ fn commit<D: Disk>(
             tables,
             sessions,
             limits,
-            names,
+            cache: names,
         };
-        return Flushed::Done(store, counts, None);
+        return Changed::Done(store, counts, None);
     }
     match log.commit(disk, change.payload.bytes()) {
         Committed::Done(log, clock) => {
@@ -66,11 +66,11 @@ fn commit<D: Disk>(
                 tables,
                 sessions,
                 limits,
-                names,
+                cache: names,
             };
-            Flushed::Done(store, counts, Some(clock))
+            Changed::Done(store, counts, Some(clock))
         }
-        Committed::Disk(fault) => Flushed::Disk(fault),
+        Committed::Disk(fault) => Changed::Disk(fault),
         Committed::Full(_log, _limit) => unreachable!(),
         Committed::Memory(_log) => unreachable!(),
     }
@@ -87,14 +87,14 @@ pub(crate) fn finish<D: Disk>(
     names: LazyNames,
     at: usize,
     next: Result<Next, Refusal>,
-) -> Flushed
+) -> Changed
     requires begins { IfSome (D.told disk.old) (IsOnDisk log) }
     requires made { (old : Held) × (before : PlainTables) × IsToFinish old log before tables.value sessions.items limits at next }
     ensures ends { FinishesAs log sessions.items limits names at next result }
-    ensures leaves { Goes (FlushLeaves (record { log = log; sessions = sessions.items; limits = limits; cache = names }) (payload_in next) result) (D.told disk.old) (D.told disk.new) }
+    ensures leaves { Goes (ChangeLeaves (record { log = log; sessions = sessions.items; limits = limits; cache = names }) (payload_in next) result) (D.told disk.old) (D.told disk.new) }
     ensures quiet { IsQuiet result → disk.new ≡ disk.old }
     ensures later { D.faults disk.old ≤ D.faults disk.new }
-    ensures cause { (fault : _) → result ≡ Flushed.Disk fault → Rose (D.faults disk.old) (D.faults disk.new) }
+    ensures cause { (fault : _) → result ≡ Changed.Disk fault → Rose (D.faults disk.old) (D.faults disk.new) }
 {
     let mut sessions = sessions;
     match next {
@@ -110,9 +110,9 @@ pub(crate) fn finish<D: Disk>(
                 tables,
                 sessions,
                 limits,
-                names,
+                cache: names,
             };
-            Flushed::Refused(store, refusal)
+            Changed::Refused(store, refusal)
         }
     }
 }

@@ -127,7 +127,7 @@ fn with_payload(
         tables,
         sessions,
         limits,
-        names,
+        cache: names,
     }
 }
 
@@ -153,7 +153,7 @@ impl Store {
             mut tables,
             sessions,
             limits,
-            names,
+            cache: names,
         } = self;
         match take_payload(&mut log, &mut tables, payload) {
             Ok(()) => {
@@ -166,7 +166,7 @@ impl Store {
                     tables,
                     sessions,
                     limits,
-                    names,
+                    cache: names,
                 };
                 Taken::Refused(store, fault)
             }

@@ -23,7 +23,7 @@ pub use high_segments::LevelCounts;
 pub use laws::{logs_go_on, stores_stand};
 pub use names::Names;
 pub use query::Found;
-pub use replies::{Added, Counts, Flushed, LoadFault};
+pub use replies::{Added, Changed, Counts, LoadFault};
 pub use set_query::{Answer, Expr};
 pub use step_rules::{Refusal, isolation_law};
 pub use store::Store;

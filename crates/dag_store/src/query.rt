@@ -1,24 +1,20 @@
 //! The answers of expressions in a session's view.
 
-ghost use Rattle.std.specs.Prelude.{◌≡◌, ◌<◌, ◌≤◌, ◌+◌, ◌^◌, ℕ, List, None, Some, length, map, take, IfOk, MatchResult};
-ghost use Rattle.id_groups.specs.Lists.{AreAllIn};
+ghost use Rattle.std.specs.Prelude.{◌≡◌, ◌<◌, ◌≤◌, ◌+◌, ◌^◌, ℕ, List, length, map, take, IfOk, MatchResult};
 ghost use Rattle.id_groups.specs.Name.{Name as NameBytes, same_name};
-ghost use Rattle.commit_graph.specs.World.{Row, World, names_of, rows_of, with_pending};
+ghost use Rattle.commit_graph.specs.World.{Row, World, with_pending};
 ghost use Rattle.commit_graph.specs.Ids.{id_in};
 ghost use Rattle.name_map.specs.Added.{Placed, payloads_of, AllStand};
-ghost use Rattle.span_set.specs.Members.{IsMember, ids_of};
+ghost use Rattle.span_set.specs.Members.{ids_of};
 ghost use Rattle.set_expr.specs.Expr.{commits_in};
 ghost use Rattle.set_expr.specs.Whole.{tree_of};
-ghost use Rattle.change_rules.specs.Lazy.{has_lazy};
 ghost use Rattle.payload_tables.specs.Kept.{AreTablesOf};
-ghost use Rattle.payload_tables.specs.Bases.{IsBaseOf, MayView};
 ghost use Rattle.step_rules.specs.State.{State, Stored, base_of, pending_of, session, view_of};
 ghost use Rattle.step_rules.specs.Tests.{tests};
 ghost use Rattle.step_rules.specs.Verb.{Query as ToQuery, Count as ToCount};
 ghost use Rattle.store_plans.specs.Sessions.{IsSessionOf, base_added};
 ghost use Rattle.dag_store.specs.Stands.{IsAnswerable, Stands, StandsBeside};
-ghost use Rattle.store_plans.specs.Looking.{AreTablesBehind, Sees, AreRight, AsksAlike, IsSoundCache, refusal_in, FindsAll, items_of};
-ghost use Rattle.dag_store.specs.Adding.{IsSeen};
+ghost use Rattle.store_plans.specs.Looking.{MaySee, Shows, AreRight, AsksAlike, IsSoundCache, refusal_in, FindsAll, items_of, IsSeen};
 ghost use Rattle.dag_store.specs.Bounds.{EndsWithoutParents, ancestors_of, most_looks};
 ghost use Rattle.dag_store.specs.Names.{names_left};
 ghost use Rattle.dag_store.specs.Querying.{AreViewIds, AsksQuery, Evaluates, Fetches, FindsMembers, IsTooLong};
@@ -26,7 +22,7 @@ ghost use Rattle.dag_store.specs.Steps.{AreIdsOf, CountStep, KeepsAll, QueryStep
 
 use crate::names::Names;
 use crate::store::Store;
-use flush_rebuild::{BaseRef, PendingRows, Tables};
+use flush_rebuild::Tables;
 use id_groups::Id;
 use lazy_names::{Fetched, LazyNames};
 use mirror_set::Mirrors;
@@ -35,7 +31,7 @@ use set_query::{Answer, Expr, eval};
 use span_set::IdSet;
 use std::alloc::Global;
 use step_rules::Refusal;
-use store_plans::{Session, find_seen, has_unnamed, refusal_of};
+use store_plans::{Seen, Session, find_seen, has_unnamed, refusal_of};
 
 /// The answer of a query, and the names of those of its ids that have no stored one.
 #[derive(Drop)]
@@ -56,36 +52,21 @@ impl Found {
 /// The ids of the names of an expression, in text order. They are looked up from left to right.
 fn find_names<R: Remote>(
     alloc: Global,
-    bytes: &[u8],
-    tables: &Tables,
-    base: &BaseRef<'_>,
-    unnamed: bool,
-    pending: &PendingRows,
+    seen: &Seen<'_>,
     cache: &mut LazyNames,
     mirrors: &mut Vec<R>,
     expr: &Expr,
 ) -> Result<Vec<Id>, Refusal>
     requires mirrors { length mirrors.old.items < 2 ^ 32 }
-    requires view { (added : List Placed) × IsBaseOf base.now added × MayView base.now added pending.now }
-    ensures finds { (added : List Placed) (w : World NameBytes) (rows : List (Row NameBytes)) → Sees base.now pending.now added w rows → AreTablesBehind tables.now bytes.now added
-        → unnamed ≡ has_lazy (payloads_of added) w
+    requires view { (added : List Placed) × MaySee seen.now added }
+    ensures finds { (added : List Placed) (w : World NameBytes) (rows : List (Row NameBytes)) → Shows seen.now added w rows
         → FindsAll (payloads_of added) w rows (commits_in (tree_of expr.now)) (map R.shown mirrors.old.items) (map R.shown mirrors.new.items) cache.old cache.new (items_of result) }
     ensures sound { IsSoundCache cache.old → IsSoundCache cache.new }
     ensures len { length mirrors.new.items ≡ length mirrors.old.items }
 {
     let mut ids = Vec::new(alloc);
     'names: for k in 0..expr.name_count() {
-        let id = find_seen(
-            alloc,
-            bytes,
-            tables,
-            base,
-            unnamed,
-            pending,
-            cache,
-            mirrors,
-            expr.name_at(k),
-        )?;
+        let id = find_seen(alloc, seen, cache, mirrors, expr.name_at(k))?;
         let Ok(()) = ids.push(id) else {
             return Err(Refusal::Memory);
         };
@@ -118,20 +99,9 @@ fn members<R: Remote>(
     ensures sound { IsSoundCache cache.old → IsSoundCache cache.new }
     ensures len { length mirrors.new.items ≡ length mirrors.old.items }
 {
-    let base = session.base(bytes, tables);
-    let unnamed = has_unnamed(tables, session.below);
-    let ids = find_names(
-        alloc,
-        bytes,
-        tables,
-        &base,
-        unnamed,
-        &session.pending,
-        cache,
-        mirrors,
-        expr,
-    )?;
-    let Ok(answer) = eval(alloc, &base.view(&session.pending), expr, &ids) else {
+    let seen = session.seen(bytes, tables);
+    let ids = find_names(alloc, &seen, cache, mirrors, expr)?;
+    let Ok(answer) = eval(alloc, &seen.base.view(seen.pending), expr, &ids) else {
         return Err(Refusal::Memory);
     };
     let _spans = answer.set().spans();
@@ -240,7 +210,7 @@ impl Store {
         let bytes = self.log.bytes();
         let tables: &Tables = &self.tables;
         let most = self.limits.answer;
-        let cache = &mut self.names;
+        let cache = &mut self.cache;
         let list = &mut mirrors.list;
         let answer = members(self.alloc, bytes, tables, session, cache, list, expr)?;
         found_in(
@@ -275,7 +245,7 @@ impl Store {
             self.log.bytes(),
             &self.tables,
             session,
-            &mut self.names,
+            &mut self.cache,
             &mut mirrors.list,
             expr,
         )

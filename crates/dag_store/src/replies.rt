@@ -42,7 +42,7 @@ pub enum LoadFault {
 
 /// How a change ended.
 #[derive(Drop)]
-pub enum Flushed {
+pub enum Changed {
     /// The store, the sizes of the stored world, and the clock at the acknowledgement, where something was stored.
     Done(Store, Counts, Option<u64>),
     /// The store as it was, and why nothing was stored.

@@ -45,7 +45,7 @@ pub struct Store {
     pub(crate) tables: Box<Tables>,
     pub(crate) sessions: Vec<Session>,
     pub(crate) limits: Limits,
-    pub(crate) names: LazyNames,
+    pub(crate) cache: LazyNames,
 }
 
 impl Model for Store {
@@ -53,7 +53,7 @@ impl Model for Store {
 
     ghost Value = { PlainStore };
 
-    ghost view = { λ s. record { log = s.log; sessions = s.sessions.items; limits = s.limits; cache = s.names } };
+    ghost view = { λ s. record { log = s.log; sessions = s.sessions.items; limits = s.limits; cache = s.cache } };
 
     ghost invariant = { λ s. IsKept s.log s.tables.value s.sessions.items s.limits };
 }
@@ -116,7 +116,7 @@ impl Store {
             tables,
             sessions,
             limits,
-            names,
+            cache: names,
         })
     }
 

@@ -1,5 +1,6 @@
 -- Who is at the other end of a link in memory.
-use Rattle.std.specs.Prelude.{ℕ, List, Option, Some, None}
+use Rattle.std.specs.Prelude.{ℕ, List, ◌++◌, drop, flat_map, Option, Some, None, Vec}
+use Rattle.std.specs.declared.alloc.Global.{Global}
 use Rattle.remote_rules.specs.Mirror.{Mirror}
 use Rattle.remote_pipe.specs.Peer.{Peer}
 use Rattle.link_memory.specs.declared.wrong.Wrong.{Wrong}
@@ -17,3 +18,7 @@ peer_over (Some wrong) m left taken = None
 abbrev pub served_over : Option (ℕ × Wrong) → Mirror → Option Mirror
 served_over None m = Some m
 served_over (Some wrong) m = None
+
+-- the bytes that are to come of frames, of the first of which so many came
+abbrev pub coming_of : ℕ → List ℕ → List (Vec ℕ Global) → List ℕ
+coming_of at first later = drop at first ++ flat_map (λ (f : Vec ℕ Global). f.items) later

@@ -12,12 +12,11 @@ ghost use Rattle.link_memory.specs.Over.{peer_over, served_over, server_of};
 use crate::coming::Coming;
 use crate::wrong::{Way, Wrong};
 use remote_pipe::{Link, LinkFault, PipeRemote};
-use remote_serve::answer_frame;
 use remote_trait::Remote;
 use std::alloc::{AllocError, Global};
 
-/// A link to a remote in memory, which is served at its other end. Each piece that is put is a request's frame, and is answered at once; none is
-/// put while bytes of an answer are still to come. It tells who is at its other end where all answers come as they are.
+/// A link to a remote in memory, which is served at its other end. Each piece that is put is a request's frame, and is answered at once: its answer
+/// comes behind those that are still to come. It tells who is at its other end where all answers come as they are.
 #[derive(Drop)]
 pub struct MemoryLink<R: Remote> {
     alloc: Global,
@@ -58,17 +57,12 @@ impl<R: Remote> MemoryLink<R> {
         ensures put_faults { self.new.put_faults ≡ self.old.put_faults }
         ensures take_faults { self.new.take_faults ≡ self.old.take_faults }
     {
-        if self.to_come.has_some() {
-            return Err(AllocError);
-        }
         self.asked.extend_from_slice(piece)?;
         if piece.len() < 4 {
             return Ok(());
         }
         let (_len, body) = piece.split_at(4);
-        let frame = answer_frame(self.alloc, &mut self.remote, body)?;
-        self.to_come = Coming::of(frame);
-        Ok(())
+        self.to_come.add_answer(self.alloc, &mut self.remote, body)
     }
 
     /// The same, with something wrong about the answer.
@@ -101,6 +95,21 @@ impl<R: Remote> MemoryLink<R> {
         }
     }
 
+    /// Whether the link fails where bytes are taken: it is broken, and all that were to come before came.
+    fn is_spent(&mut self) -> bool
+        ensures to_come { self.new.to_come ≡ self.old.to_come }
+        ensures remote { self.new.remote ≡ self.old.remote }
+        ensures way { self.new.way ≡ self.old.way }
+        ensures asked { self.new.asked.items ≡ self.old.asked.items }
+        ensures put_faults { self.new.put_faults ≡ self.old.put_faults }
+        ensures take_faults { self.new.take_faults ≡ self.old.take_faults }
+    {
+        if !self.is_broken {
+            return false;
+        }
+        !self.to_come.has_some()
+    }
+
     /// The most bytes that come at once.
     fn most(&self) -> usize
         ensures { 0 < result }
@@ -129,7 +138,7 @@ impl<R: Remote> Link for MemoryLink<R> {
     }
 
     fn take(&mut self, out: &mut [u8]) -> Result<usize, LinkFault> {
-        if self.is_broken {
+        if self.is_spent() {
             self.take_faults = self.take_faults.saturating_add(1);
             return Err(LinkFault);
         }
@@ -144,5 +153,5 @@ pub fn piped<R: Remote>(alloc: Global, remote: R, way: Way) -> PipeRemote<Memory
     ensures mirror { mirror_of result ≡ mirror_by (served_over way.wrong (R.shown remote)) 0 0 }
 {
     let link = MemoryLink::new(alloc, remote, way);
-    PipeRemote::new(link)
+    PipeRemote::new(alloc, link)
 }

@@ -12,7 +12,7 @@ use crate::link::{MemoryLink, piped};
 use crate::wrong::Way;
 use id_groups::Name;
 use remote_pipe::PipeRemote;
-use remote_trait::{CloneData, Path, Remote, RemoteFault};
+use remote_trait::{CloneData, Path, Remote, RemoteFault, Run};
 use std::alloc::Global;
 
 /// A mirror that is asked itself, or over a link in memory.
@@ -62,6 +62,20 @@ impl<R: Remote> Remote for Reached<R> {
         match self {
             Reached::Near(remote) => remote.names_of(alloc, x, back, out),
             Reached::Far(remote) => remote.names_of(alloc, x, back, out),
+        }
+    }
+
+    fn may_expect(&self) -> bool {
+        match self {
+            Reached::Near(remote) => remote.may_expect(),
+            Reached::Far(remote) => remote.may_expect(),
+        }
+    }
+
+    fn expect(&mut self, alloc: Global, runs: &[Run]) {
+        match self {
+            Reached::Near(remote) => remote.expect(alloc, runs),
+            Reached::Far(remote) => remote.expect(alloc, runs),
         }
     }
 

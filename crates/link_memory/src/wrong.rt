@@ -9,9 +9,9 @@ use std::alloc::AllocError;
 pub enum Wrong {
     /// The link fails where the request is put.
     NotPut,
-    /// The link fails where the answer is taken.
+    /// The link fails where the answer is taken, and nothing comes from then on.
     NotTaken,
-    /// So many of its bytes come, and then they end.
+    /// So many of its bytes come, and then they end, and nothing comes from then on.
     Stops(usize),
     /// The byte at this place of its frame is another one. Its length ends at place 3, its tag stands at 4, and the count of what is told
     /// ends at 8.
@@ -52,7 +52,20 @@ impl Way {
         ensures { IfSome result (λ _. is_some self.now.wrong ≡ true) }
     {
         match self.wrong {
-            Some((number, wrong)) if number == request => Some(wrong),
+            Some((number, wrong)) => wrong.at(request, number),
+            None => None,
+        }
+    }
+}
+
+impl Wrong {
+    /// What is wrong about the answer to a request, where this is about that to another one.
+    fn at(self, request: u64, number: u64) -> Option<Wrong> {
+        if request == number {
+            return Some(self);
+        }
+        match self {
+            Wrong::NotTaken | Wrong::Stops(_) if number < request => Some(Wrong::Stops(0)),
             _ => None,
         }
     }
@@ -73,7 +86,11 @@ fn lengthen(frame: &mut Vec<u8>) -> Result<(), AllocError> {
 /// Makes the frame what is wrong about it.
 pub(crate) fn spoil(frame: &mut Vec<u8>, wrong: Wrong) -> Result<(), AllocError> {
     match wrong {
-        Wrong::NotPut | Wrong::NotTaken => Ok(()),
+        Wrong::NotPut => Ok(()),
+        Wrong::NotTaken => {
+            frame.clear();
+            Ok(())
+        }
         Wrong::Stops(count) => {
             frame.truncate(count);
             Ok(())

@@ -14,3 +14,5 @@ pub mod RangeLemmas
 pub mod FallLemmas
 pub mod CutLemmas
 pub mod FallTurns
+pub mod Spelled
+pub mod PassLemmas

@@ -1,10 +1,11 @@
 -- What the ids of one segment have to do with a set.
-use Rattle.std.specs.Prelude.{◌≡◌, ℕ, ◌<◌, ◌≤◌, ◌-◌, ◌⊎◌, List, Some, length}
+use Rattle.std.specs.Prelude.{◌≡◌, ℕ, ◌<◌, ◌≤◌, ◌-◌, ◌⊎◌, List, Option, Some, None, ⊤, length}
 use Rattle.id_groups.specs.Lists.{IsIn}
 use Rattle.id_groups.specs.declared.span.IdSpan.{IdSpan}
 use Rattle.id_groups.specs.Span.{IsInSpan}
 use Rattle.commit_graph.specs.Graph.{Graph, Reaches}
 use Rattle.commit_graph.specs.Sets as sets
+use Rattle.segment_codec.specs.Number.{number_bytes}
 use Rattle.segment_codec.specs.Record.{Segment}
 use Rattle.segment_codec.specs.Table.{IsInSegment, parents_in}
 use Rattle.span_set.specs.Members.{IsMember}
@@ -24,6 +25,11 @@ IsMoved spans s x = (s.low < x) × (x ≤ s.high) × IsMember spans (x - 1)
 -- an id of the segment with a parent that is a member
 abbrev pub IsChildIn : List IdSpan → Segment → ℕ → Type 0
 IsChildIn spans s x = ((x ≡ s.low) × HasParentIn spans s) ⊎ IsMoved spans s x
+
+-- the byte, if there is one, is one of those that spell a member
+abbrev pub AreSpelledWith : List IdSpan → Option ℕ → Type 0
+AreSpelledWith spans None = ⊤
+AreSpelledWith spans (Some byte) = (x : ℕ) → IsMember spans x → IsIn byte (number_bytes x)
 
 -- no member lies below the id
 abbrev pub StandFrom : ℕ → List IdSpan → Type 0

@@ -1,20 +1,24 @@
 //! The children of the members of a set.
 
-ghost use Rattle.std.specs.Prelude.{◌≡◌, true, ℕ, ◌<◌, ◌≤◌, ◌^◌, ◌⊎◌, ◌↔◌, [], length, take, drop, slice_index_or, IfOk, OnOk, IfSome, IsTrue, ◌-◌, min};
+ghost use Rattle.std.specs.Prelude.{◌≡◌, true, ℕ, ◌<◌, ◌≤◌, ◌^◌, ◌⊎◌, ◌↔◌, [], length, take, drop, slice_index_or, IfOk, OnOk, Some, IfSome, IsTrue, ◌-◌, min};
 ghost use Rattle.commit_graph.specs.Sets as sets;
 ghost use Rattle.segment_codec.specs.Lent.{segment_of};
 ghost use Rattle.segment_codec.specs.Reading.{ascend_from};
-ghost use Rattle.segment_codec.specs.Table.{IsHeld};
+ghost use Rattle.segment_codec.specs.Table.{IsHeld, segment_at};
 ghost use Rattle.span_set.specs.Members.{IsMember, IsCanonical};
 ghost use Rattle.ancestor_query.specs.Graph.{table_graph};
 ghost use Rattle.range_query.specs.Parts.{HasParentIn, IsMoved, StandFrom, StandBelow, IsApart, LackChildren};
 
+use crate::flat_pass::pass_flats;
 use crate::ladder::{HIGHEST_LEVEL, Ladder};
-use crate::place::lowest_of;
+use crate::place::{flat_down, lowest_of};
 use id_groups::{FIRST_OTHER, Id, IdSpan};
 use segment_codec::{SegmentRef, SegmentTable, Steps};
 use span_set::IdSet;
 use std::alloc::{AllocError, Global};
+
+/// To go past so many flat segments takes about as long as the look-up of one of a level.
+const FLATS_WORTH: u64 = 8;
 
 /// How many spans begin at the id or above it, of which `at` are known to.
 fn skip_from(spans: &[IdSpan], at: usize, id: Id) -> usize
@@ -192,46 +196,105 @@ fn add_flat<T: SegmentTable>(
     set: &IdSet,
     at: usize,
     id: Id,
-    steps: &mut Steps,
+    segment: SegmentRef<'_>,
 ) -> Result<u64, AllocError>
-    requires held { IsHeld (T.flats table.now) id }
+    requires found { segment_at (T.flats table.now) id ≡ Some (segment_of segment) }
     requires within { at ≤ length set.now }
     requires passed { StandFrom id (take at set.now) }
     ensures low { IfOk result (λ low. low ≤ id) }
     ensures members { IfOk result (λ low. (x : ℕ) → IsMember answer.new x
         ↔ (IsMember answer.old x ⊎ ((low ≤ x) × (x ≤ id) × sets.children (table_graph (T.flats table.now)) (IsMember set.now) x))) }
     ensures canonical { IsCanonical answer.old → IsCanonical answer.new }
-    ensures counted { min steps.old.taken (2 ^ 64 - 1) ≤ steps.new.taken }
 {
-    let segment = table.flat(id, steps).unwrap();
     let part = segment.ending_at(id);
     add_moved(answer, set.spans(), at, part)?;
     add_lowest(answer, set, part)?;
     Ok(part.low().number())
 }
 
-/// Whether the id is one of the span at the place, or the one above it.
-fn is_near(spans: &[IdSpan], at: usize, id: Id) -> bool {
-    at < spans.len() && id.number() <= spans[at].high.number() + 1
+/// One above the span at the place; 0 where there is none.
+fn end_at(spans: &[IdSpan], at: usize) -> u64
+    requires { IsCanonical spans.now }
+    ensures { (id x : ℕ) → StandFrom id (take at spans.now) → IsMember spans.now x → result ≤ x → id ≤ x }
+{
+    if at >= spans.len() {
+        return 0;
+    }
+    spans[at].high.number() + 1
 }
 
-/// Tells the ladder whether the segment from `low` to the id, which it led to, is longer than the flat one. Of long ones it
-/// is taken for granted.
-fn weigh<T: SegmentTable>(table: &T, low: Id, id: Id, ladder: &mut Ladder, steps: &mut Steps)
-    requires held { IsHeld (T.flats table.now) id }
-    requires order { low ≤ id }
+/// The flat segment that has the id, which is expected where the ladder says.
+fn flat_near<'a, T: SegmentTable>(
+    table: &'a T,
+    id: Id,
+    ladder: &mut Ladder,
+    steps: &mut Steps,
+) -> SegmentRef<'a>
+    requires { IsHeld (T.flats table.now) id }
+    ensures found { segment_at (T.flats table.now) id ≡ Some (segment_of result) }
     ensures counted { min steps.old.taken (2 ^ 64 - 1) ≤ steps.new.taken }
 {
-    if !ladder.is_short(id.number() - low.number()) {
-        ladder.note(true);
-        return;
-    }
-    let flat = table.flat(id, steps).unwrap();
-    ladder.note(low < flat.low());
+    let mut place = ladder.place();
+    let segment = flat_down(table, id, &mut place, steps);
+    ladder.expect_at(place);
+    segment
 }
 
-/// Adds the children among the ids of a segment of any level up to one of its ids, and answers its lowest id. The first `at`
-/// spans of the set stand from the id on.
+/// Goes past a segment above the flat ones none of whose ids up to this one, its highest, has a parent in the set. It answers
+/// its lowest id, and one above the id where it found none. The first `at` spans of the set stand from the id on.
+fn pass_level<T: SegmentTable>(
+    table: &T,
+    set: &IdSet,
+    at: usize,
+    id: Id,
+    ladder: &mut Ladder,
+    steps: &mut Steps,
+) -> u64
+    requires held { IsHeld (T.flats table.now) id }
+    requires within { at ≤ length set.now }
+    requires passed { StandFrom id (take at set.now) }
+    ensures none { LackChildren (table_graph (T.flats table.now)) set.now result id }
+    ensures counted { min steps.old.taken (2 ^ 64 - 1) ≤ steps.new.taken }
+{
+    ladder.climb(id);
+    match childless_ending(table, set, at, id, ladder, steps) {
+        Some(segment) => {
+            let low = segment.low().number();
+            ladder.note(id.number().saturating_sub(low));
+            low
+        }
+        None => id.number() + 1,
+    }
+}
+
+/// Goes past ids up to this one none of which has a parent in the set, by a level or by flat segments. It answers the lowest
+/// of them, and one above the id where it knows of none. The first `at` spans of the set stand from the id on.
+fn pass<T: SegmentTable>(
+    table: &T,
+    set: &IdSet,
+    at: usize,
+    id: Id,
+    ladder: &mut Ladder,
+    steps: &mut Steps,
+) -> u64
+    requires held { IsHeld (T.flats table.now) id }
+    requires within { at ≤ length set.now }
+    requires passed { StandFrom id (take at set.now) }
+    ensures none { LackChildren (table_graph (T.flats table.now)) set.now result id }
+    ensures counted { min steps.old.taken (2 ^ 64 - 1) ≤ steps.new.taken }
+{
+    let from = end_at(set.spans(), at).max(ladder.floor());
+    if id.number() <= from {
+        return id.number() + 1;
+    }
+    if ladder.pause() > 0 {
+        return pass_flats(table, set, from, id, ladder, steps);
+    }
+    pass_level(table, set, at, id, ladder, steps)
+}
+
+/// Adds the children among the ids of a segment of any level, or of several, up to one of its ids, and answers the lowest id.
+/// The first `at` spans of the set stand from the id on.
 fn add_next<T: SegmentTable>(
     answer: &mut IdSet,
     table: &T,
@@ -250,18 +313,19 @@ fn add_next<T: SegmentTable>(
     ensures canonical { IsCanonical answer.old → IsCanonical answer.new }
     ensures counted { min steps.old.taken (2 ^ 64 - 1) ≤ steps.new.taken }
 {
-    if is_near(set.spans(), at, id) {
-        return add_flat(answer, table, set, at, id, steps);
+    let low = pass(table, set, at, id, ladder, steps);
+    if low <= id.number() {
+        return Ok(low);
     }
-    if ladder.is_pausing() {
-        return add_flat(answer, table, set, at, id, steps);
-    }
-    ladder.climb(id);
-    if let Some(segment) = childless_ending(table, set, at, id, ladder, steps) {
-        weigh(table, segment.low(), id, ladder, steps);
-        return Ok(segment.low().number());
-    }
-    add_flat(answer, table, set, at, id, steps)
+    let segment = flat_near(table, id, ladder, steps);
+    add_flat(answer, table, set, at, id, segment)
+}
+
+/// Over how many ids a level has to lead to be worth its look-up: as many as some flat segments have.
+fn ids_worth<T: SegmentTable>(table: &T) -> u64 {
+    let bounds = table.bounds();
+    let flats = u64::from(table.flat_count()) + 1;
+    (bounds.master / flats).saturating_mul(FLATS_WORTH)
 }
 
 /// Adds the children among the ids from `low` to before `end`, and maybe some that are lower. It goes down by segments of
@@ -284,7 +348,7 @@ fn add_between<T: SegmentTable>(
     ensures canonical { IsCanonical answer.old → IsCanonical answer.new }
     ensures counted { min steps.old.taken (2 ^ 64 - 1) ≤ steps.new.taken }
 {
-    let mut ladder = Ladder::new(top);
+    let mut ladder = Ladder::new(top, ids_worth(table), low);
     let mut below = end;
     let mut at = 0;
     'down: while low < below {

@@ -4,7 +4,7 @@ ghost use Rattle.std.specs.Prelude.{◌≡◌, ◌+◌, ◌<◌, ◌≤◌, fals
 
 use id_groups::Id;
 
-/// For so many segments at first a walk tries no level where the last one that it tried had no longer segment.
+/// For so many flat segments at first a walk tries no level where the last one that it tried led over few ids.
 const LEAST_PAUSE: u32 = 8;
 
 /// For no more than so many segments.
@@ -15,8 +15,8 @@ pub(crate) const HIGHEST_LEVEL: usize = 7;
 
 /// The level on which a walk down tries the next id, and for each level the lowest id of the segment that it went into
 /// last: down to there no other segment of the level ends. It goes up to `top`, one above the highest level on which it
-/// found a segment. Where segments of higher levels are no longer than flat ones it tries none for a while. All of this
-/// only saves look-ups in vain.
+/// found a segment. Where segments of higher levels lead over few ids it tries none for a while, and goes by the places of
+/// flat ones; where there are no levels it never tries one. All of this only saves look-ups in vain.
 #[derive(Clone, Copy, Drop)]
 pub(crate) struct Ladder {
     level: usize,
@@ -25,14 +25,18 @@ pub(crate) struct Ladder {
     lows: [u64; 8],
     pause: u32,
     next_pause: u32,
+    place: u32,
+    worth: u64,
+    floor: u64,
     ghost within: { level ≤ top },
     ghost bound: { top ≤ most },
     ghost end: { most < 8 },
 }
 
 impl Ladder {
-    /// Where a walk begins. No segment is of a higher level than `most`.
-    pub(crate) fn new(most: usize) -> Ladder
+    /// Where a walk down to the id `floor` begins. No segment is of a higher level than `most`. A level is worth its look-up
+    /// where it leads over so many ids.
+    pub(crate) fn new(most: usize, worth: u64, floor: u64) -> Ladder
         requires { most < 8 }
     {
         Ladder {
@@ -40,9 +44,18 @@ impl Ladder {
             top: most.min(1),
             most,
             lows: [u64::MAX; 8],
-            pause: 0,
+            pause: if most == 0 { u32::MAX } else { 0 },
             next_pause: LEAST_PAUSE,
+            place: u32::MAX,
+            worth,
+            floor,
         }
+    }
+
+    /// The id at which the walk ends.
+    #[inline(always)]
+    pub(crate) fn floor(&self) -> u64 {
+        self.floor
     }
 
     /// The level.
@@ -97,25 +110,34 @@ impl Ladder {
         self.level -= 1;
     }
 
-    /// Whether no level is to be tried for the next segment.
+    /// For how many flat segments no level is to be tried.
     #[inline(always)]
-    pub(crate) fn is_pausing(&mut self) -> bool {
-        if self.pause == 0 {
-            return false;
-        }
-        self.pause -= 1;
-        true
+    pub(crate) fn pause(&self) -> u32 {
+        self.pause
     }
 
-    /// Whether a segment of this level with so many ids may be no longer than a flat one.
+    /// The place where the flat segment that has the next id is expected.
     #[inline(always)]
-    pub(crate) fn is_short(&self, ids: u64) -> bool {
-        self.level <= 1 || ids < 1 << (3 * self.level)
+    pub(crate) fn place(&self) -> u32 {
+        self.place
     }
 
-    /// Notes whether the level was worth its look-up. Each that wasn't makes the next pause twice as long.
-    pub(crate) fn note(&mut self, is_longer: bool) {
-        if is_longer {
+    /// Notes that the next flat segment is expected at the place.
+    #[inline(always)]
+    pub(crate) fn expect_at(&mut self, place: u32) {
+        self.place = place;
+    }
+
+    /// Notes the same, and for how many flat segments no level is to be tried.
+    #[inline(always)]
+    pub(crate) fn go_on_at(&mut self, place: u32, pause: u32) {
+        self.place = place;
+        self.pause = pause;
+    }
+
+    /// Notes over how many ids a level led. Each time that these were few makes the next pause twice as long.
+    pub(crate) fn note(&mut self, ids: u64) {
+        if ids >= self.worth {
             self.next_pause = LEAST_PAUSE;
             return;
         }

@@ -1,10 +1,10 @@
 //! Where a walk over the segments begins.
 
-ghost use Rattle.std.specs.Prelude.{◌≡◌, ℕ, ◌-◌, ◌<◌, ◌≤◌, ◌^◌, length, [], MatchOption, IfSome, Some, min};
+ghost use Rattle.std.specs.Prelude.{◌≡◌, ℕ, ◌+◌, ◌-◌, ◌<◌, ◌≤◌, ◌^◌, length, [], MatchOption, IfSome, Some, min};
 ghost use Rattle.segment_codec.specs.Lent.{segment_of};
 ghost use Rattle.segment_codec.specs.Table.{IsHeld, segment_at};
 ghost use Rattle.span_set.specs.Members.{IsMember, IsCanonical};
-ghost use Rattle.range_query.specs.Places.{IsPlace};
+ghost use Rattle.range_query.specs.Places.{IsPlace, IsEndAt};
 
 use id_groups::{Id, IdSpan};
 use segment_codec::{SegmentRef, SegmentTable, Steps};
@@ -53,6 +53,8 @@ fn flat_there<'a, T: SegmentTable>(
     steps: &mut Steps,
 ) -> Option<SegmentRef<'a>>
     ensures found { IfSome result (λ s. segment_at (T.flats table.now) id ≡ Some (segment_of s)) }
+    ensures end { IfSome result (λ s. IsEndAt (T.flats table.now) id (place + 1)) }
+    ensures next { IfSome result (λ s. place + 1 < 2 ^ 32) }
     ensures counted { min steps.old.taken (2 ^ 64 - 1) ≤ steps.new.taken }
 {
     if place >= table.flat_count() {
@@ -84,6 +86,19 @@ pub(crate) fn flat_down<'a, T: SegmentTable>(
             segment
         }
         None => table.flat(id, steps).unwrap(),
+    }
+}
+
+/// How many flat segments there are up to the one that has the id, which is expected at a place. Where another segment is
+/// there, or none, it takes halving.
+pub(crate) fn count_to<T: SegmentTable>(table: &T, id: Id, place: u32, steps: &mut Steps) -> u32
+    requires { IsHeld (T.flats table.now) id }
+    ensures end { IsEndAt (T.flats table.now) id result }
+    ensures counted { min steps.old.taken (2 ^ 64 - 1) ≤ steps.new.taken }
+{
+    match flat_there(table, id, place, steps) {
+        Some(_) => place + 1,
+        None => count_below(table, id, steps) + 1,
     }
 }
 

@@ -41,10 +41,10 @@ pub record Stops (fault : PipeFault) (bytes : List ℕ) (before mid now : PlainL
   pub failed : (fault ≡ Memory → ⊥) → (result ≡ remote.Failed) × CountsOne mid now
   pub memory : fault ≡ Memory → (result ≡ remote.Memory) × (now.faults ≡ mid.faults)
 
-counts-so : (before mid now : PlainLine) → mid.faults ≡ before.faults → CountsOne mid now → CountsOne before now
+pub counts-so : (before mid now : PlainLine) → mid.faults ≡ before.faults → CountsOne mid now → CountsOne before now
 counts-so before mid now e c = c ∙ ap (λ (n : ℕ). min (n + 1) last_count) e
 
-cause-kept : (fault : PipeFault) (before mid now : PlainLine) → LeavesLink mid now → HasFaultCause fault before mid → HasFaultCause fault before now
+pub cause-kept : (fault : PipeFault) (before mid now : PlainLine) → LeavesLink mid now → HasFaultCause fault before mid → HasFaultCause fault before now
 cause-kept NotPut before mid now l h = subst (λ (n : ℕ). Rose before.put_faults n) (sym l.put_faults) h
 cause-kept NotTaken before mid now l h = subst (λ (n : ℕ). Rose before.take_faults n) (sym l.take_faults) h
 cause-kept Ended before mid now l h = tt
@@ -182,7 +182,7 @@ wanting-now : (request : Request) (body : List ℕ) (before now : PlainLine) (wa
 wanting-now request body before now was is w i r len t =
     subst (λ (a : Option PipeFault). Wanting request before now a is) (sym w) (subst (λ (b : Option PipeFault). Wanting request before now None b) (sym i) (inr (r, body, len, t)))
 
-no-answers : (request : Request) (body : List ℕ) → ((answer : Answer) → answer_at body ≡ Some answer → (Fits request answer ⊎ IsRefusal answer) → ⊥) → Answers request body → ⊥
+pub no-answers : (request : Request) (body : List ℕ) → ((answer : Answer) → answer_at body ≡ Some answer → (Fits request answer ⊎ IsRefusal answer) → ⊥) → Answers request body → ⊥
 no-answers request body never a = never a.0 (ap answer_at a.2 ∙ answer_again a.0 a.1) a.3
 
 pub asks-read : {T : Type 0} (request : Request) (answer_of : T → Answer) (body : List ℕ) (read_as : Result T ReadFault) (before mid now : PlainLine) (result : Result T RemoteFault)

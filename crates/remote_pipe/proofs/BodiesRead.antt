@@ -118,7 +118,7 @@ clone-at : (body rest : List ℕ) → body ≡ 130 ∷ rest → answer_at body �
 unfolding answer_at
 clone-at body rest e = ap answer_at e
 
-names-at : (body rest : List ℕ) → body ≡ 131 ∷ rest → answer_at body ≡ option_map Named (names_told_at rest)
+pub names-at : (body rest : List ℕ) → body ≡ 131 ∷ rest → answer_at body ≡ option_map Named (names_told_at rest)
 unfolding answer_at
 names-at body rest e = ap answer_at e
 
@@ -140,7 +140,7 @@ clone-reads body rest (Err read.NoAnswer) e r = λ answer f either. none-there (
 clone-reads body rest (Err read.Memory) e r = tt
 
 -- names are no refusal
-names-fit : (names : List Name) (a : Answer) (x : Name) (back room : ℕ) → Named names ≡ a → (Fits (ToNames x back room) a ⊎ IsRefusal a) → length names ≤ room
+pub names-fit : (names : List Name) (a : Answer) (x : Name) (back room : ℕ) → Named names ≡ a → (Fits (ToNames x back room) a ⊎ IsRefusal a) → length names ≤ room
 names-fit names a x back room e either = ⊎_elim (λ f. f) (λ is. absurd is) (subst (λ (b : Answer). Fits (ToNames x back room) b ⊎ IsRefusal b) (sym e) either)
 
 pub names-reads : (body rest : List ℕ) (room : ℕ) (out : List Name) (found : Option ℕ) (result : Result ℕ ReadFault) → body ≡ 131 ∷ rest

@@ -11,3 +11,8 @@ pub mod RemoteCalls
 pub mod Framing
 pub mod Taking
 pub mod Servers
+pub mod TakenAhead
+pub mod Passing
+pub mod Awaited
+pub mod AheadCalls
+pub mod FitBodies

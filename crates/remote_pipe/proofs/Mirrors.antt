@@ -32,7 +32,7 @@ Left request (Some m) (Some n) = (n ≡ m) ⊎ LeftBy request m n
 abbrev pub IsQuiet : PlainLine → Type 0
 IsQuiet line = line.stopped ≡ None → AwaitsNothing line.peer
 
-same-left : (request : Request) (m n : Option Mirror) → n ≡ m → Left request m n
+pub same-left : (request : Request) (m n : Option Mirror) → n ≡ m → Left request m n
 same-left request None None e = tt
 same-left request None (Some n) e = absurd cc
 same-left request (Some m) None e = absurd cc

@@ -45,7 +45,7 @@ refreshes-by m n f f' a a' (inl e) le same = subst (λ (k : Mirror). Refreshes (
 })
 refreshes-by m n f f' a a' (inr r) le same = record { master = r.master; kept = r.kept; cloned = r.cloned; settled = r.settled; to_come = tt; faults = le; asked = same; sound = r.sound }
 
-left-refreshes : (m n : Option Mirror) (f f' a a' : ℕ) → Left ToRefresh m n → f ≤ f' → a' ≡ a → Refreshes (mirror_by m f a) (mirror_by n f' a')
+pub left-refreshes : (m n : Option Mirror) (f f' a a' : ℕ) → Left ToRefresh m n → f ≤ f' → a' ≡ a → Refreshes (mirror_by m f a) (mirror_by n f' a')
 left-refreshes None None f f' a a' l le same = record { master = tt; kept = λ _. refl; cloned = refl; settled = refl; to_come = tt; faults = le; asked = same; sound = λ h. h }
 left-refreshes None (Some n) f f' a a' l le same = absurd l
 left-refreshes (Some m) None f f' a a' l le same = absurd l
@@ -99,7 +99,7 @@ path-left heads name before now a a' result h e le =
     (path-stands heads name (served_by before.peer) (served_by now.peer) (asks-left (ToPath heads name) Led before now result h)) h.keeps.faults e le
 
 -- what holds of the mirror that is served holds of what is told
-master-served : (P : List (Row Name) → Type 0) (m : Option Mirror) (f a : ℕ) → ((k : Mirror) → m ≡ Some k → IfSome k.master P) → IfSome (mirror_by m f a).master P
+pub master-served : (P : List (Row Name) → Type 0) (m : Option Mirror) (f a : ℕ) → ((k : Mirror) → m ≡ Some k → IfSome k.master P) → IfSome (mirror_by m f a).master P
 master-served P None f a h = tt
 master-served P (Some k) f a h = h k refl
 

@@ -3,7 +3,6 @@ use Rattle.std.proofs.Common.{◌≡◌, ◌≤◌, ◌<◌, ◌+◌, ◌-◌, �
 use Rattle.std.proofs.Math.Seq.{take-append-add}
 use Rattle.std.proofs.lemmas.List.{take-append-le, take_at}
 use Rattle.remote_pipe.specs.Peer.{Peer}
-use Rattle.remote_pipe.specs.Steps.{Took}
 use Rattle.std.proofs.Common.{Ok, Err, Some, None, [], ◌^◌, lit≤, subst}
 use Rattle.std.proofs.lemmas.List.{append-nil, nil_from_length}
 use Rattle.std.specs.Prelude.{Vec}
@@ -16,7 +15,7 @@ use Rattle.remote_serve.specs.Frames.{frame}
 use Rattle.remote_serve.proofs.Fronts.{one-length, read-none, read-some}
 use Rattle.remote_pipe.specs.Answering.{IsAnswerLength}
 use Rattle.remote_pipe.specs.Peer.{PutsWhole, PutsFront, PutsTo}
-use Rattle.remote_pipe.specs.Exchange.{Asked, HasAnswer, StopsAs, Exchanges}
+use Rattle.remote_pipe.specs.Exchange.{Asked, HasAnswer, StopsAs, Exchanges, Took}
 use Rattle.remote_pipe.specs.Steps.{TakesExactly, AddsPiece, FillsBody, TakesBody, TakesLength, TakesRest, TakesFrame}
 use Rattle.remote_pipe.specs.declared.fault.PipeFault.{PipeFault}
 use Rattle.remote_pipe.specs.declared.fault.PipeFault.TheVariants.{NotPut, NotTaken, Ended, BadLength, NoAnswer, Memory}

@@ -16,6 +16,12 @@ pub record Asked (asked came : List ℕ) (before now : Peer) : Type 0 where
   pub taken : now.taken ≡ mid.taken
   pub mirror : now.mirror ≡ mid.mirror
 
+-- these bytes were taken, and nothing was put
+pub record Took (came : List ℕ) (before now : Peer) : Type 0 where
+  pub split : before.left ≡ came ++ now.left
+  pub taken : now.taken ≡ before.taken
+  pub mirror : now.mirror ≡ before.mirror
+
 -- a whole frame stands in front whose body is as long as an answer may be
 abbrev pub HasAnswer : List ℕ → Type 0
 HasAnswer bytes = (body : List ℕ) × (more : List ℕ) × IsAnswerLength (length body) × (bytes ≡ frame body ++ more)

@@ -4,4 +4,5 @@ pub mod Peer
 pub mod Exchange
 pub mod Line
 pub mod Remote
+pub mod Ahead
 pub mod Steps

@@ -2,6 +2,7 @@
 use Rattle.std.specs.Prelude.{◌≡◌, ◌<◌, ◌≤◌, ◌+◌, ◌-◌, ◌⊎◌, ℕ, false, List, [], ◌∷◌, ◌++◌, length, take, flat_map, min, Option, Some, None, Result, Ok, Err}
 use Rattle.id_groups.specs.Name.{Name}
 use Rattle.remote_rules.specs.Mirror.{Mirror}
+use Rattle.remote_trait.specs.Runs.{Run}
 use Rattle.remote_trait.specs.declared.fault.RemoteFault.{RemoteFault}
 use Rattle.remote_serve.specs.Requests.{ToNames, most_names}
 use Rattle.remote_serve.specs.Answers.{Answer, Refreshed, Named}
@@ -9,6 +10,8 @@ use Rattle.remote_pipe.specs.Line.{PlainLine, Asks, served_by}
 
 pub record PlainPipe : Type 0 where
   pub line : PlainLine
+  -- what was asked ahead whose answers weren't taken yet, in order
+  pub queue : List Run
   -- for how many names and paths it was asked
   pub asked : ℕ
 

@@ -1,5 +1,5 @@
 -- The parts of a call, in the words of the code.
-use Rattle.std.specs.Prelude.{◌≡◌, ◌<◌, ◌≤◌, ◌+◌, ◌^◌, ◌⊎◌, ℕ, List, [], ◌++◌, length, take, slice_index_or, Option, Some, None, Result, Ok, Err, Vec, ⊤}
+use Rattle.std.specs.Prelude.{◌≡◌, ◌<◌, ◌≤◌, ◌+◌, ◌^◌, ◌⊎◌, ℕ, Bool, true, false, List, [], ◌∷◌, ◌++◌, length, take, slice_index_or, Option, Some, None, Result, Ok, Err, Vec, ⊤}
 use Rattle.std.specs.Int.{w32, to_be_bytes}
 use Rattle.std.specs.declared.alloc.AllocError.{AllocError}
 use Rattle.std.specs.declared.alloc.Global.{Global}
@@ -14,18 +14,14 @@ use Rattle.remote_serve.specs.Frames.{frame}
 use Rattle.remote_pipe.specs.Answering.{Fits, IsRefusal, IsAnswerLength}
 use Rattle.remote_pipe.specs.Reading.{answer_at}
 use Rattle.remote_pipe.specs.Peer.{Peer}
-use Rattle.remote_pipe.specs.Exchange.{Asked, HasAnswer, StopsAs}
+use Rattle.remote_pipe.specs.Exchange.{Asked, Took, HasAnswer, StopsAs}
 use Rattle.remote_pipe.specs.Line.{PlainLine, HasFaultCause, CountsOne}
+use Rattle.remote_pipe.specs.Ahead.{AsksAhead, BreaksAt}
+use Rattle.remote_trait.specs.Runs.{Run}
 use Rattle.remote_pipe.specs.declared.fault.PipeFault.{PipeFault}
 use Rattle.remote_pipe.specs.declared.fault.PipeFault.TheVariants.{NotTaken, Ended, BadLength, NoAnswer, Memory}
 use Rattle.remote_pipe.specs.declared.reading.ReadFault.{ReadFault}
 use Rattle.remote_pipe.specs.declared.reading.ReadFault.TheVariants as read
-
--- these bytes were taken, and nothing was put
-pub record Took (came : List ℕ) (before now : Peer) : Type 0 where
-  pub split : before.left ≡ came ++ now.left
-  pub taken : now.taken ≡ before.taken
-  pub mirror : now.mirror ≡ before.mirror
 
 -- so many bytes were taken, or fewer
 abbrev pub TakesExactly : Result Unit PipeFault → List ℕ → Peer → Peer → Type 0
@@ -123,6 +119,35 @@ GetsBody asked before now (Ok body) =
 GetsBody asked before now (Err remote.Failed) = CountsOne before now × StopsNow asked before now before.stopped now.stopped
 GetsBody asked before now (Err remote.Memory) = (now.faults ≡ before.faults) × WantsNow asked before now before.stopped now.stopped
 
+-- why no body was taken of what was asked ahead
+abbrev pub StopsTaken : PlainLine → PlainLine → Option PipeFault → Option PipeFault → Type 0
+StopsTaken before now (Some fault) stopped = (stopped ≡ Some fault) × (now.peer ≡ before.peer)
+StopsTaken before now None (Some fault) = HasFaultCause fault before now × WhereTold before.peer now.peer (TakesFrame (Err fault))
+StopsTaken before now None None = ⊥
+
+-- a body that was taken of what was asked ahead, or none
+abbrev pub GetsTaken : PlainLine → PlainLine → Result (Vec ℕ Global) RemoteFault → Type 0
+GetsTaken before now (Ok body) =
+    (before.stopped ≡ None) × (now.stopped ≡ None) × (now.faults ≡ before.faults) × IsAnswerLength (length body.items)
+    × WhereTold before.peer now.peer (Took (frame body.items))
+GetsTaken before now (Err remote.Failed) = CountsOne before now × StopsTaken before now before.stopped now.stopped
+GetsTaken before now (Err remote.Memory) =
+    (before.stopped ≡ None) × (now.stopped ≡ Some Memory) × (now.faults ≡ before.faults) × WhereTold before.peer now.peer (TakesFrame (Err Memory))
+
+-- it is the answer to a request for so many names, from wherever, or what stands in place of one
+abbrev pub IsFit : List ℕ → ℕ → Type 0
+IsFit body most = (answer : Answer) × (answer_at body ≡ Some answer) × ((x : Name) (back : ℕ) → Fits (ToNames x back most) answer ⊎ IsRefusal answer)
+
+-- it is neither
+abbrev pub IsUnfit : List ℕ → ℕ → Type 0
+IsUnfit body most = (x : Name) (back : ℕ) (answer : Answer) → answer_at body ≡ Some answer → (Fits (ToNames x back most) answer ⊎ IsRefusal answer) → ⊥
+
+-- such a body is let by, and behind another one nothing more is asked
+abbrev pub LetsBy : List ℕ → ℕ → PlainLine → PlainLine → Result Unit RemoteFault → Type 0
+LetsBy body most before now (Ok done) = (now ≡ before) × AreBytes body × IsFit body most
+LetsBy body most before now (Err fault) =
+    IsUnfit body most × LeavesLink before now × (fault ≡ remote.Failed) × CountsOne before now × (before.faults ≤ now.faults) × (now.stopped ≡ Some NoAnswer)
+
 -- what reading a body came to: a refusal and what is no answer are failures, and behind the second nothing more is asked
 abbrev pub EndsRead : {T : Type 0} → Result T ReadFault → PlainLine → PlainLine → Result T RemoteFault → Type 0
 EndsRead (Ok value) before now result = (now ≡ before) × (result ≡ Ok value)
@@ -137,3 +162,8 @@ ReadsNames room out body result = (x : Name) (back : ℕ) → Reads (ToNames x b
 -- the same of a request for a way, from whichever heads to wherever
 abbrev pub ReadsPath : List ℕ → Result (Option Path) ReadFault → Type 0
 ReadsPath body result = (heads : List Name) (name : Name) → Reads (ToPath heads name) Led body result
+
+-- one run is asked ahead, or nothing was done, or its frame wasn't put whole
+abbrev pub PutsOne : Run → List Run → PlainLine → List Run → PlainLine → Bool → Type 0
+PutsOne run queue before later now true = AsksAhead run before now × (later ≡ queue ++ run ∷ [])
+PutsOne run queue before later now false = ((now ≡ before) × (later ≡ queue)) ⊎ BreaksAt run before now

@@ -159,7 +159,7 @@ fn take_rest<L: Link>(alloc: Global, link: &mut L, len: u32) -> Result<Vec<u8>, 
 }
 
 /// The body of the next frame.
-fn take_frame<L: Link>(alloc: Global, link: &mut L) -> Result<Vec<u8>, PipeFault>
+pub(crate) fn take_frame<L: Link>(alloc: Global, link: &mut L) -> Result<Vec<u8>, PipeFault>
     ensures takes { WhereTold (L.peer link.old) (L.peer link.new) (TakesFrame result) }
     ensures which { result ≡ Err PipeFault.NotPut → ⊥ }
     ensures long { IfOk result (λ body. IsAnswerLength (length body.items)) }

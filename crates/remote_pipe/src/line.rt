@@ -1,6 +1,7 @@
 //! Asking over a link, until its stream is out of step.
 
 ghost use Rattle.std.specs.Prelude.{◌≡◌, ◌≤◌, ◌<◌, ◌^◌, ◌+◌, ℕ, List, length, take, None, Some, Err, is_some, IfOk, min};
+ghost use Rattle.id_groups.specs.Name.{Name as NameBytes};
 ghost use Rattle.outside.specs.Counts.{Rose, last_count};
 ghost use Rattle.outside.specs.Told.{WhereTold};
 ghost use Rattle.remote_pipe.specs.Answering.{IsAnswerLength};
@@ -9,12 +10,13 @@ ghost use Rattle.remote_serve.specs.Requests.{ToRefresh, ToClone, ToNames, ToPat
 ghost use Rattle.remote_serve.specs.Answers.{Refreshed, Cloned, Named, Led};
 ghost use Rattle.remote_pipe.specs.Line.{Keeps, Asks, CountsOne, served_by};
 ghost use Rattle.remote_pipe.specs.Remote.{AsksNames, block_of};
-ghost use Rattle.remote_pipe.specs.Steps.{GetsBody, EndsRead, LeavesLink};
+ghost use Rattle.remote_pipe.specs.Ahead.{PutsAhead, Passes, TakesAhead};
+ghost use Rattle.remote_pipe.specs.Steps.{GetsBody, GetsTaken, TakesFrame, LetsBy, EndsRead, LeavesLink};
 
-use crate::exchange::exchange;
+use crate::exchange::{exchange, take_frame};
 use crate::fault::PipeFault;
 use crate::link::Link;
-use crate::reading::{ReadFault, read_clone, read_names, read_path, read_refreshed};
+use crate::reading::{ReadFault, are_fit, read_clone, read_names, read_path, read_refreshed};
 use crate::spelling::{clone_frame, name_size, names_frame, names_size, path_frame, refresh_frame};
 use id_groups::Name;
 use remote_trait::{CloneData, Path, RemoteFault};
@@ -22,7 +24,7 @@ use std::alloc::{AllocError, Global};
 use std::marker::Model;
 
 /// The most names that one request asks for.
-const MOST_NAMES: u32 = 65_536;
+pub(crate) const MOST_NAMES: u32 = 65_536;
 
 /// The most heads that one request names.
 const MOST_HEADS: usize = 65_535;
@@ -113,6 +115,35 @@ impl<L: Link + Drop> Line<L> {
         ensures gets { GetsBody asked.now self.old self.new result }
     {
         match self.trade(alloc, asked) {
+            Ok(body) => Ok(body),
+            Err(fault) => Err(self.stop(fault)),
+        }
+    }
+
+    /// Takes the body of the next frame.
+    fn take(&mut self, alloc: Global) -> Result<Vec<u8>, PipeFault>
+        ensures takes { WhereTold self.old.peer self.new.peer (TakesFrame result) }
+        ensures served { is_some (served_by self.new.peer) ≡ is_some (served_by self.old.peer) }
+        ensures put_faults { self.old.put_faults ≤ self.new.put_faults }
+        ensures take_faults { self.old.take_faults ≤ self.new.take_faults }
+        ensures which { result ≡ Err PipeFault.NotPut → ⊥ }
+        ensures not_taken { result ≡ Err PipeFault.NotTaken → Rose self.old.take_faults self.new.take_faults }
+        ensures stopped { self.new.stopped ≡ self.old.stopped }
+        ensures faults { self.new.faults ≡ self.old.faults }
+        ensures long { IfOk result (λ body. IsAnswerLength (length body.items)) }
+    {
+        take_frame(alloc, &mut self.link)
+    }
+
+    /// The same, unless no more is asked.
+    fn taken(&mut self, alloc: Global) -> Result<Vec<u8>, RemoteFault>
+        ensures keeps { Keeps self.old self.new }
+        ensures gets { GetsTaken self.old self.new result }
+    {
+        if self.stopped.is_some() {
+            return Err(self.fail());
+        }
+        match self.take(alloc) {
             Ok(body) => Ok(body),
             Err(fault) => Err(self.stop(fault)),
         }
@@ -234,6 +265,53 @@ impl<L: Link + Drop> Line<L> {
                 Err(fault) => return Err(fault),
             }
         }
+    }
+
+    /// Puts a request ahead, in its frame, and takes nothing. Where it isn't put whole no more is asked, and the next call counts that.
+    pub(crate) fn put_ahead(&mut self, asked: &[u8]) -> bool
+        requires { self.old.stopped ≡ None }
+        ensures { PutsAhead asked.now self.old self.new result }
+    {
+        match self.link.put(asked) {
+            Ok(()) => true,
+            Err(_fault) => {
+                self.stopped = Some(PipeFault::NotPut);
+                false
+            }
+        }
+    }
+
+    /// Takes the answer to a request for as many names as there is room for, which was put ahead.
+    pub(crate) fn take_names(&mut self, alloc: Global, out: &mut [Name]) -> Result<u32, RemoteFault>
+        requires { length out.old ≤ most_names }
+        ensures len { length out.new ≡ length out.old }
+        ensures count { IfOk result (λ n. n ≤ length out.old) }
+        ensures takes { (x : NameBytes) (back : ℕ) → TakesAhead (ToNames x back (length out.old)) out.new self.old self.new result }
+    {
+        match self.taken(alloc) {
+            Ok(body) => self.end(read_names(&body, out)),
+            Err(fault) => Err(fault),
+        }
+    }
+
+    /// Takes the answer to a request for so many names, which was put ahead, and throws it away.
+    pub(crate) fn pass(&mut self, alloc: Global, count: u32) -> Result<(), RemoteFault>
+        ensures { (x : NameBytes) (back : ℕ) → Passes (ToNames x back count) self.old self.new result }
+    {
+        match self.taken(alloc) {
+            Ok(body) => self.let_by(&body, count),
+            Err(fault) => Err(fault),
+        }
+    }
+
+    /// That a body may be the answer to a request for so many names; else no more is asked.
+    fn let_by(&mut self, body: &[u8], count: u32) -> Result<(), RemoteFault>
+        ensures { LetsBy body.now count self.old self.new result }
+    {
+        if are_fit(body, count) {
+            return Ok(());
+        }
+        Err(self.stop(PipeFault::NoAnswer))
     }
 
     /// Asks for a way, unless there are more heads than a request names.

@@ -1,13 +1,13 @@
 //! The answers that bodies are.
 
-ghost use Rattle.std.specs.Prelude.{◌≡◌, ◌≤◌, ◌*◌, ◌↔◌, ◌∷◌, [], ℕ, List, IsTrue, Ok, Err, Some, length, take, IfOk, IfSome, IfNone, MatchOption};
+ghost use Rattle.std.specs.Prelude.{◌≡◌, ◌≤◌, ◌*◌, false, ◌↔◌, ◌∷◌, [], ℕ, List, IsTrue, Ok, Err, Some, length, take, IfOk, IfSome, IfNone, MatchOption};
 ghost use Rattle.id_groups.specs.Name.{Name as NameBytes};
 ghost use Rattle.batch_codec.specs.Reading.{names_read};
 ghost use Rattle.remote_serve.specs.Requests.{ToRefresh, ToClone, most_names};
 ghost use Rattle.remote_serve.specs.Answers.{Answer, Refreshed, Cloned};
 ghost use Rattle.remote_pipe.specs.Answering.{IsRefusal};
 ghost use Rattle.remote_pipe.specs.Reading.{answer_at, names_told_at, way_at};
-ghost use Rattle.remote_pipe.specs.Steps.{AreBytes, Reads, ReadsNames, ReadsPath};
+ghost use Rattle.remote_pipe.specs.Steps.{AreBytes, Reads, ReadsNames, ReadsPath, IsFit, IsUnfit};
 
 use crate::told::read_told;
 use batch_codec::{read_piece, read_u32, read_u64};
@@ -134,6 +134,7 @@ pub(crate) fn read_names(body: &[u8], out: &mut [Name]) -> Result<u32, ReadFault
     ensures len { length out.new ≡ length out.old }
     ensures count { IfOk result (λ n. n ≤ length out.old) }
     ensures reads { ReadsNames (length out.old) out.new body.now result }
+    ensures which { result ≡ Err ReadFault.Memory → ⊥ }
 {
     match behind(body, 0x83) {
         Some(rest) => counted(read_named(rest, out)),
@@ -201,6 +202,35 @@ fn read_named(bytes: &[u8], out: &mut [Name]) -> Option<u32>
     }
     put_names(rest, &mut out[..count as usize]);
     Some(count)
+}
+
+/// Whether the bytes are names, and at most so many.
+fn are_names(bytes: &[u8], most: u32) -> bool
+    ensures { IsTrue result ↔ ((names : List NameBytes) × (length names ≤ most) × (names_told_at bytes.now ≡ Some names)) }
+{
+    match read_u32(bytes) {
+        Some((count, rest)) => are_so_many(rest, count, most),
+        None => false,
+    }
+}
+
+/// Whether there are so many names in the bytes, and no more than a request was for.
+fn are_so_many(bytes: &[u8], count: u32, most: u32) -> bool
+    ensures { IsTrue result ↔ ((count ≤ most) × (length bytes.now ≡ 20 * count)) }
+{
+    count <= most && bytes.len() == 20 * count as usize
+}
+
+/// Whether a body is an answer to a request for so many names, or what stands in place of one.
+pub(crate) fn are_fit(body: &[u8], most: u32) -> bool
+    ensures bytes { AreBytes body.now }
+    ensures fit { IsTrue result → IsFit body.now most }
+    ensures unfit { result ≡ false → IsUnfit body.now most }
+{
+    match behind(body, 0x83) {
+        Some(rest) => are_names(rest, most),
+        None => is_refusal(body),
+    }
 }
 
 /// Puts the names whose bytes these are.

@@ -54,7 +54,7 @@ fn pipe_at(
 ) -> Result<PipeRemote<Ends<PipeSource, PipeSink>>, AllocError> {
     let input = source_at(rt, from)?;
     let output = sink_at(rt, to)?;
-    Ok(PipeRemote::new(Ends::new(input, output)))
+    Ok(PipeRemote::new(rt.alloc(), Ends::new(input, output)))
 }
 
 /// The mirror of which the word speaks; none where it is a pipe that isn't asked.

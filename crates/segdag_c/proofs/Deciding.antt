@@ -1,5 +1,5 @@
 -- Whether a disk has a log can be told: it has it where no byte of the log's may be lost, and none of the lists that it may leave is too long.
-use Rattle.std.proofs.Common.{◌≡◌, ◌⊎◌, inl, inr, ⊎_elim, ◌≤◌, ◌<◌, ◌+◌, ◌-◌, ℕ, zero, suc, max, List, [], ◌∷◌, ◌++◌, length, take, drop, get_or, true, false, refl, sym, ◌∙◌, ap, subst, arith, le_refl, le_trans, length-append, ext_get_or, get_or-take, take-append-drop}
+use Rattle.std.proofs.Common.{◌≡◌, ◌⊎◌, inl, inr, ⊎_elim, ◌≤◌, ◌<◌, ◌+◌, ◌-◌, ℕ, suc, List, [], ◌∷◌, ◌++◌, length, take, drop, get_or, refl, sym, ◌∙◌, ap, subst, arith, le_refl, le_trans, length-append, ext_get_or, get_or-take, take-append-drop}
 use Rattle.std.proofs.lemmas.List.{length-take-le, get_or-drop, length-drop, get_or_append_left, get_or-append_right}
 use Rattle.std.proofs.lemmas.Bool.{cases_eq}
 use Rattle.std.proofs.lemmas.Bool.Decides.{leb_tells}
@@ -8,7 +8,7 @@ use Rattle.disk_trait.proofs.Loss.{last-append}
 use Rattle.disk_trait.proofs.Moments.{left-now}
 use Rattle.disk_trait.proofs.Writes.{furthest, le-longest}
 use Rattle.gated_log.specs.Held.{Held, log_bytes}
-use Rattle.gated_log.specs.Holding.{Begins, IsOnDisk}
+use Rattle.gated_log.specs.Holding.{IsOnDisk}
 
 -- one list begins with another
 begins : (xs log : List ℕ) → ((behind : List ℕ) × (xs ≡ log ++ behind)) ⊎ ((behind : List ℕ) → xs ≡ log ++ behind → ⊥)

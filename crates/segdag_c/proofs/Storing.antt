@@ -1,5 +1,6 @@
 -- The calls that a line notes, over a disk that has the store's log.
-use Rattle.std.proofs.Common.{◌≡◌, ◌⊎◌, inl, inr, ◌≤◌, ◌+◌, ◌*◌, ℕ, List, [], ◌∷◌, ◌++◌, Option, Some, None, Ok, Err, IfOk, IfSome, length, get_or, refl, sym, ◌∙◌, ap, subst, arith}
+use Rattle.std.proofs.Common.{◌≡◌, ◌⊎◌, inl, inr, ◌≤◌, ◌+◌, ◌*◌, ℕ, List, [], ◌∷◌, ◌++◌, Option, Some, None, Ok, Err, IfOk, IfSome, refl, sym, ap, subst, arith}
+use Rattle.std.specs.Prelude.{OnOk}
 use Rattle.std.specs.declared.result.Result.{Result}
 use Rattle.outside.specs.Counts.{Rose}
 use Rattle.disk_trait.specs.Images.{Unsynced, Told, IsImage, LeftAt, moment_of}
@@ -9,8 +10,10 @@ use Rattle.disk_trait.proofs.Moments.{left-now, weakened}
 use Rattle.line_io.specs.Memory.{MemoryOutput}
 use Rattle.gated_log.specs.Held.{Held}
 use Rattle.gated_log.specs.Holding.{IsLogWithin, IsOnDisk}
+use Rattle.call_disk.specs.Awaited.{awaited}
 use Rattle.call_disk.specs.Noted.{Call, Step, calls_in}
-use Rattle.call_disk.specs.Tape.{Tape, count_of}
+use Rattle.call_disk.specs.declared.noted.NotedCalls.{NotedCalls}
+use Rattle.call_disk.specs.Tape.{Tape}
 use Rattle.call_disk.specs.Performed.{HonestDisk, WasLeft, begun, replayed}
 use Rattle.call_disk.specs.Sound.{moment_replayed}
 use Rattle.call_disk.specs.Telling.{FitOver, told_over}
@@ -21,6 +24,7 @@ use Rattle.dag_store.specs.Flushes.{HasStored}
 use Rattle.dag_store.specs.Kept.{PlainStore}
 use Rattle.dag_run.specs.Lines.{LineLeaves, LineReplies}
 use Rattle.dag_run.specs.declared.stops.Stop.{Stop}
+use Rattle.segdag_c.specs.Answers.{LineNotes}
 use Rattle.segdag_c.specs.Line.{LineDoes, LineDoesOn}
 use Rattle.segdag_c.specs.Stores.{IsOldOrNew, Leaves, Stores}
 use Rattle.segdag_c.proofs.Deciding.{on-disk}
@@ -115,3 +119,11 @@ pub line-does : (first left : List Mirror) (old : ℕ) (store : PlainStore) (lin
     → LineDoesOn first store line next left old before sink calls (chosen store.log disk) → LineDoes first store line next left old before sink calls disk.told
 line-does first left old store line next before sink calls disk does =
     (does.0, does.1, does.2, λ on. chosen-if store.log disk (λ t. Leaves store does.0 does.1 next calls t) does.3 on)
+
+-- and noted behind what was noted before
+pub line-notes : (first left : List Mirror) (old : ℕ) (store : PlainStore) (line : List ℕ) (next : PlainStore) (r : Result PlainStore Stop) (before : List ℕ) (sink : MemoryOutput) (noted log more : NotedCalls) (disk : HonestDisk)
+    → IfOk r (λ same. same ≡ next) → OnOk r (awaited log ≡ awaited noted ++ awaited more) → LineDoesOn first store line next left old before sink (awaited more) (chosen store.log disk)
+    → IfOk r (λ same. LineNotes first store noted line same left log old before sink disk.told)
+line-notes first left old store line next (Ok same) before sink noted log more disk is behind does =
+    (awaited more, behind, subst (λ (s : PlainStore). LineDoes first store line s left old before sink (awaited more) disk.told) (sym is) (line-does first left old store line next before sink (awaited more) disk does))
+line-notes first left old store line next (Err stop) before sink noted log more disk is behind does = tt

@@ -5,6 +5,7 @@ use Rattle.step_rules.specs.Reply.{Reply, Added as IsAdded, Old as IsOld, Refuse
 use Rattle.step_rules.specs.declared.Refusal.{Refusal}
 use Rattle.step_rules.specs.declared.Refusal.TheVariants as why
 use Rattle.dag_store.specs.declared.replies.Added.{Added}
+use Rattle.dag_store.specs.declared.replies.Counts.{Counts}
 use Rattle.dag_store.specs.declared.replies.Added.TheVariants.{New, Old}
 use Rattle.segdag_c.specs.declared.codes.Failure.{Failure}
 use Rattle.segdag_c.specs.declared.codes.Failure.TheVariants.{Disk, NoLog, Reply as NoReply, Memory, Closed, AlreadyOpen, Argument, Syntax, Refused}
@@ -166,3 +167,11 @@ pub told-done : {X : Type 0} (done : Result X Failure) (code : ℕ) (P : Type 0)
     → IfOk done (λ x. P) → P
 told-done (Ok x) code P told zero p = p
 told-done (Err f) code P told zero p = absurd (no-zero f code told zero)
+
+-- three numbers that are told with 0
+pub told-sizes : (Done : ℕ → ℕ → ℕ → Type 0) (answer : Result Counts Failure) (master others pending code : ℕ)
+    → MatchResult answer (λ counts. (code ≡ 0) × (master ≡ counts.master) × (others ≡ counts.others) × (pending ≡ counts.pending)) (λ failure. code ≡ failure_code failure)
+    → code ≡ 0 → IfOk answer (λ counts. Done counts.master counts.others counts.pending) → Done master others pending
+told-sizes Done (Ok counts) master others pending code told zero done =
+    subst (λ m. Done m others pending) (sym told.1) (subst (λ o. Done counts.master o pending) (sym told.2) (subst (λ p. Done counts.master counts.others p) (sym told.3) done))
+told-sizes Done (Err f) master others pending code told zero done = absurd (no-zero f code told zero)

@@ -40,12 +40,18 @@ HeldAdds before after s name bytes reply = (parents : List Name) × AreJoined pa
 abbrev pub SlotAdds : Option Held → Option Held → ℕ → Name → List ℕ → Reply → Type 0
 SlotAdds old new s name bytes reply = IfSome old (λ before. IfSome new (λ after. HeldAdds before after s name bytes reply))
 
--- a query's step of the expression that the text spells: its names are kept, one behind the other
-abbrev pub HeldLists : Held → Held → ℕ → List ℕ → Type 0
-HeldLists before after s text =
-    (e : Expr Name) × SpellsExpr text e × (names : List Name) × (concat names ≡ after.names.items) × HeldDoes before after s (Query e) (Listed names)
+-- a query's step: its names are kept, one behind the other
+abbrev pub HeldListsOf : Held → Held → ℕ → Expr Name → Type 0
+HeldListsOf before after s e = (names : List Name) × (concat names ≡ after.names.items) × HeldDoes before after s (Query e) (Listed names)
 
 -- and so many bytes
+abbrev pub SlotListsOf : Option Held → Option Held → ℕ → Expr Name → ℕ → Type 0
+SlotListsOf old new s e size = IfSome old (λ before. IfSome new (λ after. (size ≡ length after.names.items) × HeldListsOf before after s e))
+
+-- that of the expression that the text spells
+abbrev pub HeldLists : Held → Held → ℕ → List ℕ → Type 0
+HeldLists before after s text = (e : Expr Name) × SpellsExpr text e × HeldListsOf before after s e
+
 abbrev pub SlotLists : Option Held → Option Held → ℕ → List ℕ → ℕ → Type 0
 SlotLists old new s text size = IfSome old (λ before. IfSome new (λ after. (size ≡ length after.names.items) × HeldLists before after s text))
 

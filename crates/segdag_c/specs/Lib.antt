@@ -8,6 +8,7 @@ pub mod Names
 pub mod Typed
 pub mod Stores
 pub mod Line
+pub mod Pairs
 pub mod Calls
 pub mod Answers
 pub mod Loads

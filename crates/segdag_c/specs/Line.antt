@@ -1,5 +1,5 @@
 -- What a line does to a store beside mirrors, and notes for the log's disk.
-use Rattle.std.specs.Prelude.{ℕ, List, Option, Some, None, Ok, IfSome}
+use Rattle.std.specs.Prelude.{ℕ, List, Option, Ok, IfSome}
 use Rattle.outside.specs.Counts.{Rose}
 use Rattle.disk_trait.specs.Images.{Told}
 use Rattle.line_io.specs.Memory.{MemoryOutput}

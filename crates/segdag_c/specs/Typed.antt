@@ -1,7 +1,7 @@
 -- The replies that the answers of typed calls are.
 use Rattle.std.specs.Prelude.{ℕ, ⊤, Option, Some, None, Result, Ok, Err}
 use Rattle.step_rules.specs.declared.Refusal.{Refusal}
-use Rattle.step_rules.specs.Reply.{Reply, Counted, Refused as IsRefused}
+use Rattle.step_rules.specs.Reply.{Reply, Counted, Reloaded, Refused as IsRefused}
 use Rattle.dag_store.specs.declared.replies.Added.{Added}
 use Rattle.dag_store.specs.declared.replies.Added.TheVariants.{New, Old}
 use Rattle.dag_store.specs.Steps.{add_reply, id_reply as reply_of_id}
@@ -14,7 +14,7 @@ reply_of told (Ok x) = Some (told x)
 reply_of told (Err (Refused refusal)) = Some (IsRefused refusal)
 reply_of told (Err _) = None
 
--- of an add, of a command for an id, of a count
+-- of an add, of a command for an id, of a count, of a reload
 abbrev pub added_reply : Result Added Failure → Option Reply
 added_reply result = reply_of (λ added. add_reply (Ok added)) result
 
@@ -23,6 +23,9 @@ id_reply result = reply_of (λ id. reply_of_id (Ok id)) result
 
 abbrev pub counted_reply : Result ℕ Failure → Option Reply
 counted_reply result = reply_of Counted result
+
+abbrev pub reloaded_reply : Result ℕ Failure → Option Reply
+reloaded_reply result = reply_of Reloaded result
 
 -- the refusal that a failure is; none where the store wasn't asked
 abbrev pub refusal_in : Failure → Option Refusal

@@ -28,7 +28,7 @@ use set_expr::ExprFault;
 use std::alloc::Global;
 
 /// The first number that is no session's.
-const SESSIONS: u8 = 16;
+pub(crate) const SESSIONS: u8 = 16;
 
 /// How many parents a commit has at most.
 const MOST_PARENTS: usize = 8;
@@ -161,7 +161,7 @@ fn count_in(
 }
 
 /// How many members an expression has in a session.
-fn count_held(held: &mut Held, session: u8, expr: &Expr) -> Result<u64, Failure>
+pub(crate) fn count_held(held: &mut Held, session: u8, expr: &Expr) -> Result<u64, Failure>
     requires { session < 16 }
     ensures { IfSome (counted_reply result) (λ reply. HeldDoes held.old held.new session (ToCount (tree_of expr.now)) reply) }
 {
@@ -224,7 +224,12 @@ fn query_in(
 }
 
 /// Finds the members of an expression in a session: their names stand in `names`. How many bytes they have.
-fn query_held(alloc: Global, held: &mut Held, session: u8, expr: &Expr) -> Result<usize, Failure>
+pub(crate) fn query_held(
+    alloc: Global,
+    held: &mut Held,
+    session: u8,
+    expr: &Expr,
+) -> Result<usize, Failure>
     requires { session < 16 }
     ensures size { IfOk result (λ size. size ≡ length held.new.names.items) }
     ensures listed { IfOk result (λ size. (listed : List NameBytes) × (concat listed ≡ held.new.names.items) × HeldDoes held.old held.new session (ToQuery (tree_of expr.now)) (Listed listed)) }

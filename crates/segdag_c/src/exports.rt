@@ -30,7 +30,7 @@ use id_groups::{Id, Name};
 use std::alloc::Global;
 
 /// The code where no log is open.
-fn closed() -> u32
+pub(crate) fn closed() -> u32
     ensures { result ≡ 17 }
 {
     code_of(Failure::Closed)
@@ -332,7 +332,7 @@ pub extern "C" fn segdag_core_id(
 }
 
 /// Tells a count, where there is one.
-fn tell_count(answer: Result<u64, Failure>, total: &mut u64) -> u32
+pub(crate) fn tell_count(answer: Result<u64, Failure>, total: &mut u64) -> u32
     ensures { Tells answer total.new result }
 {
     match answer {
@@ -368,7 +368,7 @@ pub extern "C" fn segdag_core_count(
 }
 
 /// Tells how many bytes names have, where there are some.
-fn tell_size(answer: Result<usize, Failure>, size: &mut usize) -> u32
+pub(crate) fn tell_size(answer: Result<usize, Failure>, size: &mut usize) -> u32
     ensures { Tells answer size.new result }
 {
     match answer {

@@ -6,6 +6,7 @@
 mod answering;
 mod calls;
 mod codes;
+mod direct;
 mod exports;
 mod following;
 mod handle;
@@ -14,7 +15,9 @@ mod loading;
 mod mirror;
 mod mirroring;
 mod names;
+mod pairs;
 mod parts;
+mod sizes;
 mod slot;
 #[cfg(test)]
 mod tests;

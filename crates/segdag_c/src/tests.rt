@@ -1,5 +1,9 @@
 //! Every function that C calls, over a log in memory.
 
+use crate::direct::{
+    segdag_core_discard, segdag_core_is_ancestor, segdag_core_merge_bases, segdag_core_only,
+    segdag_core_reload, segdag_core_sizes,
+};
 use crate::exports::{
     segdag_core_add, segdag_core_add_mirror, segdag_core_close, segdag_core_count, segdag_core_end,
     segdag_core_id, segdag_core_line, segdag_core_load, segdag_core_more, segdag_core_names,
@@ -107,6 +111,98 @@ fn typed_calls_answer(rt: HostRuntime) {
         0
     );
     assert_eq!(rt; name, SECOND);
+    assert_eq!(rt; segdag_core_close(alloc, &mut slot), 0);
+    slot.forget();
+}
+
+#[test]
+fn two_commits_are_compared(rt: HostRuntime) {
+    let alloc = rt.alloc();
+    let mut slot = Slot::shut(alloc);
+    let mut number = 7;
+    let mut size = 0;
+    assert_eq!(rt;
+        segdag_core_only(alloc, &mut slot, 0, &SECOND, &FIRST, &mut number),
+        17
+    );
+    assert_eq!(rt; segdag_core_load(alloc, &mut slot, b"", 1), 0);
+    assert_eq!(rt;
+        segdag_core_add(alloc, &mut slot, 0, &FIRST, b"", &mut number),
+        0
+    );
+    assert_eq!(rt;
+        segdag_core_add(alloc, &mut slot, 0, &SECOND, &FIRST, &mut number),
+        0
+    );
+    assert_eq!(rt;
+        segdag_core_is_ancestor(alloc, &mut slot, 0, &FIRST, &SECOND, &mut number),
+        0
+    );
+    assert_eq!(rt; number, 1);
+    assert_eq!(rt;
+        segdag_core_is_ancestor(alloc, &mut slot, 0, &SECOND, &FIRST, &mut number),
+        0
+    );
+    assert_eq!(rt; number, 0);
+    assert_eq!(rt;
+        segdag_core_is_ancestor(alloc, &mut slot, 1, &FIRST, &SECOND, &mut number),
+        33
+    );
+    assert_eq!(rt;
+        segdag_core_only(alloc, &mut slot, 0, &SECOND, &FIRST, &mut number),
+        0
+    );
+    assert_eq!(rt; number, 1);
+    assert_eq!(rt;
+        segdag_core_only(alloc, &mut slot, 16, &SECOND, &FIRST, &mut number),
+        19
+    );
+    assert_eq!(rt;
+        segdag_core_merge_bases(alloc, &mut slot, 0, &SECOND, &FIRST, &mut size),
+        0
+    );
+    assert_eq!(rt; size, 20);
+    let mut name = [0; 20];
+    assert_eq!(rt;
+        segdag_core_names(alloc, &mut slot, 0, &mut name, &mut size),
+        0
+    );
+    assert_eq!(rt; name, FIRST);
+    assert_eq!(rt; segdag_core_close(alloc, &mut slot), 0);
+    slot.forget();
+}
+
+#[test]
+fn a_session_tells_its_rows(rt: HostRuntime) {
+    let alloc = rt.alloc();
+    let mut slot = Slot::shut(alloc);
+    let mut master = 7;
+    let mut others = 7;
+    let mut pending = 7;
+    assert_eq!(rt; segdag_core_load(alloc, &mut slot, &MIRRORED, 1), 0);
+    assert_eq!(rt;
+        segdag_core_add(alloc, &mut slot, 3, &FIRST, &SECOND, &mut others),
+        0
+    );
+    assert_eq!(rt;
+        segdag_core_sizes(alloc, &mut slot, 3, &mut master, &mut others, &mut pending),
+        0
+    );
+    assert_eq!(rt; master, 1);
+    assert_eq!(rt; others, 0);
+    assert_eq!(rt; pending, 1);
+    assert_eq!(rt;
+        segdag_core_sizes(alloc, &mut slot, 16, &mut master, &mut others, &mut pending),
+        19
+    );
+    pending = 7;
+    assert_eq!(rt; segdag_core_reload(alloc, &mut slot, 3, &mut pending), 0);
+    assert_eq!(rt; pending, 1);
+    pending = 7;
+    assert_eq!(rt; segdag_core_discard(alloc, &mut slot, 3, &mut pending), 0);
+    assert_eq!(rt; pending, 1);
+    assert_eq!(rt; segdag_core_discard(alloc, &mut slot, 3, &mut pending), 0);
+    assert_eq!(rt; pending, 0);
     assert_eq!(rt; segdag_core_close(alloc, &mut slot), 0);
     slot.forget();
 }

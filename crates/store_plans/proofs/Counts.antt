@@ -10,7 +10,6 @@ use Rattle.change_rules.specs.Tables.{newest, other_names_in}
 use Rattle.payload_tables.specs.Kept.{PlainOthers, AreOthersIn}
 use Rattle.payload_tables.specs.Pending.{HeldRow, PlainPending, HoldsRows}
 use Rattle.payload_tables.specs.Bases.{ArePending, held_row}
-use Rattle.step_rules.specs.State.{base_of}
 use Rattle.payload_tables.specs.declared.base.BaseRef.{BaseRef}
 use Rattle.payload_tables.proofs.Basing.{base-others}
 use Rattle.store_plans.specs.Looking.{Sees}

@@ -1,5 +1,5 @@
 -- Parts of lawful payloads, and the ids that they know.
-use Rattle.std.proofs.Common.{◌<◌, ◌≤◌, ◌+◌, ℕ, List, [], ◌∷◌, ◌++◌, map, sym, subst, arith, append-nil, append_assoc}
+use Rattle.std.proofs.Common.{◌<◌, ◌≤◌, ℕ, List, [], ◌∷◌, ◌++◌, map, sym, subst, arith, append-nil, append_assoc}
 use Rattle.std.specs.List.{AllByRecursion}
 use Rattle.batch_codec.specs.Payload.{Payload, Known}
 use Rattle.batch_codec.specs.Grammar.{count_after}

@@ -10,11 +10,13 @@ use Rattle.change_rules.specs.Change.{text_of}
 use Rattle.change_rules.specs.Tables.{other_names_in}
 use Rattle.payload_tables.specs.Kept.{PlainTables, PlainOthers, AreTablesOf, AreOthersIn, last_added}
 use Rattle.payload_tables.specs.Pending.{HoldsRows}
-use Rattle.payload_tables.specs.Bases.{MayBase}
+use Rattle.payload_tables.specs.declared.base.BaseRef.{BaseRef}
+use Rattle.payload_tables.specs.Bases.{IsBaseOf, MayBase, MayView}
 use Rattle.payload_tables.proofs.Basing.{table-end}
 use Rattle.payload_tables.proofs.Lists.{all-append}
-use Rattle.flush_rebuild.specs.Asked.{MayStore}
+use Rattle.flush_rebuild.specs.Asked.{HaveParents, MayStore}
 use Rattle.store_plans.specs.Sessions.{PlainSession, IsSessionOf, base_added, IsOnNewest}
+use Rattle.store_plans.specs.Looking.{AreTablesBehind}
 use Rattle.store_plans.proofs.Counts.{others-many}
 
 last-few : (o : Option Payload) (count : ℕ) (added : List Placed) → length (other_names_in o) ≤ 65536 → FollowInLog count added → length (other_names_in (last_or o (payloads_of added))) ≤ 65536
@@ -55,6 +57,16 @@ may-base bytes tables added x of t stand =
       others_of = of.others;
       count = of.below;
     }
+
+-- all tables, behind those of a session's base
+pub tables-behind : (tables : PlainTables) (bytes : List ℕ) (added : List Placed) (x : PlainSession) → AreTablesOf tables added → AllStand bytes added → AreTablesBehind tables bytes (base_added added x)
+tables-behind tables bytes added x t stand =
+    let whole = sym (take-append-drop x.payloads added) in
+    record { behind = drop x.payloads added; tables_of = subst (AreTablesOf tables) whole t; stand = subst (AllStand bytes) whole stand }
+
+-- its rows may stand behind its base
+pub own-view : (added : List Placed) (x : PlainSession) → IsSessionOf added x → (base : BaseRef) → IsBaseOf base (base_added added x) → MayView base (base_added added x) x.pending
+own-view added x of base b = record { rows = of.pending.rows; held = of.pending.held; first = of.pending.first; parents = subst (λ n. HaveParents n of.pending.rows) (sym b.count) of.pending.parents }
 
 -- each of the sessions is on all payloads of the log
 abbrev pub AllOnNewest : Held → PlainTables → List PlainSession → Type 0

@@ -1,19 +1,17 @@
 -- The newest base of a store's tables, and rows of none behind it.
 use Rattle.std.proofs.Common.{◌≡◌, ◌≤◌, ℕ, List, [], ◌∷◌, map, refl, sym, ap, subst, ◌∙◌, arith, append-nil}
 use Rattle.id_groups.specs.Name.{Name}
-use Rattle.commit_graph.specs.World.{Row, World, IsNamedWorld, names_of, with_pending}
+use Rattle.commit_graph.specs.World.{Row, names_of, with_pending}
 use Rattle.name_map.specs.Added.{Placed, payloads_of, AllStand}
 use Rattle.change_rules.specs.Tables.{StandFor}
 use Rattle.payload_tables.specs.declared.base.BaseRef.{BaseRef}
 use Rattle.payload_tables.specs.Kept.{PlainTables, PlainOthers, AreTablesOf}
 use Rattle.payload_tables.specs.Pending.{HeldRow, PlainPending, HoldsRows, row_names}
-use Rattle.payload_tables.specs.Bases.{IsBaseOf, MayView, held_row}
-use Rattle.flush_rebuild.specs.Asked.{others_count}
+use Rattle.payload_tables.specs.Bases.{MayView, held_row}
 use Rattle.step_rules.specs.State.{Stored, base_of, pending_of}
 use Rattle.store_plans.specs.Sessions.{PlainSession}
-use Rattle.store_plans.specs.Looking.{AreTablesBehind, Sees}
+use Rattle.store_plans.specs.Looking.{AreTablesBehind, AreNone}
 use Rattle.store_plans.specs.Changes.{HaveNames, IsOn}
-use Rattle.store_plans.proofs.HeadTests.{sees-none, world-of}
 use Rattle.store_plans.proofs.Newest.{others-few}
 use Rattle.store_plans.proofs.Counts.{others-many}
 use Rattle.store_plans.proofs.StoredNames.{names-of-rows}
@@ -39,26 +37,17 @@ module _ (tables : PlainTables) (added : List Placed) (t : AreTablesOf tables ad
   pub none-few : m ≤ 65536
   none-few = let few = others-few tables added t in let e = same in omega (arith, few, e)
 
-  module _ (none : PlainPending) (held : HoldsRows none []) (first : none.first ≡ m) (newest : BaseRef) (b : IsBaseOf newest added) where
-    none-first : none.first ≡ others_count added
-    none-first = first ∙ same ∙ others-many tables.others added t.others
+  -- rows of none, which begin where the other ids of the tables end
+  pub are-none : (none : PlainPending) → HoldsRows none [] → none.first ≡ m → AreNone none added
+  are-none none held first = (held, first ∙ same ∙ others-many tables.others added t.others)
 
-    pub none-view : MayView newest added none
-    none-view = record { rows = []; held = held; first = none-first; parents = tt }
+-- they may stand behind the newest base
+pub none-view : (newest : BaseRef) (none : PlainPending) (added : List Placed) → AreNone none added → MayView newest added none
+none-view newest none added n = record { rows = []; held = n.0; first = n.1; parents = tt }
 
-    -- it sees each world for which the payloads stand
-    pub newest-sees : (w : World Name) → StandFor (payloads_of added) w → IsNamedWorld w → Sees newest none added w []
-    newest-sees w stand world = sees-none newest none added w b held none-first stand world
-
-    -- there is one
-    pub some-newest : (w : World Name) × StandFor (payloads_of added) w × Sees newest none added w []
-    some-newest = let s = world-of added t.lawful in (s.0, s.1, newest-sees s.0 s.1 s.2)
-
-    -- and that of a state is one
-    pub state-newest : (began s : ℕ) (x : PlainSession) (st : Stored) → IsOn began added x st s → StandFor (payloads_of added) st.stored × Sees newest none added st.stored []
-    state-newest began s x st o =
-        let stand = subst (λ l. StandFor l st.stored) (sym o.payloads) o.hold.stand in
-        (stand, newest-sees st.stored stand o.hold.world)
+-- the payloads of a state that a session is on stand for what it has stored
+pub state-stands : (began s : ℕ) (added : List Placed) (x : PlainSession) (st : Stored) → IsOn began added x st s → StandFor (payloads_of added) st.stored
+state-stands began s added x st o = subst (λ l. StandFor l st.stored) (sym o.payloads) o.hold.stand
 
 -- rows of some parents with these names
 pub plain-names : (pending : PlainPending) (rows : List HeldRow) → HoldsRows pending rows → (some : List (Row Name)) × HaveNames pending (names_of some)

@@ -13,8 +13,9 @@ use Rattle.change_rules.specs.Disagree.{IsBadPath}
 use Rattle.name_map.specs.Added.{Placed, payloads_of, AllStand}
 use Rattle.payload_tables.specs.Kept.{PlainTables, AreTablesOf}
 use Rattle.payload_tables.specs.declared.base.BaseRef.{BaseRef}
-use Rattle.payload_tables.specs.Bases.{IsBaseOf, ArePending}
-use Rattle.payload_tables.specs.Pending.{PlainPending}
+use Rattle.payload_tables.specs.Bases.{IsBaseOf, MayView, ArePending}
+use Rattle.payload_tables.specs.Pending.{PlainPending, HoldsRows}
+use Rattle.flush_rebuild.specs.Asked.{others_count}
 use Rattle.remote_rules.specs.CloneData.{KnownName}
 use Rattle.remote_rules.specs.Mirror.{Mirror}
 use Rattle.remote_rules.specs.Serving.{IsServing}
@@ -28,6 +29,8 @@ use Rattle.step_rules.specs.declared.Refusal.TheVariants as why
 use Rattle.step_rules.specs.Tests.{Test, named, unknown}
 use Rattle.step_rules.specs.Asking.{TriesAll, refusal_for}
 use Rattle.step_rules.specs.Worlds.{has}
+use Rattle.store_plans.specs.Sessions.{PlainSession, base_added}
+use Rattle.store_plans.specs.declared.seen.Seen.{Seen}
 use Rattle.std.proofs.Common.{Vec, Global}
 
 -- the base is that of these payloads, which stand for the world, and the pending rows stand behind it
@@ -43,6 +46,27 @@ pub record AreTablesBehind (tables : PlainTables) (bytes : List ℕ) (added : Li
   pub behind : List Placed
   pub tables_of : AreTablesOf tables (added ++ behind)
   pub stand : AllStand bytes (added ++ behind)
+
+-- what is lent of a session is its base of these payloads, and rows that may stand behind it
+abbrev pub MaySee : Seen → List Placed → Type 0
+MaySee seen added = IsBaseOf seen.base added × MayView seen.base added seen.pending.now
+
+-- It shows this world and these rows behind it: over tables of the whole log, and with whether some name of the world isn't stored.
+pub record Shows (seen : Seen) (added : List Placed) (w : World Name) (rows : List (Row Name)) : Type 0 where
+  pub sees : Sees seen.base seen.pending.now added w rows
+  pub behind : AreTablesBehind seen.tables.now seen.bytes.now added
+  pub unnamed : seen.unnamed ≡ has_lazy (payloads_of added) w
+
+-- the session's base stands for this world, and its rows are these behind it
+pub record IsSeen (added : List Placed) (x : PlainSession) (w : World Name) (rows : List (Row Name)) : Type 0 where
+  pub stand : StandFor (payloads_of (base_added added x)) w
+  pub world : IsNamedWorld w
+  pub pending_rows : ArePending w x.pending rows
+  pub view : IsNamedWorld (with_pending w rows)
+
+-- no rows, as behind the newest base of these payloads
+abbrev pub AreNone : PlainPending → List Placed → Type 0
+AreNone none added = HoldsRows none [] × (none.first ≡ others_count added)
 
 -- whether the name has to be asked: some name of the world isn't stored, and this one is neither stored nor pending
 abbrev pub is_asked_in : List Payload → World Name → List (Row Name) → Name → Bool

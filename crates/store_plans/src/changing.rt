@@ -148,7 +148,7 @@ pub struct Next {
 }
 
 /// Plans the flush of a session, and takes all memory for it.
-pub fn prepare<R: Remote>(
+pub fn prepare_flush<R: Remote>(
     alloc: Global,
     log: &mut Log,
     tables: &mut Tables,

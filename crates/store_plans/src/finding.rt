@@ -1,83 +1,67 @@
 //! Looking up in the newest base what a flush and a reload name.
 
 ghost use Rattle.std.specs.Prelude.{◌≡◌, ◌<◌, ◌^◌, ℕ, List, [], None, IfOk, length, map, slice_index_or};
-ghost use Rattle.name_map.specs.Added.{Placed, payloads_of};
+ghost use Rattle.name_map.specs.Added.{Placed};
 ghost use Rattle.id_groups.specs.Name.{Name as NameBytes};
 ghost use Rattle.commit_graph.specs.World.{Row, World, names_of};
-ghost use Rattle.change_rules.specs.Lazy.{has_lazy};
-ghost use Rattle.payload_tables.specs.Bases.{IsBaseOf, MayView};
 ghost use Rattle.payload_tables.specs.Pending.{HeldRow, HoldsRows};
 ghost use Rattle.store_plans.specs.Sessions.{IsSessionOf};
-ghost use Rattle.store_plans.specs.Looking.{AreTablesBehind, IsSoundCache, Sees, items_of};
+ghost use Rattle.store_plans.specs.Looking.{IsSoundCache, MaySee, Shows, items_of};
 ghost use Rattle.store_plans.specs.Changes.{HaveNames, FindsHead, FindsHeads, FindsRows, IsRowOf, IsTaken};
 
 use crate::lookup::{find, find_seen};
+use crate::seen::Seen;
 use crate::session::Session;
-use flush_rebuild::{BaseRef, PendingRows, Tables};
+use flush_rebuild::PendingRows;
 use id_groups::{Id, Name};
 use lazy_names::LazyNames;
 use remote_trait::Remote;
 use std::alloc::Global;
 use step_rules::Refusal;
 
-/// The id of a head in the newest base, where `unnamed` says whether that has an id without a stored name; none where it is pending
-/// and not stored. `none` are no rows behind that base. A head that is neither stored nor pending is asked of a mirror there, and
-/// `Unknown` where it is nowhere.
+/// The id of a head in the newest base; none where it is pending and not stored. A head that is neither is asked of a mirror where the
+/// base has an id without a stored name, and `Unknown` where it is nowhere.
 fn find_head<R: Remote>(
     alloc: Global,
-    bytes: &[u8],
-    tables: &Tables,
-    newest: &BaseRef<'_>,
-    unnamed: bool,
-    none: &PendingRows,
+    newest: &Seen<'_>,
     session: &Session,
     cache: &mut LazyNames,
     mirrors: &mut Vec<R>,
     head: &Name,
 ) -> Result<Option<Id>, Refusal>
     requires mirrors { length mirrors.old.items < 2 ^ 32 }
-    requires base { (added : List Placed) × IsBaseOf newest.now added × IsSessionOf added session.now × MayView newest.now added none.now }
-    ensures finds { (added : List Placed) (w : World NameBytes) (rows : List (Row NameBytes)) → Sees newest.now none.now added w [] → AreTablesBehind tables.now bytes.now added
-        → HaveNames session.now.pending (names_of rows) → unnamed ≡ has_lazy (payloads_of added) w
+    requires base { (added : List Placed) × MaySee newest.now added × IsSessionOf added session.now }
+    ensures finds { (added : List Placed) (w : World NameBytes) (rows : List (Row NameBytes)) → Shows newest.now added w [] → HaveNames session.now.pending (names_of rows)
         → FindsHead added w rows head.now (map R.shown mirrors.old.items) (map R.shown mirrors.new.items) cache.old cache.new result }
     ensures sound { IsSoundCache cache.old → IsSoundCache cache.new }
     ensures len { length mirrors.new.items ≡ length mirrors.old.items }
 {
     if session.pending.find(head.lend()).is_some() {
-        return Ok(newest.id(head.lend()));
+        return Ok(newest.base.id(head.lend()));
     }
-    let id = find_seen(
-        alloc, bytes, tables, newest, unnamed, none, cache, mirrors, head,
-    )?;
+    let id = find_seen(alloc, newest, cache, mirrors, head)?;
     Ok(Some(id))
 }
 
 /// The ids of these heads in the newest base. The first that is refused is.
 pub(crate) fn look_up_heads<R: Remote>(
     alloc: Global,
-    bytes: &[u8],
-    tables: &Tables,
-    newest: &BaseRef<'_>,
-    unnamed: bool,
-    none: &PendingRows,
+    newest: &Seen<'_>,
     session: &Session,
     cache: &mut LazyNames,
     mirrors: &mut Vec<R>,
     heads: &[Name],
 ) -> Result<Vec<Option<Id>>, Refusal>
     requires mirrors { length mirrors.old.items < 2 ^ 32 }
-    requires base { (added : List Placed) × IsBaseOf newest.now added × IsSessionOf added session.now × MayView newest.now added none.now }
-    ensures finds { (added : List Placed) (w : World NameBytes) (rows : List (Row NameBytes)) → Sees newest.now none.now added w [] → AreTablesBehind tables.now bytes.now added
-        → HaveNames session.now.pending (names_of rows) → unnamed ≡ has_lazy (payloads_of added) w
+    requires base { (added : List Placed) × MaySee newest.now added × IsSessionOf added session.now }
+    ensures finds { (added : List Placed) (w : World NameBytes) (rows : List (Row NameBytes)) → Shows newest.now added w [] → HaveNames session.now.pending (names_of rows)
         → FindsHeads added w rows heads.now (map R.shown mirrors.old.items) (map R.shown mirrors.new.items) cache.old cache.new (items_of result) }
     ensures sound { IsSoundCache cache.old → IsSoundCache cache.new }
     ensures len { length mirrors.new.items ≡ length mirrors.old.items }
 {
     let mut found = Vec::new(alloc);
     'heads: for head in heads {
-        let id = find_head(
-            alloc, bytes, tables, newest, unnamed, none, session, cache, mirrors, head,
-        )?;
+        let id = find_head(alloc, newest, session, cache, mirrors, head)?;
         let Ok(()) = found.push(id) else {
             return Err(Refusal::Memory);
         };
@@ -85,23 +69,18 @@ pub(crate) fn look_up_heads<R: Remote>(
     Ok(found)
 }
 
-/// The ids in the newest base of the names of a session's rows. One that isn't stored is asked of a mirror, where `unnamed` says that
-/// the base has an id without a stored name.
+/// The ids in the newest base of the names of a session's rows. One that isn't stored is asked of a mirror where the base has an id
+/// without a stored name.
 pub(crate) fn look_up_rows<R: Remote>(
     alloc: Global,
-    bytes: &[u8],
-    tables: &Tables,
-    newest: &BaseRef<'_>,
-    unnamed: bool,
-    none: &PendingRows,
+    newest: &Seen<'_>,
     session: &Session,
     cache: &mut LazyNames,
     mirrors: &mut Vec<R>,
 ) -> Result<Vec<Option<Id>>, Refusal>
     requires mirrors { length mirrors.old.items < 2 ^ 32 }
-    requires base { (added : List Placed) × IsBaseOf newest.now added × IsSessionOf added session.now × MayView newest.now added none.now }
-    ensures finds { (added : List Placed) (w : World NameBytes) (names : List NameBytes) → Sees newest.now none.now added w [] → AreTablesBehind tables.now bytes.now added
-        → HaveNames session.now.pending names → unnamed ≡ has_lazy (payloads_of added) w
+    requires base { (added : List Placed) × MaySee newest.now added × IsSessionOf added session.now }
+    ensures finds { (added : List Placed) (w : World NameBytes) (names : List NameBytes) → Shows newest.now added w [] → HaveNames session.now.pending names
         → FindsRows added w names (map R.shown mirrors.old.items) (map R.shown mirrors.new.items) cache.old cache.new (items_of result) }
     ensures count { (rows : List HeldRow) → HoldsRows session.now.pending rows → IfOk result (λ found. length found.items ≡ length rows) }
     ensures sound { IsSoundCache cache.old → IsSoundCache cache.new }
@@ -111,9 +90,7 @@ pub(crate) fn look_up_rows<R: Remote>(
     let mut found = Vec::new(alloc);
     'rows: for i in 0..pending.len() {
         let name = pending.name(i).to_name();
-        let id = find(
-            alloc, bytes, tables, newest, unnamed, none, cache, mirrors, &name,
-        )?;
+        let id = find(alloc, newest, cache, mirrors, &name)?;
         let Ok(()) = found.push(id) else {
             return Err(Refusal::Memory);
         };

@@ -8,13 +8,15 @@ mod finding;
 mod lookup;
 mod planning;
 mod pulling;
+mod seen;
 mod session;
 mod stripping;
 
-pub use changing::{Next, prepare, reloaded};
+pub use changing::{Next, prepare_flush, reloaded};
 pub use cloning::prepare_clone;
 pub use lookup::{are_names, find, find_seen, has_parents, has_unnamed, refusal_of};
 pub use planning::lacks_names;
 pub use pulling::prepare_pull;
+pub use seen::Seen;
 pub use session::Session;
 pub use stripping::prepare_strip;

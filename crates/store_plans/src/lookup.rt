@@ -12,12 +12,12 @@ ghost use Rattle.name_map.specs.Added.{Placed, payloads_of};
 ghost use Rattle.change_rules.specs.Tables.{StandFor};
 ghost use Rattle.change_rules.specs.Lazy.{has_lazy};
 ghost use Rattle.payload_tables.specs.Kept.{AreTablesOf};
-ghost use Rattle.payload_tables.specs.Bases.{IsBaseOf, MayView};
 ghost use Rattle.flush_rebuild.specs.Asked.{IsStored};
 ghost use Rattle.store_plans.specs.Sessions.{PlainSession, IsSessionOf, base_added};
-ghost use Rattle.store_plans.specs.Looking.{AreTablesBehind, Sees, Asked, FindsOne, Looks, IsSoundCache, as_refused, asking_refusal};
+ghost use Rattle.store_plans.specs.Looking.{MaySee, Shows, Asked, FindsOne, Looks, IsSoundCache, as_refused, asking_refusal};
 
-use flush_rebuild::{BaseRef, PendingRows, Tables};
+use crate::seen::Seen;
+use flush_rebuild::Tables;
 use high_segments::View;
 use id_groups::{Id, Name};
 use lazy_names::{LazyFault, LazyNames};
@@ -66,21 +66,17 @@ fn or_refused(found: Result<Option<Id>, LazyFault>) -> Result<Option<Id>, Refusa
     }
 }
 
-/// Asks a mirror for the id of a name that the base doesn't store, where it has an id without a stored name. The pending rows are
-/// any that may stand behind the base.
+/// Asks a mirror for the id of a name that the base doesn't store, where it has an id without a stored name.
 pub(crate) fn ask_name<R: Remote>(
     alloc: Global,
-    bytes: &[u8],
-    tables: &Tables,
-    base: &BaseRef<'_>,
-    pending: &PendingRows,
+    seen: &Seen<'_>,
     cache: &mut LazyNames,
     mirrors: &mut Vec<R>,
     name: &Name,
 ) -> Result<Option<Id>, Refusal>
     requires mirrors { length mirrors.old.items < 2 ^ 32 }
-    requires view { (added : List Placed) × IsBaseOf base.now added × MayView base.now added pending.now }
-    ensures asked { (added : List Placed) (w : World NameBytes) (rows : List (Row NameBytes)) → Sees base.now pending.now added w rows → AreTablesBehind tables.now bytes.now added
+    requires view { (added : List Placed) × MaySee seen.now added }
+    ensures asked { (added : List Placed) (w : World NameBytes) (rows : List (Row NameBytes)) → Shows seen.now added w rows
         → has_lazy (payloads_of added) w ≡ true → (IsStored added name.now → ⊥)
         → Asked (payloads_of added) w name.now (map R.shown mirrors.old.items) (map R.shown mirrors.new.items) cache.old cache.new result }
     ensures sound { IsSoundCache cache.new }
@@ -88,10 +84,10 @@ pub(crate) fn ask_name<R: Remote>(
 {
     let found = cache.find_among(
         alloc,
-        &base.view(pending),
-        tables.names(),
-        bytes,
-        tables.heads(),
+        &seen.base.view(seen.pending),
+        seen.tables.names(),
+        seen.bytes,
+        seen.tables.heads(),
         mirrors,
         name,
     );
@@ -99,63 +95,50 @@ pub(crate) fn ask_name<R: Remote>(
     or_refused(found)
 }
 
-/// The id of a name that a base has or that is pending, where `unnamed` says whether the base has an id without a stored name. A name
-/// that is neither stored nor pending is asked of a mirror there. The pending rows are tried first: there are few, and most parents
-/// are among them.
+/// The id of a name that a base has or that is pending. A name that is neither is asked of a mirror where the base has an id without a
+/// stored name. The pending rows are tried first: there are few, and most parents are among them.
 pub fn find<R: Remote>(
     alloc: Global,
-    bytes: &[u8],
-    tables: &Tables,
-    base: &BaseRef<'_>,
-    unnamed: bool,
-    pending: &PendingRows,
+    seen: &Seen<'_>,
     cache: &mut LazyNames,
     mirrors: &mut Vec<R>,
     name: &Name,
 ) -> Result<Option<Id>, Refusal>
     requires mirrors { length mirrors.old.items < 2 ^ 32 }
-    requires view { (added : List Placed) × IsBaseOf base.now added × MayView base.now added pending.now }
-    ensures looks { (added : List Placed) (w : World NameBytes) (rows : List (Row NameBytes)) → Sees base.now pending.now added w rows → AreTablesBehind tables.now bytes.now added
-        → unnamed ≡ has_lazy (payloads_of added) w
+    requires view { (added : List Placed) × MaySee seen.now added }
+    ensures looks { (added : List Placed) (w : World NameBytes) (rows : List (Row NameBytes)) → Shows seen.now added w rows
         → Looks (payloads_of added) w rows name.now (map R.shown mirrors.old.items) (map R.shown mirrors.new.items) cache.old cache.new result }
     ensures sound { IsSoundCache cache.old → IsSoundCache cache.new }
     ensures len { length mirrors.new.items ≡ length mirrors.old.items }
 {
-    if let Some(k) = pending.find(name.lend()) {
-        return Ok(Some(Id::other(pending.first() + u64::from(k))));
+    if let Some(k) = seen.pending.find(name.lend()) {
+        return Ok(Some(Id::other(seen.pending.first() + u64::from(k))));
     }
-    if let Some(id) = base.id(name.lend()) {
+    if let Some(id) = seen.base.id(name.lend()) {
         return Ok(Some(id));
     }
-    if !unnamed {
+    if !seen.unnamed {
         return Ok(None);
     }
-    ask_name(alloc, bytes, tables, base, pending, cache, mirrors, name)
+    ask_name(alloc, seen, cache, mirrors, name)
 }
 
 /// The id of a name in a session's view. `Unknown` where it isn't there.
 pub fn find_seen<R: Remote>(
     alloc: Global,
-    bytes: &[u8],
-    tables: &Tables,
-    base: &BaseRef<'_>,
-    unnamed: bool,
-    pending: &PendingRows,
+    seen: &Seen<'_>,
     cache: &mut LazyNames,
     mirrors: &mut Vec<R>,
     name: &Name,
 ) -> Result<Id, Refusal>
     requires mirrors { length mirrors.old.items < 2 ^ 32 }
-    requires view { (added : List Placed) × IsBaseOf base.now added × MayView base.now added pending.now }
-    ensures finds { (added : List Placed) (w : World NameBytes) (rows : List (Row NameBytes)) → Sees base.now pending.now added w rows → AreTablesBehind tables.now bytes.now added
-        → unnamed ≡ has_lazy (payloads_of added) w
+    requires view { (added : List Placed) × MaySee seen.now added }
+    ensures finds { (added : List Placed) (w : World NameBytes) (rows : List (Row NameBytes)) → Shows seen.now added w rows
         → FindsOne (payloads_of added) w rows name.now (map R.shown mirrors.old.items) (map R.shown mirrors.new.items) cache.old cache.new result }
     ensures sound { IsSoundCache cache.old → IsSoundCache cache.new }
     ensures len { length mirrors.new.items ≡ length mirrors.old.items }
 {
-    match find(
-        alloc, bytes, tables, base, unnamed, pending, cache, mirrors, name,
-    )? {
+    match find(alloc, seen, cache, mirrors, name)? {
         Some(id) => Ok(id),
         None => Err(Refusal::Unknown(*name)),
     }

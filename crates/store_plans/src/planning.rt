@@ -22,6 +22,7 @@ ghost use Rattle.store_plans.specs.Looking.{IsSoundCache, items_of};
 ghost use Rattle.store_plans.specs.Changes.{AreOver, FindsHeads, FindsRows, HaveNames, IsOn, IsOfPlan, Rebases, RebasesAnew, PlansFlush, RowsFound, refusal_of};
 
 use crate::finding::{look_up_heads, look_up_rows, take_rows};
+use crate::seen::Seen;
 use crate::session::Session;
 use flush_rebuild::{Change, Limits, PendingRows, PlanFault, Tables, plan_change, rebase};
 use gated_log::Log;
@@ -107,13 +108,9 @@ fn rows_found<R: Remote>(
     ensures sound { IsSoundCache cache.old → IsSoundCache cache.new }
     ensures len { length mirrors.new.items ≡ length mirrors.old.items }
 {
-    let unnamed = lacks_names(tables);
-    let bytes = log.bytes();
-    let newest = tables.newest(bytes);
     let none = PendingRows::empty(alloc, u64::from(tables.others().count()));
-    look_up_rows(
-        alloc, bytes, tables, &newest, unnamed, &none, session, cache, mirrors,
-    )
+    let newest = Seen::newest(log.bytes(), tables, &none);
+    look_up_rows(alloc, &newest, session, cache, mirrors)
 }
 
 /// The rows of a session that the newest world doesn't have, with their parents by their ids in it. Those of a session that is on the
@@ -231,11 +228,7 @@ fn heads_found<R: Remote>(
     ensures sound { IsSoundCache cache.old → IsSoundCache cache.new }
     ensures len { length mirrors.new.items ≡ length mirrors.old.items }
 {
-    let unnamed = lacks_names(tables);
-    let bytes = log.bytes();
-    let newest = tables.newest(bytes);
     let none = PendingRows::empty(alloc, u64::from(tables.others().count()));
-    look_up_heads(
-        alloc, bytes, tables, &newest, unnamed, &none, session, cache, mirrors, heads,
-    )
+    let newest = Seen::newest(log.bytes(), tables, &none);
+    look_up_heads(alloc, &newest, session, cache, mirrors, heads)
 }

@@ -1,11 +1,16 @@
 //! What is kept of a session.
 
-ghost use Rattle.std.specs.Prelude.{◌≡◌, List, length, take, IfOk};
+ghost use Rattle.std.specs.Prelude.{◌≡◌, List, length, IfOk};
 ghost use Rattle.name_map.specs.Added.{Placed, AllStand};
 ghost use Rattle.payload_tables.specs.Kept.{AreTablesOf};
 ghost use Rattle.payload_tables.specs.Bases.{IsBaseOf};
+ghost use Rattle.id_groups.specs.Name.{Name as NameBytes};
+ghost use Rattle.commit_graph.specs.World.{Row, World};
 ghost use Rattle.store_plans.specs.Sessions.{IsSessionOf, base_added, IsOnNewest};
+ghost use Rattle.store_plans.specs.Looking.{IsSeen, MaySee, Shows};
 
+use crate::lookup::has_unnamed;
+use crate::seen::Seen;
 use flush_rebuild::{BaseRef, OthersTable, PendingRows, Tables};
 use std::alloc::{AllocError, Global};
 
@@ -58,5 +63,21 @@ impl Session {
             → IsBaseOf result (base_added added self.now) }
     {
         BaseRef::over(bytes, tables, &self.others, self.below)
+    }
+
+    /// What it sees, lent with the log's bytes.
+    pub fn seen<'a>(&'a self, bytes: &'a [u8], tables: &'a Tables) -> Seen<'a>
+        ensures may { (added : List Placed) → IsSessionOf added self.now → AreTablesOf tables.now added → AllStand bytes.now added → MaySee result (base_added added self.now) }
+        ensures shows { (added : List Placed) (w : World NameBytes) (rows : List (Row NameBytes)) → IsSessionOf added self.now → AreTablesOf tables.now added → AllStand bytes.now added
+            → IsSeen added self.now w rows → Shows result (base_added added self.now) w rows }
+        ensures parts { (result.bytes.now ≡ bytes.now) × (result.tables.now ≡ tables.now) × (result.pending.now ≡ self.now.pending) }
+    {
+        Seen {
+            bytes,
+            tables,
+            base: self.base(bytes, tables),
+            pending: &self.pending,
+            unnamed: has_unnamed(tables, self.below),
+        }
     }
 }

@@ -6,23 +6,22 @@ ghost use Rattle.gated_log.specs.Held.{log_bytes};
 ghost use Rattle.id_groups.specs.Name.{Name as NameBytes};
 ghost use Rattle.commit_graph.specs.World.{World, IsNamedWorld};
 ghost use Rattle.name_map.specs.Added.{Placed, payloads_of};
-ghost use Rattle.change_rules.specs.Lazy.{has_lazy};
 ghost use Rattle.change_rules.specs.Standard.{AreLimits};
 ghost use Rattle.change_rules.specs.Tables.{StandFor};
-ghost use Rattle.payload_tables.specs.Bases.{IsBaseOf, MayView};
 ghost use Rattle.flush_rebuild.specs.Plans.{MayComeNext};
 ghost use Rattle.step_rules.specs.State.{Stored};
 ghost use Rattle.store_plans.specs.Sessions.{IsSessionOf};
-ghost use Rattle.store_plans.specs.Looking.{AreTablesBehind, IsSoundCache, Sees, items_of};
+ghost use Rattle.store_plans.specs.Looking.{IsSoundCache, MaySee, Shows, items_of};
 ghost use Rattle.store_plans.specs.Changes.{AreOver, IsOn, IsPrepared, HasRoom};
 ghost use Rattle.store_plans.specs.Strips.{FindsOther, FindsOthers, IsOtherId, PlansStrip, PreparesStrip};
 
 use crate::changing::{Next, take_change};
 use crate::cloning::check_pending;
 use crate::lookup::find;
-use crate::planning::{lacks_names, refusal_of};
+use crate::planning::refusal_of;
+use crate::seen::Seen;
 use crate::session::Session;
-use flush_rebuild::{BaseRef, Change, Limits, PendingRows, Tables, plan_strip_change};
+use flush_rebuild::{Change, Limits, PendingRows, Tables, plan_strip_change};
 use gated_log::Log;
 use id_groups::{Group, Id, Name};
 use lazy_names::LazyNames;
@@ -30,31 +29,23 @@ use remote_trait::Remote;
 use std::alloc::{AllocError, Global};
 use step_rules::Refusal;
 
-/// The id in the newest base of a commit that isn't one of master, where `unnamed` says whether that base has an id without a stored
-/// name. `none` are no rows behind it. A name that isn't stored is asked of a mirror there. `InMaster` for a commit of master, and
-/// `Unknown` for a name that is nowhere.
+/// The id in the newest base of a commit that isn't one of master. A name that isn't stored is asked of a mirror where the base has an
+/// id without a stored name. `InMaster` for a commit of master, and `Unknown` for a name that is nowhere.
 fn find_other<R: Remote>(
     alloc: Global,
-    bytes: &[u8],
-    tables: &Tables,
-    newest: &BaseRef<'_>,
-    unnamed: bool,
-    none: &PendingRows,
+    newest: &Seen<'_>,
     cache: &mut LazyNames,
     mirrors: &mut Vec<R>,
     name: &Name,
 ) -> Result<Id, Refusal>
     requires mirrors { length mirrors.old.items < 2 ^ 32 }
-    requires view { (added : List Placed) × IsBaseOf newest.now added × MayView newest.now added none.now }
-    ensures finds { (added : List Placed) (w : World NameBytes) → Sees newest.now none.now added w [] → AreTablesBehind tables.now bytes.now added
-        → unnamed ≡ has_lazy (payloads_of added) w
+    requires view { (added : List Placed) × MaySee newest.now added }
+    ensures finds { (added : List Placed) (w : World NameBytes) → Shows newest.now added w []
         → FindsOther added w name.now (map R.shown mirrors.old.items) (map R.shown mirrors.new.items) cache.old cache.new result }
     ensures sound { IsSoundCache cache.old → IsSoundCache cache.new }
     ensures len { length mirrors.new.items ≡ length mirrors.old.items }
 {
-    let found = find(
-        alloc, bytes, tables, newest, unnamed, none, cache, mirrors, name,
-    )?;
+    let found = find(alloc, newest, cache, mirrors, name)?;
     let Some(id) = found else {
         return Err(Refusal::Unknown(*name));
     };
@@ -67,28 +58,21 @@ fn find_other<R: Remote>(
 /// The ids in the newest base of these names, none of which is one of master. The first that is refused is.
 fn look_up_others<R: Remote>(
     alloc: Global,
-    bytes: &[u8],
-    tables: &Tables,
-    newest: &BaseRef<'_>,
-    unnamed: bool,
-    none: &PendingRows,
+    newest: &Seen<'_>,
     cache: &mut LazyNames,
     mirrors: &mut Vec<R>,
     names: &[Name],
 ) -> Result<Vec<Id>, Refusal>
     requires mirrors { length mirrors.old.items < 2 ^ 32 }
-    requires view { (added : List Placed) × IsBaseOf newest.now added × MayView newest.now added none.now }
-    ensures finds { (added : List Placed) (w : World NameBytes) → Sees newest.now none.now added w [] → AreTablesBehind tables.now bytes.now added
-        → unnamed ≡ has_lazy (payloads_of added) w
+    requires view { (added : List Placed) × MaySee newest.now added }
+    ensures finds { (added : List Placed) (w : World NameBytes) → Shows newest.now added w []
         → FindsOthers added w names.now (map R.shown mirrors.old.items) (map R.shown mirrors.new.items) cache.old cache.new (items_of result) }
     ensures sound { IsSoundCache cache.old → IsSoundCache cache.new }
     ensures len { length mirrors.new.items ≡ length mirrors.old.items }
 {
     let mut ids = Vec::new(alloc);
     'names: for name in names {
-        let id = find_other(
-            alloc, bytes, tables, newest, unnamed, none, cache, mirrors, name,
-        )?;
+        let id = find_other(alloc, newest, cache, mirrors, name)?;
         let Ok(()) = ids.push(id) else {
             return Err(Refusal::Memory);
         };
@@ -113,13 +97,9 @@ fn others_found<R: Remote>(
     ensures sound { IsSoundCache cache.old → IsSoundCache cache.new }
     ensures len { length mirrors.new.items ≡ length mirrors.old.items }
 {
-    let unnamed = lacks_names(tables);
-    let bytes = log.bytes();
-    let newest = tables.newest(bytes);
     let none = PendingRows::empty(alloc, u64::from(tables.others().count()));
-    look_up_others(
-        alloc, bytes, tables, &newest, unnamed, &none, cache, mirrors, names,
-    )
+    let newest = Seen::newest(log.bytes(), tables, &none);
+    look_up_others(alloc, &newest, cache, mirrors, names)
 }
 
 /// What a strip of these names by a session changes.

@@ -1,4 +1,4 @@
-use Rattle.std.proofs.Common.{◌≡◌, Ok, length, map, refl, sym, subst, arith}
+use Rattle.std.proofs.Common.{◌≡◌, Ok, length, map, sym, subst, arith}
 use Rattle.name_map.specs.Added.{payloads_of}
 use Rattle.commit_graph.specs.World.{with_pending}
 use Rattle.payload_tables.specs.Bases.{held_row}
@@ -7,9 +7,7 @@ use Rattle.store_plans.specs.Looking.{IsViewId}
 use Rattle.std.specs.List.{AllByRecursion}
 use Rattle.dag_store.specs.Adding.{Seeks, Appends}
 use Rattle.id_groups.specs.Lists.{AreDistinct}
-use Rattle.dag_store.proofs.QueryWorld.{may-view}
-use Rattle.dag_store.proofs.Leading.{tables-behind}
-use Rattle.dag_store.proofs.AddingWorlds.{seen, seen-small, sees-of, may-be-parents, kept-more, not-own}
+use Rattle.dag_store.proofs.AddingWorlds.{seen, seen-small, may-be-parents, kept-more, not-own}
 use Rattle.dag_store.proofs.AddingSession.{adds-old, adds-refused, err-adds, row-adds}
 use Rattle.dag_store.proofs.adding.add_row.Goals as goal
 
@@ -17,14 +15,12 @@ pub seek-requires-clause-view : goal.seek-requires-clause-view
 seek-requires-clause-view g c =
     let (added, t, stand, kept) = c.requires.session in
     let x = c.args.session.now in
-    let b = c.base-base.ensures added kept t stand in
-    (base_added added x, b, may-view c.args.tables.now added x t kept c.base-base.result b)
+    (base_added added x, c.seen-seen.ensures.may added kept t stand)
 
 pub append-requires-clause-parents : goal.append-requires-clause-parents
 append-requires-clause-parents g c =
     let (added, t, stand, kept) = c.requires.session in
     let x = c.args.session.now in
-    let b = c.base-base.ensures added kept t stand in
     let world = seen added x t.lawful kept in
     let w = world.0 in
     let rows = world.1 in
@@ -32,7 +28,7 @@ append-requires-clause-parents g c =
     let old = map g.R.Remote.shown c.args.mirrors.now.items in
     let new = map g.R.Remote.shown c.seek.new.mirrors.items in
     let got = subst (λ o. Seeks (payloads_of (base_added added x)) w rows c.args.name.now c.args.parents.now old new c.args.cache.now c.seek.new.cache (Ok o)) c.in-New.is
-    (c.in_ok-id.ensures.seeks (base_added added x) w rows (sees-of c.base-base.result added x w rows b s) (tables-behind c.args.tables.now c.args.bytes.now added x t stand) (c.has_unnamed-unnamed.ensures added x w t kept refl s.stand)) in
+    (c.in_ok-id.ensures.seeks (base_added added x) w rows (c.seen-seen.ensures.shows added w rows kept t stand s)) in
     let are = subst (λ l. AllByRecursion (IsViewId w rows) l × AreDistinct l × (length l ≡ length c.args.parents.now)) (sym c.deref.ensures.value) got.parents_are in
     let few = c.requires.few in
     let count = are.2 in
@@ -41,7 +37,6 @@ append-requires-clause-parents g c =
 pub returns-in-New-clause-kept : goal.returns-in-New-clause-kept
 returns-in-New-clause-kept g c = λ added t stand kept.
     let x = c.args.session.now in
-    let b = c.base-base.ensures added kept t stand in
     let world = seen added x t.lawful kept in
     let w = world.0 in
     let rows = world.1 in
@@ -49,7 +44,7 @@ returns-in-New-clause-kept g c = λ added t stand kept.
     let old = map g.R.Remote.shown c.args.mirrors.now.items in
     let new = map g.R.Remote.shown c.seek.new.mirrors.items in
     let got = subst (λ o. Seeks (payloads_of (base_added added x)) w rows c.args.name.now c.args.parents.now old new c.args.cache.now c.seek.new.cache (Ok o)) c.in-New.is
-    (c.in_ok-id.ensures.seeks (base_added added x) w rows (sees-of c.base-base.result added x w rows b s) (tables-behind c.args.tables.now c.args.bytes.now added x t stand) (c.has_unnamed-unnamed.ensures added x w t kept refl s.stand)) in
+    (c.in_ok-id.ensures.seeks (base_added added x) w rows (c.seen-seen.ensures.shows added w rows kept t stand s)) in
     let view = subst (λ l. AllByRecursion (IsViewId w rows) l) (sym c.deref.ensures.value) got.parents_are.0 in
     kept-more added x t.lawful kept w rows s c.args.name.now c.deref.result.now view got.fresh.0 got.fresh.1 c.args.most c.append.result c.append.new.pending
     (c.append.ensures.appends (map (held_row (with_pending w rows)) rows) s.pending_rows.held (not-own added x t.lawful kept w rows s c.args.name.now c.deref.result.now view got.fresh.0 got.fresh.1)) c.append.ensures.unchanged
@@ -57,30 +52,27 @@ returns-in-New-clause-kept g c = λ added t stand kept.
 pub returns-in-Old-clause-adds : goal.returns-in-Old-clause-adds
 returns-in-Old-clause-adds g c = λ added w rows t stand kept sees.
     let x = c.args.session.now in
-    let b = c.base-base.ensures added kept t stand in
     let old = map g.R.Remote.shown c.args.mirrors.now.items in
     let new = map g.R.Remote.shown c.seek.new.mirrors.items in
-    let got = c.in_ok-id.ensures.seeks (base_added added x) w rows (sees-of c.base-base.result added x w rows b sees) (tables-behind c.args.tables.now c.args.bytes.now added x t stand) (c.has_unnamed-unnamed.ensures added x w t kept refl sees.stand) in
+    let got = c.in_ok-id.ensures.seeks (base_added added x) w rows (c.seen-seen.ensures.shows added w rows kept t stand sees) in
     let is = subst (λ o. Seeks (payloads_of (base_added added x)) w rows c.args.name.now c.args.parents.now old new c.args.cache.now c.seek.new.cache (Ok o)) c.in-Old.is got in
     adds-old added x w rows sees c.args.name.now c.args.parents.now c.requires.few c.args.most old new c.args.cache.now c.seek.new.cache c.in-Old.id is
 
 pub returns-in_err-id-clause-adds : goal.returns-in_err-id-clause-adds
 returns-in_err-id-clause-adds g c = λ added w rows t stand kept sees.
     let x = c.args.session.now in
-    let b = c.base-base.ensures added kept t stand in
     let old = map g.R.Remote.shown c.args.mirrors.now.items in
     let new = map g.R.Remote.shown c.seek.new.mirrors.items in
-    let got = c.in_err-id.ensures.seeks (base_added added x) w rows (sees-of c.base-base.result added x w rows b sees) (tables-behind c.args.tables.now c.args.bytes.now added x t stand) (c.has_unnamed-unnamed.ensures added x w t kept refl sees.stand) in
+    let got = c.in_err-id.ensures.seeks (base_added added x) w rows (c.seen-seen.ensures.shows added w rows kept t stand sees) in
     err-adds c.args.most c.args.session.now (payloads_of (base_added added c.args.session.now)) w rows c.args.name.now c.args.parents.now old new c.args.cache.now c.seek.new.cache c.args.session.now c.from_residual.result c.in_err-id.field-0.0 c.from_residual.ensures.1
     (adds-refused added x w rows sees c.args.name.now c.args.parents.now c.requires.few c.args.most old new c.args.cache.now c.seek.new.cache c.in_err-id.field-0.0 got)
 
 pub returns-in-New-clause-adds : goal.returns-in-New-clause-adds
 returns-in-New-clause-adds g c = λ added w rows t stand kept sees.
     let x = c.args.session.now in
-    let b = c.base-base.ensures added kept t stand in
     let old = map g.R.Remote.shown c.args.mirrors.now.items in
     let new = map g.R.Remote.shown c.seek.new.mirrors.items in
-    let got = c.in_ok-id.ensures.seeks (base_added added x) w rows (sees-of c.base-base.result added x w rows b sees) (tables-behind c.args.tables.now c.args.bytes.now added x t stand) (c.has_unnamed-unnamed.ensures added x w t kept refl sees.stand) in
+    let got = c.in_ok-id.ensures.seeks (base_added added x) w rows (c.seen-seen.ensures.shows added w rows kept t stand sees) in
     let is = subst (λ o. Seeks (payloads_of (base_added added x)) w rows c.args.name.now c.args.parents.now old new c.args.cache.now c.seek.new.cache (Ok o)) c.in-New.is got in
     let view = subst (λ l. AllByRecursion (IsViewId w rows) l) (sym c.deref.ensures.value) is.parents_are.0 in
     let appends = c.append.ensures.appends (map (held_row (with_pending w rows)) rows) sees.pending_rows.held (not-own added x t.lawful kept w rows sees c.args.name.now c.deref.result.now view is.fresh.0 is.fresh.1) in

@@ -7,8 +7,8 @@ use Rattle.dag_store.proofs.asks.prepare_ask.Goals as goal
 
 pub returns-in-Flush-clause-prepares : goal.returns-in-Flush-clause-prepares
 returns-in-Flush-clause-prepares g c = λ began s added st over of on.
-    subst (λ (a : Ask). PreparesAsk c.args.limits st s (length (log_bytes c.args.log.now)) (verb_of a) (map g.R.Remote.shown c.args.mirrors.now.items) (map g.R.Remote.shown c.prepare.new.mirrors.items) c.args.cache.now c.prepare.new.cache c.prepare.result) (sym c.in-Flush.is)
-    (c.prepare.ensures.step began s added st over of on)
+    subst (λ (a : Ask). PreparesAsk c.args.limits st s (length (log_bytes c.args.log.now)) (verb_of a) (map g.R.Remote.shown c.args.mirrors.now.items) (map g.R.Remote.shown c.prepare_flush.new.mirrors.items) c.args.cache.now c.prepare_flush.new.cache c.prepare_flush.result) (sym c.in-Flush.is)
+    (c.prepare_flush.ensures.step began s added st over of on)
 
 pub returns-in-Strip-clause-prepares : goal.returns-in-Strip-clause-prepares
 returns-in-Strip-clause-prepares g c = λ began s added st over of on.

@@ -15,11 +15,11 @@ use Rattle.payload_tables.proofs.Rows.{count-rows}
 use Rattle.std.proofs.lemmas.List.{length-map}
 use Rattle.store_plans.specs.Sessions.{base_added}
 use Rattle.dag_store.specs.Querying.{Fetches, lazy_ids}
-use Rattle.dag_store.proofs.QueryWorld.{some-seen, may-view, seen-by}
+use Rattle.dag_store.proofs.QueryWorld.{some-seen, seen-by}
+use Rattle.store_plans.proofs.Newest.{own-view, tables-behind}
 use Rattle.dag_store.proofs.QueryAnswers.{view-held}
 use Rattle.store_plans.proofs.Asking.{covered}
 use Rattle.dag_store.proofs.Fetching.{fetches-none, fetches-so, lazy-filtered, none-lazy, served-of, sized-view}
-use Rattle.dag_store.proofs.Leading.{tables-behind}
 use Rattle.dag_store.proofs.query.fetch_names.Goals as goal
 
 pub returns-then-not-has_unnamed-clause-fetches : goal.returns-then-not-has_unnamed-clause-fetches
@@ -34,7 +34,7 @@ view-view-requires g c =
     let x = c.args.session.now in
     let (added, t, stand, of, view) = c.requires.session in
     let b = c.base-base.ensures added of t stand in
-    (base_added added x, b, may-view c.args.tables.now added x t of c.base-base.result b)
+    (base_added added x, b, own-view added x of c.base-base.result b)
 
 pub fetch_among-fetched-requires-clause-held : goal.fetch_among-fetched-requires-clause-held
 fetch_among-fetched-requires-clause-held g c =

@@ -1,8 +1,8 @@
 use Rattle.std.proofs.Common.{◌≡◌, ◌≤◌, ◌-◌, ◌++◌, List, ℕ, length}
+use Rattle.remote_pipe.specs.Exchange.{Took}
 use Rattle.std.specs.Prelude.{is_some}
 use Rattle.outside.specs.Told.{WhereTold}
 use Rattle.remote_pipe.specs.Line.{served_by}
-use Rattle.remote_pipe.specs.Steps.{Took}
 use Rattle.remote_pipe.proofs.exchange.fill_body.Given as goal
 
 abbrev pub invariant-pieces : goal.invariant-pieces

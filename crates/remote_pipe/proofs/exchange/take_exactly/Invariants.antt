@@ -1,8 +1,8 @@
 use Rattle.std.proofs.Common.{◌≡◌, ◌≤◌, ◌-◌, length, take}
+use Rattle.remote_pipe.specs.Exchange.{Took}
 use Rattle.std.specs.Prelude.{is_some}
 use Rattle.outside.specs.Told.{WhereTold}
 use Rattle.remote_pipe.specs.Line.{served_by}
-use Rattle.remote_pipe.specs.Steps.{Took}
 use Rattle.remote_pipe.proofs.exchange.take_exactly.Given as goal
 
 abbrev pub invariant-takes : goal.invariant-takes

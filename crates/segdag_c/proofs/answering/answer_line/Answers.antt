@@ -1,8 +1,7 @@
-use Rattle.std.proofs.Common.{◌≡◌, ◌++◌, ℕ, List, Some, IfSome, [], ap, subst, sym, ◌∙◌}
+use Rattle.std.proofs.Common.{◌≡◌, ◌++◌, List, Some, IfSome, [], ap, subst, sym, ◌∙◌}
 use Rattle.remote_rules.specs.Mirror.{Mirror}
 use Rattle.line_io.specs.Memory.{MemoryOutput}
 use Rattle.call_disk.specs.Awaited.{awaited}
-use Rattle.call_disk.specs.Noted.{Call}
 use Rattle.segdag_c.specs.Answers.{LineNotes}
 use Rattle.segdag_c.specs.Line.{LineDoes}
 use Rattle.segdag_c.specs.Mirrors.{shown_all}

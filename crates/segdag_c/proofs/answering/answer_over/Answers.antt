@@ -1,9 +1,20 @@
-use Rattle.std.proofs.Common.{List, subst, sym}
+use Rattle.std.proofs.Common.{IfOk, subst}
 use Rattle.call_disk.specs.Awaited.{awaited}
-use Rattle.dag_store.specs.Kept.{PlainStore}
+use Rattle.segdag_c.specs.Line.{LineDoesOn}
 use Rattle.segdag_c.specs.Mirrors.{shown_all}
-use Rattle.segdag_c.proofs.Storing.{chosen-has, line-does}
+use Rattle.segdag_c.proofs.Storing.{chosen, chosen-has, line-notes}
 use Rattle.segdag_c.proofs.answering.answer_over.Goals as goal
 
-pub answer_on-requires-clause-on_disk : goal.answer_on-requires-clause-on_disk
-answer_on-requires-clause-on_disk g c = chosen-has c.args.store.log g.disk
+pub answer_on-answered-requires-clause-on_disk : goal.answer_on-answered-requires-clause-on_disk
+answer_on-answered-requires-clause-on_disk g c = chosen-has c.args.store.log g.disk
+
+pub returns-in-Ok-clause-does : goal.returns-in-Ok-clause-does
+returns-in-Ok-clause-does g c =
+    let answered = c.answer_on-answered in
+    let first = shown_all c.args.mirrors.now.list.items in
+    let left = shown_all answered.new.mirrors.list.items in
+    let faults = c.args.reply.now.faults in
+    let before = c.args.reply.now.taken in
+    line-notes first left faults c.args.store c.args.line.now c.in-Ok.next c.note_behind.result before answered.new.reply c.args.log.now c.note_behind.new.log answered.result.1 g.disk
+    c.note_behind.ensures.store c.note_behind.ensures.calls
+    (subst (λ r. IfOk r (λ next. LineDoesOn first c.args.store c.args.line.now next left faults before answered.new.reply (awaited answered.result.1) (chosen c.args.store.log g.disk))) c.in-Ok.is answered.ensures.does)

@@ -1,9 +1,8 @@
 use Rattle.std.proofs.Common.{◌≡◌, List, [], map, length, take, Ok}
 use Rattle.id_groups.specs.Name.{Name}
 use Rattle.commit_graph.specs.World.{Row, World, names_of}
-use Rattle.name_map.specs.Added.{Placed, payloads_of}
-use Rattle.change_rules.specs.Lazy.{has_lazy}
-use Rattle.store_plans.specs.Looking.{AreTablesBehind, IsSoundCache, Sees}
+use Rattle.name_map.specs.Added.{Placed}
+use Rattle.store_plans.specs.Looking.{IsSoundCache, Shows}
 use Rattle.store_plans.specs.Changes.{FindsHeads, HaveNames}
 use Rattle.store_plans.proofs.finding.look_up_heads.Given as goal
 
@@ -14,7 +13,7 @@ pub record Found (finds : Type 0) (sound : Type 0) (len : Type 0) : Type 0 where
 
 abbrev pub invariant-heads : goal.invariant-heads
 invariant-heads g l = Found
-    ((added : List Placed) (w : World Name) (rows : List (Row Name)) → Sees l.newest l.none added w [] → AreTablesBehind l.tables l.bytes added → HaveNames l.session.pending (names_of rows) → l.unnamed ≡ has_lazy (payloads_of added) w
+    ((added : List Placed) (w : World Name) (rows : List (Row Name)) → Shows l.newest added w [] → HaveNames l.session.pending (names_of rows)
     → FindsHeads added w rows (take l.head-index l.heads) (map g.R.Remote.shown l.fn.mirrors.items) (map g.R.Remote.shown l.mirrors.items) l.fn.cache l.cache (Ok l.found.items))
     (IsSoundCache l.fn.cache → IsSoundCache l.cache)
     (length l.mirrors.items ≡ length l.fn.mirrors.items)

@@ -9,11 +9,13 @@ use Rattle.store_plans.proofs.Asking.{asked-of, covered, heads-are, must-be-aske
 use Rattle.store_plans.proofs.lookup.ask_name.Goals as goal
 
 pub returns-clause-asked : goal.returns-clause-asked
-returns-clause-asked g c = λ added w rows s b some out.
-    let base = c.args.base.now in
-    let pending = c.args.pending.now in
-    let tables = c.args.tables.now in
-    let bytes = c.args.bytes.now in
+returns-clause-asked g c = λ added w rows h some out.
+    let s = h.sees in
+    let b = h.behind in
+    let base = c.args.seen.now.base in
+    let pending = c.args.seen.now.pending.now in
+    let tables = c.args.seen.now.tables.now in
+    let bytes = c.args.seen.now.bytes.now in
     let flats = flats_in c.view.result in
     let segs = c.view.ensures.graph added w rows s.base_of s.stand s.pending_rows in
     let all = added ++ b.behind in

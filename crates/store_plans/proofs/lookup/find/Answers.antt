@@ -11,7 +11,8 @@ use Rattle.store_plans.proofs.Looked.{looks-there, looks-lazy, some-is-none}
 use Rattle.store_plans.proofs.lookup.find.Goals as goal
 
 pub returns-in-Some-clause-looks : goal.returns-in-Some-clause-looks
-returns-in-Some-clause-looks g c = λ added w rows s b u.
+returns-in-Some-clause-looks g c = λ added w rows h.
+    let s = h.sees in
     let f = c.in-Some.ensures (map (held_row (with_pending w rows)) rows) s.pending_rows.held in
     looks-there (payloads_of added) w rows c.args.name.now (Some c.other.result) _ c.args.cache.now
     (found-pending added w s.stand rows s.view.world c.args.name.now c.in-Some.k c.other.result
@@ -20,30 +21,33 @@ returns-in-Some-clause-looks g c = λ added w rows s b u.
     (λ e. absurd (some-is-none e))
 
 pub returns-in-Some-id-clause-looks : goal.returns-in-Some-id-clause-looks
-returns-in-Some-id-clause-looks g c = λ added w rows s b u.
+returns-in-Some-id-clause-looks g c = λ added w rows h.
+    let s = h.sees in
     let i = c.in-Some-id.ensures added s.base_of in
     looks-there (payloads_of added) w rows c.args.name.now (Some c.in-Some-id.id) _ c.args.cache.now
     (found-stored added w s.stand rows s.view.world c.args.name.now c.in-Some-id.id (subst (λ n. IsIn {X = Known} (record { id = c.in-Some-id.id; name = n }) (stored_in added)) c.lend-2.ensures i.1))
     (λ e. absurd (some-is-none e))
 
-pub returns-then-not-unnamed-clause-looks : goal.returns-then-not-unnamed-clause-looks
-returns-then-not-unnamed-clause-looks g c = λ added w rows s b u.
+pub returns-then-not-seen-clause-looks : goal.returns-then-not-seen-clause-looks
+returns-then-not-seen-clause-looks g c = λ added w rows h.
+    let s = h.sees in
     looks-there (payloads_of added) w rows c.args.name.now None _ c.args.cache.now
     (found-nowhere added w s.stand rows s.view.world c.args.name.now
-    (not-stored c.args.base.now added s.base_of c.args.name.now (subst (λ n. IsIdOf (stored_in added) n (2 ^ 57) None) c.lend-2.ensures (c.in_default-id.ensures added s.base_of)))
+    (not-stored c.args.seen.now.base added s.base_of c.args.name.now (subst (λ n. IsIdOf (stored_in added) n (2 ^ 57) None) c.lend-2.ensures (c.in_default-id.ensures added s.base_of)))
     (subst (λ n. FindsRow (map (held_row (with_pending w rows)) rows) n None) c.lend.ensures (c.in_default.ensures (map (held_row (with_pending w rows)) rows) s.pending_rows.held))
-    (sym u ∙ c.if-not-unnamed.true))
+    (sym h.unnamed ∙ c.if-not-seen.true))
     (λ e. (
-      (λ i. not-stored c.args.base.now added s.base_of c.args.name.now (subst (λ n. IsIdOf (stored_in added) n (2 ^ 57) None) c.lend-2.ensures (c.in_default-id.ensures added s.base_of)) (subst (IsIn c.args.name.now) (stored-are added w s.stand) i)),
+      (λ i. not-stored c.args.seen.now.base added s.base_of c.args.name.now (subst (λ n. IsIdOf (stored_in added) n (2 ^ 57) None) c.lend-2.ensures (c.in_default-id.ensures added s.base_of)) (subst (IsIn c.args.name.now) (stored-are added w s.stand) i)),
       not-pending added w s.stand rows s.view.world c.args.name.now (subst (λ n. FindsRow (map (held_row (with_pending w rows)) rows) n None) c.lend.ensures (c.in_default.ensures (map (held_row (with_pending w rows)) rows) s.pending_rows.held)),
     ))
 
 pub returns-clause-looks : goal.returns-clause-looks
-returns-clause-looks g c = λ added w rows s b u.
-    let some = sym u ∙ c.if-not-unnamed.false in
-    let out = not-stored c.args.base.now added s.base_of c.args.name.now (subst (λ n. IsIdOf (stored_in added) n (2 ^ 57) None) c.lend-2.ensures (c.in_default-id.ensures added s.base_of)) in
+returns-clause-looks g c = λ added w rows h.
+    let s = h.sees in
+    let some = sym h.unnamed ∙ c.if-not-seen.false in
+    let out = not-stored c.args.seen.now.base added s.base_of c.args.name.now (subst (λ n. IsIdOf (stored_in added) n (2 ^ 57) None) c.lend-2.ensures (c.in_default-id.ensures added s.base_of)) in
     let row = subst (λ n. FindsRow (map (held_row (with_pending w rows)) rows) n None) c.lend.ensures (c.in_default.ensures (map (held_row (with_pending w rows)) rows) s.pending_rows.held) in
     looks-lazy added w s.stand rows c.args.name.now out
     (has-to-ask added w s.stand rows s.view.world c.args.name.now out row some)
     (not-pending added w s.stand rows s.view.world c.args.name.now row) _ _ c.args.cache.now c.ask_name.new.cache c.ask_name.result
-    (c.ask_name.ensures.asked added w rows s b some out)
+    (c.ask_name.ensures.asked added w rows h some out)

@@ -35,7 +35,7 @@ returns-clause-step g c = λ began st h served.
     let of = subst (IsSessionOf k.added) (sym there) (k.each c.args.s c.requires.session) in
     let stand = subst (λ b. AllStand b k.added) (sym c.bytes.ensures.bytes) k.stand in
     let named = subst IsName c.lend-name.ensures (name-of-bytes c.lend-name.result.bytes.now c.lend-name.result.has_20 c.lend-name.result.of_bytes) in
-    add-leads-at i.log tables items i.limits k c.args.s c.requires.session i.names c.add_row.new.cache _ _ began c.args.name.now c.args.parents.now ((named, c.are_names.ensures), c.requires.few) c.add_row.result c.add_row.new.session
+    add-leads-at i.log tables items i.limits k c.args.s c.requires.session i.cache c.add_row.new.cache _ _ began c.args.name.now c.args.parents.now ((named, c.are_names.ensures), c.requires.few) c.add_row.result c.add_row.new.session
     c.args.self.now c.self.view_is c.index_mut-session.result.now there c.from.result c.from.ensures st h served c.add_row.ensures.sound (λ w rows seen. c.add_row.ensures.adds k.added w rows k.tables_of stand of seen)
 
 pub returns-clause-asks : goal.returns-clause-asks
@@ -48,7 +48,7 @@ returns-clause-asks g c = λ began st h.
     let of = subst (IsSessionOf k.added) (sym there) (k.each c.args.s c.requires.session) in
     let stand = subst (λ b. AllStand b k.added) (sym c.bytes.ensures.bytes) k.stand in
     let named = subst IsName c.lend-name.ensures (name-of-bytes c.lend-name.result.bytes.now c.lend-name.result.has_20 c.lend-name.result.of_bytes) in
-    add-asks-at i.log tables items i.limits k c.args.s c.requires.session i.names c.add_row.new.cache _ _ began c.args.name.now c.args.parents.now ((named, c.are_names.ensures), c.requires.few) c.add_row.result c.add_row.new.session
+    add-asks-at i.log tables items i.limits k c.args.s c.requires.session i.cache c.add_row.new.cache _ _ began c.args.name.now c.args.parents.now ((named, c.are_names.ensures), c.requires.few) c.add_row.result c.add_row.new.session
     c.args.self.now c.self.view_is c.index_mut-session.result.now there st h (λ w rows seen. c.add_row.ensures.adds k.added w rows k.tables_of stand of seen)
 
 pub returns-clause-alone : goal.returns-clause-alone

@@ -4,7 +4,7 @@ use Rattle.gated_log.specs.Holding.{IsOnDisk}
 use Rattle.payload_tables.specs.Kept.{PlainTables}
 use Rattle.store_plans.specs.Sessions.{IsSessionOf}
 use Rattle.dag_store.specs.Kept.{PlainStore, IsKept}
-use Rattle.dag_store.specs.Flushes.{LeavesStore}
+use Rattle.dag_store.specs.Changes.{LeavesStore}
 use Rattle.dag_store.proofs.Standing.{session-there}
 use Rattle.dag_store.proofs.FlushStored.{over-of}
 use Rattle.dag_store.proofs.FlushDisk.{leaves-ends, leaves-room, made-of}
@@ -42,7 +42,7 @@ pub returns-clause-step : goal.returns-clause-step
 returns-clause-step g c =
     let i = c.self.inside in
     let items = i.sessions.items in
-    let kept : PlainStore = record { log = i.log; sessions = items; limits = i.limits; cache = i.names } in
+    let kept : PlainStore = record { log = i.log; sessions = items; limits = i.limits; cache = i.cache } in
     let k = subst (λ (t : PlainTables). IsKept i.log t i.sessions.items i.limits) (sym c.deref_mut.ensures.value) c.self.invariant in
     let s = c.args.s in
     let small = c.requires.session in
@@ -50,7 +50,7 @@ returns-clause-step g c =
     let over = over-of i.log c.deref_mut.result.now items i.limits k in
     let of = subst (IsSessionOf k.added) (sym there) (k.each s small) in
     let told = g.D.Disk.told c.args.disk.now in let then = g.D.Disk.told c.finish.new.disk in
-    ask-answers i.log c.deref_mut.result.now items i.limits k s small i.names c.prepare_ask-next.new.cache _ _ c.args.self c.self.view_is c.index.result.now there c.prepare_ask-next.new.log c.prepare_ask-next.ensures.room told then
+    ask-answers i.log c.deref_mut.result.now items i.limits k s small i.cache c.prepare_ask-next.new.cache _ _ c.args.self c.self.view_is c.index.result.now there c.prepare_ask-next.new.log c.prepare_ask-next.ensures.room told then
     c.prepare_ask-next.ensures.sound c.prepare_ask-next.new.tables c.prepare_ask-next.result (made-of c.prepare_ask-next.result _ _ (c.prepare_ask-next.ensures.ready k.added over of) c.prepare_ask-next.ensures.refused)
     c.from-at.result c.from-at.ensures c.finish.result c.finish.ensures.ends
     (leaves-room kept c.prepare_ask-next.new.log c.prepare_ask-next.ensures.room items c.prepare_ask-next.new.cache _ c.finish.result told then c.finish.ensures.leaves) c.args.ask c.requires.asked
@@ -59,6 +59,6 @@ returns-clause-step g c =
 pub returns-clause-leaves : goal.returns-clause-leaves
 returns-clause-leaves g c =
     let i = c.self.inside in
-    let kept : PlainStore = record { log = i.log; sessions = i.sessions.items; limits = i.limits; cache = i.names } in
+    let kept : PlainStore = record { log = i.log; sessions = i.sessions.items; limits = i.limits; cache = i.cache } in
     subst (λ (q : PlainStore). LeavesStore q c.args.s c.finish.result) c.self.view_is
     (leaves-ends kept c.prepare_ask-next.new.log c.prepare_ask-next.ensures.room c.prepare_ask-next.new.cache c.args.s c.from-at.result c.from-at.ensures c.prepare_ask-next.result c.finish.result c.finish.ensures.ends)

@@ -20,7 +20,7 @@ returns-clause-step g c = λ began st h served.
     let there = session-there items c.args.s c.from.result c.index-session.result.now _ c.requires k.count c.from.ensures c.index-session.ensures in
     let of = subst (IsSessionOf k.added) (sym there) (k.each c.args.s c.requires) in
     let stand = subst (λ b. AllStand b k.added) (sym c.bytes.ensures.bytes) k.stand in
-    count-leads-at i.log tables items i.limits k c.args.s c.requires i.names c.members.new.cache _ _ began (tree_of c.args.expr.now) c.members.result c.args.self.now c.self.view_is c.index-session.result.now there st h served c.members.ensures.sound
+    count-leads-at i.log tables items i.limits k c.args.s c.requires i.cache c.members.new.cache _ _ began (tree_of c.args.expr.now) c.members.result c.args.self.now c.self.view_is c.index-session.result.now there st h served c.members.ensures.sound
     (λ w rows seen. c.members.ensures.answer k.added w rows k.tables_of stand of seen)
 
 pub returns-clause-asks : goal.returns-clause-asks
@@ -32,7 +32,7 @@ returns-clause-asks g c = λ began st h.
     let there = session-there items c.args.s c.from.result c.index-session.result.now _ c.requires k.count c.from.ensures c.index-session.ensures in
     let of = subst (IsSessionOf k.added) (sym there) (k.each c.args.s c.requires) in
     let stand = subst (λ b. AllStand b k.added) (sym c.bytes.ensures.bytes) k.stand in
-    count-asks-at i.log tables items i.limits k c.args.s c.requires i.names c.members.new.cache _ _ began (tree_of c.args.expr.now) c.members.result c.args.self.now c.self.view_is c.index-session.result.now there st h
+    count-asks-at i.log tables items i.limits k c.args.s c.requires i.cache c.members.new.cache _ _ began (tree_of c.args.expr.now) c.members.result c.args.self.now c.self.view_is c.index-session.result.now there st h
     (λ w rows seen. c.members.ensures.answer k.added w rows k.tables_of stand of seen)
 
 pub returns-clause-few : goal.returns-clause-few
@@ -45,7 +45,7 @@ returns-clause-few g c = λ began st name h tree.
     let of = subst (IsSessionOf k.added) (sym there) (k.each c.args.s c.requires) in
     let stand = subst (λ b. AllStand b k.added) (sym c.bytes.ensures.bytes) k.stand in
     c.members.ensures.few k.added (base_of st c.args.s) (pending_of st c.args.s) name k.tables_of stand of
-    (seen-at i.log tables items i.limits k c.args.s c.requires i.names c.members.new.cache [] [] began (tree_of c.args.expr.now) c.members.result c.args.self.now c.self.view_is c.index-session.result.now there st h) tree
+    (seen-at i.log tables items i.limits k c.args.s c.requires i.cache c.members.new.cache [] [] began (tree_of c.args.expr.now) c.members.result c.args.self.now c.self.view_is c.index-session.result.now there st h) tree
 
 pub returns-clause-one : goal.returns-clause-one
 returns-clause-one g c = λ began st name h served tree ends.
@@ -57,5 +57,5 @@ returns-clause-one g c = λ began st name h served tree ends.
     let of = subst (IsSessionOf k.added) (sym there) (k.each c.args.s c.requires) in
     let stand = subst (λ b. AllStand b k.added) (sym c.bytes.ensures.bytes) k.stand in
     c.members.ensures.one k.added (base_of st.store c.args.s) (pending_of st.store c.args.s) name k.tables_of stand of
-    (seen-at i.log tables items i.limits k c.args.s c.requires i.names c.members.new.cache [] [] began (tree_of c.args.expr.now) c.members.result c.args.self.now c.self.view_is c.index-session.result.now there st.store h.stored) tree ends
-    (serves-at i.log tables items i.limits k c.args.s c.requires i.names c.members.new.cache _ [] began (tree_of c.args.expr.now) c.members.result c.args.self.now c.self.view_is c.index-session.result.now there st h served)
+    (seen-at i.log tables items i.limits k c.args.s c.requires i.cache c.members.new.cache [] [] began (tree_of c.args.expr.now) c.members.result c.args.self.now c.self.view_is c.index-session.result.now there st.store h.stored) tree ends
+    (serves-at i.log tables items i.limits k c.args.s c.requires i.cache c.members.new.cache _ [] began (tree_of c.args.expr.now) c.members.result c.args.self.now c.self.view_is c.index-session.result.now there st h served)

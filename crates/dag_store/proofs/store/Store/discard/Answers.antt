@@ -37,10 +37,10 @@ returns-clause-step c =
     let same = ap (λ n. set items n (record { payloads = c.index_mut-session.result.now.payloads; below = c.index_mut-session.result.now.below; others = c.index_mut-session.result.now.others; pending = none })) c.from.ensures
     ∙ ap (λ (q : PlainSession). set items c.args.s (record q { pending = none })) x in
     subst (λ (q : PlainStore). (began : ℕ) (st : State) → Stands began q st.store → CommandStep q.limits st c.args.s Discard (Discarded c.len-count.result) (record st { store = with_pending_rows st.store c.args.s [] })
-    × Stands began (record { log = i.log; sessions = set items c.from.result (record { payloads = c.index_mut-session.result.now.payloads; below = c.index_mut-session.result.now.below; others = c.index_mut-session.result.now.others; pending = none }); limits = i.limits; cache = i.names }) (with_pending_rows st.store c.args.s []))
+    × Stands began (record { log = i.log; sessions = set items c.from.result (record { payloads = c.index_mut-session.result.now.payloads; below = c.index_mut-session.result.now.below; others = c.index_mut-session.result.now.others; pending = none }); limits = i.limits; cache = i.cache }) (with_pending_rows st.store c.args.s []))
     c.self.view_is
-    (subst (λ l. (began : ℕ) (st : State) → Stands began (record { log = i.log; sessions = items; limits = i.limits; cache = i.names }) st.store → CommandStep i.limits st c.args.s Discard (Discarded c.len-count.result) (record st { store = with_pending_rows st.store c.args.s [] })
-    × Stands began (record { log = i.log; sessions = l; limits = i.limits; cache = i.names }) (with_pending_rows st.store c.args.s [])) (sym same)
+    (subst (λ l. (began : ℕ) (st : State) → Stands began (record { log = i.log; sessions = items; limits = i.limits; cache = i.cache }) st.store → CommandStep i.limits st c.args.s Discard (Discarded c.len-count.result) (record st { store = with_pending_rows st.store c.args.s [] })
+    × Stands began (record { log = i.log; sessions = l; limits = i.limits; cache = i.cache }) (with_pending_rows st.store c.args.s [])) (sym same)
     (discard-step i.log i.tables.value items i.limits k c.args.s c.requires c.len-count.result none
     (λ rows held. c.len-count.ensures.len rows (subst (λ (q : PlainSession). HoldsRows q.pending rows) (sym x) held)) c.empty.ensures.rows first))
 
@@ -49,5 +49,5 @@ returns-clause-alone c =
     let i = c.self.inside in
     let items = i.sessions.items in
     let changed : PlainSession = record { payloads = c.index_mut-session.result.now.payloads; below = c.index_mut-session.result.now.below; others = c.index_mut-session.result.now.others; pending = c.empty.result } in
-    subst (λ (q : PlainStore). ChangesOnly c.args.s q (record { log = i.log; sessions = set items c.from.result changed; limits = i.limits; cache = i.names })) c.self.view_is
-    (changed, ap (λ n. record { log = i.log; sessions = set items n changed; limits = i.limits; cache = i.names }) c.from.ensures)
+    subst (λ (q : PlainStore). ChangesOnly c.args.s q (record { log = i.log; sessions = set items c.from.result changed; limits = i.limits; cache = i.cache })) c.self.view_is
+    (changed, ap (λ n. record { log = i.log; sessions = set items n changed; limits = i.limits; cache = i.cache }) c.from.ensures)

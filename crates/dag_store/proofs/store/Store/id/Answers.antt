@@ -18,7 +18,7 @@ returns-clause-step g c = λ began st h served.
     let there = session-there items c.args.s c.from.result c.index-session.result.now _ c.requires k.count c.from.ensures c.index-session.ensures in
     let of = subst (IsSessionOf k.added) (sym there) (k.each c.args.s c.requires) in
     let stand = subst (λ b. AllStand b k.added) (sym c.bytes.ensures.bytes) k.stand in
-    id-leads-at i.log tables items i.limits k c.args.s c.requires i.names c.find_id.new.cache _ _ began c.args.name.now c.find_id.result c.args.self.now c.self.view_is c.index-session.result.now there st h served
+    id-leads-at i.log tables items i.limits k c.args.s c.requires i.cache c.find_id.new.cache _ _ began c.args.name.now c.find_id.result c.args.self.now c.self.view_is c.index-session.result.now there st h served
     c.find_id.ensures.sound (λ w rows seen. c.find_id.ensures.finds k.added w rows k.tables_of stand of seen)
 
 pub returns-clause-asks : goal.returns-clause-asks
@@ -30,5 +30,5 @@ returns-clause-asks g c = λ began st h.
     let there = session-there items c.args.s c.from.result c.index-session.result.now _ c.requires k.count c.from.ensures c.index-session.ensures in
     let of = subst (IsSessionOf k.added) (sym there) (k.each c.args.s c.requires) in
     let stand = subst (λ b. AllStand b k.added) (sym c.bytes.ensures.bytes) k.stand in
-    id-asks-at i.log tables items i.limits k c.args.s c.requires i.names c.find_id.new.cache _ _ began c.args.name.now c.find_id.result c.args.self.now c.self.view_is c.index-session.result.now there st h
+    id-asks-at i.log tables items i.limits k c.args.s c.requires i.cache c.find_id.new.cache _ _ began c.args.name.now c.find_id.result c.args.self.now c.self.view_is c.index-session.result.now there st h
     (λ w rows seen. c.find_id.ensures.finds k.added w rows k.tables_of stand of seen)

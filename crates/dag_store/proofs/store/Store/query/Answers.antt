@@ -17,7 +17,7 @@ returns-in_err-answer-clause-step g c = λ began st h right.
     let there = session-there items c.args.s c.from.result c.index-session.result.now _ c.requires k.count c.from.ensures c.index-session.ensures in
     let of = subst (IsSessionOf k.added) (sym there) (k.each c.args.s c.requires) in
     let stand = subst (λ b. AllStand b k.added) (sym c.bytes-bytes.ensures.bytes) k.stand in
-    refused-leads-at i.log tables items i.limits k c.args.s c.requires began (tree_of c.args.expr.now) i.names c.members.new.cache c.members.new.cache _ _ [] c.args.self.now c.self.view_is c.index-session.result.now there c.from_residual.result c.in_err-answer.field-0.0 c.from_residual.ensures.1 st h right c.members.ensures.sound
+    refused-leads-at i.log tables items i.limits k c.args.s c.requires began (tree_of c.args.expr.now) i.cache c.members.new.cache c.members.new.cache _ _ [] c.args.self.now c.self.view_is c.index-session.result.now there c.from_residual.result c.in_err-answer.field-0.0 c.from_residual.ensures.1 st h right c.members.ensures.sound
     (λ w rows seen. c.in_err-answer.ensures.answer k.added w rows k.tables_of stand of seen)
 
 pub returns-in_err-answer-clause-asks : goal.returns-in_err-answer-clause-asks
@@ -29,7 +29,7 @@ returns-in_err-answer-clause-asks g c = λ began st h.
     let there = session-there items c.args.s c.from.result c.index-session.result.now _ c.requires k.count c.from.ensures c.index-session.ensures in
     let of = subst (IsSessionOf k.added) (sym there) (k.each c.args.s c.requires) in
     let stand = subst (λ b. AllStand b k.added) (sym c.bytes-bytes.ensures.bytes) k.stand in
-    asks-refused-at i.log tables items i.limits k c.args.s c.requires began (tree_of c.args.expr.now) i.names c.members.new.cache c.members.new.cache _ _ [] c.args.self.now c.self.view_is c.index-session.result.now there c.from_residual.result c.in_err-answer.field-0.0 c.from_residual.ensures.1 st h
+    asks-refused-at i.log tables items i.limits k c.args.s c.requires began (tree_of c.args.expr.now) i.cache c.members.new.cache c.members.new.cache _ _ [] c.args.self.now c.self.view_is c.index-session.result.now there c.from_residual.result c.in_err-answer.field-0.0 c.from_residual.ensures.1 st h
     (λ w rows seen. c.in_err-answer.ensures.answer k.added w rows k.tables_of stand of seen)
 
 pub found_in-requires-clause-session : goal.found_in-requires-clause-session
@@ -63,7 +63,7 @@ returns-clause-step g c = λ began st h right.
     let there = session-there items c.args.s c.from.result c.index-session.result.now _ c.requires k.count c.from.ensures c.index-session.ensures in
     let of = subst (IsSessionOf k.added) (sym there) (k.each c.args.s c.requires) in
     let stand = subst (λ b. AllStand b k.added) (sym c.bytes-bytes.ensures.bytes) k.stand in
-    found-leads-at i.log tables items i.limits k c.args.s c.requires began (tree_of c.args.expr.now) i.names c.members.new.cache c.found_in.new.cache _ _ _ c.args.self.now c.self.view_is c.index-session.result.now there c.in_ok-answer.answer c.found_in.result c.found_in.ensures.answer st h right c.members.ensures.sound c.found_in.ensures.sound
+    found-leads-at i.log tables items i.limits k c.args.s c.requires began (tree_of c.args.expr.now) i.cache c.members.new.cache c.found_in.new.cache _ _ _ c.args.self.now c.self.view_is c.index-session.result.now there c.in_ok-answer.answer c.found_in.result c.found_in.ensures.answer st h right c.members.ensures.sound c.found_in.ensures.sound
     (λ w rows seen. c.in_ok-answer.ensures.answer k.added w rows k.tables_of stand of seen) (λ w rows seen. c.found_in.ensures.finds k.added w rows k.tables_of stand of seen)
 
 pub returns-clause-asks : goal.returns-clause-asks
@@ -75,7 +75,7 @@ returns-clause-asks g c = λ began st h.
     let there = session-there items c.args.s c.from.result c.index-session.result.now _ c.requires k.count c.from.ensures c.index-session.ensures in
     let of = subst (IsSessionOf k.added) (sym there) (k.each c.args.s c.requires) in
     let stand = subst (λ b. AllStand b k.added) (sym c.bytes-bytes.ensures.bytes) k.stand in
-    asks-found-at i.log tables items i.limits k c.args.s c.requires began (tree_of c.args.expr.now) i.names c.members.new.cache c.found_in.new.cache _ _ _ c.args.self.now c.self.view_is c.index-session.result.now there c.in_ok-answer.answer c.found_in.result c.found_in.ensures.answer st h
+    asks-found-at i.log tables items i.limits k c.args.s c.requires began (tree_of c.args.expr.now) i.cache c.members.new.cache c.found_in.new.cache _ _ _ c.args.self.now c.self.view_is c.index-session.result.now there c.in_ok-answer.answer c.found_in.result c.found_in.ensures.answer st h
     (λ w rows seen. c.in_ok-answer.ensures.answer k.added w rows k.tables_of stand of seen) (λ w rows seen. c.found_in.ensures.finds k.added w rows k.tables_of stand of seen)
 
 pub returns-clause-few : goal.returns-clause-few
@@ -89,7 +89,7 @@ returns-clause-few g c = λ began st name h tree.
     let stand = subst (λ b. AllStand b k.added) (sym c.bytes-bytes.ensures.bytes) k.stand in
     few-as c.found_in.result c.in_ok-answer.answer c.found_in.ensures.answer _
     (c.in_ok-answer.ensures.few k.added (base_of st c.args.s) (pending_of st c.args.s) name k.tables_of stand of
-    (seen-at i.log tables items i.limits k c.args.s c.requires began (tree_of c.args.expr.now) i.names c.members.new.cache c.members.new.cache [] [] [] c.args.self.now c.self.view_is c.index-session.result.now there st h) tree)
+    (seen-at i.log tables items i.limits k c.args.s c.requires began (tree_of c.args.expr.now) i.cache c.members.new.cache c.members.new.cache [] [] [] c.args.self.now c.self.view_is c.index-session.result.now there st h) tree)
 
 pub returns-clause-one : goal.returns-clause-one
 returns-clause-one g c = λ began st name h right tree ends.
@@ -102,5 +102,5 @@ returns-clause-one g c = λ began st name h right tree ends.
     let stand = subst (λ b. AllStand b k.added) (sym c.bytes-bytes.ensures.bytes) k.stand in
     few-as c.found_in.result c.in_ok-answer.answer c.found_in.ensures.answer _
     (c.in_ok-answer.ensures.one k.added (base_of st.store c.args.s) (pending_of st.store c.args.s) name k.tables_of stand of
-    (seen-at i.log tables items i.limits k c.args.s c.requires began (tree_of c.args.expr.now) i.names c.members.new.cache c.members.new.cache [] [] [] c.args.self.now c.self.view_is c.index-session.result.now there st.store h.stored) tree ends
-    (right-at i.log tables items i.limits k c.args.s c.requires began (tree_of c.args.expr.now) i.names c.members.new.cache c.members.new.cache _ [] [] c.args.self.now c.self.view_is c.index-session.result.now there st h right))
+    (seen-at i.log tables items i.limits k c.args.s c.requires began (tree_of c.args.expr.now) i.cache c.members.new.cache c.members.new.cache [] [] [] c.args.self.now c.self.view_is c.index-session.result.now there st.store h.stored) tree ends
+    (right-at i.log tables items i.limits k c.args.s c.requires began (tree_of c.args.expr.now) i.cache c.members.new.cache c.members.new.cache _ [] [] c.args.self.now c.self.view_is c.index-session.result.now there st h right))

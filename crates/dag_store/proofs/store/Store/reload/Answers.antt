@@ -18,7 +18,7 @@ returns-in_err-next-clause-step g c =
     let there = session-there items c.args.s c.from-at.result c.index.result.now _ c.requires k.count c.from-at.ensures c.index.ensures in
     let over = over-of i.log tables items i.limits k in
     let of = subst (IsSessionOf k.added) (sym there) (k.each c.args.s c.requires) in
-    reload-refused-at i.log tables items i.limits k c.args.s c.requires i.names c.reloaded.new.cache _ _ c.args.self.now c.self.view_is c.index.result.now there c.reloaded.ensures.sound c.from_residual.result c.in_err-next.field-0.0 c.from_residual.ensures.1
+    reload-refused-at i.log tables items i.limits k c.args.s c.requires i.cache c.reloaded.new.cache _ _ c.args.self.now c.self.view_is c.index.result.now there c.reloaded.ensures.sound c.from_residual.result c.in_err-next.field-0.0 c.from_residual.ensures.1
     (λ began st o. c.in_err-next.ensures.step began c.args.s k.added st i.limits over of o)
 
 pub returns-in_err-next-clause-asks : goal.returns-in_err-next-clause-asks
@@ -30,7 +30,7 @@ returns-in_err-next-clause-asks g c =
     let there = session-there items c.args.s c.from-at.result c.index.result.now _ c.requires k.count c.from-at.ensures c.index.ensures in
     let over = over-of i.log tables items i.limits k in
     let of = subst (IsSessionOf k.added) (sym there) (k.each c.args.s c.requires) in
-    reload-asks-refused-at i.log tables items i.limits k c.args.s c.requires i.names c.reloaded.new.cache _ _ c.args.self.now c.self.view_is c.index.result.now there c.from_residual.result c.in_err-next.field-0.0 c.from_residual.ensures.1
+    reload-asks-refused-at i.log tables items i.limits k c.args.s c.requires i.cache c.reloaded.new.cache _ _ c.args.self.now c.self.view_is c.index.result.now there c.from_residual.result c.in_err-next.field-0.0 c.from_residual.ensures.1
     (λ began st o. c.in_err-next.ensures.step began c.args.s k.added st i.limits over of o)
 
 pub len-left-requires : goal.len-left-requires
@@ -64,7 +64,7 @@ returns-clause-step g c =
     let there = session-there items c.args.s c.from-at.result c.index.result.now _ c.requires k.count c.from-at.ensures c.index.ensures in
     let over = over-of i.log tables items i.limits k in
     let of = subst (IsSessionOf k.added) (sym there) (k.each c.args.s c.requires) in
-    reload-leads-at i.log tables items i.limits k c.args.s c.requires i.names c.reloaded.new.cache _ _ c.args.self.now c.self.view_is c.index.result.now there c.reloaded.ensures.sound c.in_ok-next.next c.len-left.result c.from-at.result c.from-at.ensures
+    reload-leads-at i.log tables items i.limits k c.args.s c.requires i.cache c.reloaded.new.cache _ _ c.args.self.now c.self.view_is c.index.result.now there c.reloaded.ensures.sound c.in_ok-next.next c.len-left.result c.from-at.result c.from-at.ensures
     (c.in_ok-next.ensures.session k.added over of) (λ rows held. c.len-left.ensures.len rows held)
     (λ began st o. c.in_ok-next.ensures.step began c.args.s k.added st i.limits over of o)
 
@@ -77,4 +77,4 @@ returns-clause-asks g c =
     let there = session-there items c.args.s c.from-at.result c.index.result.now _ c.requires k.count c.from-at.ensures c.index.ensures in
     let over = over-of i.log tables items i.limits k in
     let of = subst (IsSessionOf k.added) (sym there) (k.each c.args.s c.requires) in
-    reload-asks-at i.log tables items i.limits k c.args.s c.requires i.names c.reloaded.new.cache _ _ c.args.self.now c.self.view_is c.index.result.now there c.in_ok-next.next (λ began st o. c.in_ok-next.ensures.step began c.args.s k.added st i.limits over of o)
+    reload-asks-at i.log tables items i.limits k c.args.s c.requires i.cache c.reloaded.new.cache _ _ c.args.self.now c.self.view_is c.index.result.now there c.in_ok-next.next (λ began st o. c.in_ok-next.ensures.step began c.args.s k.added st i.limits over of o)

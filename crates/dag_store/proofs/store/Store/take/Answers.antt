@@ -28,7 +28,7 @@ returns-in-Ok-clause-stands c = λ began mirrors st change stands spelled may.
     let k = subst (λ (t : PlainTables). IsKept i.log t i.sessions.items i.limits) (sym c.deref_mut.ensures.value) c.self.invariant in
     let h = subst (λ (q : PlainStore). StandsBeside began q mirrors st) (sym c.self.view_is) stands in
     subst (λ (q : PlainStore). StandsBeside began q mirrors (goes_on st change)) (sym c.with_payload.ensures.store)
-    (follows-stand i.log c.deref_mut.result.now i.sessions.items i.limits i.names k began mirrors st h change may c.with_payload.result.log c.args.payload.now spelled
+    (follows-stand i.log c.deref_mut.result.now i.sessions.items i.limits i.cache k began mirrors st h change may c.with_payload.result.log c.args.payload.now spelled
     (c.with_payload.ensures.payloads ∙ ap (λ (l : Held). l.payloads ++ c.args.payload.now ∷ []) c.take_payload.ensures.room))
 
 pub returns-in-Err-clause-stands : goal.returns-in-Err-clause-stands
@@ -36,12 +36,12 @@ returns-in-Err-clause-stands c = λ began mirrors st change stands spelled may.
     let i = c.self.inside in
     let k = subst (λ (t : PlainTables). IsKept i.log t i.sessions.items i.limits) (sym c.deref_mut.ensures.value) c.self.invariant in
     let h = subst (λ (q : PlainStore). StandsBeside began q mirrors st) (sym c.self.view_is) stands in
-    follows-lawful i.log c.deref_mut.result.now i.sessions.items i.limits i.names k began mirrors st h change may c.args.payload.now spelled c.in-Err.fault
+    follows-lawful i.log c.deref_mut.result.now i.sessions.items i.limits i.cache k began mirrors st h change may c.args.payload.now spelled c.in-Err.fault
     (λ e. c.in-Err.ensures.unlawful k.added (over-of i.log c.deref_mut.result.now i.sessions.items i.limits k) (ap Err e))
 
 pub returns-in-Err-clause-cause : goal.returns-in-Err-clause-cause
 returns-in-Err-clause-cause c =
     let i = c.self.inside in
     let k = subst (λ (t : PlainTables). IsKept i.log t i.sessions.items i.limits) (sym c.deref_mut.ensures.value) c.self.invariant in
-    follows-why i.log c.deref_mut.result.now i.sessions.items i.limits i.names k c.take_payload.new.log c.take_payload.ensures.room c.args.payload.now c.in-Err.fault
+    follows-why i.log c.deref_mut.result.now i.sessions.items i.limits i.cache k c.take_payload.new.log c.take_payload.ensures.room c.args.payload.now c.in-Err.fault
     (λ e. c.in-Err.ensures.unlawful k.added (over-of i.log c.deref_mut.result.now i.sessions.items i.limits k) (ap Err e)) (λ e. c.in-Err.ensures.full (ap Err e))

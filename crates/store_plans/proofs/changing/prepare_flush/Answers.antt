@@ -3,7 +3,7 @@ use Rattle.step_rules.specs.Verb.{Flush}
 use Rattle.step_rules.specs.Worlds.{flush_of}
 use Rattle.store_plans.specs.Changes.{AreOver, IsPrepared}
 use Rattle.store_plans.proofs.ChangeTests.{prepares-done, prepares-memory, prepares-refused}
-use Rattle.store_plans.proofs.changing.prepare.Goals as goal
+use Rattle.store_plans.proofs.changing.prepare_flush.Goals as goal
 
 pub returns-in_err-change-clause-step : goal.returns-in_err-change-clause-step
 returns-in_err-change-clause-step g c = λ began s added st v x o.
