@@ -1,5 +1,5 @@
 -- A disk whose bytes are lent has them until a write is noted.
-use Rattle.std.proofs.Common.{◌≡◌, inl, inr, ℕ, zero, suc, List, [], ◌∷◌, ◌++◌, Bool, true, false, Option, Some, None, refl, sym, ◌∙◌, ap, true≢false}
+use Rattle.std.proofs.Common.{◌≡◌, inl, inr, ℕ, zero, suc, List, [], ◌∷◌, ◌++◌, Bool, true, false, Option, Some, None, refl, sym, ◌∙◌, ap, subst, true≢false}
 use Rattle.std.specs.Prelude.{Result, Ok, Err, OnOk, OnErr, ◌||◌}
 use Rattle.disk_trait.specs.Images.{Told}
 use Rattle.call_disk.specs.Noted.{Call, Write, Sync, Step}
@@ -40,6 +40,10 @@ module _ {X E : Type 0} where
       → Some (lent_over disk bytes new) ≡ Some (lent_over disk bytes old)
   lent-sync disk bytes (Ok x) old new noted idle = same-bytes disk bytes old new (bytes_sync disk old new noted)
   lent-sync disk bytes (Err e) old new noted idle = lent-idle disk bytes old new idle
+
+-- what counts a fault alone
+pub then-idle : (old mid new : Tape) → IsIdle old mid → new ≡ mid → IsIdle old new
+then-idle old mid new idle is = subst (IsIdle old) (sym is) idle
 
 -- ---- whether a write was noted
 

@@ -1,7 +1,6 @@
 -- What a disk tells whose bytes are lent, of the one that has them.
 use Rattle.std.specs.Prelude.{◌≡◌, ◌||◌, ⊤, refl, true, false, Bool, ℕ, List, [], ◌∷◌, Option, Some, None, IfSome}
 use Rattle.std.specs.Coded.{Coded-set, Unit-prop, coded_list, coded_ℕ}
-use Rattle.disk_trait.specs.Images.{Told}
 use Rattle.call_disk.specs.Noted.{Call, Write, Sync, Step}
 use Rattle.call_disk.specs.Tape.{Tape}
 use Rattle.call_disk.specs.Performed.{HonestDisk, begun, replayed}
