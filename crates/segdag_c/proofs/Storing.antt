@@ -20,7 +20,7 @@ use Rattle.call_disk.specs.Telling.{FitOver, told_over}
 use Rattle.call_disk.proofs.Stopping.{may-perform, performs-alike, stops-told}
 use Rattle.remote_rules.specs.Mirror.{Mirror}
 use Rattle.store_plans.specs.Changes.{HasRoom}
-use Rattle.dag_store.specs.Flushes.{HasStored}
+use Rattle.dag_store.specs.Changes.{HasStored}
 use Rattle.dag_store.specs.Kept.{PlainStore}
 use Rattle.dag_run.specs.Lines.{LineLeaves, LineReplies}
 use Rattle.dag_run.specs.declared.stops.Stop.{Stop}
@@ -31,7 +31,7 @@ use Rattle.segdag_c.proofs.Deciding.{on-disk}
 
 -- ---- the disk, where it has the log
 
-abbrev picked : {P : Type 0} → HonestDisk → P ⊎ (P → ⊥) → Option HonestDisk
+abbrev pub picked : {P : Type 0} → HonestDisk → P ⊎ (P → ⊥) → Option HonestDisk
 picked disk (inl has) = Some disk
 picked disk (inr has_not) = None
 
@@ -45,16 +45,16 @@ chosen-has log disk = of (on-disk log disk.told)
     of (inl has) = has
     of (inr has_not) = tt
 
-pub chosen-if : (log : Held) (disk : HonestDisk) (F : Told → Type 0) → IfSome (chosen log disk) (λ (d : HonestDisk). F d.told) → IsOnDisk log disk.told → F disk.told
-chosen-if log disk F = of (on-disk log disk.told)
-  where
-    of : (has : IsOnDisk log disk.told ⊎ (IsOnDisk log disk.told → ⊥)) → IfSome (picked disk has) (λ (d : HonestDisk). F d.told) → IsOnDisk log disk.told → F disk.told
-    of (inl has) f on = f
-    of (inr has_not) f on = absurd (has_not on)
+pub picked-if : {P : Type 0} (disk : HonestDisk) (has : P ⊎ (P → ⊥)) (F : Told → Type 0) → IfSome (picked disk has) (λ (d : HonestDisk). F d.told) → P → F disk.told
+picked-if disk (inl has) F f p = f
+picked-if disk (inr has_not) F f p = absurd (has_not p)
+
+chosen-if : (log : Held) (disk : HonestDisk) (F : Told → Type 0) → IfSome (chosen log disk) (λ (d : HonestDisk). F d.told) → IsOnDisk log disk.told → F disk.told
+chosen-if log disk F = picked-if disk (on-disk log disk.told) F
 
 -- ---- what is left now
 
-left-here : (t : Told) (image : List ℕ) → IsImage t.now image → LeftAt t (moment_of t) image
+pub left-here : (t : Told) (image : List ℕ) → IsImage t.now image → LeftAt t (moment_of t) image
 left-here t image i = subst (λ (u : Unsynced). IsImage u image) (sym (last-append t.past t.now t.now)) i
 
 abbrev pub empty_tape : Tape
