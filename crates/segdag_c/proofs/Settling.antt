@@ -1,7 +1,7 @@
 -- The calls that a load notes, over a disk that has the bytes that were lent.
 use Rattle.std.proofs.Common.{◌≡◌, ◌⊎◌, inl, inr, ◌≤◌, ℕ, List, Option, Some, None, Ok, Err, IfOk, IfSome, length, refl, sym, ◌∙◌, ap, subst, arith}
 use Rattle.std.specs.declared.result.Result.{Result}
-use Rattle.disk_trait.specs.Images.{Unsynced, Told, IsImage}
+use Rattle.disk_trait.specs.Images.{Unsynced, IsImage}
 use Rattle.disk_trait.specs.Calls.{Goes}
 use Rattle.disk_trait.proofs.Moments.{left-now, weakened}
 use Rattle.gated_log.specs.Load.{LeavesOldOrFresh}
