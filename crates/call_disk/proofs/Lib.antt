@@ -1,3 +1,4 @@
 pub mod Idle
 pub mod Replaying
 pub mod Stopping
+pub mod Lending

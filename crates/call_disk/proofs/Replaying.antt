@@ -1,5 +1,5 @@
 -- One call more: what a disk tells then whose calls are noted.
-use Rattle.std.proofs.Common.{◌≡◌, ◌⊎◌, inl, inr, ◌≤◌, ◌<◌, ◌+◌, ◌*◌, ◌^◌, ℕ, zero, suc, List, [], ◌∷◌, ◌++◌, Option, Some, None, IfSome, length, refl, sym, ◌∙◌, ap, subst, arith}
+use Rattle.std.proofs.Common.{◌≡◌, inl, inr, ◌<◌, ◌+◌, ◌*◌, ◌^◌, ℕ, suc, List, [], ◌∷◌, ◌++◌, Option, Some, None, IfSome, refl, sym, ◌∙◌, ap, subst, arith}
 use Rattle.std.specs.Prelude.{Result, Ok, Err, OnOk, OnErr}
 use Rattle.disk_trait.specs.Images.{Told, moment_of, last_moment}
 use Rattle.disk_trait.specs.Calls.{Passes, Writes, FailsToWrite, Syncs, Succeeds, OrRefuses, Goes}
@@ -103,6 +103,10 @@ idle_told (Some disk) old new counted (inr p) = inr (
   (let m = moment_over disk old counted in let many = p.0 in omega (arith, m, many)),
   ap (λ (t : Tape). replayed t.steps t.idle (begun disk.told)) p.1,
 )
+
+pub pass_told : (disk : Option HonestDisk) (old new : Tape) → IsCounted old → IsPassed old new → Goes (Succeeds Passes) (told_over disk old) (told_over disk new)
+pass_told None old new counted p = tt
+pass_told (Some disk) old new counted p = (early_over disk old counted p.early, idle_passed disk old new p)
 
 pub fail_told : (disk : Option HonestDisk) (at : ℕ) (piece : List ℕ) (old new : Tape) → IsCounted old → IsIdle old new → Goes (OrRefuses (FailsToWrite at piece)) (told_over disk old) (told_over disk new)
 fail_told None at piece old new counted idle = tt

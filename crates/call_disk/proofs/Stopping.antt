@@ -1,10 +1,10 @@
 -- A disk that performs noted calls, and stops somewhere: what it leaves was told.
-use Rattle.std.proofs.Common.{◌≡◌, ◌⊎◌, inl, inr, ◌≤◌, ◌<◌, ◌+◌, ℕ, zero, suc, List, [], ◌∷◌, length, refl, sym, ◌∙◌, ap, subst, arith, le_refl, le_trans}
-use Rattle.disk_trait.specs.Images.{Unsynced, Told, IsImage, LeftAt, moment_of, surely}
+use Rattle.std.proofs.Common.{◌≡◌, inl, inr, ◌≤◌, ℕ, zero, suc, List, [], ◌∷◌, length, sym, ap, subst, arith, le_refl}
+use Rattle.disk_trait.specs.Images.{Unsynced, Told, IsImage, moment_of, surely}
 use Rattle.disk_trait.specs.Calls.{after_call, overwritten, with_range}
 use Rattle.disk_trait.specs.Since.{SureSince}
 use Rattle.disk_trait.proofs.Loss.{last-append}
-use Rattle.disk_trait.proofs.Moments.{SureFrom, front, within_call, left-now, moment-call, started, goes_on, fails_past, fails_to_write, joined}
+use Rattle.disk_trait.proofs.Moments.{SureFrom, front, left-now, moment-call, started, goes_on, fails_past, fails_to_write, joined}
 use Rattle.call_disk.specs.Noted.{Call, Write, Sync, Step, calls_in}
 use Rattle.call_disk.specs.Performed.{AllFit, Does, Fails, Fits, MayPerform, Performs, Stops, WasLeft, done, passed, replayed}
 

@@ -5,4 +5,5 @@ pub mod Tape
 pub mod Awaited
 pub mod Performed
 pub mod Telling
+pub mod Lent
 pub mod Sound

@@ -1,7 +1,6 @@
 -- A disk whose calls are noted is sound where the one is over which they are to be performed.
-use Rattle.std.proofs.Common.{◌≡◌, ◌≤◌, ◌<◌, ◌+◌, ◌*◌, ◌^◌, ◌%◌, ℕ, zero, suc, List, [], ◌∷◌, Option, Some, None, IfSome, length, refl, arith}
+use Rattle.std.proofs.Common.{◌≡◌, ◌≤◌, ◌<◌, ◌+◌, ◌*◌, ◌^◌, ℕ, zero, suc, List, [], ◌∷◌, Option, Some, None, IfSome, refl, arith}
 use Rattle.disk_trait.specs.Images.{Told, IsSound, moment_of, last_moment}
-use Rattle.disk_trait.specs.Calls.{after_call}
 use Rattle.disk_trait.proofs.Moments.{moment-call}
 use Rattle.disk_trait.proofs.Sound.{passes-sound, writes-sound, syncs-sound}
 use Rattle.call_disk.specs.Noted.{Call, Write, Sync, Step}

@@ -2,7 +2,7 @@
 
 ghost use Rattle.std.specs.Prelude.{◌≡◌, ◌≤◌, ◌<◌, ◌+◌, ◌*◌, ◌^◌, ◌%◌, [], ◌++◌, None, IfOk, IfSome, OnOk, OnErr, option_copied};
 ghost use Rattle.call_disk.specs.Noted.{Write as ToWrite, Sync as ToSync, call_of, calls_of, said_of, first_call, behind_first, steps_of};
-ghost use Rattle.call_disk.specs.Tape.{IsIdle, IsNoted};
+ghost use Rattle.call_disk.specs.Tape.{IsIdle, IsNoted, IsPassed};
 ghost use Rattle.outside.specs.Counts.{HasCause, Rose};
 ghost use Rattle.disk_trait.specs.Images.{last_moment};
 
@@ -89,7 +89,7 @@ impl NotedCalls {
     /// Makes a call that changes nothing. `None` where there were as many as may be.
     pub(crate) fn pass(&mut self) -> Option<()>
         ensures idle { IsIdle (tape_of self.old) (tape_of self.new) }
-        ensures some { IfSome result (λ _. self.old.calls < 2 ^ 61) }
+        ensures some { IfSome result (λ _. IsPassed (tape_of self.old) (tape_of self.new)) }
         ensures faults { self.new.faults ≡ self.old.faults }
     {
         if self.calls >= CALL_LIMIT {

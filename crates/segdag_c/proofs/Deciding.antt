@@ -22,6 +22,19 @@ begins (x ∷ xs) (l ∷ log) =
     (λ (other : x ≡ l → ⊥). inr (λ behind e. other (ap (λ ys. get_or ys 0 0) e)))
     (cases_eq x l)
 
+-- two lists are the same
+pub are-same : (xs ys : List ℕ) → (xs ≡ ys) ⊎ (xs ≡ ys → ⊥)
+are-same [] [] = inl refl
+are-same [] (y ∷ ys) = inr (λ e. let size = ap length e in absurd (omega (arith, size)))
+are-same (x ∷ xs) [] = inr (λ e. let size = ap length e in absurd (omega (arith, size)))
+are-same (x ∷ xs) (y ∷ ys) =
+    ⊎_elim (λ (same : x ≡ y). ⊎_elim
+    (λ (rest : xs ≡ ys). inl (ap (λ n. n ∷ xs) same ∙ ap (λ zs. y ∷ zs) rest))
+    (λ (other : xs ≡ ys → ⊥). inr (λ e. other (ap (drop 1) e)))
+    (are-same xs ys))
+    (λ (other : x ≡ y → ⊥). inr (λ e. other (ap (λ zs. get_or zs 0 0) e)))
+    (cases_eq x y)
+
 -- some of the first places was written, or none
 abbrev IsClear : ℕ → List Range → Type 0
 IsClear n ranges = (place : ℕ) → place < n → IsWritten place ranges → ⊥

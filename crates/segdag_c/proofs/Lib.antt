@@ -7,3 +7,4 @@ mod Joining
 mod Finding
 mod Deciding
 mod Storing
+mod Settling

@@ -1,5 +1,5 @@
 -- What loading lent bytes answers, as it is told to C.
-use Rattle.std.proofs.Common.{◌≡◌, ◌<◌, ℕ, List, [], Ok, Err, inl, inr, sym, subst}
+use Rattle.std.proofs.Common.{◌≡◌, ℕ, List, [], Ok, Err, inl, inr, sym, subst}
 use Rattle.change_rules.specs.declared.Limits.{Limits}
 use Rattle.std.specs.declared.result.Result.{Result}
 use Rattle.id_groups.specs.Name.{Name}

@@ -1,5 +1,5 @@
 -- The calls that a line notes, over a disk that has the store's log.
-use Rattle.std.proofs.Common.{◌≡◌, ◌⊎◌, inl, inr, ◌≤◌, ◌+◌, ◌*◌, ℕ, List, [], ◌∷◌, ◌++◌, Option, Some, None, Ok, Err, IfOk, IfSome, refl, sym, ap, subst, arith}
+use Rattle.std.proofs.Common.{◌≡◌, ◌⊎◌, inl, inr, ℕ, List, [], ◌∷◌, ◌++◌, Option, Some, None, Ok, Err, IfOk, IfSome, refl, sym, ap, subst, arith}
 use Rattle.std.specs.Prelude.{OnOk}
 use Rattle.std.specs.declared.result.Result.{Result}
 use Rattle.outside.specs.Counts.{Rose}
@@ -31,7 +31,7 @@ use Rattle.segdag_c.proofs.Deciding.{on-disk}
 
 -- ---- the disk, where it has the log
 
-abbrev picked : {P : Type 0} → HonestDisk → P ⊎ (P → ⊥) → Option HonestDisk
+abbrev pub picked : {P : Type 0} → HonestDisk → P ⊎ (P → ⊥) → Option HonestDisk
 picked disk (inl has) = Some disk
 picked disk (inr has_not) = None
 
@@ -45,16 +45,16 @@ chosen-has log disk = of (on-disk log disk.told)
     of (inl has) = has
     of (inr has_not) = tt
 
-pub chosen-if : (log : Held) (disk : HonestDisk) (F : Told → Type 0) → IfSome (chosen log disk) (λ (d : HonestDisk). F d.told) → IsOnDisk log disk.told → F disk.told
-chosen-if log disk F = of (on-disk log disk.told)
-  where
-    of : (has : IsOnDisk log disk.told ⊎ (IsOnDisk log disk.told → ⊥)) → IfSome (picked disk has) (λ (d : HonestDisk). F d.told) → IsOnDisk log disk.told → F disk.told
-    of (inl has) f on = f
-    of (inr has_not) f on = absurd (has_not on)
+pub picked-if : {P : Type 0} (disk : HonestDisk) (has : P ⊎ (P → ⊥)) (F : Told → Type 0) → IfSome (picked disk has) (λ (d : HonestDisk). F d.told) → P → F disk.told
+picked-if disk (inl has) F f p = f
+picked-if disk (inr has_not) F f p = absurd (has_not p)
+
+chosen-if : (log : Held) (disk : HonestDisk) (F : Told → Type 0) → IfSome (chosen log disk) (λ (d : HonestDisk). F d.told) → IsOnDisk log disk.told → F disk.told
+chosen-if log disk F = picked-if disk (on-disk log disk.told) F
 
 -- ---- what is left now
 
-left-here : (t : Told) (image : List ℕ) → IsImage t.now image → LeftAt t (moment_of t) image
+pub left-here : (t : Told) (image : List ℕ) → IsImage t.now image → LeftAt t (moment_of t) image
 left-here t image i = subst (λ (u : Unsynced). IsImage u image) (sym (last-append t.past t.now t.now)) i
 
 abbrev pub empty_tape : Tape

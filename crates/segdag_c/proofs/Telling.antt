@@ -1,5 +1,5 @@
 -- What codes tell of answers.
-use Rattle.std.proofs.Common.{◌≡◌, ◌<◌, ◌≤◌, ◌⊎◌, inl, inr, ℕ, List, MatchResult, Option, Some, None, Ok, Err, IfOk, IfErr, IfSome, sym, ◌∙◌, subst, arith, lit<}
+use Rattle.std.proofs.Common.{◌≡◌, ◌<◌, ◌≤◌, ◌⊎◌, inl, inr, ℕ, List, MatchResult, Option, Some, None, Ok, Err, IfOk, IfErr, IfSome, sym, subst, arith, lit<}
 use Rattle.std.specs.declared.result.Result.{Result}
 use Rattle.step_rules.specs.Reply.{Reply, Added as IsAdded, Old as IsOld, Refused as IsRefused}
 use Rattle.step_rules.specs.declared.Refusal.{Refusal}

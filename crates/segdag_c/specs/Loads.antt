@@ -1,8 +1,13 @@
 -- What loading lent bytes is told to C.
-use Rattle.std.specs.Prelude.{◌≡◌, ⊤, ℕ, List, [], length, Option, Some, None, Result, Ok, Err}
+use Rattle.std.specs.Prelude.{◌≡◌, ⊤, ℕ, List, [], length, Option, Some, None, IfSome}
 use Rattle.id_groups.specs.Name.{Name}
 use Rattle.commit_graph.specs.World.{World}
-use Rattle.gated_log.specs.Holding.{IsLogWithin}
+use Rattle.disk_trait.specs.Images.{Told}
+use Rattle.gated_log.specs.Holding.{HasPayloads, IsLogWithin, IsOnDisk}
+use Rattle.gated_log.specs.Load.{LeavesOldOrFresh}
+use Rattle.call_disk.specs.Awaited.{awaited}
+use Rattle.call_disk.specs.Noted.{Call}
+use Rattle.call_disk.specs.Performed.{MayPerform, Performs, Stops}
 use Rattle.batch_codec.specs.Payload.{Payload}
 use Rattle.change_rules.specs.Holding.{HoldAs}
 use Rattle.change_rules.specs.Standard.{standard}
@@ -32,6 +37,18 @@ pub record IsOpened (bytes : List ℕ) (cache : ℕ) (store : PlainStore) : Type
   pub cache_is : store.cache ≡ record { entries = []; capacity = cache }
   pub lawful : ¬ (IsNoLog standard.log bytes)
 
+-- The disk may perform the calls, in order. Where it stops at any moment, also within a call or at one that fails, it leaves at each moment what
+-- it might have left before, or a file of at most one byte where there was one. Where it performs all of them the store's payloads are sure, and
+-- it has the store's log.
+pub record Settles (store : PlainStore) (calls : List Call) (disk : Told) : Type 0 where
+  pub may : MayPerform calls disk
+  pub stopped : (new : Told) → Stops calls disk new → LeavesOldOrFresh disk new
+  pub whole : (new : Told) → Performs calls disk new → HasPayloads store.limits.log new store.log.payloads × IsOnDisk store.log new
+
+-- of a disk that has the lent bytes
+abbrev pub LoadNotes : List ℕ → PlainStore → List Call → Told → Type 0
+LoadNotes bytes store calls disk = disk.bytes ≡ bytes → Settles store calls disk
+
 -- where it isn't loaded since the bytes are no log, they are none, and hold no world
 abbrev pub IsRightly : List ℕ → Failure → Type 0
 IsRightly bytes NoLog = IsNoLog standard.log bytes × ((payloads : List Payload) (w : World Name) → ¬ (HoldAs standard.log bytes payloads w))
@@ -49,3 +66,10 @@ HoldsOpened bytes cache held = IsOpenedIn held.store × (held.mirrors.list.items
 abbrev pub SlotOpened : List ℕ → ℕ → Option Held → Type 0
 SlotOpened bytes cache None = ⊥
 SlotOpened bytes cache (Some held) = HoldsOpened bytes cache held
+
+-- what is noted there for a disk that has the bytes
+abbrev pub HeldNotes : List ℕ → Held → Told → Type 0
+HeldNotes bytes held disk = IfSome held.store (λ store. LoadNotes bytes store (awaited held.log) disk)
+
+abbrev pub SlotNotes : List ℕ → Option Held → Told → Type 0
+SlotNotes bytes slot disk = IfSome slot (λ held. HeldNotes bytes held disk)

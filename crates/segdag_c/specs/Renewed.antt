@@ -1,5 +1,5 @@
 -- Mirrors that are given other bytes.
-use Rattle.std.specs.Prelude.{◌≡◌, ◌^◌, ℕ, List, Bool, Option, Some, None, slice_get, slice_set, false, if◌then◌else◌}
+use Rattle.std.specs.Prelude.{◌≡◌, ◌^◌, ℕ, List, Bool, Some, None, slice_get, slice_set, false, if◌then◌else◌}
 use Rattle.disk_trait.specs.Images.{fresh_disk}
 use Rattle.change_rules.specs.Standard.{standard}
 use Rattle.remote_store.specs.Remote.{PlainRemote}

@@ -10,7 +10,7 @@ ghost use Rattle.call_disk.specs.Awaited.{awaited};
 ghost use Rattle.call_disk.specs.Performed.{HonestDisk};
 ghost use Rattle.segdag_c.specs.Awaits.{IsPerformed, IsSaid, piece_of};
 ghost use Rattle.segdag_c.specs.Calls.{Tells, TellsAdded, HeldRenews, SlotDoes, SlotDoesOf, SlotAdds, SlotLists, SlotRenews, IsRefusal, IsRefusedBy, IsCopied};
-ghost use Rattle.segdag_c.specs.Loads.{IsRightly, SlotOpened};
+ghost use Rattle.segdag_c.specs.Loads.{IsRightly, SlotNotes, SlotOpened};
 ghost use Rattle.segdag_c.specs.Typed.{id_told};
 ghost use Rattle.segdag_c.specs.Answers.{HeldAnswers, SlotAnswers};
 ghost use Rattle.segdag_c.specs.Following.{EndsAt, SlotFollows};
@@ -36,11 +36,13 @@ pub(crate) fn closed() -> u32
     code_of(Failure::Closed)
 }
 
-/// Loads the log that these bytes are, the whole of its file, with room for so many names of mirrors. What is to be written of a new log
-/// is noted.
+/// Loads the log that these bytes are, the whole of its file, with room for so many names of mirrors. What is to be performed before it counts
+/// is noted. What is said of the disk holds of each that has the bytes.
 #[unsafe(no_mangle)]
 pub extern "C" fn segdag_core_load(alloc: Global, slot: &mut Slot, bytes: &[u8], cache: u32) -> u32
+    ghost disk: { HonestDisk }
     ensures opened { result ≡ 0 → SlotOpened bytes.now cache slot.new.handle.held }
+    ensures notes { result ≡ 0 → SlotNotes bytes.now slot.new.handle.held disk.told }
     ensures rightly { result ≡ 4 → IsRightly bytes.now Failure.NoLog }
     ensures lawful { IsNoLog standard.log bytes.now → result ≡ 0 → ⊥ }
 {

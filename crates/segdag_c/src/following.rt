@@ -17,6 +17,7 @@ use call_disk::LentDisk;
 use dag_store::{FollowFault, Followed, Limits, Store};
 use gated_log::{LoadLog, Log};
 use std::alloc::Global;
+use std::marker::Brand;
 
 /// Where the log of an open store goes on: the place of its closed gate.
 pub(crate) fn end_of(held: &Held) -> Result<u64, Failure>
@@ -32,7 +33,7 @@ pub(crate) fn end_of(held: &Held) -> Result<u64, Failure>
 fn read_more(alloc: Global, bytes: &[u8]) -> Result<Log, Failure>
     ensures { IfOk result (IsLogOf standard.log bytes.now) }
 {
-    let mut disk = LentDisk::new(alloc, bytes);
+    let mut disk = LentDisk::<Brand>::new(alloc, bytes);
     match Log::peek(alloc, &mut disk, Limits::standard().log) {
         Ok(log) => Ok(log),
         Err(LoadLog::Disk(_)) => Err(Failure::Disk),
