@@ -8,3 +8,4 @@ mod Finding
 mod Deciding
 mod Storing
 mod Settling
+mod EmptyDisk

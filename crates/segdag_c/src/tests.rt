@@ -11,6 +11,7 @@ use crate::exports::{
     segdag_core_renew_mirror, segdag_core_reply,
 };
 use crate::slot::Slot;
+use std::alloc::Global;
 
 const FIRST: [u8; 20] = [1; 20];
 
@@ -27,6 +28,16 @@ const MIRRORED: [u8; 98] = [
     0, 0, 0,
 ];
 
+/// Loads a log over a disk of which nothing is said.
+fn load(alloc: Global, slot: &mut Slot, bytes: &[u8], cache: u32) -> u32 {
+    segdag_core_load(alloc, slot, bytes, cache)
+}
+
+/// Answers a line over one.
+fn line(alloc: Global, slot: &mut Slot, text: &[u8], size: &mut usize) -> u32 {
+    segdag_core_line(alloc, slot, text, size)
+}
+
 #[test]
 fn a_closed_slot_answers_its_code(rt: HostRuntime) {
     let alloc = rt.alloc();
@@ -34,21 +45,15 @@ fn a_closed_slot_answers_its_code(rt: HostRuntime) {
     let mut number = 0;
     let mut size = 0;
     assert_eq!(rt; segdag_core_close(alloc, &mut slot), 17);
-    assert_eq!(rt;
-        segdag_core_line(alloc, &mut slot, b"0 status", &mut size),
-        17
-    );
+    assert_eq!(rt; line(alloc, &mut slot, b"0 status", &mut size), 17);
     assert_eq!(rt;
         segdag_core_add(alloc, &mut slot, 0, &FIRST, b"", &mut number),
         17
     );
-    assert_eq!(rt; segdag_core_load(alloc, &mut slot, b"", 0), 19);
-    assert_eq!(rt;
-        segdag_core_load(alloc, &mut slot, &[1, 255, 255, 255], 1),
-        4
-    );
-    assert_eq!(rt; segdag_core_load(alloc, &mut slot, b"", 1), 0);
-    assert_eq!(rt; segdag_core_load(alloc, &mut slot, b"", 1), 18);
+    assert_eq!(rt; load(alloc, &mut slot, b"", 0), 19);
+    assert_eq!(rt; load(alloc, &mut slot, &[1, 255, 255, 255], 1), 4);
+    assert_eq!(rt; load(alloc, &mut slot, b"", 1), 0);
+    assert_eq!(rt; load(alloc, &mut slot, b"", 1), 18);
     assert_eq!(rt; segdag_core_close(alloc, &mut slot), 0);
     assert_eq!(rt; segdag_core_close(alloc, &mut slot), 17);
     slot.forget();
@@ -60,7 +65,7 @@ fn typed_calls_answer(rt: HostRuntime) {
     let mut slot = Slot::shut(alloc);
     let mut number = 7;
     let mut size = 0;
-    assert_eq!(rt; segdag_core_load(alloc, &mut slot, b"", 1), 0);
+    assert_eq!(rt; load(alloc, &mut slot, b"", 1), 0);
     assert_eq!(rt;
         segdag_core_add(alloc, &mut slot, 0, &FIRST, b"", &mut number),
         0
@@ -125,7 +130,7 @@ fn two_commits_are_compared(rt: HostRuntime) {
         segdag_core_only(alloc, &mut slot, 0, &SECOND, &FIRST, &mut number),
         17
     );
-    assert_eq!(rt; segdag_core_load(alloc, &mut slot, b"", 1), 0);
+    assert_eq!(rt; load(alloc, &mut slot, b"", 1), 0);
     assert_eq!(rt;
         segdag_core_add(alloc, &mut slot, 0, &FIRST, b"", &mut number),
         0
@@ -179,7 +184,7 @@ fn a_session_tells_its_rows(rt: HostRuntime) {
     let mut master = 7;
     let mut others = 7;
     let mut pending = 7;
-    assert_eq!(rt; segdag_core_load(alloc, &mut slot, &MIRRORED, 1), 0);
+    assert_eq!(rt; load(alloc, &mut slot, &MIRRORED, 1), 0);
     assert_eq!(rt;
         segdag_core_add(alloc, &mut slot, 3, &FIRST, &SECOND, &mut others),
         0
@@ -215,12 +220,12 @@ fn a_line_notes_what_is_to_be_written(rt: HostRuntime) {
     let mut kind = 9;
     let mut at = 9;
     let mut size = 0;
-    assert_eq!(rt; segdag_core_load(alloc, &mut slot, &[0], 1), 0);
+    assert_eq!(rt; load(alloc, &mut slot, &[0], 1), 0);
     assert_eq!(rt;
         segdag_core_add(alloc, &mut slot, 0, &SECOND, b"", &mut number),
         0
     );
-    assert_eq!(rt; segdag_core_line(alloc, &mut slot, FLUSH, &mut size), 0);
+    assert_eq!(rt; line(alloc, &mut slot, FLUSH, &mut size), 0);
     assert_eq!(rt; size, 15);
     let mut reply = [0; 15];
     assert_eq!(rt;
@@ -258,7 +263,7 @@ fn mirrors_are_asked(rt: HostRuntime) {
         segdag_core_renew_mirror(alloc, &mut slot, 7, true, &MIRRORED),
         17
     );
-    assert_eq!(rt; segdag_core_load(alloc, &mut slot, &[0], 1), 0);
+    assert_eq!(rt; load(alloc, &mut slot, &[0], 1), 0);
     assert_eq!(rt; segdag_core_add_mirror(alloc, &mut slot, 7, 2), 19);
     assert_eq!(rt; segdag_core_add_mirror(alloc, &mut slot, 7, 0), 0);
     assert_eq!(rt; segdag_core_add_mirror(alloc, &mut slot, 8, 1), 0);
@@ -266,10 +271,7 @@ fn mirrors_are_asked(rt: HostRuntime) {
         segdag_core_renew_mirror(alloc, &mut slot, 9, true, &MIRRORED),
         19
     );
-    assert_eq!(rt;
-        segdag_core_line(alloc, &mut slot, b"0 clone", &mut size),
-        0
-    );
+    assert_eq!(rt; line(alloc, &mut slot, b"0 clone", &mut size), 0);
     assert_eq!(rt; size, 13);
     assert_eq!(rt;
         segdag_core_renew_mirror(alloc, &mut slot, 7, true, &MIRRORED),
@@ -279,10 +281,7 @@ fn mirrors_are_asked(rt: HostRuntime) {
         segdag_core_renew_mirror(alloc, &mut slot, 8, false, b""),
         0
     );
-    assert_eq!(rt;
-        segdag_core_line(alloc, &mut slot, b"0 clone", &mut size),
-        0
-    );
+    assert_eq!(rt; line(alloc, &mut slot, b"0 clone", &mut size), 0);
     assert_eq!(rt; size, 12);
     assert_eq!(rt;
         segdag_core_id(alloc, &mut slot, 0, &SECOND, &mut number),
@@ -305,7 +304,7 @@ fn a_store_follows_what_another_stores(rt: HostRuntime) {
         17
     );
     assert_eq!(rt; segdag_core_end(alloc, &mut slot, &mut at), 17);
-    assert_eq!(rt; segdag_core_load(alloc, &mut slot, b"", 1), 0);
+    assert_eq!(rt; load(alloc, &mut slot, b"", 1), 0);
     assert_eq!(rt; segdag_core_end(alloc, &mut slot, &mut at), 0);
     assert_eq!(rt; at, 0);
     assert_eq!(rt;
@@ -333,10 +332,7 @@ fn a_store_follows_what_another_stores(rt: HostRuntime) {
         33
     );
     let mut size = 0;
-    assert_eq!(rt;
-        segdag_core_line(alloc, &mut slot, b"0 reload", &mut size),
-        0
-    );
+    assert_eq!(rt; line(alloc, &mut slot, b"0 reload", &mut size), 0);
     assert_eq!(rt;
         segdag_core_id(alloc, &mut slot, 0, &SECOND, &mut number),
         0
