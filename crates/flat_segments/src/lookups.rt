@@ -7,7 +7,7 @@ ghost use Rattle.flat_segments.specs.Views.{view_flats, master_count};
 
 use crate::view::FlatView;
 use id_groups::{FIRST_OTHER, Id};
-use segment_codec::{Bounds, SegmentRef, SegmentTable, Steps};
+use segment_codec::{Bounds, Edges, SegmentRef, SegmentTable, Steps};
 
 impl<'a> FlatView<'a> {
     /// How many master ids the view has.
@@ -107,5 +107,9 @@ impl<'a> SegmentTable for FlatView<'a> {
         } else {
             None
         }
+    }
+
+    fn edges(&self) -> Edges<'_> {
+        Edges::none()
     }
 }

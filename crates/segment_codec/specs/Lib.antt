@@ -4,5 +4,6 @@ pub mod Reading
 pub mod Lent
 pub mod Table
 pub mod Turns
+pub mod Edges
 pub mod Flat
 pub mod Examples

@@ -3,6 +3,7 @@
 //! Records of segments: runs of ids in which each id but the lowest has the one before it as its only parent. Beside them
 //! the trait of a table of segments, with its laws.
 
+mod edges;
 mod flat;
 mod head;
 mod laws;
@@ -16,6 +17,7 @@ mod steps;
 mod table;
 mod writing;
 
+pub use edges::Edges;
 pub use laws::{numbers_are_spelled, records_are_spelled, segments_go_on, tables_spelled_out};
 pub use lent::{Parents, SegmentRef};
 pub use level::write_numbers;

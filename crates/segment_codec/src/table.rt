@@ -3,9 +3,11 @@
 ghost use Rattle.std.specs.Prelude.{◌≡◌, ◌<◌, ℕ, List, Option, Some, None, MatchOption, length, slice_get};
 ghost use Rattle.id_groups.specs.Lists.{IsIn};
 ghost use Rattle.segment_codec.specs.Record.{Segment};
+ghost use Rattle.segment_codec.specs.Edges.{AreEdgesOf};
 ghost use Rattle.segment_codec.specs.Lent.{segment_of};
 ghost use Rattle.segment_codec.specs.Table.{ticked, segment_at, Cover, IsLawful, IsEnding};
 
+use crate::edges::Edges;
 use crate::lent::SegmentRef;
 use crate::steps::Steps;
 use id_groups::Id;
@@ -50,6 +52,10 @@ pub trait SegmentTable {
     fn ending<'a>(&'a self, level: u8, id: Id, steps: &mut Steps) -> Option<SegmentRef<'a>>
         ensures found { MatchOption result (ending_at self.now level id ≡ None) (λ r. ending_at self.now level id ≡ Some (segment_of r)) }
         ensures tick { steps.new.taken ≡ ticked steps.old.taken };
+
+    /// The edges that it keeps, maybe none.
+    fn edges(&self) -> Edges<'_>
+        ensures { AreEdgesOf result.items.now result.count (flats self.now) };
 
     ghost lawful: { (t : Self) → IsLawful (flats t) };
 
