@@ -2,7 +2,7 @@ use Rattle.std.proofs.Common.{◌≡◌, ◌≤◌, ◌-◌, ℕ, length, List, 
 use Rattle.std.specs.Prelude.{nat_le}
 use Rattle.std.specs.List.{AllWithin}
 use Rattle.flat_segments.specs.Entries.{PlainEntry}
-use Rattle.flat_segments.proofs.search.count_by_search.Given as goal
+use Rattle.flat_segments.proofs.search.count_before.Given as goal
 
 pub record Between (id low high : ℕ) (es : List PlainEntry) : Type 0 where
   pub order : low ≤ high
