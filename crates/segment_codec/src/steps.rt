@@ -1,6 +1,6 @@
 //! A count of look-ups.
 
-ghost use Rattle.std.specs.Prelude.{◌≡◌};
+ghost use Rattle.std.specs.Prelude.{◌≡◌, ◌+◌, ◌-◌, ◌^◌, min};
 ghost use Rattle.segment_codec.specs.Table.{ticked};
 
 /// How many look-ups a query took. The count stays at 2^64 - 1 once it is there. Beside it stands where the last look-up
@@ -33,6 +33,14 @@ impl Steps {
         ensures near { self.new.near ≡ self.old.near }
     {
         self.taken = self.taken.saturating_add(1);
+    }
+
+    /// So many more.
+    pub fn tick_by(&mut self, count: u8)
+        ensures taken { self.new.taken ≡ min (self.old.taken + count) (2 ^ 64 - 1) }
+        ensures near { self.new.near ≡ self.old.near }
+    {
+        self.taken = self.taken.saturating_add(u64::from(count));
     }
 
     /// Where the last look-up ended, as the table told by `set_near`.
