@@ -33,6 +33,11 @@ sanitized() {
 }
 
 typed() {
+    over_library core tests/core.c
+    "$folder/core"
+    if sanitized tests/core.c; then
+        "$folder/sanitized"
+    fi
     "$folder/clib" typed "$folder/typed.log"
     if sanitized; then
         "$folder/sanitized" typed "$folder/sanitized.log"

@@ -1,7 +1,5 @@
-/* Typed calls. Those that change what is stored are lines of the command language; the others are calls of the core, which make no text but
-   for the name of an id. */
+/* Typed calls. Those that change what is stored are lines of the command language; the others are calls of the core, which make no text. */
 #include "store.h"
-#include <inttypes.h>
 #include <stdio.h>
 #include <stdlib.h>
 #include <string.h>
@@ -200,12 +198,12 @@ segdag_status segdag_list(segdag *store, uint8_t session, const char *expression
     return take_found(store, status, bytes, members);
 }
 
-/* The name of the one commit that so many have ids from which on, counted from the greatest id, itself included. */
-static segdag_status name_from_top(segdag *store, uint8_t session, uint64_t place, segdag_name_bytes name) {
-    char text[96];
-    int size = snprintf(text, sizeof text, "minus(top(all,%" PRIu64 "),top(all,%" PRIu64 "))", place, place - 1);
+/* The name of the commit at a place, counted from the greatest id, which is at place 1. */
+static segdag_status name_at(segdag *store, uint8_t session, uint64_t place, segdag_name_bytes name) {
     size_t bytes = 0;
-    segdag_status status = find(store, session, text, (size_t)size, &bytes);
+    segdag_status status = segdag_core_at_place(&store->core, session, place, &bytes);
+    if (store_asks_again(store, status))
+        status = segdag_core_at_place(&store->core, session, place, &bytes);
     if (status)
         return status;
     return bytes == SEGDAG_NAME ? segdag_core_names(&store->core, 0, name, bytes, &bytes) : SEGDAG_UNKNOWN;
@@ -227,9 +225,9 @@ segdag_status segdag_name(segdag *store, uint8_t session, uint64_t id, segdag_na
         return status;
     uint64_t others = sizes.others + sizes.pending;
     if (id < sizes.master)
-        return name_from_top(store, session, others + sizes.master - id, name);
+        return name_at(store, session, others + sizes.master - id, name);
     if (id >= SEGDAG_OTHERS && id - SEGDAG_OTHERS < others)
-        return name_from_top(store, session, others - (id - SEGDAG_OTHERS), name);
+        return name_at(store, session, others - (id - SEGDAG_OTHERS), name);
     return SEGDAG_UNKNOWN;
 }
 

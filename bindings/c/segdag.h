@@ -233,6 +233,9 @@ uint32_t segdag_core_is_ancestor(segdag_core *core, uint8_t session, const uint8
 uint32_t segdag_core_only(segdag_core *core, uint8_t session, const uint8_t a[20], const uint8_t b[20], uint64_t *count);
 uint32_t segdag_core_merge_bases(segdag_core *core, uint8_t session, const uint8_t a[20], const uint8_t b[20], size_t *names_size);
 
+/* The commit at a place, counted from the greatest id, which is at place 1; its name is kept, and none where there are fewer commits. */
+uint32_t segdag_core_at_place(segdag_core *core, uint8_t session, uint64_t place, size_t *names_size);
+
 /* Of a session: how many rows it works on, a reload and a discard, which tell its pending rows. */
 uint32_t segdag_core_sizes(segdag_core *core, uint8_t session, uint64_t *master, uint64_t *others, uint64_t *pending);
 uint32_t segdag_core_reload(segdag_core *core, uint8_t session, uint64_t *pending);

@@ -5,11 +5,11 @@ ghost use Rattle.step_rules.specs.Verb.{Count as ToCount, Discard as ToDiscard, 
 ghost use Rattle.step_rules.specs.Reply.{Counted, Discarded, Reloaded, Sizes};
 ghost use Rattle.segdag_c.specs.Calls.{IsRefusedBy, SlotDoes, SlotListsOf, Tells};
 ghost use Rattle.segdag_c.specs.Codes.{failure_code};
-ghost use Rattle.segdag_c.specs.Pairs.{ancestor_form, bases_form, only_form};
+ghost use Rattle.segdag_c.specs.Pairs.{ancestor_form, bases_form, only_form, place_form};
 
 use crate::codes::{DONE, Failure, code_of};
 use crate::exports::{closed, tell_count, tell_size};
-use crate::pairs::{count_ancestor, count_only, find_bases};
+use crate::pairs::{count_ancestor, count_only, find_at_place, find_bases};
 use crate::sizes::{discard, reload, sizes};
 use crate::slot::{Slot, put, take};
 use dag_store::Counts;
@@ -84,6 +84,30 @@ pub extern "C" fn segdag_core_merge_bases(
             let mut held = taken;
             let a = Name::from_bytes(*a);
             let answer = find_bases(alloc, &mut *held, session, &a, &Name::from_bytes(*b));
+            put(slot, held);
+            tell_size(answer, size)
+        }
+        None => closed(),
+    }
+}
+
+/// Finds the commit at a place, counted from the greatest id, which is at place 1, keeps its name, and says how many bytes that has: 20, or
+/// none where there are fewer commits.
+#[unsafe(no_mangle)]
+pub extern "C" fn segdag_core_at_place(
+    alloc: Global,
+    slot: &mut Slot,
+    session: u8,
+    place: u64,
+    size: &mut usize,
+) -> u32
+    ensures does { result ≡ 0 → SlotListsOf slot.old.handle.held slot.new.handle.held session (place_form place) size.new }
+    ensures refused { 33 ≤ result → IsRefusedBy result slot.old.handle.held slot.new.handle.held session (ToQuery (place_form place)) }
+{
+    match take(alloc, slot) {
+        Some(taken) => {
+            let mut held = taken;
+            let answer = find_at_place(alloc, &mut *held, session, place);
             put(slot, held);
             tell_size(answer, size)
         }

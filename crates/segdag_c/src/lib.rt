@@ -19,7 +19,5 @@ mod pairs;
 mod parts;
 mod sizes;
 mod slot;
-#[cfg(test)]
-mod tests;
 
 pub use crate::slot::Slot;

@@ -1,10 +1,10 @@
-//! Typed calls over two commits: each expression is made of their names, and no text is.
+//! Typed calls over two commits, or over a place: each expression is made of the names or the number, and no text is.
 
 ghost use Rattle.std.specs.Prelude.{◌≡◌, length, IfOk, IfErr, IfSome};
 ghost use Rattle.step_rules.specs.Verb.{Count as ToCount, Query as ToQuery};
 ghost use Rattle.step_rules.specs.Reply.{Refused as IsRefused};
 ghost use Rattle.segdag_c.specs.Calls.{HeldDoes, HeldListsOf};
-ghost use Rattle.segdag_c.specs.Pairs.{ancestor_form, bases_form, only_form};
+ghost use Rattle.segdag_c.specs.Pairs.{ancestor_form, bases_form, only_form, place_form};
 ghost use Rattle.segdag_c.specs.Typed.{counted_reply, refusal_in};
 
 use crate::calls::{SESSIONS, count_held, query_held};
@@ -67,6 +67,25 @@ pub(crate) fn find_bases(
         return Err(Failure::Argument);
     }
     match Expr::merge_bases(alloc, a, b) {
+        Ok(expr) => query_held(alloc, held, session, &expr),
+        Err(_) => Err(Failure::Memory),
+    }
+}
+
+/// Finds the commit at a place, counted from the greatest id, which is at place 1: its name stands in `names`. How many bytes it has.
+pub(crate) fn find_at_place(
+    alloc: Global,
+    held: &mut Held,
+    session: u8,
+    place: u64,
+) -> Result<usize, Failure>
+    ensures listed { IfOk result (λ size. (size ≡ length held.new.names.items) × HeldListsOf held.old held.new session (place_form place)) }
+    ensures refused { IfErr result (λ failure. IfSome (refusal_in failure) (λ refusal. HeldDoes held.old held.new session (ToQuery (place_form place)) (IsRefused refusal))) }
+{
+    if session >= SESSIONS || place == 0 {
+        return Err(Failure::Argument);
+    }
+    match Expr::at_place(alloc, place) {
         Ok(expr) => query_held(alloc, held, session, &expr),
         Err(_) => Err(Failure::Memory),
     }

@@ -15,7 +15,7 @@ const MOST_LEVELS: u32 = 32;
 /// How many nodes an expression may have: its names, words and calls.
 const MOST_NODES: u32 = 256;
 
-/// An expression over sets of commits: one that was parsed, or one of the forms that are asked of two commits.
+/// An expression over sets of commits: one that was parsed, or one of the forms that are asked of two commits or of a place.
 #[derive(Drop)]
 pub struct Expr {
     tree: Tree,
@@ -60,6 +60,17 @@ impl Expr {
         names.push(*x)?;
         names.push(*y)?;
         Ok(Expr { tree, names })
+    }
+
+    /// The expression of this tree, which names no commit.
+    pub(crate) fn of_none(alloc: Global, tree: Tree) -> Result<Expr, AllocError>
+        requires { commits_in (tree_in tree) ≡ [] }
+        ensures { IfOk result (λ e. tree_of e ≡ tree_in tree) }
+    {
+        Ok(Expr {
+            tree,
+            names: Vec::new(alloc),
+        })
     }
 
     /// How the expression is made.

@@ -1,13 +1,14 @@
-//! Expressions that are made and not read: what is asked of two commits.
+//! Expressions that are made and not read: what is asked of two commits, and of a place.
 
-ghost use Rattle.std.specs.Prelude.{◌≡◌, IfOk};
-ghost use Rattle.set_expr.specs.Expr.{One, Of, OfTwo};
+ghost use Rattle.std.specs.Prelude.{◌≡◌, ◌≤◌, ◌-◌, IfOk};
+ghost use Rattle.set_expr.specs.Expr.{One, Named, Of, OfTwo, Top};
 ghost use Rattle.set_expr.specs.Tree.{tree_in};
 ghost use Rattle.set_expr.specs.Whole.{tree_of};
 ghost use Rattle.set_expr.specs.declared.words.Call.TheVariants as calls;
 ghost use Rattle.set_expr.specs.declared.words.PairCall.TheVariants as pairs;
+ghost use Rattle.set_expr.specs.declared.words.Word.TheVariants as words;
 
-use crate::{Call, Expr, PairCall, Tree};
+use crate::{Call, Expr, PairCall, Tree, Word};
 use id_groups::Name;
 use std::alloc::{AllocError, Global};
 
@@ -44,6 +45,22 @@ impl Expr {
             paired(alloc, PairCall::Only, Tree::One(*x), Tree::One(*y))?,
         )
     }
+
+    /// The one commit at a place, counted from the greatest id, which is at place 1: `minus(top(all,n),top(all,n-1))`.
+    pub fn at_place(alloc: Global, n: u64) -> Result<Expr, AllocError>
+        requires { 1 ≤ n }
+        ensures { IfOk result (λ e. tree_of e ≡ OfTwo pairs.Minus (Top (Named words.All) n) (Top (Named words.All) (n - 1))) }
+    {
+        let first = greatest(alloc, n)?;
+        Expr::of_none(alloc, paired(alloc, PairCall::Minus, first, greatest(alloc, n - 1)?)?)
+    }
+}
+
+/// So many of all commits, those with the greatest ids.
+fn greatest(alloc: Global, n: u64) -> Result<Tree, AllocError>
+    ensures { IfOk result (λ tree. tree_in tree ≡ Top (Named words.All) n) }
+{
+    Ok(Tree::Top(Box::new(alloc, Tree::Named(Word::All))?, n))
 }
 
 /// What the call makes of a set.
