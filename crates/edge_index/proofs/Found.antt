@@ -6,7 +6,7 @@ use Rattle.std.proofs.lemmas.List.Sorted.{Contains-permutation}
 use Rattle.id_groups.specs.Lists.{IsIn}
 use Rattle.segment_codec.specs.Record.{Segment}
 use Rattle.segment_codec.specs.Edges.{edge_of, AreEdgesOf}
-use Rattle.edge_index.specs.Index.{IsIndexOf, HaveEdges}
+use Rattle.edge_index.specs.Index.{IsEdgeIndexOf, HaveEdges}
 use Rattle.edge_index.specs.Merged.{Merged}
 
 in-contains : (xs : List ℕ) (x : ℕ) → IsIn x xs → Contains xs x
@@ -75,7 +75,7 @@ have-more found found' from count flats s h at keeps own k t p le lt get i =
 
 -- a grown index
 pub grown : (old : List ℕ) (from : ℕ) (fresh : List ℕ) (count : ℕ) (new : List ℕ) (flats : List Segment) → AreEdgesOf old from flats → IsNonDecreasing fresh → HaveEdges fresh from count flats → count ≤ length flats
-    → Merged old fresh new → IsIndexOf (record { items = new; count = count }) flats
+    → Merged old fresh new → IsEdgeIndexOf (record { items = new; count = count }) flats
 grown old from fresh count new flats h order have few m = record {
   edges = record {
     order = m.order h.order order;

@@ -10,7 +10,7 @@ pub record PlainEdges : Type 0 where
   pub count : ℕ
 
 -- they are edges of the segments, as many of which there are
-pub record IsIndexOf (index : PlainEdges) (flats : List Segment) : Type 0 where
+pub record IsEdgeIndexOf (index : PlainEdges) (flats : List Segment) : Type 0 where
   pub edges : AreEdgesOf index.items index.count flats
   pub few : index.count ≤ length flats
 

@@ -2,7 +2,7 @@
 
 ghost use Rattle.std.specs.Prelude.{◌≡◌, ◌≤◌, List, length, IfOk, OnOk, OnErr};
 ghost use Rattle.segment_codec.specs.Record.{Segment};
-ghost use Rattle.edge_index.specs.Index.{IsIndexOf};
+ghost use Rattle.edge_index.specs.Index.{IsEdgeIndexOf};
 
 use crate::finding::edges_between;
 use crate::merge::in_order;
@@ -10,7 +10,7 @@ use segment_codec::{Edges, SegmentTable};
 use std::alloc::{AllocError, Global};
 use std::marker::Model;
 
-/// The edges of the first flat segments of a table, 8 bytes for each. Contracts see what is kept; of which segments, `IsIndexOf` says.
+/// The edges of the first flat segments of a table, 8 bytes for each. Contracts see what is kept; of which segments, `IsEdgeIndexOf` says.
 #[derive(Drop)]
 pub struct EdgeIndex {
     items: Vec<u64>,
@@ -28,7 +28,7 @@ impl Model for EdgeIndex {
 impl EdgeIndex {
     /// The index of no segment. It takes no memory yet.
     pub fn empty(alloc: Global) -> EdgeIndex
-        ensures { (flats : List Segment) → IsIndexOf result flats }
+        ensures { (flats : List Segment) → IsEdgeIndexOf result flats }
     {
         EdgeIndex {
             items: Vec::new(alloc),
@@ -75,7 +75,7 @@ impl EdgeIndex {
         upto: u32,
     ) -> Result<(), AllocError>
         requires { upto ≤ length (T.flats table.now) }
-        ensures grown { IsIndexOf self.old (T.flats table.now) → OnOk result (IsIndexOf self.new (T.flats table.now)) }
+        ensures grown { IsEdgeIndexOf self.old (T.flats table.now) → OnOk result (IsEdgeIndexOf self.new (T.flats table.now)) }
         ensures unchanged { OnErr result (self.new ≡ self.old) }
     {
         let (fresh, count) = edges_between(alloc, table, self.count, upto)?;
