@@ -5,7 +5,7 @@ use Rattle.std.proofs.lemmas.List.{take_all, take-append-le, length-take}
 use Rattle.outside.specs.Told.{WhereTold}
 use Rattle.outside.proofs.ToldLemmas.{WhereTold-map}
 use Rattle.disk_trait.specs.Images.{Told}
-use Rattle.disk_trait.specs.Calls.{Goes, Passes, OrRefuses}
+use Rattle.disk_trait.specs.Calls.{Goes, Passes, OrRefuses, Succeeds}
 use Rattle.disk_trait.specs.Meanwhile.{Meanwhile, AreRead}
 use Rattle.disk_trait.proofs.Telling.{goes-map}
 use Rattle.gated_log.specs.Load.{OnlyReads, after_reads}
@@ -20,8 +20,8 @@ cut_back front out post behind len n count is room fits =
     take-take n len ((front ++ (out ++ post)) ++ behind) fits ∙ ap (take n) flat ∙ ap (λ k. take k (front ++ (out ++ (post ++ behind)))) is
     ∙ take-append-add front (out ++ (post ++ behind)) count ∙ ap (λ l. front ++ l) (take-append-le count out (post ++ behind) room)
 
-pub front_kept : (old now zeros : List ℕ) (end size : ℕ) → now ≡ take size old ++ zeros → end ≡ length old → length old ≤ size → take end now ≡ old
-front_kept old now zeros end size is here fits = ap (take end) (is ∙ ap (λ l. l ++ zeros) (take_all size old fits)) ∙ take_at old zeros end (sym here)
+pub front_kept : (old now zeros : List ℕ) (end : ℕ) → now ≡ old ++ zeros → end ≡ length old → take end now ≡ old
+front_kept old now zeros end is here = ap (take end) is ∙ take_at old zeros end (sym here)
 
 pub all_there : (a : Option (List ℕ)) (before after out0 out1 : List ℕ) (end size count : ℕ) → after ≡ before ++ take count out1 → end ≡ length before → length out0 ≡ size - end
     → IfSome a (λ b. count ≡ min (length out0) (length b - end)) → IfSome a (λ b. out1 ≡ take count (drop end b) ++ drop count out0)
@@ -45,6 +45,9 @@ reads_behind a b before after out0 out1 end size count is here fits room same mo
       λ there.
           (let k = ap length is in let j = length-append before (take count out1) in let i = length-take count out1 in let m = r.1 in omega (arith, k, j, i, m, there, here, room, same, most, fits)),
     )) read
+
+pub reads_one : (a b : Option Told) → Goes (Succeeds Passes) a b → Goes (OnlyReads 1) a b
+reads_one a b w = goes-map (Succeeds Passes) (OnlyReads 1) a b (λ x y r. (1, omega arith, r.1)) w
 
 pub reads_none : (a b : Option Told) → Goes (OrRefuses Passes) a b → Goes (OnlyReads 1) a b
 reads_none a b w = goes-map (OrRefuses Passes) (OnlyReads 1) a b (λ x y r. ⊎_elim (λ p. (1, omega arith, p.1)) (λ p. (0, omega arith, p.1 ∙ same x)) r) w

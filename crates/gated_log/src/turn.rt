@@ -1,5 +1,5 @@
 // Reads a log from its front on, and goes on where another process has extended it meanwhile.
-ghost use Rattle.std.specs.Prelude.{◌≡◌, ◌≤◌, ◌<◌, ◌⊎◌, ◌^◌, ◌+◌, ℕ, List, [], length, IfOk, IfErr, IfSome, OnOk};
+ghost use Rattle.std.specs.Prelude.{◌≡◌, ◌≤◌, ◌<◌, ◌⊎◌, ◌^◌, ◌+◌, ◌++◌, ℕ, List, [], length, IfOk, IfErr, IfSome, OnOk};
 ghost use Rattle.outside.specs.Counts.{Rose};
 ghost use Rattle.outside.specs.Told.{WhereTold};
 ghost use Rattle.disk_trait.specs.Calls.{Goes, Passes, OrRefuses};
@@ -13,7 +13,7 @@ ghost use Rattle.gated_log.specs.declared.turn.Turn.TheVariants.{Whole, Open};
 
 use crate::{LoadLog, Log};
 use disk_trait::Disk;
-use std::alloc::Global;
+use std::alloc::{AllocError, Global};
 
 // How many reads are made at most, each of them of what was behind the one before.
 pub(crate) const MOST_READS: u32 = 1000;
@@ -25,6 +25,25 @@ pub(crate) enum Turn {
     Whole(Log),
     // The gate at this place is open, its batch with the next gate isn't read yet, and there are so many bytes by now.
     Open(u64, u64),
+}
+
+// How many zeros are put behind bytes at once.
+const BLOCK: usize = 1024;
+
+// Puts pieces of a block behind the bytes, up to a size that they don't pass: a `resize` would put byte by byte.
+fn fill_up(bytes: &mut Vec<u8>, block: &[u8], size: usize) -> Result<(), AllocError>
+    requires some { 1 ≤ length block.now }
+    requires within { length bytes.old.items ≤ size }
+    ensures front { OnOk result ((more : List ℕ) × (bytes.new.items ≡ bytes.old.items ++ more)) }
+    ensures len { OnOk result (length bytes.new.items ≡ size) }
+{
+    bytes.reserve_exact(size - bytes.len())?;
+    'pieces: while bytes.len() < size {
+        let more = (size - bytes.len()).min(block.len());
+        let (piece, _) = block.split_at(more);
+        bytes.extend_from_slice(piece)?;
+    }
+    Ok(())
 }
 
 // Reads from where the bytes end up to a size, all that there are.
@@ -42,7 +61,7 @@ fn read_behind<D: Disk>(disk: &mut D, bytes: &mut Vec<u8>, size: u64) -> Result<
     ensures cause { (fault : _) → result ≡ Err (Disk fault) → Rose (D.faults disk.old) (D.faults disk.new) }
 {
     let end = bytes.len();
-    bytes.resize(size as usize, 0)?;
+    fill_up(bytes, &[0; BLOCK], size as usize)?;
     let count = disk.read(end as u64, &mut bytes[end..])?;
     bytes.truncate(end + count);
     Ok(())
