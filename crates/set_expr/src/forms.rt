@@ -52,7 +52,10 @@ impl Expr {
         ensures { IfOk result (λ e. tree_of e ≡ OfTwo pairs.Minus (Top (Named words.All) n) (Top (Named words.All) (n - 1))) }
     {
         let first = greatest(alloc, n)?;
-        Expr::of_none(alloc, paired(alloc, PairCall::Minus, first, greatest(alloc, n - 1)?)?)
+        Expr::of_none(
+            alloc,
+            paired(alloc, PairCall::Minus, first, greatest(alloc, n - 1)?)?,
+        )
     }
 }
 
