@@ -83,9 +83,9 @@ view-edges edges count n below first end whole front others h a same le within =
     record {
       order = a.order;
       whole = λ k s p lt e i.
-      let at = get-first front others k s (omega (arith, lt, within)) e in
-      let t = cut-get below first end k whole s h (subst (λ (z : List Segment). slice_get z k ≡ Some s) same at) in
-      a.whole k t.0 p (omega (arith, lt, le)) t.1 (subst (λ (z : List ℕ). IsIn p z) t.2 i);
+          let at = get-first front others k s (omega (arith, lt, within)) e in
+          let t = cut-get below first end k whole s h (subst (λ (z : List Segment). slice_get z k ≡ Some s) same at) in
+          a.whole k t.0 p (omega (arith, lt, le)) t.1 (subst (λ (z : List ℕ). IsIn p z) t.2 i);
     }
 
 pub view-edged : (v : FlatView) (levels : KeptLevels) (table : FlatKept) (records : List PlacedSegment) → BelongTogether v levels table records → (edges : List ℕ) (count n : ℕ)

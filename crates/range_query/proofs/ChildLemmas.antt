@@ -1,5 +1,5 @@
 -- Children, segment by segment.
-use Rattle.std.proofs.Common.{◌≡◌, ℕ, ◌+◌, ◌-◌, ◌<◌, ◌≤◌, ◌^◌, ◌⊎◌, inl, inr, ◌↔◌, List, [], ◌∷◌, Option, Some, None, max, refl, sym, subst, ap, ◌∙◌, arith, ⊎_elim}
+use Rattle.std.proofs.Common.{◌≡◌, ℕ, ◌+◌, ◌-◌, ◌<◌, ◌≤◌, ◌^◌, ◌⊎◌, inl, inr, ◌↔◌, List, [], ◌∷◌, Option, Some, None, refl, sym, subst, ap, ◌∙◌, arith, ⊎_elim}
 use Rattle.std.specs.Prelude.{slice_get}
 use Rattle.std.proofs.lemmas.Bool.Decides.{nat_tests}
 use Rattle.id_groups.specs.Id.{is_master_id}
@@ -7,13 +7,12 @@ use Rattle.id_groups.specs.Lists.{IsIn}
 use Rattle.id_groups.specs.declared.span.IdSpan.{IdSpan}
 use Rattle.commit_graph.specs.Sets as sets
 use Rattle.segment_codec.specs.Record.{Segment}
-use Rattle.segment_codec.specs.Table.{IsInSegment, segment_at, parents_in, parents_at, IsHeld, Cover, IsLawful}
+use Rattle.segment_codec.specs.Table.{IsInSegment, segment_at, parents_in, parents_at, IsHeld, IsLawful}
 use Rattle.segment_codec.proofs.Tables.{le_or_lt, segment-in, parents-low, parents-over, parent-below}
 use Rattle.span_set.specs.Members.{IsMember}
 use Rattle.ancestor_query.specs.Graph.{table_graph, IsJump}
 use Rattle.ancestor_query.proofs.Best.{same-group}
 use Rattle.range_query.specs.Parts.{IsChildIn, IsApart, LackChildren}
-use Rattle.range_query.proofs.Bounds.{cover-held}
 use Rattle.range_query.proofs.Rows.{at-in}
 
 in-one : (p q : ℕ) → IsIn p (q ∷ []) → p ≡ q
@@ -95,16 +94,3 @@ module _ (flats : List Segment) (lawful : IsLawful flats) (set : List IdSpan) wh
   pub lacks-none : (answer : List IdSpan) (low next id : ℕ) → next ≡ low → LackChildren (table_graph flats) set low id
       → (x : ℕ) → IsMember answer x ↔ (IsMember answer x ⊎ ((next ≤ x) × (x ≤ id) × Child x))
   lacks-none answer low next id e none x = (λ m. inl m, λ h. ⊎_elim (λ m. m) (λ k. let a = k.0 in absurd (none x (omega arith) k.1 k.2)) h)
-
-  -- a child is one of the ids of either group, above the lowest member
-  pub both-whole : (none first all : List IdSpan) (lowest master others from : ℕ) → Cover flats master others → none ≡ [] → ((x : ℕ) → IsMember set x → lowest ≤ x)
-      → from ≡ max (lowest + 1) (2 ^ 56)
-      → ((x : ℕ) → IsMember first x → IsMember none x ⊎ Child x) → ((x : ℕ) → from ≤ x → x < 2 ^ 56 + others → Child x → IsMember first x)
-      → ((x : ℕ) → IsMember all x → IsMember first x ⊎ Child x) → ((x : ℕ) → lowest + 1 ≤ x → x < master → Child x → IsMember all x)
-      → ((x : ℕ) → IsMember first x → IsMember all x) → (x : ℕ) → IsMember all x ↔ Child x
-  both-whole none first all lowest master others from cover empty least start sound_a whole_a sound_b whole_b kept x = (
-    λ m. ⊎_elim (λ n. ⊎_elim (λ o. absurd (subst (λ l. IsMember l x) empty o)) (λ c. c) (sound_a x n)) (λ c. c) (sound_b x m),
-    λ c. let low = least c.0 c.1 in let under = (parent-below flats lawful x c.0 c.2).0 in
-        ⊎_elim (λ a. let lt = a.1 in whole_b x (omega arith) (omega arith) c) (λ a. let ge = a.0 in kept x (whole_a x (omega arith) a.1 c))
-        ((cover-held flats master others cover x).0 (child-held flats x c.0 c.2)),
-  )

@@ -16,3 +16,4 @@ pub mod CutLemmas
 pub mod FallTurns
 pub mod Spelled
 pub mod PassLemmas
+pub mod EdgeLemmas

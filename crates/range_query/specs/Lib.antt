@@ -5,3 +5,4 @@ pub mod Tails
 pub mod Cuts
 pub mod Falls
 pub mod Ends
+pub mod Edges

@@ -9,6 +9,7 @@ ghost use Rattle.span_set.specs.Members.{IsMember, IsCanonical};
 ghost use Rattle.ancestor_query.specs.Graph.{table_graph};
 ghost use Rattle.range_query.specs.Parts.{HasParentIn, IsMoved, StandFrom, StandBelow, IsApart, LackChildren};
 
+use crate::edge_walk::add_by_edges;
 use crate::flat_pass::pass_flats;
 use crate::ladder::{HIGHEST_LEVEL, Ladder};
 use crate::place::{flat_down, lowest_of};
@@ -76,7 +77,11 @@ pub(crate) fn has_parent_in(set: &IdSet, segment: SegmentRef<'_>) -> bool
 }
 
 /// Adds the lowest id of the segment where a parent of it is a member.
-fn add_lowest(answer: &mut IdSet, set: &IdSet, segment: SegmentRef<'_>) -> Result<(), AllocError>
+pub(crate) fn add_lowest(
+    answer: &mut IdSet,
+    set: &IdSet,
+    segment: SegmentRef<'_>,
+) -> Result<(), AllocError>
     ensures members { OnOk result ((x : ℕ) → IsMember answer.new x
         ↔ (IsMember answer.old x ⊎ ((x ≡ (segment_of segment.entry).low) × HasParentIn set.now (segment_of segment.entry)))) }
     ensures canonical { IsCanonical answer.old → IsCanonical answer.new }
@@ -359,22 +364,21 @@ fn add_between<T: SegmentTable>(
     Ok(())
 }
 
-/// Adds the children, all of which lie above the lowest member.
-fn add_above<T: SegmentTable>(
+/// Adds the children among the ids from `low` on, and maybe some that are lower.
+fn add_from<T: SegmentTable>(
     answer: &mut IdSet,
     table: &T,
     set: &IdSet,
-    lowest: Id,
+    low: u64,
     steps: &mut Steps,
 ) -> Result<(), AllocError>
-    requires empty { answer.old ≡ [] }
-    requires lowest { (x : ℕ) → IsMember set.now x → lowest ≤ x }
-    ensures members { OnOk result ((x : ℕ) → IsMember answer.new x ↔ sets.children (table_graph (T.flats table.now)) (IsMember set.now) x) }
+    ensures sound { OnOk result ((x : ℕ) → IsMember answer.new x → IsMember answer.old x ⊎ sets.children (table_graph (T.flats table.now)) (IsMember set.now) x) }
+    ensures whole { OnOk result ((x : ℕ) → low ≤ x → sets.children (table_graph (T.flats table.now)) (IsMember set.now) x → IsMember answer.new x) }
+    ensures kept { OnOk result ((x : ℕ) → IsMember answer.old x → IsMember answer.new x) }
     ensures canonical { IsCanonical answer.old → IsCanonical answer.new }
     ensures counted { min steps.old.taken (2 ^ 64 - 1) ≤ steps.new.taken }
 {
     let bounds = table.bounds();
-    let low = lowest.number() + 1;
     let others = low.max(FIRST_OTHER);
     add_between(
         answer,
@@ -389,8 +393,30 @@ fn add_above<T: SegmentTable>(
     Ok(())
 }
 
-/// The ids with a parent in the set, each member of which is an id of the table. It goes down from the greatest id to the
-/// lowest member, and passes over a segment of a higher level whole where its parents tell that none of its ids is a child.
+/// Adds the children, all of which lie above the lowest member: of few members those that edges lead to, and the others on a way down.
+fn add_all<T: SegmentTable>(
+    answer: &mut IdSet,
+    table: &T,
+    set: &IdSet,
+    lowest: Id,
+    steps: &mut Steps,
+) -> Result<(), AllocError>
+    requires empty { answer.old ≡ [] }
+    requires lowest { (x : ℕ) → IsMember set.now x → lowest ≤ x }
+    requires held { (x : ℕ) → IsMember set.now x → IsHeld (T.flats table.now) x }
+    ensures members { OnOk result ((x : ℕ) → IsMember answer.new x ↔ sets.children (table_graph (T.flats table.now)) (IsMember set.now) x) }
+    ensures canonical { IsCanonical answer.old → IsCanonical answer.new }
+    ensures counted { min steps.old.taken (2 ^ 64 - 1) ≤ steps.new.taken }
+{
+    let known = add_by_edges(answer, table, set, steps)?;
+    let low = known.max(lowest.number() + 1);
+    add_from(answer, table, set, low, steps)?;
+    Ok(())
+}
+
+/// The ids with a parent in the set, each member of which is an id of the table. Of few members it finds those that the table's
+/// edges lead to. The others lie on its way down from the greatest id to the lowest member, or to the segments of which the
+/// table has all edges; it passes over a segment of a higher level whole where its parents tell that none of its ids is a child.
 /// `AllocError` only for want of memory.
 pub fn children<T: SegmentTable>(
     alloc: Global,
@@ -407,6 +433,6 @@ pub fn children<T: SegmentTable>(
     let Some(lowest) = lowest_of(set.spans()) else {
         return Ok(answer);
     };
-    add_above(&mut answer, table, set, lowest, steps)?;
+    add_all(&mut answer, table, set, lowest, steps)?;
     Ok(answer)
 }

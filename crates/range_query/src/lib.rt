@@ -6,6 +6,7 @@ mod between;
 mod child_walk;
 mod cut;
 mod downward;
+mod edge_walk;
 mod flat_pass;
 mod head_walk;
 mod ladder;

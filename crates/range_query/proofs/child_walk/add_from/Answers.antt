@@ -1,7 +1,7 @@
-use Rattle.std.proofs.Common.{arith, inl, inr}
+use Rattle.std.proofs.Common.{arith, inl, inr, ⊎_elim}
 use Rattle.range_query.proofs.Bounds.{cover-held, cover-room}
-use Rattle.range_query.proofs.ChildLemmas.{both-whole}
-use Rattle.range_query.proofs.child_walk.add_above.Goals as goal
+use Rattle.range_query.proofs.EdgeLemmas.{from-whole}
+use Rattle.range_query.proofs.child_walk.add_from.Goals as goal
 
 pub overflow_add-bounds : goal.overflow_add-bounds
 overflow_add-bounds g c =
@@ -21,10 +21,11 @@ pub add_between-requires-2-clause-held : goal.add_between-requires-2-clause-held
 add_between-requires-2-clause-held g c = λ x a b.
     (cover-held (g.T.SegmentTable.flats c.args.table.now) c.bounds-bounds.result.master c.bounds-bounds.result.others c.bounds-bounds.ensures x).1 (inl (omega arith, omega arith))
 
-pub returns-clause-members : goal.returns-clause-members
-returns-clause-members g c =
-    let number = c.number-low.ensures.number in
-    both-whole (g.T.SegmentTable.flats c.args.table.now) (g.met.T.SegmentTable.lawful c.args.table.now) c.args.set.now c.args.answer.now c.add_between.new.answer c.add_between-2.new.answer
-    c.args.lowest c.bounds-bounds.result.master c.bounds-bounds.result.others c.max-others.result c.bounds-bounds.ensures c.requires.empty c.requires.lowest (omega (arith, c.max-others.ensures, number))
-    c.in_ok-add_between.ensures.sound c.in_ok-add_between.ensures.whole c.in_ok-add_between-2.ensures.sound
-    (λ x a b k. c.in_ok-add_between-2.ensures.whole x (omega arith) b k) c.in_ok-add_between-2.ensures.kept
+pub returns-clause-sound : goal.returns-clause-sound
+returns-clause-sound g c = λ x m. ⊎_elim (λ n. c.in_ok-add_between.ensures.sound x n) (λ k. inr k) (c.in_ok-add_between-2.ensures.sound x m)
+
+pub returns-clause-whole : goal.returns-clause-whole
+returns-clause-whole g c =
+    from-whole (g.T.SegmentTable.flats c.args.table.now) (g.met.T.SegmentTable.lawful c.args.table.now) c.args.set.now c.add_between.new.answer c.add_between-2.new.answer
+    c.args.low c.bounds-bounds.result.master c.bounds-bounds.result.others c.max-others.result c.bounds-bounds.ensures (omega (arith, c.max-others.ensures))
+    c.in_ok-add_between.ensures.whole c.in_ok-add_between-2.ensures.whole c.in_ok-add_between-2.ensures.kept
