@@ -23,11 +23,7 @@ fn edge(parent: u64, place: u32) -> u64
 }
 
 /// Appends the edges of the segment at a place. The answer is whether all are there: none behind a parent that takes more than 32 bits is.
-fn add_edges(
-    found: &mut Vec<u64>,
-    segment: SegmentRef<'_>,
-    place: u32,
-) -> Result<bool, AllocError>
+fn add_edges(found: &mut Vec<u64>, segment: SegmentRef<'_>, place: u32) -> Result<bool, AllocError>
     ensures keeps { OnOk result ((e : ℕ) → IsIn e found.old.items → IsIn e found.new.items) }
     ensures edges { IfOk result (λ all. IsTrue all → (p : ℕ) → IsIn p (segment_of segment.entry).parents → IsIn (edge_of p place) found.new.items) }
 {
