@@ -12,6 +12,7 @@ use Rattle.change_rules.specs.Lawful.{AreLawful, MayFollow}
 use Rattle.flat_segments.specs.Placed.{segments_of}
 use Rattle.flat_segments.specs.Kept.{KeptFlats}
 use Rattle.segment_levels.specs.Kept.{KeptLevels}
+use Rattle.segment_levels.specs.Flats.{flats_of}
 use Rattle.name_map.specs.declared.fault.MapFault.{MapFault}
 use Rattle.name_map.specs.declared.fault.MapFault.TheVariants.{Double, Memory as MapMemory}
 use Rattle.name_map.specs.Added.{Placed, payloads_of, FollowInLog as Following}
@@ -23,6 +24,8 @@ use Rattle.payload_tables.specs.declared.fault.TableFault.{TableFault}
 use Rattle.payload_tables.specs.declared.fault.TableFault.TheVariants.{Unlawful}
 use Rattle.payload_tables.specs.Kept.{AreTablesOf, AreOthersOf, AreOthersIn, master_records, by_kind, map_fault, version_of, newest_version}
 use Rattle.payload_tables.specs.Build.{PlainBuild, HasPlace, HavePlaces, ArePartsOf, IsBuildOf}
+use Rattle.segment_codec.specs.Record.{Segment}
+use Rattle.edge_index.specs.Index.{PlainEdges, IsEdgeIndexOf}
 use Rattle.payload_tables.proofs.Lists.{last-of, count-last, flat-snoc}
 use Rattle.payload_tables.proofs.Joined.{follow-join, follow-once}
 use Rattle.payload_tables.proofs.Standing.{masters-segments}
@@ -85,9 +88,10 @@ pub names-fit : (before more : List Payload) → AreLawful before more → Names
 names-fit before [] h = tt
 names-fit before (p ∷ more) h = (h.0.distinct, names-fit (before ++ p ∷ []) more h.1)
 
-pub tables-of : (build : PlainBuild) (names : PlainMap) (added : List Placed) → IsBuildOf build added → IsMapOf names added → NamesFit [] (payloads_of added)
-    → AreTablesOf (record { flat = build.flat; levels = build.levels; names = names; others = build.others; heads = build.heads; cloned = build.cloned; version = build.version }) added
-tables-of build names added b is fit = record {
+pub tables-of : (build : PlainBuild) (names : PlainMap) (edges : PlainEdges) (added : List Placed) → IsBuildOf build added → IsMapOf names added → NamesFit [] (payloads_of added)
+    → ((flats : List Segment) → IsEdgeIndexOf edges flats)
+    → AreTablesOf (record { flat = build.flat; levels = build.levels; names = names; others = build.others; heads = build.heads; cloned = build.cloned; version = build.version; edges = edges }) added
+tables-of build names edges added b is fit index = record {
   lawful = lawful-of [] added tt b.parts.names_of.follow b.places fit;
   flat = b.parts.flat;
   levels = b.parts.levels_of;
@@ -96,6 +100,7 @@ tables-of build names added b is fit = record {
   heads = b.heads;
   cloned = b.cloned;
   version = b.version;
+  edges = index (flats_of build.flat (master_records added));
 }
 
 -- ---- faults handed on

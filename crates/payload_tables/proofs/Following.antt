@@ -17,6 +17,8 @@ use Rattle.payload_tables.specs.Build.{HasPlace}
 use Rattle.payload_tables.proofs.Placing.{other-kind, clone-heads, versions-fit}
 use Rattle.std.proofs.lemmas.Bool.{eqb-false}
 use Rattle.payload_tables.proofs.Lists.{flat-snoc, last-of, distinct-parts}
+use Rattle.edge_index.specs.Index.{IsEdgeIndexOf}
+use Rattle.payload_tables.proofs.Indexed.{index-more}
 
 pub lawful-more : (before more : List Payload) (p : Payload) → AreLawful before more → MayFollow (before ++ more) p → AreLawful before (more ++ p ∷ [])
 lawful-more before [] p h f = (subst (λ l. MayFollow l p) (append-nil before) f, tt)
@@ -71,8 +73,8 @@ pub tables-more : (tables : PlainTables) (new : PlainTables) (added : List Place
     → HasPlace (payloads_of added) a.payload
     → IsTableOf new.flat (master_records (added ++ a ∷ [])) → AreLevelsOf new.levels (flats_of new.flat (master_records (added ++ a ∷ []))) → IsMapOf new.names (added ++ a ∷ [])
     → AreDistinct (names_with (payloads_of added) a.payload) → (AreDistinct a.payload.other_names → AreOthersOf new.others a)
-    → new.heads ≡ by_kind a.payload.kind a.payload.heads tables.heads → new.cloned ≡ by_kind a.payload.kind a.payload.cloned tables.cloned → new.version ≡ a.payload.version → AreTablesOf new (added ++ a ∷ [])
-tables-more tables new added a t h before place flat levels names distinct others heads cloned version =
+    → new.heads ≡ by_kind a.payload.kind a.payload.heads tables.heads → new.cloned ≡ by_kind a.payload.kind a.payload.cloned tables.cloned → new.version ≡ a.payload.version → new.edges ≡ tables.edges → AreTablesOf new (added ++ a ∷ [])
+tables-more tables new added a t h before place flat levels names distinct others heads cloned version edges =
     let all : payloads_of (added ++ a ∷ []) ≡ payloads_of added ++ a.payload ∷ [] = map-append (λ (b : Placed). b.payload) added (a ∷ []) in
     record {
       lawful = subst (AreLawful []) (sym all)
@@ -84,6 +86,7 @@ tables-more tables new added a t h before place flat levels names distinct other
       heads = heads ∙ ap (by_kind a.payload.kind a.payload.heads) t.heads ∙ heads-more (payloads_of added) a.payload h place.first ∙ ap remote_heads (sym all);
       cloned = cloned ∙ ap (by_kind a.payload.kind a.payload.cloned) t.cloned ∙ count-more (payloads_of added) a.payload h place.first ∙ ap cloned_count (sym all);
       version = version ∙ ap version_of (sym (last-of None (payloads_of added) a.payload)) ∙ ap newest_version (sym all);
+      edges = subst (λ e. IsEdgeIndexOf e (flats_of new.flat (master_records (added ++ a ∷ [])))) (sym edges) (index-more tables.edges tables.flat new.flat added a t.edges);
     }
 
 -- ---- whether there is any payload

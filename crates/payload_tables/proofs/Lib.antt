@@ -9,6 +9,7 @@ pub mod Rows
 pub mod Adding
 pub mod Leveling
 pub mod Heading
+pub mod Indexed
 pub mod Following
 pub mod Pushing
 pub mod Stored

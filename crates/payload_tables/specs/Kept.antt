@@ -15,6 +15,7 @@ use Rattle.payload_tables.specs.declared.fault.TableFault.{TableFault}
 use Rattle.payload_tables.specs.declared.fault.TableFault.TheVariants.{Unlawful, Memory}
 use Rattle.flat_segments.specs.Placed.{PlacedSegment, placed_segments}
 use Rattle.flat_segments.specs.Kept.{KeptFlats, IsTableOf, IsSectionOf}
+use Rattle.edge_index.specs.Index.{PlainEdges, IsEdgeIndexOf}
 use Rattle.segment_levels.specs.Kept.{KeptLevels, AreLevelsOf}
 use Rattle.segment_levels.specs.Flats.{flats_of}
 
@@ -39,6 +40,8 @@ pub record PlainTables : Type 0 where
   pub cloned : ℕ
   -- the version of the newest one, and 0 where there is none
   pub version : ℕ
+  -- edges of the master segments, maybe not of the last ones
+  pub edges : PlainEdges
 
 -- the records of a payload's other ids, at their places
 abbrev pub other_records : Placed → List PlacedSegment
@@ -100,6 +103,7 @@ pub record AreTablesOf (tables : PlainTables) (added : List Placed) : Type 0 whe
   pub heads : tables.heads ≡ remote_heads (payloads_of added)
   pub cloned : tables.cloned ≡ cloned_count (payloads_of added)
   pub version : tables.version ≡ newest_version (payloads_of added)
+  pub edges : IsEdgeIndexOf tables.edges (flats_of tables.flat (master_records added))
 
 -- the table has the master records of the payloads, and its levels are theirs
 pub record HaveMasters (table : KeptFlats) (levels : KeptLevels) (added : List Placed) : Type 0 where

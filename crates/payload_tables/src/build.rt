@@ -22,6 +22,7 @@ use crate::masters::extend_checked;
 use crate::others::OthersTable;
 use crate::tables::Tables;
 use batch_codec::BatchRef;
+use edge_index::EdgeIndex;
 use flat_segments::FlatTable;
 use high_segments::Levels;
 use id_groups::Name;
@@ -151,6 +152,7 @@ impl TablesBuild {
             heads: self.heads,
             cloned: self.cloned,
             version: self.version,
+            edges: EdgeIndex::empty(self.alloc),
         })
     }
 }

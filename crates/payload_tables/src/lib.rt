@@ -7,6 +7,7 @@ mod brought;
 mod build;
 mod fault;
 mod heads;
+mod indexing;
 mod masters;
 mod others;
 mod pending;

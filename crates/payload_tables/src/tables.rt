@@ -22,10 +22,12 @@ use crate::base::BaseRef;
 use crate::brought::Brought;
 use crate::fault::TableFault;
 use crate::heads::{Before, check_place};
+use crate::indexing::index_table;
 use crate::masters::{extend_lawful, extend_masters, write_levels};
 use crate::others::OthersTable;
 use crate::piece::copied;
 use batch_codec::BatchRef;
+use edge_index::EdgeIndex;
 use flat_segments::FlatTable;
 use high_segments::Levels;
 use id_groups::Name;
@@ -33,8 +35,8 @@ use name_map::NameMap;
 use std::alloc::{AllocError, Global};
 use std::marker::Model;
 
-/// What is kept of the payloads of a log: the segments of all master ids with their levels, their names, and the other ids of
-/// the newest payload. Contracts see what is kept; of which payloads, `AreTablesOf` says.
+/// What is kept of the payloads of a log: the segments of all master ids with their levels, an index of edges of most of them, their names, and
+/// the other ids of the newest payload. Contracts see what is kept; of which payloads, `AreTablesOf` says.
 #[derive(Drop)]
 pub struct Tables {
     pub(crate) alloc: Global,
@@ -45,6 +47,7 @@ pub struct Tables {
     pub(crate) heads: Vec<Name>,
     pub(crate) cloned: u64,
     pub(crate) version: u8,
+    pub(crate) edges: EdgeIndex,
 }
 
 impl Model for Tables {
@@ -52,7 +55,7 @@ impl Model for Tables {
 
     ghost Value = { PlainTables };
 
-    ghost view = { λ t. record { flat = t.flat; levels = t.levels; names = t.names; others = t.others; heads = t.heads.items; cloned = t.cloned; version = t.version } };
+    ghost view = { λ t. record { flat = t.flat; levels = t.levels; names = t.names; others = t.others; heads = t.heads.items; cloned = t.cloned; version = t.version; edges = t.edges } };
 }
 
 impl Tables {
@@ -69,6 +72,7 @@ impl Tables {
             heads: Vec::new(alloc),
             cloned: 0,
             version: 0,
+            edges: EdgeIndex::empty(alloc),
         }
     }
 
@@ -149,6 +153,16 @@ impl Tables {
         Ok(others)
     }
 
+    /// Takes the master segments that aren't in the index of edges into it, where they are many, for which the payloads that were added stand in
+    /// `bytes`. For want of memory the index stays as it is; all else does.
+    pub fn index(&mut self, bytes: &[u8])
+        requires { (added : List Placed) × AreTablesOf self.old added × AllStand bytes.now added }
+        ensures tables { (added : List Placed) → AreTablesOf self.old added → AllStand bytes.now added → AreTablesOf self.new added }
+        ensures others { self.new ≡ record self.old { edges = self.new.edges } }
+    {
+        index_table(self.alloc, &self.flat, &mut self.edges, bytes);
+    }
+
     /// Appends the records of the segments of levels that come with these master records, which are those of a payload that may come
     /// behind the ones that were added, and answers how many they are. The tables stay as they are.
     pub fn write_levels(
@@ -207,6 +221,7 @@ impl Tables {
         let heads = copied(alloc, &self.heads)?;
         let others = self.others.copy(alloc)?;
         let (flat, levels, names) = self.copy_masters(alloc)?;
+        let edges = self.edges.copy(alloc)?;
         Ok(Tables {
             alloc,
             flat,
@@ -216,6 +231,7 @@ impl Tables {
             heads,
             cloned: self.cloned,
             version: self.version,
+            edges,
         })
     }
 

@@ -16,5 +16,5 @@ pub returns-clause-tables : goal.returns-clause-tables
 returns-clause-tables c = λ added b stand.
     let names = subst (λ (z : PlainBuild). AreNamesOf z.names added) (sym c.self.view_is) b.parts.names_of in
     let map = c.in_ok-names.ensures.map added names stand in
-    subst (λ (z : PlainBuild). AreTablesOf (record { flat = z.flat; levels = z.levels; names = c.in_ok-names.names; others = z.others; heads = z.heads; cloned = z.cloned; version = z.version }) added) (sym c.self.view_is)
-    (tables-of c.args.self c.in_ok-names.names added b map.0 map.1)
+    subst (λ (z : PlainBuild). AreTablesOf (record { flat = z.flat; levels = z.levels; names = c.in_ok-names.names; others = z.others; heads = z.heads; cloned = z.cloned; version = z.version; edges = c.empty.result }) added) (sym c.self.view_is)
+    (tables-of c.args.self c.in_ok-names.names c.empty.result added b map.0 map.1 c.empty.ensures)

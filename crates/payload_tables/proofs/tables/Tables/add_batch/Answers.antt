@@ -55,3 +55,4 @@ returns-clause-added c = λ added t stand.
     (c.keep.ensures.heads ∙ ap (λ l. by_kind p.kind l c.self.inside.heads.items) c.in_ok-brought.ensures.heads ∙ ap (λ (z : PlainTables). by_kind p.kind p.heads z.heads) c.self.view_is)
     (c.keep.ensures.cloned ∙ ap (λ (z : PlainTables). by_kind p.kind p.cloned z.cloned) c.self.view_is)
     c.version-self-inside.ensures
+    (ap (λ (z : PlainTables). z.edges) c.self.view_is)
