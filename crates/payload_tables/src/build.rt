@@ -54,7 +54,6 @@ impl Model for TablesBuild {
 
 /// Adds a payload to all three, where those that were added before stand in `bytes`. What refused it is of no further use.
 fn add_masters(
-    alloc: Global,
     flat: &mut FlatTable,
     levels: &mut Levels,
     names: &mut MapBuild,
@@ -76,7 +75,7 @@ fn add_masters(
         → AreDistinct (known_names (payload_of batch.now) ++ (payload_of batch.now).other_names)
         → ((payload_of batch.now).version ≡ 2 → (payload_of batch.now).levels ≡ levels_with (payloads_of added) (payload_of batch.now)) → ⊥ }
 {
-    extend_checked(alloc, flat, levels, bytes, batch, at)?;
+    extend_checked(flat, levels, bytes, batch, at)?;
     names.add_batch(batch, at)?;
     Ok(())
 }
@@ -123,7 +122,6 @@ impl TablesBuild {
         check_place(self.alloc, batch, before)?;
         let brought = Brought::read(self.alloc, batch, at)?;
         add_masters(
-            self.alloc,
             &mut self.flat,
             &mut self.levels,
             &mut self.names,

@@ -31,7 +31,7 @@ use batch_codec::BatchRef;
 use flat_segments::{FlatFault, FlatTable};
 use high_segments::{Levels, LevelsMark};
 use name_map::NameMap;
-use std::alloc::{AllocError, Global};
+use std::alloc::AllocError;
 
 /// Adds records to the table and brings its levels to those of the table with them. The levels come first, since they are
 /// brought on from the table as it was. Want of memory changes neither.
@@ -87,29 +87,21 @@ pub(crate) fn extend_segments(
 
 /// Whether the payload lists exactly the segments of levels that came since the levels had so much. One of the first version lists
 /// none, and none are asked of it.
-fn has_levels(
-    alloc: Global,
-    levels: &Levels,
-    mark: &LevelsMark,
-    batch: &BatchRef<'_>,
-) -> Result<bool, AllocError>
+fn has_levels(levels: &Levels, mark: &LevelsMark, batch: &BatchRef<'_>) -> bool
     requires { (old : List Segment) × (new : List Segment) × CameSince mark.now.marks levels.now.levels old new }
-    ensures { IfOk result (λ has. (old new : List Segment) → CameSince mark.now.marks levels.now.levels old new
-        → IsTrue has ↔ ((payload_of batch.now).version ≡ 2 → (payload_of batch.now).levels ≡ new_levels old new)) }
+    ensures { (old new : List Segment) → CameSince mark.now.marks levels.now.levels old new
+        → IsTrue result ↔ ((payload_of batch.now).version ≡ 2 → (payload_of batch.now).levels ≡ new_levels old new) }
 {
     batch.is_payload();
     if batch.version() == FIRST_VERSION {
-        return Ok(true);
+        return true;
     }
-    let mut expected = Vec::new(alloc);
-    levels.write_since(mark, &mut expected)?;
     let listed = batch.level_segments();
-    Ok(expected.as_slice() == listed.bytes())
+    levels.are_since(mark, listed.bytes())
 }
 
 /// Refuses a payload that lists other segments of levels than came since the levels had so much.
 pub(crate) fn check_levels(
-    alloc: Global,
     levels: &Levels,
     mark: &LevelsMark,
     batch: &BatchRef<'_>,
@@ -120,7 +112,7 @@ pub(crate) fn check_levels(
     ensures unlawful { result ≡ Err Unlawful → (old new : List Segment) → CameSince mark.now.marks levels.now.levels old new
         → ((payload_of batch.now).version ≡ 2 → (payload_of batch.now).levels ≡ new_levels old new) → ⊥ }
 {
-    if has_levels(alloc, levels, mark, batch)? {
+    if has_levels(levels, mark, batch) {
         return Ok(());
     }
     Err(TableFault::Unlawful)
@@ -186,7 +178,6 @@ fn cut_back(flat: &mut FlatTable, levels: &mut Levels, extent: &Extent)
 /// Adds the master records of a payload to the table and its levels, as `extend_segments` does, where the payload lists the segments
 /// of levels that come with them. A refusal changes neither.
 pub(crate) fn extend_checked(
-    alloc: Global,
     flat: &mut FlatTable,
     levels: &mut Levels,
     bytes: &[u8],
@@ -207,7 +198,7 @@ pub(crate) fn extend_checked(
     batch.is_payload();
     let extent = extent_of(flat, levels);
     extend_segments(flat, levels, bytes, batch, at)?;
-    match check_levels(alloc, levels, &extent.levels, batch) {
+    match check_levels(levels, &extent.levels, batch) {
         Ok(()) => Ok(()),
         Err(fault) => {
             cut_back(flat, levels, &extent);
@@ -219,7 +210,6 @@ pub(crate) fn extend_checked(
 /// Adds a payload to all three, where those that were added before stand in `bytes`. A refusal changes none: what the table
 /// and the levels took is taken back where the payload lists other segments of levels, and where the map takes nothing.
 pub(crate) fn extend_masters(
-    alloc: Global,
     flat: &mut FlatTable,
     levels: &mut Levels,
     names: &mut NameMap,
@@ -244,7 +234,7 @@ pub(crate) fn extend_masters(
     ensures unchanged { OnErr result ((flat.new ≡ flat.old) × (levels.new ≡ levels.old) × (names.new ≡ names.old)) }
 {
     let extent = extent_of(flat, levels);
-    extend_checked(alloc, flat, levels, bytes, batch, at)?;
+    extend_checked(flat, levels, bytes, batch, at)?;
     match names.add_batch(bytes, batch, at) {
         Ok(()) => Ok(()),
         Err(fault) => {

@@ -109,7 +109,6 @@ impl Tables {
         check_place(self.alloc, batch, before)?;
         let brought = Brought::behind(self.alloc, &self.others, bytes, batch, at)?;
         extend_masters(
-            self.alloc,
             &mut self.flat,
             &mut self.levels,
             &mut self.names,
