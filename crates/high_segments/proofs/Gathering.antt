@@ -47,6 +47,17 @@ next-of segments end at lt = go (drop at segments) refl lt
     go [] e lt = absurd (omega (arith, lt))
     go (x ∷ xs) e lt = record { first = x; more = xs; are = e }
 
+-- where a segment ends the next begins
+begins : (first end : ℕ) (xs : List Segment) → Follow first end xs → first ≡ begin_of end xs
+begins first end [] f = f
+begins first end (x ∷ xs) f = sym f.0
+
+pub follow-next : (first end : ℕ) (xs : List Segment) (at : ℕ) → Follow first end xs → (s : Segment) (more : List Segment) → drop at xs ≡ s ∷ more → s.high + 1 ≡ begin_of end more
+follow-next first end [] zero f s more e = absurd cc
+follow-next first end [] (suc at) f s more e = absurd cc
+follow-next first end (x ∷ xs) zero f s more e = begins (s.high + 1) end more (subst (λ (z : List Segment). Follow first end z) e f).2
+follow-next first end (x ∷ xs) (suc at) f s more e = follow-next (x.high + 1) end xs at f.2 s more e
+
 module _ (levels : List PlainGroups) (top : PlainGroups) (segments : List Segment) (from start : ℕ) (h : HasFrom levels top segments from start) (run : PlainLevel) (r : RowTo top segments from run) (lt : run.end < top.end) where
   pub next : NextOf segments top.end r.at
   next = next-of segments top.end r.at (let e = r.end in omega (arith, e, lt))
@@ -93,16 +104,6 @@ module _ (levels : List PlainGroups) (top : PlainGroups) (segments : List Segmen
         parts = ap (λ z. z ++ drop (r.at + 1) segments) now-segments ∙ ap (λ z. (segments_in run ++ next.first ∷ []) ++ z) behind
             ∙ append_assoc (segments_in run) (next.first ∷ []) next.more ∙ ap (λ z. segments_in run ++ z) (sym next.are) ∙ r.parts;
       }
-    where
-      begins : (first end : ℕ) (xs : List Segment) → Follow first end xs → first ≡ begin_of end xs
-      begins first end [] f = f
-      begins first end (x ∷ xs) f = sym f.0
-
-      follow-next : (first end : ℕ) (xs : List Segment) (at : ℕ) → Follow first end xs → (s : Segment) (more : List Segment) → drop at xs ≡ s ∷ more → s.high + 1 ≡ begin_of end more
-      follow-next first end [] zero f s more e = absurd cc
-      follow-next first end [] (suc at) f s more e = absurd cc
-      follow-next first end (x ∷ xs) zero f s more e = begins (s.high + 1) end more (subst (λ (z : List Segment). Follow first end z) e f).2
-      follow-next first end (x ∷ xs) (suc at) f s more e = follow-next (x.high + 1) end xs at f.2 s more e
 
 pub row-more : (levels : List PlainGroups) (top : PlainGroups) (start : ℕ) (run now : PlainLevel) (s t : Segment) → RowSoFar levels top start run → run.end < top.end → held_from None levels run.end ≡ Some s
     → t ≡ record s { level = top.level } → AllByRecursion HasNumber t.parents → now ≡ with_entry run t.low (parents_bytes t) (t.high + 1) run.grouped → RowSoFar levels top start now

@@ -95,7 +95,7 @@ range-next a (suc n) =
     let same : a + 1 + n ≡ a + suc n = omega arith in
     ap (λ z. a ∷ z) (range-next (a + 1) n ∙ ap (λ k. range_with_len (a + 1) n ++ k ∷ []) same)
 
-up-to-next : (old new : List Segment) (n : ℕ) → new_up_to old new (suc n) ≡ new_up_to old new n ++ drop (length (level_segments old (suc n))) (level_segments new (suc n))
+pub up-to-next : (old new : List Segment) (n : ℕ) → new_up_to old new (suc n) ≡ new_up_to old new n ++ drop (length (level_segments old (suc n))) (level_segments new (suc n))
 up-to-next old new n =
     let f = λ (level : ℕ). drop (length (level_segments old level)) (level_segments new level) in
     let same : 1 + n ≡ suc n = omega arith in
