@@ -17,7 +17,7 @@ use Rattle.segment_codec.specs.Table.{parents_at}
 use Rattle.change_rules.specs.Rebase.{has_parents}
 use Rattle.payload_tables.specs.Bases.{AreSegmentsOf}
 use Rattle.payload_tables.proofs.Lists.{get-below, parents-known, same-self}
-use Rattle.flush_rebuild.proofs.Renumber.{map-in-back}
+use Rattle.change_parts.proofs.Renumber.{map-in-back}
 
 module _ (v : World Name) (whole : IsWorld v) (small : length v.master ≤ 16777216) where
   abbrev id : Name → ℕ

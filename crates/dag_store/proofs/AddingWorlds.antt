@@ -23,10 +23,10 @@ use Rattle.payload_tables.specs.Bases.{ArePending, held_row}
 use Rattle.payload_tables.proofs.Lists.{all-append, names-length, parents-known}
 use Rattle.payload_tables.proofs.Naming.{whole-names}
 use Rattle.payload_tables.proofs.Rows.{count-rows}
-use Rattle.flush_rebuild.specs.Asked.{others_count, HaveParents, MayStore}
-use Rattle.flush_rebuild.proofs.Numbered.{AllRows, Behind}
-use Rattle.flush_rebuild.proofs.Invented.{FitBehind, some-world}
-use Rattle.flush_rebuild.proofs.Asking.{stored-names, lawful-small}
+use Rattle.change_parts.specs.Asked.{others_count, HaveParents, MayStore}
+use Rattle.change_parts.proofs.NumberedRows.{AllRows, Behind}
+use Rattle.change_parts.proofs.Invented.{FitBehind, some-world}
+use Rattle.change_parts.proofs.StoredNames.{stored-names, lawful-small}
 use Rattle.store_plans.specs.Sessions.{PlainSession, IsSessionOf, base_added}
 use Rattle.store_plans.specs.Looking.{IsViewId, IsSeen}
 use Rattle.dag_store.specs.Adding.{MayBeParents, Appends}

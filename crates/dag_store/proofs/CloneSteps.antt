@@ -29,9 +29,9 @@ use Rattle.change_rules.specs.Tables.{cloned_count, newest, other_names_in}
 use Rattle.change_rules.proofs.Cloned.{clone-held}
 use Rattle.payload_tables.specs.Kept.{PlainTables}
 use Rattle.payload_tables.proofs.Following.{none-added}
-use Rattle.flush_rebuild.specs.declared.plan.Change.{Change}
-use Rattle.flush_rebuild.specs.Cloning.{told_count, told_refusal, IsToldPlan, clone_refusal, IsToldBy}
-use Rattle.flush_rebuild.proofs.ToldPlans.{count-is, refusal-is, plan-is, clone-fits}
+use Rattle.change_parts.specs.declared.change.Change.{Change}
+use Rattle.clone_plan.specs.Cloning.{told_count, told_refusal, IsToldPlan, clone_refusal, IsToldBy}
+use Rattle.clone_plan.proofs.ToldPlans.{count-is, refusal-is, plan-is, clone-fits}
 use Rattle.step_rules.specs.declared.Refusal.{Refusal}
 use Rattle.step_rules.specs.State.{State, Stored, with_stored, on_newest}
 use Rattle.step_rules.specs.Verb.{Clone}

@@ -7,7 +7,7 @@ use Rattle.disk_trait.proofs.Telling.{goes-both, goes-map}
 use Rattle.gated_log.specs.Held.{Held}
 use Rattle.gated_log.specs.Holding.{HasPayloads, KeepsOldOrNew, HasNew}
 use Rattle.lazy_names.specs.Cache.{PlainCache}
-use Rattle.flush_rebuild.specs.declared.plan.Change.{Change}
+use Rattle.change_parts.specs.declared.change.Change.{Change}
 use Rattle.step_rules.specs.declared.Refusal.{Refusal}
 use Rattle.store_plans.specs.declared.changing.Next.{Next}
 use Rattle.dag_store.specs.declared.replies.Changed.{Changed}

@@ -18,7 +18,7 @@ use Rattle.payload_tables.specs.Bases.{ArePending}
 use Rattle.change_rules.specs.Tables.{newest, other_names_in}
 use Rattle.std.proofs.lemmas.List.{length-drop}
 use Rattle.payload_tables.proofs.Lists.{all-append, names-length}
-use Rattle.flush_rebuild.specs.declared.plan.Change.{Change}
+use Rattle.change_parts.specs.declared.change.Change.{Change}
 use Rattle.step_rules.specs.State.{Stored, session, world_at, base_of, with_stored, on_newest}
 use Rattle.step_rules.proofs.States.{alone, with_stored-state, at-newest}
 use Rattle.step_rules.proofs.Sessions.{newest-now, world_at-stored}

@@ -4,8 +4,8 @@ use Rattle.commit_graph.specs.World.{names_of}
 use Rattle.name_map.specs.Added.{Placed, payloads_of}
 use Rattle.change_rules.specs.Holding.{HoldPayloads}
 use Rattle.change_rules.specs.Tables.{cloned_count}
-use Rattle.flush_rebuild.specs.Pulling.{told_rows}
-use Rattle.flush_rebuild.proofs.HonestTold.{honest-told}
+use Rattle.pull_plan.specs.Pulling.{told_rows}
+use Rattle.pull_plan.proofs.HonestTold.{honest-told}
 use Rattle.std.proofs.Common.{List}
 use Rattle.step_rules.specs.State.{Stored}
 use Rattle.store_plans.specs.PullPlans.{mismatch_of}

@@ -31,8 +31,8 @@ use Rattle.change_rules.specs.Rebase.{first_conflict}
 use Rattle.change_rules.specs.Tables.{cloned_count}
 use Rattle.change_rules.proofs.Held.{change-held}
 use Rattle.payload_tables.specs.Kept.{PlainTables}
-use Rattle.flush_rebuild.specs.declared.plan.Change.{Change}
-use Rattle.flush_rebuild.specs.Plans.{IsChangeOf}
+use Rattle.change_parts.specs.declared.change.Change.{Change}
+use Rattle.change_parts.specs.Plans.{IsChangeOf}
 use Rattle.step_rules.specs.declared.Refusal.{Refusal}
 use Rattle.step_rules.specs.declared.Refusal.TheVariants as why
 use Rattle.step_rules.specs.State.{State, Stored, IsStore, with_stored, on_newest}

@@ -22,10 +22,10 @@ use Rattle.payload_tables.specs.Pending.{HeldRow, PlainPending, HoldsRows, row_n
 use Rattle.payload_tables.specs.Bases.{IsBaseOf, held_row}
 use Rattle.payload_tables.proofs.Lists.{names-length}
 use Rattle.payload_tables.proofs.Naming.{whole-names}
-use Rattle.flush_rebuild.specs.Asked.{others_count, HaveParents, MayStore}
-use Rattle.flush_rebuild.proofs.Asking.{stored-names}
-use Rattle.flush_rebuild.proofs.Numbered.{AllRows, Behind}
-use Rattle.flush_rebuild.proofs.Invented.{FitBehind, some-world}
+use Rattle.change_parts.specs.Asked.{others_count, HaveParents, MayStore}
+use Rattle.change_parts.proofs.StoredNames.{stored-names}
+use Rattle.change_parts.proofs.NumberedRows.{AllRows, Behind}
+use Rattle.change_parts.proofs.Invented.{FitBehind, some-world}
 use Rattle.store_plans.specs.Sessions.{PlainSession, IsSessionOf, base_added}
 use Rattle.store_plans.specs.Looking.{Sees, IsSeen}
 use Rattle.store_plans.proofs.LawfulParts.{lawful-front}

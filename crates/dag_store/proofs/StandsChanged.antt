@@ -10,7 +10,7 @@ use Rattle.change_rules.specs.Change.{text_of}
 use Rattle.change_rules.specs.Holding.{HoldPayloads}
 use Rattle.payload_tables.specs.Kept.{PlainTables}
 use Rattle.payload_tables.specs.Bases.{ArePending}
-use Rattle.flush_rebuild.specs.declared.plan.Change.{Change}
+use Rattle.change_parts.specs.declared.change.Change.{Change}
 use Rattle.step_rules.specs.State.{Stored, on_newest, with_stored}
 use Rattle.step_rules.proofs.States.{alone, at-newest}
 use Rattle.store_plans.specs.Sessions.{PlainSession}

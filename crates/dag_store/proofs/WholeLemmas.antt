@@ -19,7 +19,7 @@ use Rattle.payload_tables.specs.Kept.{PlainTables, PlainOthers, AreTablesOf}
 use Rattle.payload_tables.specs.Pending.{PlainPending}
 use Rattle.payload_tables.specs.Bases.{IsBaseOf, flat_segments_in}
 use Rattle.payload_tables.proofs.Basing.{table-end}
-use Rattle.flush_rebuild.specs.Asked.{others_count}
+use Rattle.change_parts.specs.Asked.{others_count}
 use Rattle.store_plans.specs.Looking.{Sees}
 use Rattle.dag_store.specs.Whole.{IsWhole, IsWholeOf, AreSegments}
 use Rattle.dag_store.specs.declared.whole.Whole.{Whole}

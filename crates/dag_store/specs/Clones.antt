@@ -7,7 +7,7 @@ use Rattle.remote_rules.specs.Mirror.{Mirror}
 use Rattle.remote_rules.specs.Known.{master_world}
 use Rattle.change_rules.specs.declared.Limits.{Limits}
 use Rattle.change_rules.specs.Change.{text_of, clone_change}
-use Rattle.flush_rebuild.specs.Cloning.{told_count, told_payload}
+use Rattle.clone_plan.specs.Cloning.{told_count, told_payload}
 use Rattle.step_rules.specs.State.{State, Stored, worlds}
 use Rattle.step_rules.specs.Verb.{Clone}
 use Rattle.step_rules.specs.Reply.{Cloned, Refused as IsRefusal}

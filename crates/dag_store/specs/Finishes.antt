@@ -4,7 +4,7 @@ use Rattle.gated_log.specs.Held.{Held, log_bytes}
 use Rattle.gated_log.specs.Log.{StandsFrom}
 use Rattle.lazy_names.specs.Cache.{PlainCache}
 use Rattle.change_rules.specs.declared.Limits.{Limits}
-use Rattle.flush_rebuild.specs.declared.plan.Change.{Change}
+use Rattle.change_parts.specs.declared.change.Change.{Change}
 use Rattle.payload_tables.specs.Kept.{PlainTables}
 use Rattle.step_rules.specs.declared.Refusal.{Refusal}
 use Rattle.store_plans.specs.declared.changing.Next.{Next}

@@ -9,7 +9,7 @@ use Rattle.remote_trait.specs.Calls.{AreMaster}
 use Rattle.mirror_set.specs.Fresh.{PlainFresh}
 use Rattle.change_rules.specs.declared.Limits.{Limits}
 use Rattle.change_rules.specs.Tables.{cloned_count}
-use Rattle.flush_rebuild.specs.Plans.{IsChangeOf}
+use Rattle.change_parts.specs.Plans.{IsChangeOf}
 use Rattle.step_rules.specs.State.{State, Stored}
 use Rattle.step_rules.specs.Verb.{Pull}
 use Rattle.step_rules.specs.Reply.{Pulled, Refused as IsRefusal}

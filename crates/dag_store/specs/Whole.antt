@@ -12,7 +12,7 @@ use Rattle.change_rules.specs.Tables.{StandFor}
 use Rattle.high_segments.specs.Views.{flats_in}
 use Rattle.payload_tables.specs.Kept.{PlainTables, AreTablesOf}
 use Rattle.payload_tables.specs.Pending.{PlainPending, HoldsRows}
-use Rattle.flush_rebuild.specs.Asked.{others_count}
+use Rattle.change_parts.specs.Asked.{others_count}
 use Rattle.dag_store.specs.declared.whole.Whole.{Whole}
 use Rattle.dag_store.specs.declared.whole.Segments.{Segments}
 

@@ -18,10 +18,11 @@ ghost use Rattle.dag_store.specs.Steps.{ChangesOnly, KeepsAll, Leads, add_reply,
 
 use crate::replies::Added;
 use crate::store::Store;
-use flush_rebuild::{Limit, PendingRows, Tables};
+use change_rules::Limit;
 use id_groups::{Id, Name};
 use lazy_names::LazyNames;
 use mirror_set::Mirrors;
+use payload_tables::{PendingRows, Tables};
 use remote_trait::Remote;
 use std::alloc::Global;
 use step_rules::Refusal;

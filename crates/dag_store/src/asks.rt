@@ -10,10 +10,11 @@ ghost use Rattle.store_plans.specs.Looking.{IsSoundCache};
 ghost use Rattle.store_plans.specs.Changes.{AreOver, IsOn, IsPrepared, HasRoom};
 ghost use Rattle.dag_store.specs.Asks.{verb_of, HasNames, KeepsCache, PreparesAsk};
 
-use flush_rebuild::{Limits, Tables};
+use change_rules::Limits;
 use gated_log::Log;
 use id_groups::Name;
 use lazy_names::LazyNames;
+use payload_tables::Tables;
 use remote_trait::Remote;
 use std::alloc::Global;
 use step_rules::Refusal;

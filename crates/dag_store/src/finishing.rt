@@ -12,10 +12,12 @@ ghost use Rattle.dag_store.specs.Finishes.{FinishesAs, Finishes, IsBehind, IsToF
 
 use crate::replies::{Changed, Counts};
 use crate::store::Store;
+use change_parts::Change;
+use change_rules::Limits;
 use disk_trait::Disk;
-use flush_rebuild::{Change, Limits, Tables};
 use gated_log::{Committed, Log};
 use lazy_names::LazyNames;
+use payload_tables::Tables;
 use std::alloc::Global;
 use step_rules::Refusal;
 use store_plans::{Next, Session};

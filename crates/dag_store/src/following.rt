@@ -18,9 +18,10 @@ ghost use Rattle.dag_store.specs.Stands.{StandsBeside};
 use crate::elsewhere::append;
 use crate::store::Store;
 use batch_codec::BatchRef;
-use flush_rebuild::{Limits, TableFault, Tables};
+use change_rules::Limits;
 use gated_log::{Log, ReserveFault};
 use lazy_names::LazyNames;
+use payload_tables::{TableFault, Tables};
 use std::alloc::Global;
 use store_plans::Session;
 

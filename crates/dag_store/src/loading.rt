@@ -12,9 +12,9 @@ ghost use Rattle.dag_store.specs.Kept.{session_at};
 ghost use Rattle.store_plans.specs.Sessions.{IsOnNewest};
 
 use crate::replies::LoadFault;
-use flush_rebuild::Tables;
 use gated_log::{LoadLog, Log};
 use log_tables::{TablesFault, read_tables};
+use payload_tables::Tables;
 use std::alloc::{AllocError, AllocFailed, Global};
 use store_plans::Session;
 

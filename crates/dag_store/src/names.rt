@@ -7,9 +7,9 @@ ghost use Rattle.payload_tables.specs.Pending.{HeldRow, HoldsRows};
 ghost use Rattle.dag_store.specs.Names.{fetched_name, lent_name, name_in, named_front, names_left, pending_name};
 ghost use Rattle.span_set.specs.Down.{ids_left};
 
-use flush_rebuild::{BaseRef, PendingRows};
 use id_groups::{FIRST_OTHER, Id, NameRef};
 use lazy_names::Fetched;
+use payload_tables::{BaseRef, PendingRows};
 use span_set::IdsDown;
 use std::marker::Model;
 

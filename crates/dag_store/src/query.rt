@@ -22,10 +22,10 @@ ghost use Rattle.dag_store.specs.Steps.{AreIdsOf, CountStep, KeepsAll, QueryStep
 
 use crate::names::Names;
 use crate::store::Store;
-use flush_rebuild::Tables;
 use id_groups::Id;
 use lazy_names::{Fetched, LazyNames};
 use mirror_set::Mirrors;
+use payload_tables::Tables;
 use remote_trait::Remote;
 use set_query::{Answer, Expr, eval};
 use span_set::IdSet;

@@ -27,11 +27,12 @@ ghost use Rattle.dag_store.specs.Kept.{session_at};
 
 use crate::loading::{boxed_tables, new_sessions};
 use crate::replies::{Counts, LoadFault};
+use change_rules::Limits;
 use disk_trait::Disk;
-use flush_rebuild::{Limits, PendingRows, Tables};
 use gated_log::Log;
 use high_segments::LevelCounts;
 use lazy_names::LazyNames;
+use payload_tables::{PendingRows, Tables};
 use std::alloc::Global;
 use std::marker::Model;
 use store_plans::Session;

@@ -15,10 +15,10 @@ ghost use Rattle.payload_tables.specs.Pending.{PlainPending};
 ghost use Rattle.dag_store.specs.Whole.{IsWhole, IsWholeOf, AreSegments, master_flats};
 
 use crate::store::Store;
-use flush_rebuild::{PendingRows, Tables};
 use gated_log::Log;
 use high_segments::View;
 use id_groups::{Id, NameRef};
+use payload_tables::{PendingRows, Tables};
 use segment_codec::{SegmentRef, SegmentTable, Steps};
 use std::alloc::Global;
 use store_plans::lacks_names;

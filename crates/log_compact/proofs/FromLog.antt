@@ -32,7 +32,7 @@ use Rattle.payload_tables.specs.Kept.{PlainTables, AreTablesOf}
 use Rattle.payload_tables.proofs.Adding.{masters-fit}
 use Rattle.payload_tables.proofs.Basing.{OthersFacts, base-others, table-end}
 use Rattle.payload_tables.proofs.Lists.{names-length}
-use Rattle.flush_rebuild.proofs.Invented.{some-world}
+use Rattle.change_parts.proofs.Invented.{some-world}
 use Rattle.compact_rules.specs.Whole.{whole_change}
 use Rattle.log_compact.specs.declared.answer.Compacted.{Compacted}
 use Rattle.log_compact.specs.declared.answer.Compacted.TheVariants.{FromBad, Memory}

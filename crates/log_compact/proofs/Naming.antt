@@ -11,7 +11,7 @@ use Rattle.name_map.specs.Map.{IsNameOf}
 use Rattle.change_rules.proofs.Cloned.{Rises}
 use Rattle.payload_tables.proofs.Naming.{name-in-bytes}
 use Rattle.payload_tables.proofs.Rows.{get-below}
-use Rattle.flush_rebuild.proofs.Telling.{behind-more}
+use Rattle.change_parts.proofs.Gathered.{behind-more}
 use Rattle.log_compact.specs.Sections.{known_below, IsKnownOf, AscendWithin}
 
 -- ---- what is known of one id

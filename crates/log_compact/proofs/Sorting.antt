@@ -8,7 +8,7 @@ use Rattle.segment_codec.specs.Record.{Segment}
 use Rattle.segment_codec.specs.Table.{Follow}
 use Rattle.batch_codec.specs.Payload.{Payload}
 use Rattle.batch_codec.specs.Building.{Building, IsBuilt}
-use Rattle.flush_rebuild.proofs.Telling.{taken-more}
+use Rattle.change_parts.proofs.Gathered.{taken-more}
 use Rattle.log_compact.specs.Sections.{masters_in, others_in}
 
 -- a number below another is so by test, and one above isn't

@@ -10,7 +10,9 @@ use Rattle.payload_tables.specs.Kept.{PlainTables, AreTablesOf}
 use Rattle.payload_tables.specs.Pending.{HeldRow, PlainPending, HoldsRows, FindsRow, row_names}
 use Rattle.payload_tables.specs.Bases.{IsBaseOf}
 use Rattle.payload_tables.proofs.Lists.{all-append}
-use Rattle.flush_rebuild.specs.Asked.{IsFoundIn, MayStore, HaveParents, MayPlan, MayRebaseOn}
+use Rattle.change_parts.specs.Asked.{IsFoundIn, MayStore, HaveParents}
+use Rattle.flush_plan.specs.Flushing.{MayPlan}
+use Rattle.rebase_pending.specs.Rebases.{MayRebaseOn}
 
 pub none-found : (names : List Name) (found : List (Option ℕ)) → found ≡ replicate (length names) None → AllZip (IsFoundIn []) names found
 none-found names found e = subst (AllZip (IsFoundIn []) names) (sym e) (none names)

@@ -5,10 +5,14 @@ ghost use Rattle.std.specs.List.{AllByRecursion};
 ghost use Rattle.change_rules.specs.Standard.{AreLimits};
 ghost use Rattle.payload_tables.specs.Kept.{AreTablesOf};
 ghost use Rattle.payload_tables.specs.Pending.{MayPushRow};
-ghost use Rattle.flush_rebuild.specs.Asked.{MayStore};
+ghost use Rattle.change_parts.specs.Asked.{MayStore};
 
-use flush_rebuild::{Change, Limit, Limits, PendingRows, PlanFault, Tables, plan_change, rebase};
+use change_parts::{Change, PlanFault};
+use change_rules::{Limit, Limits};
+use flush_plan::plan_change;
 use id_groups::{Id, Name};
+use payload_tables::{PendingRows, Tables};
+use rebase_pending::rebase;
 use std::alloc::{AllocError, Global};
 use std::test::Fail;
 

@@ -28,8 +28,8 @@ use Rattle.span_set.specs.Members.{IsMember}
 use Rattle.payload_tables.specs.Kept.{PlainTables, AreTablesOf}
 use Rattle.payload_tables.specs.Pending.{PlainPending, HoldsRows}
 use Rattle.payload_tables.proofs.Basing.{table-end}
-use Rattle.flush_rebuild.proofs.Invented.{Stands, some-world}
-use Rattle.flush_rebuild.proofs.Stepping.{tables-count, tables-few}
+use Rattle.change_parts.proofs.Invented.{Stands, some-world}
+use Rattle.change_parts.proofs.TableFacts.{tables-count, tables-few}
 use Rattle.remote_answers.specs.Paths.{IsReachedBy}
 use Rattle.remote_answers.specs.declared.reached.Reached.{Reached}
 use Rattle.remote_store.specs.Fit.{AreNoRemote, IsUnfit}

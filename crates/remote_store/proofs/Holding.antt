@@ -22,7 +22,7 @@ use Rattle.change_rules.specs.Change.{text_of}
 use Rattle.change_rules.specs.Holding.{HoldAs, AreSpelled}
 use Rattle.change_rules.specs.Lazy.{is_lazy, has_lazy}
 use Rattle.change_rules.specs.Tables.{StandFor, known_in}
-use Rattle.flush_rebuild.proofs.Fresh.{fresh-number}
+use Rattle.change_parts.proofs.Fresh.{fresh-number}
 use Rattle.remote_store.specs.Told.{are_apart, are_no_later, begins_with, heads_fit, levels_fit, goes_on, may_follow, are_lawful, told_by, told_in, master_rows, master_told}
 use Rattle.remote_answers.proofs.Marking.{range-in}
 use Rattle.remote_store.proofs.Telling.{payloads-again, rows-are}

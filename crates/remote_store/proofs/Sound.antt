@@ -25,7 +25,7 @@ use Rattle.batch_codec.proofs.Payloads.{payload_takes}
 use Rattle.change_rules.specs.Lawful.{MayFollow, AreLawful, levels_with}
 use Rattle.change_rules.specs.Tables.{known_in}
 use Rattle.payload_tables.proofs.Lists.{same-exact}
-use Rattle.flush_rebuild.proofs.Invented.{some-world}
+use Rattle.change_parts.proofs.Invented.{some-world}
 use Rattle.remote_rules.specs.Honest.{IsSoundMirror, IsHonest, clone_data_of}
 use Rattle.remote_rules.specs.Known.{master_world}
 use Rattle.remote_trait.specs.Calls.{AreMaster}

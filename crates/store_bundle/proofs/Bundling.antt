@@ -16,7 +16,7 @@ use Rattle.remote_rules.specs.Known.{master_world}
 use Rattle.change_rules.proofs.Changes.{parents-known, rows-front}
 use Rattle.payload_tables.specs.Kept.{PlainTables}
 use Rattle.payload_tables.specs.Pending.{PlainPending}
-use Rattle.flush_rebuild.proofs.Invented.{count-small, in-turn}
+use Rattle.change_parts.proofs.Invented.{count-small, in-turn}
 use Rattle.bundle_codec.specs.Bundle.{Contents, IsBundle, IsBundled, bundle_of, contents_of}
 use Rattle.dag_store.specs.Whole.{IsWholeOf, master_flats}
 

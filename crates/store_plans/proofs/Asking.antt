@@ -49,7 +49,7 @@ use Rattle.payload_tables.proofs.Joined.{front-parents, row-parents}
 use Rattle.payload_tables.proofs.Standing.{lawful-follow}
 use Rattle.payload_tables.proofs.Lists.{count-last, get-below, same-exact, same-self}
 use Rattle.payload_tables.proofs.Basing.{base-others}
-use Rattle.flush_rebuild.specs.Asked.{IsStored}
+use Rattle.change_parts.specs.Asked.{IsStored}
 use Rattle.lazy_names.specs.Cache.{PlainCache, Keeps}
 use Rattle.lazy_names.specs.Standing.{HasName, StandForRows, AreHeads}
 use Rattle.lazy_names.specs.Finding.{Finds, IsAsked, IsWay, IsMadeOf, IsRight, IsUnknown, found_entries}

@@ -13,10 +13,10 @@ use Rattle.change_rules.specs.declared.Limits.{Limits}
 use Rattle.change_rules.specs.declared.Limit.{Limit}
 use Rattle.change_rules.specs.declared.Limit.TheVariants as limit
 use Rattle.change_rules.specs.Change.{text_of, flush_change}
-use Rattle.flush_rebuild.specs.declared.fault.PlanFault.{PlanFault}
-use Rattle.flush_rebuild.specs.declared.fault.PlanFault.TheVariants as faults
-use Rattle.flush_rebuild.specs.Plans.{IsChangeOf, over, first_fault, length_with, flush_payload}
-use Rattle.flush_rebuild.proofs.Refusing.{written, has-bytes}
+use Rattle.change_parts.specs.declared.fault.PlanFault.{PlanFault}
+use Rattle.change_parts.specs.declared.fault.PlanFault.TheVariants as faults
+use Rattle.change_parts.specs.Plans.{IsChangeOf, over, first_fault, length_with, flush_payload}
+use Rattle.change_parts.proofs.Refusals.{written, has-bytes}
 use Rattle.step_rules.specs.declared.Refusal.{Refusal}
 use Rattle.step_rules.specs.declared.Refusal.TheVariants as why
 use Rattle.step_rules.specs.State.{Stored}

@@ -10,7 +10,7 @@ use Rattle.batch_codec.specs.Payload.{Payload}
 use Rattle.commit_graph.specs.World.{World}
 use Rattle.payload_tables.specs.Pending.{PlainPending}
 use Rattle.payload_tables.specs.Bases.{ArePending}
-use Rattle.flush_rebuild.specs.declared.plan.Change.{Change}
+use Rattle.change_parts.specs.declared.change.Change.{Change}
 use Rattle.step_rules.specs.declared.Refusal.{Refusal}
 use Rattle.step_rules.specs.declared.Refusal.TheVariants as why
 use Rattle.step_rules.specs.State.{Stored, pending_of}

@@ -15,8 +15,8 @@ use Rattle.payload_tables.specs.Kept.{PlainTables, AreTablesOf}
 use Rattle.payload_tables.proofs.Lists.{names-length}
 use Rattle.payload_tables.proofs.Basing.{table-end}
 use Rattle.payload_tables.proofs.Following.{none-added}
-use Rattle.flush_rebuild.specs.declared.plan.Change.{Change}
-use Rattle.flush_rebuild.specs.Cloning.{told_refusal, IsToldPlan}
+use Rattle.change_parts.specs.declared.change.Change.{Change}
+use Rattle.clone_plan.specs.Cloning.{told_refusal, IsToldPlan}
 use Rattle.step_rules.specs.declared.Refusal.{Refusal}
 use Rattle.step_rules.specs.State.{Stored}
 use Rattle.step_rules.specs.Verb.{Clone}

@@ -25,11 +25,11 @@ use Rattle.change_rules.specs.declared.Limit.TheVariants.{Heads, Master, Log}
 use Rattle.change_rules.specs.Standard.{AreLimits, most_heads}
 use Rattle.change_rules.specs.Change.{clone_change, text_of}
 use Rattle.change_rules.proofs.Relation.{clones-are}
-use Rattle.flush_rebuild.specs.declared.fault.PlanFault.{PlanFault}
-use Rattle.flush_rebuild.specs.declared.fault.PlanFault.TheVariants as faults
-use Rattle.flush_rebuild.specs.Plans.{over, first_fault, length_with}
-use Rattle.flush_rebuild.specs.Cloning.{clone_payload, clone_refusal, IsToldBy}
-use Rattle.flush_rebuild.proofs.Refusing.{written, has-bytes}
+use Rattle.change_parts.specs.declared.fault.PlanFault.{PlanFault}
+use Rattle.change_parts.specs.declared.fault.PlanFault.TheVariants as faults
+use Rattle.change_parts.specs.Plans.{over, first_fault, length_with}
+use Rattle.clone_plan.specs.Cloning.{clone_payload, clone_refusal, IsToldBy}
+use Rattle.change_parts.proofs.Refusals.{written, has-bytes}
 use Rattle.step_rules.specs.declared.Refusal.{Refusal}
 use Rattle.step_rules.specs.declared.Refusal.TheVariants as why
 use Rattle.step_rules.specs.State.{Stored, pending_of}

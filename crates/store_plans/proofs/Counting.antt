@@ -20,7 +20,7 @@ use Rattle.name_map.proofs.Orders.{known-within}
 use Rattle.change_rules.specs.Lazy.{is_lazy, has_lazy}
 use Rattle.change_rules.specs.Tables.{StandFor, known_in}
 use Rattle.payload_tables.proofs.Lists.{same-self, same-exact}
-use Rattle.flush_rebuild.proofs.Renumber.{in-map, map-in-back}
+use Rattle.change_parts.proofs.Renumber.{in-map, map-in-back}
 use Rattle.store_plans.proofs.StoredNames.{known-all, in-range}
 
 -- ---- known ids ascend, so as many as there is room for are all

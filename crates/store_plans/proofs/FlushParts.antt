@@ -15,13 +15,16 @@ use Rattle.name_map.specs.Added.{Placed, payloads_of, AllStand, FollowInLog as F
 use Rattle.change_rules.specs.Change.{text_of}
 use Rattle.payload_tables.specs.declared.base.BaseRef.{BaseRef}
 use Rattle.payload_tables.specs.Kept.{PlainTables, AreTablesOf}
-use Rattle.flush_rebuild.specs.declared.plan.Change.{Change}
+use Rattle.change_parts.specs.declared.change.Change.{Change}
 use Rattle.payload_tables.specs.Pending.{PlainPending, HoldsRows, row_names}
 use Rattle.payload_tables.specs.Bases.{IsBaseOf, ArePending}
 use Rattle.change_rules.specs.Tables.{StandFor}
 use Rattle.payload_tables.proofs.Basing.{count-front}
-use Rattle.flush_rebuild.specs.Asked.{HaveParents, MayRebaseOn}
-use Rattle.flush_rebuild.specs.Plans.{MayComeNext, MayRebase, MayFlush, stored_id}
+use Rattle.change_parts.specs.Asked.{HaveParents}
+use Rattle.rebase_pending.specs.Rebases.{MayRebaseOn}
+use Rattle.change_parts.specs.Plans.{MayComeNext, stored_id}
+use Rattle.rebase_pending.specs.Rebases.{MayRebase}
+use Rattle.flush_plan.specs.Flushing.{MayFlush}
 use Rattle.change_rules.specs.Rebase.{left_of}
 use Rattle.gated_log.specs.Log.{log_length}
 use Rattle.step_rules.specs.State.{Stored, session, base_of, pending_of}

@@ -5,7 +5,7 @@ use Rattle.batch_codec.specs.Payload.{Payload}
 use Rattle.batch_codec.specs.Grammar.{count_after}
 use Rattle.name_map.specs.Added.{Placed, payloads_of}
 use Rattle.payload_tables.specs.Kept.{AreOthersIn, last_added}
-use Rattle.flush_rebuild.specs.Asked.{MayStore}
+use Rattle.change_parts.specs.Asked.{MayStore}
 use Rattle.store_plans.specs.Sessions.{PlainSession, IsSessionOf, base_added}
 
 -- a session on all payloads

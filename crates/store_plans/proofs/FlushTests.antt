@@ -16,10 +16,11 @@ use Rattle.remote_rules.specs.Mirror.{Mirror}
 use Rattle.lazy_names.specs.Cache.{PlainCache}
 use Rattle.payload_tables.specs.Pending.{PlainPending}
 use Rattle.payload_tables.specs.Bases.{ArePending}
-use Rattle.flush_rebuild.specs.declared.fault.PlanFault.{PlanFault}
-use Rattle.flush_rebuild.specs.declared.fault.PlanFault.TheVariants as faults
-use Rattle.flush_rebuild.specs.declared.plan.Change.{Change}
-use Rattle.flush_rebuild.specs.Plans.{IsPlanOf, over, first_fault, unknown_fault, first_unknown, flush_refusal, size_refusal, length_with, stored_id}
+use Rattle.change_parts.specs.declared.fault.PlanFault.{PlanFault}
+use Rattle.change_parts.specs.declared.fault.PlanFault.TheVariants as faults
+use Rattle.change_parts.specs.declared.change.Change.{Change}
+use Rattle.change_parts.specs.Plans.{IsPlanOf, over, first_fault, size_refusal, length_with, stored_id}
+use Rattle.flush_plan.specs.Flushing.{unknown_fault, first_unknown, flush_refusal}
 use Rattle.step_rules.specs.declared.Refusal.{Refusal}
 use Rattle.step_rules.specs.declared.Refusal.TheVariants as why
 use Rattle.step_rules.specs.State.{Stored, pending_of}

@@ -20,10 +20,10 @@ use Rattle.payload_tables.specs.Bases.{IsBaseOf, stored_in}
 use Rattle.payload_tables.specs.Pending.{HeldRow, PlainPending, HoldsRows, FindsRow, row_names}
 use Rattle.payload_tables.proofs.Lists.{names-length}
 use Rattle.payload_tables.proofs.Naming.{get-in, name-of-row}
-use Rattle.flush_rebuild.specs.Asked.{IsBaseId, IsFoundIn, others_count}
-use Rattle.flush_rebuild.specs.Plans.{stored_id}
-use Rattle.flush_rebuild.proofs.Moved.{stored-bound}
-use Rattle.flush_rebuild.proofs.Invented.{some-world}
+use Rattle.change_parts.specs.Asked.{IsBaseId, IsFoundIn, others_count}
+use Rattle.change_parts.specs.Plans.{stored_id}
+use Rattle.rebase_pending.proofs.Moved.{stored-bound}
+use Rattle.change_parts.proofs.Invented.{some-world}
 use Rattle.step_rules.specs.declared.Refusal.{Refusal}
 use Rattle.step_rules.specs.declared.Refusal.TheVariants as why
 use Rattle.step_rules.specs.Tests.{named, refuse_if, unknown}

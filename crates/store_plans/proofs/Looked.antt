@@ -22,8 +22,8 @@ use Rattle.remote_rules.specs.Asking.{AsksForNames}
 use Rattle.remote_rules.specs.declared.MirrorFault.{MirrorFault}
 use Rattle.payload_tables.specs.Bases.{stored_in}
 use Rattle.payload_tables.proofs.Lists.{names-length, same-self, same-exact}
-use Rattle.flush_rebuild.specs.Asked.{IsStored}
-use Rattle.flush_rebuild.proofs.Asking.{stored-names}
+use Rattle.change_parts.specs.Asked.{IsStored}
+use Rattle.change_parts.proofs.StoredNames.{stored-names}
 use Rattle.lazy_names.specs.Cache.{PlainCache}
 use Rattle.lazy_names.proofs.Caches.{keeps-same}
 use Rattle.step_rules.specs.declared.Refusal.{Refusal}

@@ -14,7 +14,7 @@ use Rattle.payload_tables.specs.declared.base.BaseRef.{BaseRef}
 use Rattle.payload_tables.specs.Bases.{IsBaseOf, MayBase, MayView}
 use Rattle.payload_tables.proofs.Basing.{table-end}
 use Rattle.payload_tables.proofs.Lists.{all-append}
-use Rattle.flush_rebuild.specs.Asked.{HaveParents, MayStore}
+use Rattle.change_parts.specs.Asked.{HaveParents, MayStore}
 use Rattle.store_plans.specs.Sessions.{PlainSession, IsSessionOf, base_added, IsOnNewest}
 use Rattle.store_plans.specs.Looking.{AreTablesBehind}
 use Rattle.store_plans.proofs.Counts.{others-many}

@@ -20,11 +20,11 @@ use Rattle.change_rules.specs.Change.{text_of, flush_change}
 use Rattle.change_rules.specs.Rebase.{first_conflict}
 use Rattle.change_rules.specs.Tables.{StandFor, cloned_count}
 use Rattle.payload_tables.specs.Kept.{PlainTables}
-use Rattle.flush_rebuild.specs.declared.plan.Change.{Change}
-use Rattle.flush_rebuild.specs.declared.fault.PlanFault.{PlanFault}
-use Rattle.flush_rebuild.specs.declared.fault.PlanFault.TheVariants as faults
-use Rattle.flush_rebuild.specs.Plans.{IsPlanOf, conflict_fault, first_fault, length_with, over}
-use Rattle.flush_rebuild.specs.Pulling.{MayPullOn, MayPull, told_rows, mismatch, pull_refusal}
+use Rattle.change_parts.specs.declared.change.Change.{Change}
+use Rattle.change_parts.specs.declared.fault.PlanFault.{PlanFault}
+use Rattle.change_parts.specs.declared.fault.PlanFault.TheVariants as faults
+use Rattle.change_parts.specs.Plans.{IsPlanOf, conflict_fault, first_fault, length_with, over}
+use Rattle.pull_plan.specs.Pulling.{MayPullOn, MayPull, told_rows, mismatch, pull_refusal}
 use Rattle.step_rules.specs.declared.Refusal.{Refusal}
 use Rattle.step_rules.specs.declared.Refusal.TheVariants as why
 use Rattle.step_rules.specs.State.{Stored, pending_of}

@@ -15,9 +15,10 @@ use Rattle.remote_rules.specs.Mirror.{Mirror}
 use Rattle.lazy_names.specs.Cache.{PlainCache}
 use Rattle.payload_tables.specs.Pending.{PlainPending}
 use Rattle.payload_tables.specs.Bases.{ArePending}
-use Rattle.flush_rebuild.specs.declared.fault.PlanFault.{PlanFault}
-use Rattle.flush_rebuild.specs.declared.fault.PlanFault.TheVariants as faults
-use Rattle.flush_rebuild.specs.Plans.{conflict_fault, lost_fault, first_fault, rebase_refusal, stored_id}
+use Rattle.change_parts.specs.declared.fault.PlanFault.{PlanFault}
+use Rattle.change_parts.specs.declared.fault.PlanFault.TheVariants as faults
+use Rattle.change_parts.specs.Plans.{conflict_fault, first_fault, stored_id}
+use Rattle.rebase_pending.specs.Rebases.{lost_fault, rebase_refusal}
 use Rattle.step_rules.specs.declared.Refusal.{Refusal}
 use Rattle.step_rules.specs.declared.Refusal.TheVariants as why
 use Rattle.step_rules.specs.State.{Stored, pending_of}

@@ -17,9 +17,9 @@ use Rattle.name_map.specs.Added.{Placed, payloads_of}
 use Rattle.change_rules.specs.Lawful.{AreLawful}
 use Rattle.change_rules.specs.Tables.{StandFor, known_in, newest, other_names_in}
 use Rattle.payload_tables.proofs.Lists.{get-below}
-use Rattle.flush_rebuild.specs.Asked.{IsStored}
-use Rattle.flush_rebuild.proofs.Asking.{stored-names}
-use Rattle.flush_rebuild.proofs.Renumber.{in-map}
+use Rattle.change_parts.specs.Asked.{IsStored}
+use Rattle.change_parts.proofs.StoredNames.{stored-names}
+use Rattle.change_parts.proofs.Renumber.{in-map}
 use Rattle.store_plans.proofs.FlushStates.{fresh-rows}
 use Rattle.store_plans.proofs.Heads.{known-of-id, later-known}
 use Rattle.store_plans.proofs.LawfulParts.{lawful-behind}

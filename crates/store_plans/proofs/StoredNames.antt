@@ -29,11 +29,11 @@ use Rattle.name_map.proofs.Orders.{known-small}
 use Rattle.payload_tables.specs.declared.base.BaseRef.{BaseRef}
 use Rattle.payload_tables.specs.Bases.{IsBaseOf}
 use Rattle.payload_tables.proofs.Basing.{following-front, base-others}
-use Rattle.flush_rebuild.specs.Asked.{IsStored}
-use Rattle.flush_rebuild.proofs.Asking.{stored-names}
-use Rattle.flush_rebuild.proofs.Finding.{head-pending}
-use Rattle.flush_rebuild.proofs.Rebased.{known-from-at}
-use Rattle.flush_rebuild.proofs.Renumber.{in-map, map-in-back}
+use Rattle.change_parts.specs.Asked.{IsStored}
+use Rattle.change_parts.proofs.StoredNames.{stored-names}
+use Rattle.flush_plan.proofs.Finding.{head-pending}
+use Rattle.rebase_pending.proofs.Rebased.{known-from-at}
+use Rattle.change_parts.proofs.Renumber.{in-map, map-in-back}
 use Rattle.store_plans.specs.Looking.{is_asked_in, FindsIn}
 
 pub known-all : (added : List Placed) → known_of added ≡ known_in (payloads_of added)

@@ -23,8 +23,8 @@ use Rattle.lazy_names.specs.Cache.{PlainCache}
 use Rattle.payload_tables.specs.declared.base.BaseRef.{BaseRef}
 use Rattle.payload_tables.specs.Pending.{PlainPending}
 use Rattle.payload_tables.proofs.Lists.{names-length}
-use Rattle.flush_rebuild.specs.Asked.{IsBaseId}
-use Rattle.flush_rebuild.specs.Plans.{stored_id}
+use Rattle.change_parts.specs.Asked.{IsBaseId}
+use Rattle.change_parts.specs.Plans.{stored_id}
 use Rattle.step_rules.specs.declared.Refusal.{Refusal}
 use Rattle.step_rules.specs.declared.Refusal.TheVariants as why
 use Rattle.step_rules.specs.Asking.{refused_by}

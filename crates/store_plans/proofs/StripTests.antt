@@ -16,11 +16,11 @@ use Rattle.change_rules.specs.Tables.{StandFor}
 use Rattle.payload_tables.specs.Kept.{PlainTables}
 use Rattle.remote_rules.specs.Mirror.{Mirror}
 use Rattle.lazy_names.specs.Cache.{PlainCache}
-use Rattle.flush_rebuild.specs.declared.fault.PlanFault.{PlanFault}
-use Rattle.flush_rebuild.specs.declared.fault.PlanFault.TheVariants as faults
-use Rattle.flush_rebuild.specs.declared.plan.Change.{Change}
-use Rattle.flush_rebuild.specs.Plans.{IsPlanOf, over, length_with}
-use Rattle.flush_rebuild.specs.Stripping.{MayStrip, emptied, strip_refusal}
+use Rattle.change_parts.specs.declared.fault.PlanFault.{PlanFault}
+use Rattle.change_parts.specs.declared.fault.PlanFault.TheVariants as faults
+use Rattle.change_parts.specs.declared.change.Change.{Change}
+use Rattle.change_parts.specs.Plans.{IsPlanOf, over, length_with}
+use Rattle.strip_plan.specs.Stripping.{MayStrip, emptied, strip_refusal}
 use Rattle.step_rules.specs.declared.Refusal.{Refusal}
 use Rattle.step_rules.specs.declared.Refusal.TheVariants as why
 use Rattle.step_rules.specs.State.{Stored, pending_of}

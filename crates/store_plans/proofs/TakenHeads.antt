@@ -8,8 +8,8 @@ use Rattle.std.proofs.lemmas.Bool.{cases_eq}
 use Rattle.id_groups.specs.Name.{Name}
 use Rattle.commit_graph.specs.World.{Row, World, names_of}
 use Rattle.name_map.specs.Added.{Placed}
-use Rattle.flush_rebuild.specs.Asked.{IsFoundIn}
-use Rattle.flush_rebuild.specs.Plans.{stored_id}
+use Rattle.change_parts.specs.Asked.{IsFoundIn}
+use Rattle.change_parts.specs.Plans.{stored_id}
 use Rattle.store_plans.specs.Changes.{IsHeadFound, IsRowFound, IsTaken}
 
 none-some : {X : Type 0} {x : X} → ◌≡◌ {A = Option X} (Some x) None → ⊥

@@ -15,11 +15,11 @@ use Rattle.change_rules.specs.Rebase.{first_conflict, first_lost, left_of}
 use Rattle.payload_tables.specs.Kept.{PlainTables, AreTablesOf}
 use Rattle.payload_tables.specs.Pending.{HeldRow, PlainPending, HoldsRows, row_names}
 use Rattle.payload_tables.specs.Bases.{ArePending}
-use Rattle.flush_rebuild.specs.Asked.{IsFoundIn}
-use Rattle.flush_rebuild.specs.declared.fault.PlanFault.{PlanFault}
-use Rattle.flush_rebuild.specs.declared.fault.PlanFault.TheVariants as faults
-use Rattle.flush_rebuild.specs.declared.plan.Change.{Change}
-use Rattle.flush_rebuild.specs.Plans.{IsPlanOf, IsChangeOf, IsStorable, stored_id}
+use Rattle.change_parts.specs.Asked.{IsFoundIn}
+use Rattle.change_parts.specs.declared.fault.PlanFault.{PlanFault}
+use Rattle.change_parts.specs.declared.fault.PlanFault.TheVariants as faults
+use Rattle.change_parts.specs.declared.change.Change.{Change}
+use Rattle.change_parts.specs.Plans.{IsPlanOf, IsChangeOf, IsStorable, stored_id}
 use Rattle.remote_rules.specs.Mirror.{Mirror}
 use Rattle.lazy_names.specs.Cache.{PlainCache}
 use Rattle.step_rules.specs.declared.Refusal.{Refusal}

@@ -7,8 +7,8 @@ use Rattle.remote_rules.specs.declared.MirrorFault.{MirrorFault}
 use Rattle.remote_trait.specs.Calls.{Refreshes}
 use Rattle.mirror_set.specs.Asking.{Asks, IsItsClone}
 use Rattle.change_rules.specs.declared.Limits.{Limits}
-use Rattle.flush_rebuild.specs.declared.plan.Change.{Change}
-use Rattle.flush_rebuild.specs.Cloning.{told_refusal, IsToldPlan}
+use Rattle.change_parts.specs.declared.change.Change.{Change}
+use Rattle.clone_plan.specs.Cloning.{told_refusal, IsToldPlan}
 use Rattle.step_rules.specs.declared.Refusal.{Refusal}
 use Rattle.step_rules.specs.declared.Refusal.TheVariants as why
 use Rattle.step_rules.specs.State.{Stored}

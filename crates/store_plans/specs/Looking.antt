@@ -15,7 +15,7 @@ use Rattle.payload_tables.specs.Kept.{PlainTables, AreTablesOf}
 use Rattle.payload_tables.specs.declared.base.BaseRef.{BaseRef}
 use Rattle.payload_tables.specs.Bases.{IsBaseOf, MayView, ArePending}
 use Rattle.payload_tables.specs.Pending.{PlainPending, HoldsRows}
-use Rattle.flush_rebuild.specs.Asked.{others_count}
+use Rattle.change_parts.specs.Asked.{others_count}
 use Rattle.remote_rules.specs.CloneData.{KnownName}
 use Rattle.remote_rules.specs.Mirror.{Mirror}
 use Rattle.remote_rules.specs.Serving.{IsServing}

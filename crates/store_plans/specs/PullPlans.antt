@@ -1,7 +1,7 @@
 -- What a pull is planned from, and why it is refused, by what the mirrors told, whoever they are.
 use Rattle.std.specs.Prelude.{◌≡◌, ◌⊎◌, ℕ, List, Option, Some, None, MatchOption, Result, Ok, Err}
 use Rattle.std.specs.Option.{option_map}
-use Rattle.flush_rebuild.specs.Cloning.{clone_fault}
+use Rattle.change_parts.specs.Plans.{clone_fault}
 use Rattle.id_groups.specs.Name.{Name, same_name}
 use Rattle.commit_graph.specs.World.{Row, World}
 use Rattle.batch_codec.specs.Payload.{Payload}
@@ -15,10 +15,10 @@ use Rattle.change_rules.specs.declared.Limits.{Limits}
 use Rattle.change_rules.specs.Disagree.{first_unlike, first_bad_row}
 use Rattle.change_rules.specs.Pull.{pulled}
 use Rattle.change_rules.specs.Tables.{cloned_count}
-use Rattle.flush_rebuild.specs.declared.plan.Change.{Change}
-use Rattle.flush_rebuild.specs.declared.fault.PlanFault.{PlanFault}
-use Rattle.flush_rebuild.specs.Plans.{first_fault}
-use Rattle.flush_rebuild.specs.Pulling.{told_rows, row_fault}
+use Rattle.change_parts.specs.declared.change.Change.{Change}
+use Rattle.change_parts.specs.declared.fault.PlanFault.{PlanFault}
+use Rattle.change_parts.specs.Plans.{first_fault}
+use Rattle.pull_plan.specs.Pulling.{told_rows, row_fault}
 use Rattle.step_rules.specs.declared.Refusal.{Refusal}
 use Rattle.step_rules.specs.declared.Refusal.TheVariants as why
 use Rattle.step_rules.specs.State.{Stored}

@@ -3,7 +3,7 @@ use Rattle.std.specs.Prelude.{◌≡◌, ◌≤◌, ◌+◌, ℕ, List, [], leng
 use Rattle.batch_codec.specs.Grammar.{count_after}
 use Rattle.name_map.specs.Added.{Placed, payloads_of}
 use Rattle.payload_tables.specs.Kept.{AreOthersIn, last_added}
-use Rattle.flush_rebuild.specs.Asked.{MayStore}
+use Rattle.change_parts.specs.Asked.{MayStore}
 use Rattle.payload_tables.specs.Pending.{HoldsRows}
 use Rattle.payload_tables.specs.Bases.{ArePending}
 use Rattle.step_rules.specs.State.{Stored, Session, world_at}

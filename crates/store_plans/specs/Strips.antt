@@ -7,8 +7,8 @@ use Rattle.commit_graph.specs.World.{World, names_of}
 use Rattle.commit_graph.specs.Ids.{id_in}
 use Rattle.batch_codec.specs.Payload.{Payload}
 use Rattle.name_map.specs.Added.{Placed, payloads_of}
-use Rattle.flush_rebuild.specs.Asked.{others_count}
-use Rattle.flush_rebuild.specs.declared.plan.Change.{Change}
+use Rattle.change_parts.specs.Asked.{others_count}
+use Rattle.change_parts.specs.declared.change.Change.{Change}
 use Rattle.remote_rules.specs.Mirror.{Mirror}
 use Rattle.lazy_names.specs.Cache.{PlainCache}
 use Rattle.change_rules.specs.declared.Limits.{Limits}

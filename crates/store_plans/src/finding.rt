@@ -12,9 +12,9 @@ ghost use Rattle.store_plans.specs.Changes.{HaveNames, FindsHead, FindsHeads, Fi
 use crate::lookup::{find, find_seen};
 use crate::seen::Seen;
 use crate::session::Session;
-use flush_rebuild::PendingRows;
 use id_groups::{Id, Name};
 use lazy_names::LazyNames;
+use payload_tables::PendingRows;
 use remote_trait::Remote;
 use std::alloc::Global;
 use step_rules::Refusal;

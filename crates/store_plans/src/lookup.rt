@@ -12,15 +12,15 @@ ghost use Rattle.name_map.specs.Added.{Placed, payloads_of};
 ghost use Rattle.change_rules.specs.Tables.{StandFor};
 ghost use Rattle.change_rules.specs.Lazy.{has_lazy};
 ghost use Rattle.payload_tables.specs.Kept.{AreTablesOf};
-ghost use Rattle.flush_rebuild.specs.Asked.{IsStored};
+ghost use Rattle.change_parts.specs.Asked.{IsStored};
 ghost use Rattle.store_plans.specs.Sessions.{PlainSession, IsSessionOf, base_added};
 ghost use Rattle.store_plans.specs.Looking.{MaySee, Shows, Asked, FindsOne, Looks, IsSoundCache, as_refused, asking_refusal};
 
 use crate::seen::Seen;
-use flush_rebuild::Tables;
 use high_segments::View;
 use id_groups::{Id, Name};
 use lazy_names::{LazyFault, LazyNames};
+use payload_tables::Tables;
 use remote_trait::Remote;
 use segment_codec::{Parents, SegmentTable, Steps};
 use std::alloc::Global;

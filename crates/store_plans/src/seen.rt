@@ -9,7 +9,7 @@ ghost use Rattle.payload_tables.specs.Kept.{AreTablesOf};
 ghost use Rattle.store_plans.specs.Looking.{MaySee, Shows, AreNone};
 
 use crate::planning::lacks_names;
-use flush_rebuild::{BaseRef, PendingRows, Tables};
+use payload_tables::{BaseRef, PendingRows, Tables};
 
 /// What a session sees, lent: a base, the rows that are pending behind it, and the bytes and tables of the whole log, in which names are
 /// looked up.

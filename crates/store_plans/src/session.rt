@@ -11,7 +11,7 @@ ghost use Rattle.store_plans.specs.Looking.{IsSeen, MaySee, Shows};
 
 use crate::lookup::has_unnamed;
 use crate::seen::Seen;
-use flush_rebuild::{BaseRef, OthersTable, PendingRows, Tables};
+use payload_tables::{BaseRef, OthersTable, PendingRows, Tables};
 use std::alloc::{AllocError, Global};
 
 /// What is kept of a session: the base that it sees, and its rows.

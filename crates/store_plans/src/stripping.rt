@@ -8,7 +8,7 @@ ghost use Rattle.commit_graph.specs.World.{World, IsNamedWorld};
 ghost use Rattle.name_map.specs.Added.{Placed, payloads_of};
 ghost use Rattle.change_rules.specs.Standard.{AreLimits};
 ghost use Rattle.change_rules.specs.Tables.{StandFor};
-ghost use Rattle.flush_rebuild.specs.Plans.{MayComeNext};
+ghost use Rattle.change_parts.specs.Plans.{MayComeNext};
 ghost use Rattle.step_rules.specs.State.{Stored};
 ghost use Rattle.store_plans.specs.Sessions.{IsSessionOf};
 ghost use Rattle.store_plans.specs.Looking.{IsSoundCache, MaySee, Shows, items_of};
@@ -21,13 +21,16 @@ use crate::lookup::find;
 use crate::planning::refusal_of;
 use crate::seen::Seen;
 use crate::session::Session;
-use flush_rebuild::{Change, Limits, PendingRows, Tables, plan_strip_change};
+use change_parts::Change;
+use change_rules::Limits;
 use gated_log::Log;
 use id_groups::{Group, Id, Name};
 use lazy_names::LazyNames;
+use payload_tables::{PendingRows, Tables};
 use remote_trait::Remote;
 use std::alloc::{AllocError, Global};
 use step_rules::Refusal;
+use strip_plan::plan_strip_change;
 
 /// The id in the newest base of a commit that isn't one of master. A name that isn't stored is asked of a mirror where the base has an
 /// id without a stored name. `InMaster` for a commit of master, and `Unknown` for a name that is nowhere.

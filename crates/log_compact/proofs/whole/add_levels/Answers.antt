@@ -1,7 +1,7 @@
 use Rattle.std.proofs.Common.{◌≤◌, ◌++◌, ◌∙◌, [], ap, sym, subst₂, flat_map, length, ℕ}
 use Rattle.segment_codec.specs.Record.{segment_bytes}
 use Rattle.change_rules.specs.Lawful.{levels_with}
-use Rattle.flush_rebuild.proofs.LevelRecords.{few-records, ok-then, brings-first}
+use Rattle.change_parts.proofs.LevelRecords.{few-records, ok-then, brings-first}
 use Rattle.log_compact.proofs.whole.add_levels.Goals as goal
 
 pub write_levels-requires : goal.write_levels-requires

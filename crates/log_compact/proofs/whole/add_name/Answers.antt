@@ -2,7 +2,7 @@ use Rattle.std.proofs.Common.{◌∷◌, [], Some, sym, subst, append-nil}
 use Rattle.batch_codec.specs.Building.{IsBuilt}
 use Rattle.name_map.specs.Added.{known_of}
 use Rattle.name_map.specs.Map.{IsNameOf}
-use Rattle.flush_rebuild.proofs.LevelRecords.{ok-then}
+use Rattle.change_parts.proofs.LevelRecords.{ok-then}
 use Rattle.log_compact.proofs.Naming.{none-known, one-known}
 use Rattle.log_compact.proofs.whole.add_name.Goals as goal
 

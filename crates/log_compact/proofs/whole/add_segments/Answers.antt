@@ -2,7 +2,7 @@ use Rattle.std.proofs.Common.{◌≤◌, ◌∙◌, ◌++◌, [], ap, sym, subst
 use Rattle.batch_codec.specs.Building.{IsBuilt}
 use Rattle.high_segments.specs.Views.{flats_in}
 use Rattle.payload_tables.specs.Kept.{PlainOthers}
-use Rattle.flush_rebuild.proofs.LevelRecords.{ok-then}
+use Rattle.change_parts.proofs.LevelRecords.{ok-then}
 use Rattle.log_compact.proofs.Standing.{few-others, none-viewed, none-pending, masters-whole, others-whole}
 use Rattle.log_compact.proofs.whole.add_segments.Goals as goal
 

@@ -1,6 +1,6 @@
 use Rattle.std.proofs.Common.{◌∙◌, ap, refl, subst, arith}
 use Rattle.disk_trait.specs.Calls.{Goes}
-use Rattle.flush_rebuild.proofs.Sizing.{not-zero}
+use Rattle.change_parts.proofs.Refusals.{not-zero}
 use Rattle.log_compact.specs.Compacts.{PlainWhole, KeepsNoneOrNew, HasText}
 use Rattle.log_compact.proofs.FromLog.{batch-some}
 use Rattle.log_compact.proofs.ToDisk.{commit-moments, commit-done}

@@ -1,6 +1,6 @@
 use Rattle.std.proofs.Common.{◌∙◌, map, refl, arith}
 use Rattle.name_map.specs.Added.{payloads_of}
-use Rattle.flush_rebuild.specs.Asked.{IsFoundIn}
+use Rattle.change_parts.specs.Asked.{IsFoundIn}
 use Rattle.store_plans.specs.Changes.{IsHeadFound, head_test}
 use Rattle.store_plans.proofs.FindLists.{each-more, each-none, each-refused, each-unkept, each-whole, err-each}
 use Rattle.store_plans.proofs.finding.look_up_heads.Goals as goal

@@ -1,7 +1,7 @@
 use Rattle.std.proofs.Common.{◌∙◌, ◌∷◌, [], Err, Ok, map, length, refl, sym, ap, subst, arith, length-append, zero-le}
 use Rattle.name_map.specs.Added.{payloads_of}
 use Rattle.payload_tables.specs.Pending.{PlainPending}
-use Rattle.flush_rebuild.specs.Asked.{IsFoundIn}
+use Rattle.change_parts.specs.Asked.{IsFoundIn}
 use Rattle.store_plans.specs.Changes.{HaveNames, IsRowFound, row_test}
 use Rattle.store_plans.specs.Looking.{Looks}
 use Rattle.store_plans.proofs.HeadTests.{row-finds}

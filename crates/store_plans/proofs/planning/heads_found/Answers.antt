@@ -1,6 +1,6 @@
 use Rattle.step_rules.specs.State.{pending_of}
 use Rattle.name_map.specs.Added.{payloads_of}
-use Rattle.flush_rebuild.specs.Asked.{IsFoundIn}
+use Rattle.change_parts.specs.Asked.{IsFoundIn}
 use Rattle.store_plans.specs.Changes.{IsHeadFound, head_test}
 use Rattle.store_plans.proofs.FlushParts.{all-stand}
 use Rattle.store_plans.proofs.HeadTests.{world-of}

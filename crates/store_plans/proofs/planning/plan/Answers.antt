@@ -1,6 +1,6 @@
 use Rattle.std.proofs.Common.{Ok, map, sym, subst}
 use Rattle.std.specs.List.{AllZip}
-use Rattle.flush_rebuild.specs.Asked.{IsFoundIn}
+use Rattle.change_parts.specs.Asked.{IsFoundIn}
 use Rattle.step_rules.specs.State.{pending_of}
 use Rattle.step_rules.specs.Verb.{Flush}
 use Rattle.step_rules.specs.Worlds.{flush_of}

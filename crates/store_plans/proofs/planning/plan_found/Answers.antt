@@ -1,8 +1,8 @@
 use Rattle.std.proofs.Common.{◌≤◌, ◌^◌, ℕ, List, Err, map, length, sym, subst, arith, lit≤}
 use Rattle.id_groups.specs.Name.{same_name}
 use Rattle.change_rules.specs.Rebase.{left_of}
-use Rattle.flush_rebuild.specs.Asked.{IsFoundIn}
-use Rattle.flush_rebuild.specs.Plans.{MayBeStored}
+use Rattle.change_parts.specs.Asked.{IsFoundIn}
+use Rattle.change_parts.specs.Plans.{MayBeStored}
 use Rattle.step_rules.specs.State.{pending_of}
 use Rattle.step_rules.specs.Verb.{Flush}
 use Rattle.step_rules.specs.Worlds.{flush_of}

@@ -3,7 +3,7 @@ use Rattle.std.specs.List.{AllZip}
 use Rattle.commit_graph.specs.World.{names_of}
 use Rattle.payload_tables.specs.Pending.{row_names}
 use Rattle.change_rules.specs.Tables.{StandFor}
-use Rattle.flush_rebuild.specs.Asked.{IsFoundIn}
+use Rattle.change_parts.specs.Asked.{IsFoundIn}
 use Rattle.step_rules.specs.State.{pending_of}
 use Rattle.store_plans.specs.Changes.{HaveNames, IsTaken}
 use Rattle.store_plans.proofs.FlushParts.{is-newest, isnt-newest}

@@ -1,5 +1,5 @@
 use Rattle.std.proofs.Common.{◌≤◌, length, sym, subst, arith}
-use Rattle.flush_rebuild.specs.Plans.{MayComeNext}
+use Rattle.change_parts.specs.Plans.{MayComeNext}
 use Rattle.store_plans.specs.PullPlans.{RefusesTold, pull_of, rows_told}
 use Rattle.store_plans.proofs.ChangeSizes.{change-to, payload_to}
 use Rattle.store_plans.proofs.PullPlans.{may-pull, may-pull-on, plans-told, refuses-told}

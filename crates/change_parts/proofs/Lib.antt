@@ -1,0 +1,17 @@
+pub mod Spans
+pub mod Renumber
+pub mod Moving
+pub mod Marking
+pub mod Growing
+pub mod NamesInTurn
+pub mod Whole
+pub mod Planning
+pub mod Fresh
+pub mod NumberedRows
+pub mod Invented
+pub mod RowLemmas
+pub mod LevelRecords
+pub mod StoredNames
+pub mod Refusals
+pub mod TableFacts
+pub mod Gathered

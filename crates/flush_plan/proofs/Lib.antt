@@ -1,0 +1,9 @@
+pub mod Emitting
+pub mod Sizing
+pub mod Refusing
+pub mod Finding
+pub mod Storing
+pub mod Looking
+pub mod Asking
+pub mod Changing
+pub mod PlaceRows

@@ -1,5 +1,0 @@
-use Rattle.flush_rebuild.specs.LentRows.{AreLent}
-use Rattle.flush_rebuild.proofs.lent.add_segment.Given as goal
-
-abbrev pub invariant-rows : goal.invariant-rows
-invariant-rows g l = AreLent (g.T.SegmentTable.flats l.fn.table) l.fn.rows.items l.fn.k → AreLent (g.T.SegmentTable.flats l.fn.table) l.rows.items l._j

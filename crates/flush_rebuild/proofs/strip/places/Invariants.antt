@@ -1,6 +1,0 @@
-use Rattle.std.proofs.Common.{◌≡◌, take}
-use Rattle.flush_rebuild.specs.Stripping.{places_of}
-use Rattle.flush_rebuild.proofs.strip.places.Given as goal
-
-abbrev pub invariant-ids : goal.invariant-ids
-invariant-ids l = l.numbers.items ≡ places_of (take l.id-index l.ids)

@@ -1,5 +1,0 @@
-use Rattle.flush_rebuild.proofs.Spreading.{SpreadSoFar}
-use Rattle.flush_rebuild.proofs.strip.spread.Given as goal
-
-abbrev pub invariant-marks : goal.invariant-marks
-invariant-marks l = SpreadSoFar l.graph l.initial.marks.items l.marks.items l.k

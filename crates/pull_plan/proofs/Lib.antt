@@ -1,0 +1,11 @@
+pub mod ToldRows
+pub mod Agreed
+pub mod Taking
+pub mod Walking
+pub mod SomeTold
+pub mod PulledFlushed
+pub mod Pulls
+pub mod Beside
+pub mod StoredBeside
+pub mod BaseBeside
+pub mod HonestTold

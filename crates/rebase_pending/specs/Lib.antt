@@ -1,0 +1,2 @@
+pub mod Rebasing
+pub mod Rebases

@@ -1,0 +1,5 @@
+pub mod Stripped
+pub mod Spreading
+pub mod Lending
+pub mod StripFacts
+pub mod StripMeans
