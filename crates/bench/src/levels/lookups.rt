@@ -13,7 +13,7 @@ use flat_segments::FlatTable;
 use high_segments::{Levels, View};
 use id_groups::Id;
 use sample_tables::held_ids;
-use segment_codec::{SegmentTable, Steps};
+use segment_codec::{Edges, SegmentTable, Steps};
 use std::alloc::{AllocError, Global};
 
 /// The view of the whole table with its levels.
@@ -21,7 +21,7 @@ pub fn make_view<'a>(records: &'a [u8], table: &'a FlatTable, levels: &'a Levels
     requires filled { (segments : List Segment) × IsFilled records.now table.now segments × AreLevelsOf levels.now (flats_of table.now (placed_segments 0 segments)) }
     requires small { table.now.end ≤ 16777216 }
 {
-    View::new(table.view(records, table.count()), levels)
+    View::new(table.view(records, table.count()), levels, Edges::none())
 }
 
 /// One of so many ids, by a random number.
