@@ -116,7 +116,7 @@ maximal-apart end records = up_to-apart end (firsts records) (firsts-apart recor
 
 -- ---- cut
 
-cut-none : (below first end : ℕ) (xs : List Segment) → Follow first end xs → below ≤ first → cut below xs ≡ []
+pub cut-none : (below first end : ℕ) (xs : List Segment) → Follow first end xs → below ≤ first → cut below xs ≡ []
 cut-none below first end [] h le = refl
 cut-none below first end (s ∷ more) h le = go (nat_lt s.low below) refl (λ a. cut-none below (s.high + 1) end more h.2 a)
   where

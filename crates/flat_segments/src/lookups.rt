@@ -3,7 +3,7 @@
 ghost use Rattle.std.specs.Prelude.{◌≡◌, ◌<◌, ◌^◌, length, slice_get, Some, None, MatchOption};
 ghost use Rattle.segment_codec.specs.Lent.{segment_of};
 ghost use Rattle.segment_codec.specs.Table.{segment_at};
-ghost use Rattle.flat_segments.specs.Views.{view_flats, master_count};
+ghost use Rattle.flat_segments.specs.Views.{view_flats, master_flats, master_count};
 
 use crate::view::FlatView;
 use id_groups::{FIRST_OTHER, Id};
@@ -16,6 +16,14 @@ impl<'a> FlatView<'a> {
         ensures { result ≡ master_count self.now }
     {
         self.master.end
+    }
+
+    /// How many of the segments are of the master group. They stand before the others.
+    #[inline(always)]
+    pub fn master_flat_count(&self) -> u32
+        ensures { result ≡ length (master_flats self.now) }
+    {
+        self.master.entries.len() as u32
     }
 
     /// The segment that has the id; `None` exactly where the id isn't in the bounds.

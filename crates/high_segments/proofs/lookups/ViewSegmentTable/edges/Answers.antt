@@ -1,6 +1,8 @@
 use Rattle.high_segments.specs.Views.{flats_in}
+use Rattle.high_segments.proofs.Edging.{edged-means}
 use Rattle.high_segments.proofs.lookups.ViewSegmentTable.edges.Goals as goal
 
--- src/lookups.rt:112:5
 pub returns : goal.returns
-returns c = c.none.ensures (flats_in c.args.self.now)
+returns c =
+    let v = c.args.self.now in
+    record { order = v.ordered; whole = edged-means v.edges.items.now v.edges.count (flats_in v) v.edged }
