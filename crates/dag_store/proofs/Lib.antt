@@ -38,3 +38,4 @@ pub mod PullSteps
 pub mod PullAgrees
 pub mod AskCases
 pub mod WholeLemmas
+pub mod Indexed

@@ -67,7 +67,7 @@ impl<'a> BaseRef<'a> {
             &pending.section,
             &pending.records,
         );
-        View::new(flat, &tables.levels)
+        View::new(flat, &tables.levels, tables.edges.lend())
     }
 
     /// The stored name of the id, lent from the log's bytes; `None` exactly where the base stores none.

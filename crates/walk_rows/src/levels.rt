@@ -105,7 +105,7 @@ fn walk_both(
 }
 
 /// Adds commits of one segment with these parents, where they may come.
-fn push(sample: &mut Sample, parents: &[Id], count: u64) -> Result<(), AllocError> {
+pub(crate) fn push(sample: &mut Sample, parents: &[Id], count: u64) -> Result<(), AllocError> {
     if sample.may_push(parents, count) {
         sample.push(parents, count)?;
     }
@@ -132,12 +132,16 @@ fn ladder(alloc: Global, count: u64) -> Result<Sample, AllocError> {
     Ok(sample)
 }
 
-/// The same with its levels.
-fn leveled(alloc: Global, count: u64) -> Result<LevelSample, FlatFault> {
-    let written = ladder(alloc, count)?;
-    let bytes = Vec::from_slice(alloc, written.bytes())?;
+/// The sample with its levels.
+pub(crate) fn with_levels(alloc: Global, sample: &Sample) -> Result<LevelSample, FlatFault> {
+    let bytes = Vec::from_slice(alloc, sample.bytes())?;
     let len = bytes.len();
     LevelSample::over(alloc, bytes, false).add(len)
+}
+
+/// The ladder with its levels.
+fn leveled(alloc: Global, count: u64) -> Result<LevelSample, FlatFault> {
+    with_levels(alloc, &ladder(alloc, count)?)
 }
 
 /// How many ids both answers of the ladder have, and how many look-ups they took.

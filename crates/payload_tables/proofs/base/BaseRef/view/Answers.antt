@@ -4,6 +4,7 @@ use Rattle.id_groups.specs.Name.{same_name}
 use Rattle.commit_graph.specs.World.{with_pending}
 use Rattle.commit_graph.specs.Ids.{parent_ids}
 use Rattle.segment_codec.specs.Record.{segment_bytes}
+use Rattle.segment_codec.specs.Edges.{AreEdgesOf}
 use Rattle.flat_segments.specs.Maximal.{maximal, cut}
 use Rattle.flat_segments.specs.Placed.{placed_segments, segments_of}
 use Rattle.flat_segments.proofs.Callers.{placed-stand}
@@ -103,4 +104,8 @@ new-requires c =
             ∙ ap (λ (t : PlainTables). cut s.below (maximal t.flat.end (segments_of all))) c.tables.view_is ∙ ap (λ n. cut n (flats_of s.tables.now.flat all)) (sym count);
         below = subst (λ n. n ≤ s.tables.now.flat.end) (sym count) (base-below s.bytes.now s.tables.now s.others.now s.below r.0 b);
       },
+      (let flats = flats_of s.tables.now.flat all in
+          subst (λ l. AreEdgesOf l c.lend.result.count flats) (sym c.lend.ensures.items)
+          (subst (λ n. AreEdgesOf c.tables.inside.edges.items n flats) (sym c.lend.ensures.count)
+          (subst (λ (t : PlainTables). AreEdgesOf t.edges.items t.edges.count flats) (sym c.tables.view_is) b.tables_of.edges.edges))),
     )
