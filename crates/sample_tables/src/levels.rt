@@ -7,6 +7,7 @@ mod grow;
 use flat_segments::{FlatFault, FlatTable, FlatView};
 use grow::add_records;
 use high_segments::{LevelCounts, Levels, View};
+use segment_codec::Edges;
 use std::alloc::Global;
 use std::marker::Model;
 
@@ -109,7 +110,7 @@ impl LevelSample {
         requires { below ≤ self.now.table.end }
     {
         let flat = self.table.view(&self.log, below);
-        View::new(flat, &self.levels)
+        View::new(flat, &self.levels, Edges::none())
     }
 
     /// How many segments there are on each level.

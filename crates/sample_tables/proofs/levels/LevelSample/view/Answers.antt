@@ -21,4 +21,5 @@ new-requires c =
         flats = c.view-flat.ensures.master ∙ c.view-flat.ensures.flats g.records g.table_of stand ∙ ap (λ n. cut n (flats_of c.self.inside.table g.records)) (sym count);
         below = omega (arith, count, end, le);
       },
+      c.none.ensures (flats_of c.self.inside.table g.records),
     )
