@@ -1,6 +1,6 @@
 -- Ways up from an id that is reached to one that may be named.
-use Rattle.std.proofs.Common.{◌≡◌, ℕ, ◌+◌, ◌-◌, ◌<◌, ◌≤◌, ◌^◌, ◌⊎◌, inl, inr, List, [], ◌∷◌, Option, Some, None, length, refl, sym, ap, subst, ◌∙◌, arith, ⊎_elim, true, false, true≢false}
-use Rattle.std.specs.Prelude.{option_and_then, MatchOption, IsTrue, ◌↔◌}
+use Rattle.std.proofs.Common.{◌≡◌, ℕ, zero, suc, ◌+◌, ◌-◌, ◌<◌, ◌≤◌, ◌^◌, ◌⊎◌, inl, inr, List, [], ◌∷◌, Option, Some, None, length, refl, sym, ap, subst, ◌∙◌, arith, ⊎_elim, true, false, true≢false}
+use Rattle.std.specs.Prelude.{slice_get, IfSome, option_and_then, MatchOption, IsTrue, ◌↔◌}
 use Rattle.std.specs.Option.{IsSome}
 use Rattle.std.proofs.lemmas.List.{length-map}
 use Rattle.id_groups.specs.Lists.{IsIn}
@@ -15,7 +15,8 @@ use Rattle.segment_codec.specs.Record.{Segment}
 use Rattle.segment_codec.specs.Lent.{segment_of}
 use Rattle.segment_codec.specs.declared.lent.SegmentRef.{SegmentRef}
 use Rattle.segment_codec.specs.Table.{segment_at, IsHeld, IsLawful, parents_at}
-use Rattle.segment_codec.proofs.Tables.{le_or_lt, segment-in, lawful-at, parents-low, parents-over, parent-below, follow-within}
+use Rattle.segment_codec.proofs.Numbers.{some_is}
+use Rattle.segment_codec.proofs.Tables.{le_or_lt, segment-in, lawful-at, order-of, parents-low, parents-over, parent-below, follow-within}
 use Rattle.span_set.specs.Members.{IsMember, IsGreatestBelow}
 use Rattle.ancestor_query.specs.Graph.{table_graph}
 use Rattle.ancestor_query.proofs.Firsts.{first-add, first-within}
@@ -24,7 +25,7 @@ use Rattle.remote_rules.specs.Known.{IsReached}
 use Rattle.remote_trait.specs.Honest.{IsNamed, IsPathOf, rows_graph}
 use Rattle.remote_trait.proofs.Rows.{named-once, id_of, id-of-named, parent-row}
 use Rattle.remote_answers.specs.Master.{IsMasterIn, name_at}
-use Rattle.remote_answers.specs.Paths.{AreReached, IsMergeParent, LeadsTo, BeginsChild, IsChild, IsLast}
+use Rattle.remote_answers.specs.Paths.{AreReached, IsMergeParent, LeadsTo, BeginsChild, IsBegunBy, IsChild, IsLast}
 use Rattle.remote_answers.specs.declared.path.Way.{Way}
 use Rattle.remote_answers.specs.declared.path.Child.{Child}
 use Rattle.remote_answers.proofs.Walking.{held-of, within, walk-ids, walk-names, first-named, parents-named, there-down, down-there, named-at, in-map}
@@ -213,6 +214,27 @@ child-is flats lawful ids id x s child low e is reached parent same merge = reco
   is = same ∙ is;
   merge = merge;
 }
+
+at-in : (flats : List Segment) (k : ℕ) (s : Segment) → slice_get flats k ≡ Some s → IsIn s flats
+at-in [] k s e = absurd cc
+at-in (t ∷ rest) zero s e = inl (sym (some_is t s e))
+at-in (t ∷ rest) (suc k) s e = inr (at-in rest k s e)
+
+-- what begins the segment at a place
+pub child-begun : (flats : List Segment) → IsLawful flats → (ids : List IdSpan) (id k : ℕ) (s : Segment) (child : Child) → slice_get flats k ≡ Some s → IsBegunBy ids id s child → IsChild flats ids id child
+child-begun flats lawful ids id k s child e b =
+    let i = at-in flats k s e in let order = order-of flats lawful s i in
+    record {
+      segment = s;
+      begins = record { holds = lawful-at flats lawful s.low s i (omega arith, order); reached = subst (IsMember ids) b.is b.reached; child = b.parent };
+      is = b.is;
+      merge = b.merge;
+    }
+
+pub some-begun : (flats : List Segment) → IsLawful flats → (ids : List IdSpan) (id k : ℕ) (s : Segment) (found : Option Child) → slice_get flats k ≡ Some s
+    → IfSome found (λ c. IsBegunBy ids id s c) → IfSome found (λ c. IsChild flats ids id c)
+some-begun flats lawful ids id k s None e h = h
+some-begun flats lawful ids id k s (Some child) e h = child-begun flats lawful ids id k s child e h
 
 pub ahead-held : (flats : List Segment) (ids : List IdSpan) (id at : ℕ) → ChildAhead flats ids id at → IsHeld flats at
 ahead-held flats ids id at a = let le = a.ahead in let lt = a.below in held-of flats a.rows a.master at (omega (arith, le, lt))

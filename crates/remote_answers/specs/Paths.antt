@@ -42,6 +42,13 @@ pub record BeginsChild (flats : List Segment) (ids : List IdSpan) (id : ℕ) (s 
   pub reached : IsMember ids s.low
   pub child : IsIn id s.parents
 
+-- it is the lowest id of the segment, which has the id as a parent, and is reached
+pub record IsBegunBy (ids : List IdSpan) (id : ℕ) (s : Segment) (child : Child) : Type 0 where
+  pub is : child.id ≡ s.low
+  pub reached : IsMember ids child.id
+  pub parent : IsIn id s.parents
+  pub merge : IsTrue child.is_merge ↔ 2 ≤ length s.parents
+
 -- it is a child of the id that begins a segment and is reached
 pub record IsChild (flats : List Segment) (ids : List IdSpan) (id : ℕ) (child : Child) : Type 0 where
   pub segment : Segment

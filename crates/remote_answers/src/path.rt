@@ -1,22 +1,25 @@
 //! Paths from known names.
 
-ghost use Rattle.std.specs.Prelude.{◌≡◌, ◌<◌, ◌≤◌, ◌+◌, ◌^◌, ◌⊎◌, ◌↔◌, List, length, IsTrue};
+ghost use Rattle.std.specs.Prelude.{◌≡◌, ◌<◌, ◌≤◌, ◌+◌, ◌^◌, ◌⊎◌, ◌↔◌, List, length, IsTrue, IfSome};
 ghost use Rattle.id_groups.specs.Lists.{IsIn};
 ghost use Rattle.id_groups.specs.Name.{Name as NameBytes};
 ghost use Rattle.commit_graph.specs.World.{Row};
 ghost use Rattle.segment_codec.specs.Record.{Segment};
-ghost use Rattle.segment_codec.specs.Lent.{parents_left};
+ghost use Rattle.segment_codec.specs.Lent.{parents_left, segment_of};
 ghost use Rattle.span_set.specs.Members.{IsMember};
 ghost use Rattle.remote_trait.specs.Honest.{IsPathOf};
 ghost use Rattle.remote_answers.specs.Master.{IsMasterIn, IsMasterOf};
-ghost use Rattle.remote_answers.specs.Paths.{AreReached, IsReachedBy, IsMergeParent, LeadsTo, BeginsChild, IsChild, IsLast};
+ghost use Rattle.remote_answers.specs.Paths.{AreReached, IsReachedBy, IsMergeParent, LeadsTo, BeginsChild, IsBegunBy, IsChild, IsLast};
 
 use crate::names::MasterNames;
 use crate::reached::Reached;
 use id_groups::{Id, Name};
 use remote_trait::Path;
-use segment_codec::{Parents, SegmentTable, Steps};
+use segment_codec::{Parents, SegmentRef, SegmentTable, Steps};
 use span_set::IdSet;
+
+/// So many places an edge of a table tells apart below its parent.
+const PLACES: u64 = 1 << 32;
 
 /// A commit from which first parents lead to another one, and how many do.
 #[derive(Clone, Copy)]
@@ -127,8 +130,77 @@ fn go_up(steps: &mut Steps, places: usize) {
     steps.set_near(steps.near().saturating_add(places).saturating_add(1));
 }
 
-/// The first child of the id, from this place on, that begins a segment and is reached. There is one.
+/// The child of the id that the segment begins, where it does and the child is reached.
+fn child_in(ids: &IdSet, id: u64, segment: SegmentRef<'_>) -> Option<Child>
+    ensures { IfSome result (λ c. IsBegunBy ids.now id (segment_of segment.entry) c) }
+{
+    let low = segment.low();
+    if is_among(segment.parents(), id) && ids.contains(low) {
+        return Some(Child {
+            id: low.number(),
+            is_merge: are_several(segment.parents()),
+        });
+    }
+    None
+}
+
+/// The child of the id that the segment at the place of an edge begins, where it does and the child is reached.
+fn child_at<T: SegmentTable>(
+    table: &T,
+    ids: &IdSet,
+    id: u64,
+    edge: u64,
+    steps: &mut Steps,
+) -> Option<Child>
+    ensures { IfSome result (λ c. IsChild (T.flats table.now) ids.now id c) }
+{
+    let place = edge % PLACES;
+    if place >= u64::from(table.flat_count()) {
+        return None;
+    }
+    child_in(ids, id, table.flat_at(place as u32, steps))
+}
+
+/// A child of the id that begins a segment and is reached, where the table's edges lead to one.
+fn child_by_edges<T: SegmentTable>(
+    table: &T,
+    ids: &IdSet,
+    id: u64,
+    steps: &mut Steps,
+) -> Option<Child>
+    ensures { IfSome result (λ c. IsChild (T.flats table.now) ids.now id c) }
+{
+    let items = table.edges().items;
+    let mut at = items.partition_point(|edge| *edge / PLACES < id);
+    'edges: while at < items.len() && items[at] / PLACES == id {
+        let child = child_at(table, ids, id, items[at], steps);
+        if child.is_some() {
+            return child;
+        }
+        at += 1;
+    }
+    None
+}
+
+/// A child of the id, from this place on, that begins a segment and is reached: one that an edge leads to, or else the first. There is one.
 fn child_above<T: SegmentTable>(
+    table: &T,
+    ids: &IdSet,
+    id: u64,
+    from: u64,
+    steps: &mut Steps,
+) -> Child
+    requires child { (rows : List (Row NameBytes)) × (s : Segment) × IsMasterIn (T.flats table.now) rows × BeginsChild (T.flats table.now) ids.now id s × (s.low < length rows) × (from ≤ s.low) }
+    ensures { IsChild (T.flats table.now) ids.now id result }
+{
+    match child_by_edges(table, ids, id, steps) {
+        Some(child) => child,
+        None => child_ahead(table, ids, id, from, steps),
+    }
+}
+
+/// The first child of the id, from this place on, that begins a segment and is reached. There is one.
+fn child_ahead<T: SegmentTable>(
     table: &T,
     ids: &IdSet,
     id: u64,
