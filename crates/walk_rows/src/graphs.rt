@@ -3,7 +3,10 @@
 use crate::asked::Asked;
 use crate::compared::{Found, Wrong, wrong_in};
 use crate::draws::{Draws, drawn, graph_of, push_commit, sample_of};
+use crate::edged::Edged;
 use crate::plain::{Graph, PairQuery, Query};
+use edge_index::EdgeIndex;
+use flat_segments::FlatView;
 use sample_tables::Sample;
 use segment_codec::SegmentTable;
 use std::alloc::{AllocError, Global};
@@ -27,7 +30,24 @@ fn wrong_below(
         masters: below,
     };
     let cut = graph.cut(alloc, below as usize)?;
+    if let Some(wrong) = wrong_by_edges(alloc, draws, view, &cut)? {
+        return Ok(Some(wrong));
+    }
     wrong_in(&asked, &cut, draws, 150)
+}
+
+/// What goes wrong over a view that has edges of two thirds of its segments.
+fn wrong_by_edges(alloc: Global, draws: &mut Draws, view: FlatView<'_>, graph: &Graph) -> Found {
+    let count = view.flat_count();
+    let mut index = EdgeIndex::empty(alloc);
+    index.grow(alloc, &view, count - count / 3)?;
+    let table = Edged::over(view, &index);
+    let asked = Asked {
+        alloc,
+        table: &table,
+        masters: graph.count(),
+    };
+    wrong_in(&asked, graph, draws, 5)
 }
 
 /// What goes wrong over a drawn graph of 60 commits, and below which of them.

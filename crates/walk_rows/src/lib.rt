@@ -10,6 +10,8 @@ mod compared;
 #[cfg(test)]
 mod draws;
 #[cfg(test)]
+mod edged;
+#[cfg(test)]
 mod edges;
 #[cfg(test)]
 mod graphs;
