@@ -1,13 +1,21 @@
-use Rattle.std.proofs.Common.{◌∙◌, ℕ, nat_eq, inl, inr, refl, subst, ap}
+use Rattle.std.proofs.Common.{◌∙◌, ◌+◌, ◌<◌, ℕ, List, length, nat_eq, inl, inr, refl, sym, subst, ap}
 use Rattle.std.specs.Prelude.{MatchOption}
 use Rattle.std.specs.Cmp.Lexicographic.{pointwise}
-use Rattle.std.specs.List.{AllZip}
+use Rattle.std.specs.List.{AllByRecursion, AllZip}
+use Rattle.id_groups.specs.Id.{other_id}
 use Rattle.id_groups.specs.Lists.{IsIn}
 use Rattle.high_segments.specs.Views.{flats_in}
 use Rattle.segment_codec.specs.Table.{parents_at}
 use Rattle.rebase_pending.specs.Rebasing.{IsAt, IsNowhere, AreStoredAs}
 use Rattle.rebase_pending.proofs.Moved.{ok-more}
 use Rattle.rebase_pending.proofs.rebasing.is_stored_so.Goals as goal
+
+pub stored_parents-requires-clause-parents : goal.stored_parents-requires-clause-parents
+stored_parents-requires-clause-parents c =
+    let r = c.requires.row in
+    let same = c.deref.ensures.value ∙ c.in_ok-parents.ensures ∙ c.in-Some.ensures r.0 r.1 r.2 r.3 in
+    subst (λ f. AllByRecursion (λ p. p < other_id (f + length c.args.found.now)) c.deref.result.now) (sym c.first.ensures)
+    (subst (λ (l : List ℕ). AllByRecursion (λ p. p < other_id (c.args.pending.now.first + length c.args.found.now)) l) (sym same) r.4)
 
 pub returns-in-Some-2 : goal.returns-in-Some-2
 returns-in-Some-2 c = λ added before rows row n b e h at.
