@@ -1,4 +1,4 @@
-"""The comparison of against_git.sh: against_git.py PROGRAM REPOSITORY-OR-COMMITS."""
+"""The comparison of against_git.sh: against_git.py PROGRAM REPOSITORY-OR-COMMITS RULE."""
 import os
 import random
 import subprocess
@@ -8,8 +8,8 @@ import time
 from collections import Counter
 from pathlib import Path
 
+import history
 from end_to_end import TOOLS, table
-from history import lines
 
 sys.path.insert(0, str(TOOLS))
 from segdag_lines import Program  # noqa: E402: it stands in tools/
@@ -19,6 +19,7 @@ EACH = 10_000  # commits between two flushes
 HEADS = 390  # names of one line
 NEAR, FAR, STEPS = 20, 5, 1000
 FLOORS = 10  # how often git is run to do nothing
+RULES = {"merges": history.drawn, "demo": history.by_demo}
 
 
 def stop(text, status=2):
@@ -30,12 +31,12 @@ def progress(text):
         print(f"\r{text:70}", end="", file=sys.stderr, flush=True)
 
 
-def drawn(count, folder):
-    """A bare repository of a drawn history, in which three of ten commits are merges."""
+def drawn(count, rule, folder):
+    """A bare repository of a history that is drawn by the rule."""
     subprocess.run(["git", "init", "--quiet", "--bare", folder], check=True)
     marks, childless = {}, {}
     with tempfile.TemporaryFile("w+") as stream:
-        for line in lines(count, count + 1):
+        for line in history.lines(count, count + 1, rule):
             words = line.split()
             if words[1] != "add":
                 continue
@@ -228,7 +229,7 @@ def main():
         repository, log = os.path.join(folder, "repository"), os.path.join(folder, "log")
         if sys.argv[2].isdigit():
             progress("a history is drawn")
-            drawn(int(sys.argv[2]), repository)
+            drawn(int(sys.argv[2]), RULES.get(sys.argv[3]) or stop(f"{sys.argv[3]} is neither {' nor '.join(RULES)}"), repository)
         elif subprocess.run(["git", "clone", "--quiet", "--mirror", "--shared", sys.argv[2], repository]).returncode != 0:
             stop(f"{sys.argv[2]} is neither a repository nor a number of commits")
         git = Git(repository)

@@ -43,9 +43,9 @@ def by_demo(commits):
         yield parents
 
 
-def lines(commits, each):
+def lines(commits, each, rule=drawn):
     names = [name(i) for i in range(commits)]
-    for i, parents in enumerate(drawn(commits)):
+    for i, parents in enumerate(rule(commits)):
         yield " ".join(["0 add", names[i], *(names[p] for p in parents)])
         if (i + 1) % each == 0 or i + 1 == commits:
             yield f"0 flush {names[i]}"

@@ -1,5 +1,5 @@
 -- What holds at each turn of the visits, which end at a lowest id.
-use Rattle.std.proofs.Common.{◌≡◌, ℕ, ◌+◌, ◌*◌, ◌<◌, ◌≤◌, ◌^◌, ◌⊎◌, ◌↔◌, inl, inr, max, List, [], Option, Some, None, refl, sym, subst, ◌∙◌, arith, ⊎_elim, le_refl}
+use Rattle.std.proofs.Common.{◌≡◌, ℕ, ◌+◌, ◌*◌, ◌<◌, ◌≤◌, ◌^◌, ◌⊎◌, ◌↔◌, inl, inr, max, List, [], ◌∷◌, Option, Some, None, refl, sym, subst, ◌∙◌, arith, ⊎_elim, le_refl}
 use Rattle.id_groups.specs.Lists.{IsIn}
 use Rattle.id_groups.specs.declared.span.IdSpan.{IdSpan}
 use Rattle.commit_graph.specs.Sets as sets
@@ -8,7 +8,7 @@ use Rattle.segment_codec.specs.Table.{IsHeld, IsLawful, IsEnding}
 use Rattle.segment_codec.proofs.Tables.{le_or_lt, segment-in}
 use Rattle.span_set.specs.Members.{IsMember}
 use Rattle.ancestor_query.specs.Graph.{table_graph}
-use Rattle.ancestor_query.specs.Visits.{ToVisit, IsNext, IsFrontier}
+use Rattle.ancestor_query.specs.Visits.{ToVisit, Keeps, IsNext, IsFrontier}
 use Rattle.ancestor_query.specs.Jumps.{IsBest}
 use Rattle.ancestor_query.specs.Counts.{count_segments, count_met, EndsWhole}
 use Rattle.ancestor_query.proofs.Down.{anc-reach, anc-visit, anc-inside, anc-bound, anc-top, anc-at_most, none-below, frontier-kept, frontier-jump, frontier-none}
@@ -41,6 +41,23 @@ module _ (flats : List Segment) (ending : ℕ → ℕ → Option Segment) (S : �
       few = omega arith;
       one = λ y h w. inl (refl, e, refl);
       bound = le_refl (2 ^ 57);
+    }
+
+    none-in : (xs : List ℕ) → ((w : ℕ) → IsIn w xs → ⊥) → xs ≡ []
+    none-in [] h = refl
+    none-in (x ∷ xs) h = absurd (h x (inl refl))
+
+    -- what lies at or above the frontier may go from the work
+    pub going-kept : (a : ℕ) (before after : List ℕ) (answer : List IdSpan) (taken : ℕ) → Keeps before after a → Going a before answer taken → Going a after answer taken
+    going-kept a before after answer taken k h = record {
+      exact = h.exact;
+      pending = frontier-kept flats lawful S a before after k h.pending;
+      few = h.few;
+      one = λ y is-y whole. ⊎_elim
+          (λ (e : (taken ≡ start) × (before ≡ []) × (a ≡ 2 ^ 57)). inl (e.0, none-in after (λ w i. subst (IsIn w) e.1 (k.kept w i)), e.2))
+          (λ (e : (taken ≤ start + 8) × ((w : ℕ) → ToVisit S before w → w < a → ⊥)). inr (e.0, λ w v lt. e.1 w (⊎_elim (λ m. inl m) (λ i. inr (k.kept w i)) v) lt))
+          (h.one y is-y whole);
+      bound = h.bound;
     }
 
     module _ (a : ℕ) (before after : List ℕ) (answer : List IdSpan) (taken : ℕ) (h : Going a before answer taken) where

@@ -254,3 +254,17 @@ both-peek before near near' far far' below a b r view keeps under top peeks e =
       greatest = either-greatest near' far' below r (subst (Greatest (λ x. IsIn x near' ⊎ IsIn x far') below) (sym e)
           (greatest-or (λ x. IsIn x near') (λ x. IsIn x far') below a b (under-bound near' below a under top) peeks.greatest));
     })
+
+-- the window alone moves on
+pub near-keep : (before near near' far : List ℕ) (below : ℕ) → near ++ far ≡ before → Keeps near near' below → Keeps before (near' ++ far) below
+near-keep before near near' far below view n = subst (λ l. Keeps l (near' ++ far) below) view (both-keep near near' far far below n (record { kept = λ x i. i; lost = λ x i lt. i }))
+
+pub in-both : (xs ys : List ℕ) (w : ℕ) → IsIn w (xs ++ ys) ↔ (IsIn w xs ⊎ IsIn w ys)
+in-both xs ys w = (λ i. in-append w xs ys i, λ s. ⊎_elim (λ j. in-left w xs ys j) (λ j. in-right w xs ys j) s)
+
+-- ids are put on the list behind a move
+pub pushed-past : (before moved ids after : List ℕ) (below : ℕ) → Keeps before moved below → ((x : ℕ) → IsIn x after ↔ (IsIn x moved ⊎ IsIn x ids)) → Keeps (before ++ ids) after below
+pushed-past before moved ids after below k p = record {
+  kept = λ x i. ⊎_elim (λ j. in-left x before ids (k.kept x j)) (λ j. in-right x before ids j) ((p x).0 i);
+  lost = λ x i lt. (p x).1 (⊎_elim (λ j. inl (k.lost x j lt)) (λ j. inr j) (in-append x before ids i));
+}

@@ -1,5 +1,5 @@
 -- Ids that wait.
-use Rattle.std.proofs.Common.{◌≡◌, ℕ, zero, suc, ◌<◌, ◌≤◌, ◌⊎◌, inl, inr, ◌↔◌, Bool, true, false, cond, ◌==◌, nat_lt, true≢false, max, List, [], ◌∷◌, length, get_or, refl, sym, subst, ◌∙◌, arith, ⊎_elim, le_of_suc-le-suc, Option, Some, None, IsSome, IfSome}
+use Rattle.std.proofs.Common.{◌≡◌, ℕ, zero, suc, ◌+◌, ◌-◌, ◌<◌, ◌≤◌, ◌⊎◌, inl, inr, ◌↔◌, Bool, true, false, cond, ◌==◌, nat_lt, true≢false, max, List, [], ◌∷◌, length, get_or, refl, sym, subst, ◌∙◌, arith, ⊎_elim, le_of_suc-le-suc, Option, Some, None, IsSome, IfSome}
 use Rattle.std.specs.List.{All}
 use Rattle.std.specs.List.Sorted.{IsPermutation}
 use Rattle.std.specs.Ordering.{nat_cmp, is_lt}
@@ -12,7 +12,7 @@ use Rattle.id_groups.specs.Lists.{IsIn}
 use Rattle.id_groups.specs.declared.span.IdSpan.{IdSpan}
 use Rattle.segment_codec.proofs.Tables.{le_or_lt}
 use Rattle.span_set.specs.Members.{IsMember, IsGreatestBelow}
-use Rattle.ancestor_query.specs.Visits.{ToVisit, greater_of, Keeps, Greatest, Peeks, IsNext}
+use Rattle.ancestor_query.specs.Visits.{ToVisit, greater_of, Keeps, Greatest, Peeks, IsEnd, IsNext}
 
 in-at : {X : Type 0} (xs : List X) (k : ℕ) (d : X) → k < length xs → IsIn (get_or xs k d) xs
 in-at [] k d lt = absurd (omega arith)
@@ -112,3 +112,30 @@ next-of set before after below a b r h g e = record {
   keeps = g.keeps;
   greatest = subst (Greatest (ToVisit (IsMember set) after) below) (sym e) (greatest-or (IsMember set) (λ x. IsIn x after) below a b (of-set set below a h) g.greatest);
 }
+
+-- where the members below a bound end
+pub end-some : (spans : List IdSpan) (below x n : ℕ) → IsGreatestBelow spans below (Some x) → n ≡ x + 1 → IsEnd (IsMember spans) below n
+end-some spans below x n h e = (
+  let lt = h.1 in omega (arith, lt, e),
+  λ _. subst (IsMember spans) (omega (arith, e)) h.0,
+  λ w m lt. let le = h.2 w m lt in omega (arith, le, e),
+)
+
+pub end-none : (spans : List IdSpan) (below : ℕ) → IsGreatestBelow spans below None → IsEnd (IsMember spans) below 0
+end-none spans below h = (omega arith, λ lt. absurd (omega (arith, lt)), λ w m lt. absurd (h w m lt))
+
+pub end-lower : (spans : List IdSpan) (bound below end : ℕ) → below ≤ bound → end ≤ below → IsEnd (IsMember spans) bound end → IsEnd (IsMember spans) below end
+end-lower spans bound below end le few h = (few, h.1, λ w m lt. h.2 w m (omega (arith, lt, le)))
+
+pub next-none : (spans : List IdSpan) (before after : List ℕ) (below end : ℕ) (b : Option ℕ) → IsEnd (IsMember spans) below end → end ≡ 0 → Peeks before after below b → IsNext (IsMember spans) before after below b
+next-none spans before after below end b h e g = next-of spans before after below None b b (λ w m lt. let l = h.2 w m lt in absurd (omega (arith, l, e))) g refl
+
+pub next-some : (spans : List IdSpan) (before after : List ℕ) (below end last : ℕ) (b r : Option ℕ) → IsEnd (IsMember spans) below end → last ≡ end - 1 → (end ≡ 0 → ⊥) → Peeks before after below b
+    → r ≡ greater_of (Some last) b → IsNext (IsMember spans) before after below r
+next-some spans before after below end last b r h e some g is =
+    let lt : 0 < end = omega (arith, some) in
+    next-of spans before after below (Some last) b r (
+      subst (IsMember spans) (sym e) (h.1 lt),
+      let le = h.0 in omega (arith, le, e, lt),
+      λ w m under. let l = h.2 w m under in omega (arith, l, e),
+    ) g is

@@ -1,5 +1,5 @@
 -- Visits of ids from the greatest down: what waits to be visited, and what is known of the ids gone over.
-use Rattle.std.specs.Prelude.{◌≡◌, ℕ, ◌<◌, ◌≤◌, ◌⊎◌, List, Option, Some, None, max}
+use Rattle.std.specs.Prelude.{◌≡◌, ℕ, ◌-◌, ◌<◌, ◌≤◌, ◌⊎◌, List, Option, Some, None, max}
 use Rattle.id_groups.specs.Lists.{IsIn}
 use Rattle.commit_graph.specs.Sets as sets
 use Rattle.segment_codec.specs.Record.{Segment}
@@ -24,6 +24,10 @@ pub record IsGreatest (P : ℕ → Type 0) (below x : ℕ) : Type 0 where
 abbrev pub Greatest : (ℕ → Type 0) → ℕ → Option ℕ → Type 0
 Greatest P below None = (w : ℕ) → P w → w < below → ⊥
 Greatest P below (Some x) = IsGreatest P below x
+
+-- one above the greatest with P below the bound; 0 where there is none
+abbrev pub IsEnd : (ℕ → Type 0) → ℕ → ℕ → Type 0
+IsEnd P below end = (end ≤ below) × (0 < end → P (end - 1)) × ((w : ℕ) → P w → w < below → w < end)
 
 -- the greatest of the work below the bound
 pub record Peeks (before after : List ℕ) (below : ℕ) (result : Option ℕ) : Type 0 where

@@ -8,7 +8,7 @@ ghost use Rattle.ancestor_query.specs.Graph.{table_graph};
 ghost use Rattle.ancestor_query.specs.Counts.{count_met, IsOnly, EndsWhole};
 
 use crate::jump::{Pace, paced_jump};
-use crate::work_list::WorkList;
+use crate::work_list::{WorkList, lower_end, members_end};
 use id_groups::{ID_END, Id, IdSpan};
 use segment_codec::{SegmentTable, Steps};
 use span_set::IdSet;
@@ -60,8 +60,9 @@ fn add_ancestors<T: SegmentTable>(
 {
     let least = floor.number();
     let mut frontier = ID_END;
+    let mut end = members_end(set, frontier);
     let mut pace = Pace::new();
-    'visit: while let Some(id) = work.next_id(set, frontier) {
+    'visit: while let Some(id) = work.next_of(end, frontier) {
         if id.number() < least {
             return Ok(());
         }
@@ -72,8 +73,10 @@ fn add_ancestors<T: SegmentTable>(
             low: from,
             high: id,
         })?;
+        work.slide(low);
         work.push_all(segment.parents())?;
         frontier = low;
+        end = lower_end(set, end, low);
     }
     Ok(())
 }

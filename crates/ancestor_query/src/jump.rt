@@ -98,13 +98,13 @@ pub fn best_jump<'a, T: SegmentTable>(table: &'a T, id: Id, steps: &mut Steps) -
 }
 
 /// At so many ids the levels are asked in vain before a walk pauses.
-const MISSES: u32 = 32;
+const MISSES: u32 = 16;
 
 /// A pause is of so many ids at first.
 const LEAST_PAUSE: u32 = 16;
 
 /// And of no more than so many.
-const MOST_PAUSE: u32 = 256;
+const MOST_PAUSE: u32 = 512;
 
 /// Whether a walk asks the levels at the next id. Where they often give no longer segment it asks none for a while, each time a
 /// longer one: so it saves look-ups in vain, and may take a few flat segments one by one.

@@ -1,12 +1,13 @@
 //! The ids that wait to be visited.
 
-ghost use Rattle.std.specs.Prelude.{◌≡◌, ◌≤◌, ◌^◌, ◌/◌, ◌⊎◌, ◌↔◌, ℕ, ◌<◌, [], OnOk, OnErr};
+ghost use Rattle.std.specs.Prelude.{◌≡◌, ◌≤◌, ◌^◌, ◌/◌, ◌⊎◌, ◌↔◌, ℕ, ◌<◌, List, [], OnOk, OnErr};
 ghost use Rattle.std.specs.BinaryHeap.{heap_items, IsHeap};
 ghost use Rattle.std.specs.Ordering.{nat_cmp};
 ghost use Rattle.id_groups.specs.Lists.{IsIn};
+ghost use Rattle.id_groups.specs.declared.span.IdSpan.{IdSpan};
 ghost use Rattle.segment_codec.specs.Lent.{parents_left};
 ghost use Rattle.span_set.specs.Members.{IsMember, IsGreatestBelow};
-ghost use Rattle.ancestor_query.specs.Visits.{Keeps, Peeks, IsNext, greater_of};
+ghost use Rattle.ancestor_query.specs.Visits.{Keeps, Peeks, IsEnd, IsNext, greater_of};
 ghost use Rattle.ancestor_query.specs.Window.{Takes, IsGreatestOf};
 
 use id_groups::{ID_END, Id};
@@ -154,6 +155,30 @@ fn greatest_member_below(set: &IdSet, below: u64) -> Option<Id>
     set.greatest_below(Id::from_number(below))
 }
 
+/// One above the greatest member below the bound; 0 where there is none.
+#[inline]
+pub(crate) fn members_end(set: &IdSet, below: u64) -> u64
+    requires { below ≤ 2 ^ 57 }
+    ensures { IsEnd (IsMember set.now) below result }
+{
+    let Some(id) = greatest_member_below(set, below) else {
+        return 0;
+    };
+    id.number() + 1
+}
+
+/// The same, where `end` is that below a bound that was no lower: the set is searched only where it isn't this one too.
+#[inline(always)]
+pub(crate) fn lower_end(set: &IdSet, end: u64, below: u64) -> u64
+    requires { below ≤ 2 ^ 57 }
+    ensures { (bound : ℕ) → below ≤ bound → IsEnd (IsMember set.now) bound end → IsEnd (IsMember set.now) below result }
+{
+    if end <= below {
+        return end;
+    }
+    members_end(set, below)
+}
+
 /// The greater of the two, where there are two.
 #[inline]
 fn greater(a: Option<Id>, b: Option<Id>) -> Option<Id>
@@ -215,6 +240,29 @@ impl WorkList {
         self.near.slide(below);
         let far = top_below(&mut self.far, below);
         greater(self.near.greatest(), far)
+    }
+
+    /// Drops ids at or above the bound, so that those that are put on the list next, and lie close below it, wait in the window.
+    #[inline(always)]
+    pub(crate) fn slide(&mut self, below: u64)
+        ensures { Keeps self.old self.new below }
+    {
+        self.near.slide(below);
+    }
+
+    /// The greatest id below the bound, of those that wait and of a set whose members below it end at `end`; `None` exactly where there is none.
+    /// It drops what `next_below` does.
+    #[inline]
+    pub(crate) fn next_of(&mut self, end: u64, below: u64) -> Option<Id>
+        requires { end ≤ 2 ^ 57 }
+        ensures { (spans : List IdSpan) → IsEnd (IsMember spans) below end → IsNext (IsMember spans) self.old self.new below result }
+    {
+        let of_work = self.next_below(below);
+        if end == 0 {
+            return of_work;
+        }
+        let last = Id::from_number(end - 1);
+        greater(Some(last), of_work)
     }
 
     /// The greatest id below the bound, of the set and of those that wait; `None` exactly where there is none. It drops

@@ -1,4 +1,5 @@
 pub mod Turns
+pub mod Within
 pub mod Entries
 pub mod Ascending
 pub mod Records

@@ -21,10 +21,13 @@ fn is_within(number: u64, end: u64) -> bool
     number < end || FIRST_OTHER <= number
 }
 
-/// Whether each parent is a master id below the end, or of the other group.
+/// Whether each parent is a master id below the end, or of the other group. None is read where the end is behind all master ids.
 fn parents_are_within(segment: SegmentRef<'_>, end: u64) -> bool
     ensures { result ≡ are_within end (segment_of segment.entry).parents }
 {
+    if FIRST_OTHER <= end {
+        return true;
+    }
     let mut parents = segment.parents();
     'parents: while let Some(parent) = parents.next() {
         if !is_within(parent.number(), end) {

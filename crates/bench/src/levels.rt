@@ -249,19 +249,25 @@ fn time_pairs<T: SegmentTable>(
     )
 }
 
-/// Times the children of so many commits within so many of the newest ids.
+/// Within how many of the newest ids commits are asked for their children, and how that is called.
+#[derive(Clone, Copy)]
+struct Within<'a> {
+    name: &'a str,
+    reach: u64,
+}
+
+/// Times the children of so many commits, within so many of the newest ids.
 fn time_children_within<T: SegmentTable>(
     rt: &HostRuntime,
     table: &T,
     ids: u64,
     what: &str,
-    name: &str,
-    reach: u64,
+    within: Within<'_>,
     count: u64,
 ) -> io::Result<()> {
-    headed_times(rt, name, what, count)?;
+    headed_times(rt, within.name, what, count)?;
     let start = Instant::now(rt)?;
-    let sum = ask_children(rt.alloc(), table, ids, reach, count)?;
+    let sum = ask_children(rt.alloc(), table, ids, within.reach, count)?;
     told(rt, "together", start, sum)
 }
 
@@ -273,9 +279,16 @@ fn time_children<T: SegmentTable>(
     what: &str,
     count: u64,
 ) -> io::Result<()> {
-    time_children_within(rt, table, ids, what, "children, anywhere", ids, count)?;
-    let newest = "children, among the newest hundredth";
-    time_children_within(rt, table, ids, what, newest, ids / 100, count)
+    let anywhere = Within {
+        name: "children, anywhere",
+        reach: ids,
+    };
+    time_children_within(rt, table, ids, what, anywhere, count)?;
+    let newest = Within {
+        name: "children, among the newest hundredth",
+        reach: ids / 100,
+    };
+    time_children_within(rt, table, ids, what, newest, count)
 }
 
 /// The sample of a copy of the records, of which none was added yet.

@@ -14,8 +14,6 @@ mod lent;
 mod noted;
 mod owned;
 mod still;
-#[cfg(test)]
-mod tests;
 
 pub use crate::disk::{Beneath, NotedDisk};
 pub use crate::lent::LentDisk;

@@ -6,7 +6,7 @@ ghost use Rattle.outside.specs.Told.{WhereTold, TookFront, Puts};
 ghost use Rattle.id_groups.specs.Id.{id_text};
 ghost use Rattle.run_rules.specs.Ends.{disk_text};
 ghost use Rattle.step_rules.specs.Reply.{LevelSizes, reply_text, words_text};
-ghost use Rattle.dag_store.specs.Names.{names_left};
+ghost use Rattle.store_queries.specs.Names.{names_left};
 ghost use Rattle.command_lines.specs.Sending.{Sends, lines_text, listed_text, shrunk_text};
 ghost use Rattle.command_lines.specs.Told.{reply_head, told};
 

@@ -16,6 +16,13 @@ use segment_codec::{Parents, SegmentTable, Steps};
 use span_set::IdSet;
 use std::alloc::{AllocError, Global};
 
+/// The ids that wait to be visited: those that the first set reaches, and those that the second reaches.
+#[derive(Drop)]
+struct Unvisited {
+    mine: WorkList,
+    theirs: WorkList,
+}
+
 /// The greater of an id and another, where there is one.
 #[inline]
 pub(crate) fn greater_with(id: Id, other: &Option<Id>) -> Id
@@ -58,16 +65,15 @@ fn floor_of(id: Id, next: Id, reached: &Option<Id>) -> u64
 fn push_either(
     low: Id,
     start: u64,
-    mine: &mut WorkList,
-    theirs: &mut WorkList,
+    unvisited: &mut Unvisited,
     parents: Parents<'_>,
 ) -> Result<(), AllocError>
-    ensures { OnOk result (PutsEither low start (parents_left parents.entry) mine.old theirs.old mine.new theirs.new) }
+    ensures { OnOk result (PutsEither low start (parents_left parents.entry) unvisited.old.mine unvisited.old.theirs unvisited.new.mine unvisited.new.theirs) }
 {
     if low.number() < start {
-        return theirs.push_all(parents);
+        return unvisited.theirs.push_all(parents);
     }
-    mine.push_all(parents)
+    unvisited.mine.push_all(parents)
 }
 
 /// The ids that some member of `from` reaches along parents and no member of `minus`. Each member of either is an id of
@@ -88,25 +94,18 @@ pub fn only<T: SegmentTable>(
     ensures counted { min steps.old.taken (2 ^ 64 - 1) ≤ steps.new.taken }
 {
     let mut answer = IdSet::empty(alloc);
-    let mut mine = WorkList::empty(alloc);
-    let mut theirs = WorkList::empty(alloc);
-    add_only(
-        &mut answer,
-        &mut mine,
-        &mut theirs,
-        table,
-        from,
-        minus,
-        steps,
-    )?;
+    let mut unvisited = Unvisited {
+        mine: WorkList::empty(alloc),
+        theirs: WorkList::empty(alloc),
+    };
+    add_only(&mut answer, &mut unvisited, table, from, minus, steps)?;
     Ok(answer)
 }
 
-/// The walk: the answer gets the ids, and has none before. What either side reaches waits on its list; both are empty before.
+/// The walk: the answer gets the ids, and has none before. What either set reaches waits; nothing does before.
 fn add_only<T: SegmentTable>(
     answer: &mut IdSet,
-    mine: &mut WorkList,
-    theirs: &mut WorkList,
+    unvisited: &mut Unvisited,
     table: &T,
     from: &IdSet,
     minus: &IdSet,
@@ -115,22 +114,22 @@ fn add_only<T: SegmentTable>(
     requires from { (x : ℕ) → IsMember from.now x → IsHeld (T.flats table.now) x }
     requires minus { (x : ℕ) → IsMember minus.now x → IsHeld (T.flats table.now) x }
     requires answer { answer.old ≡ [] }
-    requires mine { mine.old ≡ [] }
-    requires theirs { theirs.old ≡ [] }
+    requires mine { unvisited.old.mine ≡ [] }
+    requires theirs { unvisited.old.theirs ≡ [] }
     ensures members { OnOk result ((x : ℕ) → IsMember answer.new x ↔ sets.only (table_graph (T.flats table.now)) (IsMember from.now) (IsMember minus.now) x) }
     ensures canonical { OnOk result (IsCanonical answer.new) }
     ensures counted { min steps.old.taken (2 ^ 64 - 1) ≤ steps.new.taken }
 {
     let mut frontier = ID_END;
-    'visit: while let Some(next) = mine.next_id(from, frontier) {
-        let reached = theirs.next_id(minus, frontier);
+    'visit: while let Some(next) = unvisited.mine.next_id(from, frontier) {
+        let reached = unvisited.theirs.next_id(minus, frontier);
         let id = greater_with(next, &reached);
         let floor = floor_of(id, next, &reached);
         let segment = jump_above(table, id, floor, steps);
         let low = segment.low();
         let start = first_above(low, &reached);
         answer.insert_between(start, id.number() + 1)?;
-        push_either(low, start, mine, theirs, segment.parents())?;
+        push_either(low, start, unvisited, segment.parents())?;
         frontier = low.number();
     }
     Ok(())

@@ -14,6 +14,7 @@ ghost use Rattle.dag_run.specs.Stops.{IsDemoStatus};
 
 use crate::Limits;
 use crate::execute::execute;
+use crate::reach::Reach;
 use crate::stops::Stop;
 use dag_store::Store;
 use demo_input::{CommitLines, last_lines};
@@ -51,16 +52,12 @@ fn answer<D: Disk, R: Remote>(
 {
     let mut mirrors: Mirrors<R> = Mirrors::new(Vec::new(alloc));
     let mut changes = Vec::new(alloc);
-    execute(
-        alloc,
-        store,
-        log,
-        &mut mirrors,
-        &mut changes,
-        Line::Text,
-        line,
-        replies,
-    )
+    let reach = Reach {
+        disk: log,
+        mirrors: &mut mirrors,
+        changes: &mut changes,
+    };
+    execute(alloc, store, reach, Line::Text, line, replies)
 }
 
 /// Executes all the lines of commits. Nobody hears their replies.

@@ -16,6 +16,7 @@ ghost use Rattle.command_lines.specs.Told.{told};
 ghost use Rattle.dag_run.specs.Replies.{IsUnreadFor};
 ghost use Rattle.dag_run.specs.Lines.{changes_with, CommandReplies, DoesBeside, DropsAt, IsBrief, LineReplies, LineLeaves, MayStore};
 
+use crate::reach::Reach;
 use crate::replies::{
     list, reply_of_add, reply_of_count, reply_of_id, reply_of_reload, tell, tell_done, tell_fault,
     tell_refused, tell_unread,
@@ -125,108 +126,132 @@ fn tell_brief<O: Sink, R: Remote>(
     tell(store, &reply, output)
 }
 
-/// Does what is asked for that may store, notes its moment, and puts the reply. The memory for the moment is taken before.
-fn tell_change<D: Disk, O: Sink, R: Remote>(
+/// Does what is asked for that may store, notes its moment, for which there is room, and puts the reply.
+fn change_and_tell<D: Disk, O: Sink, R: Remote>(
     store: Store,
-    log: &mut D,
-    mirrors: &mut Mirrors<R>,
-    changes: &mut Vec<u64>,
+    reach: Reach<'_, '_, '_, D, R>,
     s: u8,
     ask: Ask<'_>,
     output: &mut O,
 ) -> Result<Store, Stop>
     requires session { s < 16 }
     requires asked { MayBeAsked (verb_of ask) }
-    requires begins { IfSome (D.told log.old) (IsOnDisk store.log) }
-    ensures step { let first = map R.shown mirrors.old.list.items in let left = map R.shown mirrors.new.list.items in
-        (payload : List ℕ) × (clock : Option ℕ) × (changes.new.items ≡ changes_with changes.old.items clock)
-        × Goes (LineLeaves store payload clock result) (D.told log.old) (D.told log.new)
+    requires room { length reach.changes.now.items < vec_capacity reach.changes.now }
+    requires begins { IfSome (D.told reach.disk.now) (IsOnDisk store.log) }
+    ensures step { let first = map R.shown reach.entry.mirrors.now.list.items in let left = map R.shown reach.exit.1.0.now.list.items in
+        (payload : List ℕ) × (clock : Option ℕ) × (reach.exit.1.1.0.now.items ≡ changes_with reach.entry.changes.now.items clock)
+        × Goes (LineLeaves store payload clock result) (D.told reach.entry.disk.now) (D.told reach.exit.0.now)
         × WhereTold (O.taken output.old) (O.taken output.new) (CommandReplies first left (Rose (O.faults output.old) (O.faults output.new)) store s (verb_of ask.entry) payload clock result) }
     ensures limits { IfOk result (λ next. next.limits ≡ store.limits) }
     ensures stop { IfErr result IsLineStop }
-    ensures disk { result ≡ Err Stop.NotStored → Rose (D.faults log.old) (D.faults log.new) }
-    ensures disk_later { D.faults log.old ≤ D.faults log.new }
+    ensures disk { result ≡ Err Stop.NotStored → Rose (D.faults reach.entry.disk.now) (D.faults reach.exit.0.now) }
+    ensures disk_later { D.faults reach.entry.disk.now ≤ D.faults reach.exit.0.now }
     ensures sink { result ≡ Err Stop.Sink → Rose (O.faults output.old) (O.faults output.new) }
     ensures sink_later { O.faults output.old ≤ O.faults output.new }
 {
-    if changes.try_reserve(1).is_err() {
-        return tell_refused(store, Refusal::Memory, output);
-    }
+    let Reach {
+        disk,
+        mirrors,
+        changes,
+    } = reach;
     let _limit = store.log_limit();
-    match store.change(log, s, mirrors, ask) {
-        Changed::Done(store, counts, clock) => {
-            note(changes, clock);
-            tell_done(store, ask, counts, output)
-        }
-        Changed::Refused(store, refusal) => tell_refused(store, refusal, output),
+    let (store, counts, clock) = match store.change(disk, s, mirrors, ask) {
+        Changed::Done(store, counts, clock) => (store, counts, clock),
+        Changed::Refused(store, refusal) => return tell_refused(store, refusal, output),
         Changed::Disk(_) => {
             tell_fault(output);
-            Err(Stop::NotStored)
+            return Err(Stop::NotStored);
         }
+    };
+    note(changes, clock);
+    tell_done(store, ask, counts, output)
+}
+
+/// Does what is asked for that may store, notes its moment, and puts the reply. The memory for the moment is taken before.
+fn tell_change<D: Disk, O: Sink, R: Remote>(
+    store: Store,
+    reach: Reach<'_, '_, '_, D, R>,
+    s: u8,
+    ask: Ask<'_>,
+    output: &mut O,
+) -> Result<Store, Stop>
+    requires session { s < 16 }
+    requires asked { MayBeAsked (verb_of ask) }
+    requires begins { IfSome (D.told reach.disk.now) (IsOnDisk store.log) }
+    ensures step { let first = map R.shown reach.entry.mirrors.now.list.items in let left = map R.shown reach.exit.1.0.now.list.items in
+        (payload : List ℕ) × (clock : Option ℕ) × (reach.exit.1.1.0.now.items ≡ changes_with reach.entry.changes.now.items clock)
+        × Goes (LineLeaves store payload clock result) (D.told reach.entry.disk.now) (D.told reach.exit.0.now)
+        × WhereTold (O.taken output.old) (O.taken output.new) (CommandReplies first left (Rose (O.faults output.old) (O.faults output.new)) store s (verb_of ask.entry) payload clock result) }
+    ensures limits { IfOk result (λ next. next.limits ≡ store.limits) }
+    ensures stop { IfErr result IsLineStop }
+    ensures disk { result ≡ Err Stop.NotStored → Rose (D.faults reach.entry.disk.now) (D.faults reach.exit.0.now) }
+    ensures disk_later { D.faults reach.entry.disk.now ≤ D.faults reach.exit.0.now }
+    ensures sink { result ≡ Err Stop.Sink → Rose (O.faults output.old) (O.faults output.new) }
+    ensures sink_later { O.faults output.old ≤ O.faults output.new }
+{
+    if reach.changes.try_reserve(1).is_err() {
+        return tell_refused(store, Refusal::Memory, output);
     }
+    change_and_tell(store, reach, s, ask, output)
 }
 
 /// Executes a command and puts its reply.
 fn execute_command<D: Disk, O: Sink, R: Remote>(
     store: Store,
-    log: &mut D,
-    mirrors: &mut Mirrors<R>,
-    changes: &mut Vec<u64>,
+    reach: Reach<'_, '_, '_, D, R>,
     command: &Command,
     output: &mut O,
 ) -> Result<Store, Stop>
     requires session { command.now.session < 16 }
     requires counted { HasRightCount (meant command.now.verb) }
-    requires begins { IfSome (D.told log.old) (IsOnDisk store.log) }
-    ensures step { let first = map R.shown mirrors.old.list.items in let left = map R.shown mirrors.new.list.items in
-        (payload : List ℕ) × (clock : Option ℕ) × (changes.new.items ≡ changes_with changes.old.items clock)
-        × Goes (LineLeaves store payload clock result) (D.told log.old) (D.told log.new)
+    requires begins { IfSome (D.told reach.disk.now) (IsOnDisk store.log) }
+    ensures step { let first = map R.shown reach.entry.mirrors.now.list.items in let left = map R.shown reach.exit.1.0.now.list.items in
+        (payload : List ℕ) × (clock : Option ℕ) × (reach.exit.1.1.0.now.items ≡ changes_with reach.entry.changes.now.items clock)
+        × Goes (LineLeaves store payload clock result) (D.told reach.entry.disk.now) (D.told reach.exit.0.now)
         × WhereTold (O.taken output.old) (O.taken output.new) (CommandReplies first left (Rose (O.faults output.old) (O.faults output.new)) store command.now.session (meant command.now.verb) payload clock result) }
     ensures limits { IfOk result (λ next. next.limits ≡ store.limits) }
     ensures stop { IfErr result IsLineStop }
-    ensures disk { result ≡ Err Stop.NotStored → Rose (D.faults log.old) (D.faults log.new) }
-    ensures disk_later { D.faults log.old ≤ D.faults log.new }
+    ensures disk { result ≡ Err Stop.NotStored → Rose (D.faults reach.entry.disk.now) (D.faults reach.exit.0.now) }
+    ensures disk_later { D.faults reach.entry.disk.now ≤ D.faults reach.exit.0.now }
     ensures sink { result ≡ Err Stop.Sink → Rose (O.faults output.old) (O.faults output.new) }
     ensures sink_later { O.faults output.old ≤ O.faults output.new }
 {
     let s = command.session;
     match &command.verb {
-        Verb::Query(expr) => list(store, mirrors, s, expr, output),
+        Verb::Query(expr) => list(store, reach.mirrors, s, expr, output),
         Verb::Flush(_) | Verb::Strip(_) | Verb::Clone | Verb::Pull => {
             let ask = ask_of(&command.verb);
-            tell_change(store, log, mirrors, changes, s, ask, output)
+            tell_change(store, reach, s, ask, output)
         }
-        verb => tell_brief(store, mirrors, s, verb, output),
+        verb => tell_brief(store, reach.mirrors, s, verb, output),
     }
 }
 
 /// Executes what was read of a line that gets a reply.
 fn execute_parsed<D: Disk, O: Sink, R: Remote>(
     store: Store,
-    log: &mut D,
-    mirrors: &mut Mirrors<R>,
-    changes: &mut Vec<u64>,
+    reach: Reach<'_, '_, '_, D, R>,
     parsed: &Result<Command, CommandFault>,
     output: &mut O,
 ) -> Result<Store, Stop>
     requires session { IfOk parsed.now (λ command. command.session < 16) }
     requires counted { IfOk parsed.now (λ command. HasRightCount (meant command.verb)) }
-    requires begins { IfSome (D.told log.old) (IsOnDisk store.log) }
-    ensures step { let first = map R.shown mirrors.old.list.items in let left = map R.shown mirrors.new.list.items in
-        (payload : List ℕ) × (clock : Option ℕ) × (changes.new.items ≡ changes_with changes.old.items clock)
-        × Goes (LineLeaves store payload clock result) (D.told log.old) (D.told log.new)
+    requires begins { IfSome (D.told reach.disk.now) (IsOnDisk store.log) }
+    ensures step { let first = map R.shown reach.entry.mirrors.now.list.items in let left = map R.shown reach.exit.1.0.now.list.items in
+        (payload : List ℕ) × (clock : Option ℕ) × (reach.exit.1.1.0.now.items ≡ changes_with reach.entry.changes.now.items clock)
+        × Goes (LineLeaves store payload clock result) (D.told reach.entry.disk.now) (D.told reach.exit.0.now)
         × WhereTold (O.taken output.old) (O.taken output.new) (λ before now. (text : List ℕ) → is_empty_or_comment text ≡ false → length text ≤ 16384
         → MatchResult parsed.now (λ command. SpellsCommand text command.session (meant command.verb)) (IsUnreadFor text)
         → LineReplies first left (Rose (O.faults output.old) (O.faults output.new)) store text payload clock result before now) }
     ensures limits { IfOk result (λ next. next.limits ≡ store.limits) }
     ensures stop { IfErr result IsLineStop }
-    ensures disk { result ≡ Err Stop.NotStored → Rose (D.faults log.old) (D.faults log.new) }
-    ensures disk_later { D.faults log.old ≤ D.faults log.new }
+    ensures disk { result ≡ Err Stop.NotStored → Rose (D.faults reach.entry.disk.now) (D.faults reach.exit.0.now) }
+    ensures disk_later { D.faults reach.entry.disk.now ≤ D.faults reach.exit.0.now }
     ensures sink { result ≡ Err Stop.Sink → Rose (O.faults output.old) (O.faults output.new) }
     ensures sink_later { O.faults output.old ≤ O.faults output.new }
 {
     match parsed {
-        Ok(command) => execute_command(store, log, mirrors, changes, command, output),
+        Ok(command) => execute_command(store, reach, command, output),
         Err(fault) => tell_unread(store, *fault, output),
     }
 }
@@ -238,28 +263,26 @@ fn let_go(_parsed: Result<Command, CommandFault>) {}
 fn execute_text<D: Disk, O: Sink, R: Remote>(
     alloc: Global,
     store: Store,
-    log: &mut D,
-    mirrors: &mut Mirrors<R>,
-    changes: &mut Vec<u64>,
+    reach: Reach<'_, '_, '_, D, R>,
     text: &[u8],
     output: &mut O,
 ) -> Result<Store, Stop>
-    requires begins { IfSome (D.told log.old) (IsOnDisk store.log) }
+    requires begins { IfSome (D.told reach.disk.now) (IsOnDisk store.log) }
     requires heard { is_empty_or_comment text.now ≡ false }
-    ensures step { let first = map R.shown mirrors.old.list.items in let left = map R.shown mirrors.new.list.items in
-        (payload : List ℕ) × (clock : Option ℕ) × (changes.new.items ≡ changes_with changes.old.items clock)
-        × Goes (LineLeaves store payload clock result) (D.told log.old) (D.told log.new)
+    ensures step { let first = map R.shown reach.entry.mirrors.now.list.items in let left = map R.shown reach.exit.1.0.now.list.items in
+        (payload : List ℕ) × (clock : Option ℕ) × (reach.exit.1.1.0.now.items ≡ changes_with reach.entry.changes.now.items clock)
+        × Goes (LineLeaves store payload clock result) (D.told reach.entry.disk.now) (D.told reach.exit.0.now)
         × WhereTold (O.taken output.old) (O.taken output.new) (λ before now. length text.now ≤ 16384
         → LineReplies first left (Rose (O.faults output.old) (O.faults output.new)) store text.now payload clock result before now) }
     ensures limits { IfOk result (λ next. next.limits ≡ store.limits) }
     ensures stop { IfErr result IsLineStop }
-    ensures disk { result ≡ Err Stop.NotStored → Rose (D.faults log.old) (D.faults log.new) }
-    ensures disk_later { D.faults log.old ≤ D.faults log.new }
+    ensures disk { result ≡ Err Stop.NotStored → Rose (D.faults reach.entry.disk.now) (D.faults reach.exit.0.now) }
+    ensures disk_later { D.faults reach.entry.disk.now ≤ D.faults reach.exit.0.now }
     ensures sink { result ≡ Err Stop.Sink → Rose (O.faults output.old) (O.faults output.new) }
     ensures sink_later { O.faults output.old ≤ O.faults output.new }
 {
     let parsed = Command::parse(alloc, text);
-    let next = execute_parsed(store, log, mirrors, changes, &parsed, output);
+    let next = execute_parsed(store, reach, &parsed, output);
     let_go(parsed);
     next
 }
@@ -268,29 +291,27 @@ fn execute_text<D: Disk, O: Sink, R: Remote>(
 pub fn execute<D: Disk, O: Sink, R: Remote>(
     alloc: Global,
     store: Store,
-    log: &mut D,
-    mirrors: &mut Mirrors<R>,
-    changes: &mut Vec<u64>,
+    reach: Reach<'_, '_, '_, D, R>,
     kind: Line,
     text: &[u8],
     output: &mut O,
 ) -> Result<Store, Stop>
-    requires { IfSome (D.told log.old) (IsOnDisk store.log) }
-    ensures step { let first = map R.shown mirrors.old.list.items in let left = map R.shown mirrors.new.list.items in
-        (payload : List ℕ) × (clock : Option ℕ) × (changes.new.items ≡ changes_with changes.old.items clock)
-        × Goes (LineLeaves store payload clock result) (D.told log.old) (D.told log.new)
+    requires { IfSome (D.told reach.disk.now) (IsOnDisk store.log) }
+    ensures step { let first = map R.shown reach.entry.mirrors.now.list.items in let left = map R.shown reach.exit.1.0.now.list.items in
+        (payload : List ℕ) × (clock : Option ℕ) × (reach.exit.1.1.0.now.items ≡ changes_with reach.entry.changes.now.items clock)
+        × Goes (LineLeaves store payload clock result) (D.told reach.entry.disk.now) (D.told reach.exit.0.now)
         × WhereTold (O.taken output.old) (O.taken output.new) (λ before now. (line : List ℕ) → IsLine kind text.now line
         → LineReplies first left (Rose (O.faults output.old) (O.faults output.new)) store line payload clock result before now) }
     ensures limits { IfOk result (λ next. next.limits ≡ store.limits) }
     ensures stop { IfErr result IsLineStop }
-    ensures disk { result ≡ Err Stop.NotStored → Rose (D.faults log.old) (D.faults log.new) }
-    ensures disk_later { D.faults log.old ≤ D.faults log.new }
+    ensures disk { result ≡ Err Stop.NotStored → Rose (D.faults reach.entry.disk.now) (D.faults reach.exit.0.now) }
+    ensures disk_later { D.faults reach.entry.disk.now ≤ D.faults reach.exit.0.now }
     ensures sink { result ≡ Err Stop.Sink → Rose (O.faults output.old) (O.faults output.new) }
     ensures sink_later { O.faults output.old ≤ O.faults output.new }
 {
     match kind {
         Line::TooLong => tell(store, &Reply::LongLine, output),
         Line::Text if is_comment(text) => Ok(store),
-        Line::Text => execute_text(alloc, store, log, mirrors, changes, text, output),
+        Line::Text => execute_text(alloc, store, reach, text, output),
     }
 }

@@ -35,6 +35,7 @@ use crate::bundling::put_bundle;
 use crate::compacting::compact_log;
 use crate::demo::demo;
 use crate::execute::execute;
+use crate::reach::Reach;
 use crate::replies::tell_fault;
 use crate::serving::serve_mirror;
 use crate::stops::Stop;
@@ -105,44 +106,33 @@ fn fail_run(_store: Store, fault: LineFault) -> Result<Option<Store>, Stop>
 fn answer_next<D: Disk, I: Source, O: Sink, R: Remote>(
     alloc: Global,
     store: Store,
-    log: &mut D,
-    mirrors: &mut Mirrors<R>,
+    reach: Reach<'_, '_, '_, D, R>,
     lines: &mut Lines,
     input: &mut I,
     output: &mut O,
-    changes: &mut Vec<u64>,
 ) -> Result<Option<Store>, Stop>
-    requires ready { IfSome (D.told log.old) (IsOnDisk store.log) }
-    ensures means { let here = map R.shown mirrors.old.list.items in let left = map R.shown mirrors.new.list.items in
+    requires ready { IfSome (D.told reach.disk.now) (IsOnDisk store.log) }
+    ensures means { let here = map R.shown reach.entry.mirrors.now.list.items in let left = map R.shown reach.exit.1.0.now.list.items in
         (limits : OfRun) (w : World Name) (payloads : List Payload) (room : ℕ) (first : List Mirror) (faults : ℕ) → AreLimits limits → store.limits ≡ limits → faults ≤ O.faults output.old
-        → WhereTold (seen (D.told log.old) (I.left input.old) (O.taken output.old)) (seen (D.told log.new) (I.left input.new) (O.taken output.new))
+        → WhereTold (seen (D.told reach.entry.disk.now) (I.left input.old) (O.taken output.old)) (seen (D.told reach.exit.0.now) (I.left input.new) (O.taken output.new))
         (λ now after. (before : Seen) → Begins limits w payloads room first before
-        → Going limits w payloads room first here store changes.old.items lines.old before now
-        → TurnMeans limits w payloads room first left changes.new.items lines.new (Rose faults (O.faults output.new)) result before after) }
+        → Going limits w payloads room first here store reach.entry.changes.now.items lines.old before now
+        → TurnMeans limits w payloads room first left reach.exit.1.1.0.now.items lines.new (Rose faults (O.faults output.new)) result before after) }
     ensures over { WhereTold (I.left input.old) (I.left input.new) (λ before after. GoesOver result (is_over lines.old before) (is_over lines.new after)) }
     ensures limits { IfOk result (λ next. IfSome next (λ kept. kept.limits ≡ store.limits)) }
-    ensures ready { IfOk result (λ next. IfSome next (λ kept. IfSome (D.told log.new) (IsOnDisk kept.log))) }
+    ensures ready { IfOk result (λ next. IfSome next (λ kept. IfSome (D.told reach.exit.0.now) (IsOnDisk kept.log))) }
     ensures less { IfOk result (λ next. IfSome next (λ kept. budget lines.new < budget lines.old)) }
     ensures stop { IfErr result IsAnswerStop }
-    ensures disk { result ≡ Err Stop.NotStored → Rose (D.faults log.old) (D.faults log.new) }
+    ensures disk { result ≡ Err Stop.NotStored → Rose (D.faults reach.entry.disk.now) (D.faults reach.exit.0.now) }
     ensures source { result ≡ Err Stop.Source → Rose (I.faults input.old) (I.faults input.new) }
     ensures sink { result ≡ Err Stop.Sink → Rose (O.faults output.old) (O.faults output.new) }
-    ensures disk_later { D.faults log.old ≤ D.faults log.new }
+    ensures disk_later { D.faults reach.entry.disk.now ≤ D.faults reach.exit.0.now }
     ensures source_later { I.faults input.old ≤ I.faults input.new }
     ensures sink_later { O.faults output.old ≤ O.faults output.new }
 {
     match lines.next(input) {
         Ok(Some(kind)) => {
-            match execute(
-                alloc,
-                store,
-                log,
-                mirrors,
-                changes,
-                kind,
-                lines.text(),
-                output,
-            ) {
+            match execute(alloc, store, reach, kind, lines.text(), output) {
                 Ok(next) => Ok(Some(next)),
                 Err(stop) => Err(stop),
             }
@@ -156,32 +146,44 @@ fn answer_next<D: Disk, I: Source, O: Sink, R: Remote>(
 fn answer_lines<D: Disk, I: Source, O: Sink, R: Remote>(
     alloc: Global,
     store: Store,
-    log: &mut D,
-    mirrors: &mut Mirrors<R>,
+    reach: Reach<'_, '_, '_, D, R>,
     lines: &mut Lines,
     input: &mut I,
     output: &mut O,
-    changes: &mut Vec<u64>,
 ) -> Result<(), Stop>
-    requires ready { IfSome (D.told log.old) (IsOnDisk store.log) }
-    ensures means { let here = map R.shown mirrors.old.list.items in let left = map R.shown mirrors.new.list.items in
+    requires ready { IfSome (D.told reach.disk.now) (IsOnDisk store.log) }
+    ensures means { let here = map R.shown reach.entry.mirrors.now.list.items in let left = map R.shown reach.exit.1.0.now.list.items in
         (limits : OfRun) (w : World Name) (payloads : List Payload) (room : ℕ) (first : List Mirror) (faults : ℕ) → AreLimits limits → store.limits ≡ limits → faults ≤ O.faults output.old
-        → WhereTold (seen (D.told log.old) (I.left input.old) (O.taken output.old)) (seen (D.told log.new) (I.left input.new) (O.taken output.new))
+        → WhereTold (seen (D.told reach.entry.disk.now) (I.left input.old) (O.taken output.old)) (seen (D.told reach.exit.0.now) (I.left input.new) (O.taken output.new))
         (λ now after. (before : Seen) → Begins limits w payloads room first before
-        → Going limits w payloads room first here store changes.old.items lines.old before now
-        → Means limits w payloads room first left (streams before after) (Rose faults (O.faults output.new)) before.disk after.disk (end_of result) changes.new.items) }
+        → Going limits w payloads room first here store reach.entry.changes.now.items lines.old before now
+        → Means limits w payloads room first left (streams before after) (Rose faults (O.faults output.new)) before.disk after.disk (end_of result) reach.exit.1.1.0.now.items) }
     ensures over { WhereTold (I.left input.old) (I.left input.new) (λ before after. IsOverAt result (is_over lines.old before)) }
     ensures stop { IfErr result IsAnswerStop }
-    ensures disk { result ≡ Err Stop.NotStored → Rose (D.faults log.old) (D.faults log.new) }
+    ensures disk { result ≡ Err Stop.NotStored → Rose (D.faults reach.entry.disk.now) (D.faults reach.exit.0.now) }
     ensures source { result ≡ Err Stop.Source → Rose (I.faults input.old) (I.faults input.new) }
     ensures sink { result ≡ Err Stop.Sink → Rose (O.faults output.old) (O.faults output.new) }
-    ensures disk_later { D.faults log.old ≤ D.faults log.new }
+    ensures disk_later { D.faults reach.entry.disk.now ≤ D.faults reach.exit.0.now }
     ensures source_later { I.faults input.old ≤ I.faults input.new }
     ensures sink_later { O.faults output.old ≤ O.faults output.new }
 {
+    let Reach {
+        disk,
+        mirrors,
+        changes,
+    } = reach;
     let mut store = store;
     'lines: while let Some(next) = answer_next(
-        alloc, store, log, mirrors, lines, input, output, changes,
+        alloc,
+        store,
+        Reach {
+            disk,
+            mirrors,
+            changes,
+        },
+        lines,
+        input,
+        output,
     )? {
         store = next;
     }
@@ -193,34 +195,32 @@ fn answer_all<D: Disk, I: Source, O: Sink, R: Remote>(
     alloc: Global,
     limits: Limits,
     cache: u32,
-    log: &mut D,
-    mirrors: &mut Mirrors<R>,
+    reach: Reach<'_, '_, '_, D, R>,
     lines: &mut Lines,
     input: &mut I,
     output: &mut O,
-    changes: &mut Vec<u64>,
 ) -> Result<(), Stop>
     requires limits { AreLimits limits }
     requires cache { 0 < cache }
-    requires none { changes.old.items ≡ [] }
+    requires none { reach.changes.now.items ≡ [] }
     requires new { lines.old ≡ new_reading limits.input }
-    ensures means { let first = map R.shown mirrors.old.list.items in let left = map R.shown mirrors.new.list.items in
-        (w : World Name) (payloads : List Payload) → WhereTold (seen (D.told log.old) (I.left input.old) (O.taken output.old)) (seen (D.told log.new) (I.left input.new) (O.taken output.new))
+    ensures means { let first = map R.shown reach.entry.mirrors.now.list.items in let left = map R.shown reach.exit.1.0.now.list.items in
+        (w : World Name) (payloads : List Payload) → WhereTold (seen (D.told reach.entry.disk.now) (I.left input.old) (O.taken output.old)) (seen (D.told reach.exit.0.now) (I.left input.new) (O.taken output.new))
         (λ before after. Begins limits w payloads cache first before
-        → Means limits w payloads cache first left (streams before after) (Rose (O.faults output.old) (O.faults output.new)) before.disk after.disk (end_of result) changes.new.items) }
+        → Means limits w payloads cache first left (streams before after) (Rose (O.faults output.old) (O.faults output.new)) before.disk after.disk (end_of result) reach.exit.1.1.0.now.items) }
     ensures over { WhereTold (I.left input.old) (I.left input.new) (λ before after. IsOverAt result (is_over lines.old before)) }
-    ensures refuses { IfSome (D.bytes log.old) (λ bytes. RunRefuses limits.log bytes result) }
-    ensures unwritten { result ≡ Err Stop.NoLog → Goes IsUntouched (D.told log.old) (D.told log.new) × (input.new ≡ input.old) × (output.new ≡ output.old) × (mirrors.new ≡ mirrors.old) }
-    ensures quiet { result ≡ Err Stop.Memory → (input.new ≡ input.old) × (output.new ≡ output.old) × (mirrors.new ≡ mirrors.old) }
-    ensures disk { (result ≡ Err Stop.NotLoaded) ⊎ (result ≡ Err Stop.NotStored) → Rose (D.faults log.old) (D.faults log.new) }
+    ensures refuses { IfSome (D.bytes reach.entry.disk.now) (λ bytes. RunRefuses limits.log bytes result) }
+    ensures unwritten { result ≡ Err Stop.NoLog → Goes IsUntouched (D.told reach.entry.disk.now) (D.told reach.exit.0.now) × (input.new ≡ input.old) × (output.new ≡ output.old) × (reach.exit.1.0.now ≡ reach.entry.mirrors.now) }
+    ensures quiet { result ≡ Err Stop.Memory → (input.new ≡ input.old) × (output.new ≡ output.old) × (reach.exit.1.0.now ≡ reach.entry.mirrors.now) }
+    ensures disk { (result ≡ Err Stop.NotLoaded) ⊎ (result ≡ Err Stop.NotStored) → Rose (D.faults reach.entry.disk.now) (D.faults reach.exit.0.now) }
     ensures source { result ≡ Err Stop.Source → Rose (I.faults input.old) (I.faults input.new) }
     ensures sink { result ≡ Err Stop.Sink → Rose (O.faults output.old) (O.faults output.new) }
-    ensures disk_later { D.faults log.old ≤ D.faults log.new }
+    ensures disk_later { D.faults reach.entry.disk.now ≤ D.faults reach.exit.0.now }
     ensures source_later { I.faults input.old ≤ I.faults input.new }
     ensures sink_later { O.faults output.old ≤ O.faults output.new }
 {
-    let store = load(alloc, limits, cache, log, output)?;
-    answer_lines(alloc, store, log, mirrors, lines, input, output, changes)
+    let store = load(alloc, limits, cache, reach.disk, output)?;
+    answer_lines(alloc, store, reach, lines, input, output)
 }
 
 /// Answers the lines of the input, with room to read them.
@@ -228,34 +228,30 @@ fn run<D: Disk, I: Source, O: Sink, R: Remote>(
     alloc: Global,
     limits: Limits,
     cache: u32,
-    log: &mut D,
-    mirrors: &mut Mirrors<R>,
+    reach: Reach<'_, '_, '_, D, R>,
     input: &mut I,
     output: &mut O,
-    changes: &mut Vec<u64>,
 ) -> Result<(), Stop>
     requires limits { AreLimits limits }
     requires cache { 0 < cache }
-    requires none { changes.old.items ≡ [] }
-    ensures means { let first = map R.shown mirrors.old.list.items in let left = map R.shown mirrors.new.list.items in
-        (w : World Name) (payloads : List Payload) → WhereTold (seen (D.told log.old) (I.left input.old) (O.taken output.old)) (seen (D.told log.new) (I.left input.new) (O.taken output.new))
+    requires none { reach.changes.now.items ≡ [] }
+    ensures means { let first = map R.shown reach.entry.mirrors.now.list.items in let left = map R.shown reach.exit.1.0.now.list.items in
+        (w : World Name) (payloads : List Payload) → WhereTold (seen (D.told reach.entry.disk.now) (I.left input.old) (O.taken output.old)) (seen (D.told reach.exit.0.now) (I.left input.new) (O.taken output.new))
         (λ before after. Begins limits w payloads cache first before
-        → Means limits w payloads cache first left (streams before after) (Rose (O.faults output.old) (O.faults output.new)) before.disk after.disk (end_of result) changes.new.items) }
+        → Means limits w payloads cache first left (streams before after) (Rose (O.faults output.old) (O.faults output.new)) before.disk after.disk (end_of result) reach.exit.1.1.0.now.items) }
     ensures over { WhereTold (I.left input.old) (I.left input.new) (λ before after. IsOverAt result (is_over (new_reading limits.input) before)) }
-    ensures refuses { IfSome (D.bytes log.old) (λ bytes. RunRefuses limits.log bytes result) }
-    ensures unwritten { result ≡ Err Stop.NoLog → Goes IsUntouched (D.told log.old) (D.told log.new) × (input.new ≡ input.old) × (output.new ≡ output.old) × (mirrors.new ≡ mirrors.old) }
-    ensures quiet { result ≡ Err Stop.Memory → (input.new ≡ input.old) × (output.new ≡ output.old) × (mirrors.new ≡ mirrors.old) }
-    ensures disk { (result ≡ Err Stop.NotLoaded) ⊎ (result ≡ Err Stop.NotStored) → Rose (D.faults log.old) (D.faults log.new) }
+    ensures refuses { IfSome (D.bytes reach.entry.disk.now) (λ bytes. RunRefuses limits.log bytes result) }
+    ensures unwritten { result ≡ Err Stop.NoLog → Goes IsUntouched (D.told reach.entry.disk.now) (D.told reach.exit.0.now) × (input.new ≡ input.old) × (output.new ≡ output.old) × (reach.exit.1.0.now ≡ reach.entry.mirrors.now) }
+    ensures quiet { result ≡ Err Stop.Memory → (input.new ≡ input.old) × (output.new ≡ output.old) × (reach.exit.1.0.now ≡ reach.entry.mirrors.now) }
+    ensures disk { (result ≡ Err Stop.NotLoaded) ⊎ (result ≡ Err Stop.NotStored) → Rose (D.faults reach.entry.disk.now) (D.faults reach.exit.0.now) }
     ensures source { result ≡ Err Stop.Source → Rose (I.faults input.old) (I.faults input.new) }
     ensures sink { result ≡ Err Stop.Sink → Rose (O.faults output.old) (O.faults output.new) }
-    ensures disk_later { D.faults log.old ≤ D.faults log.new }
+    ensures disk_later { D.faults reach.entry.disk.now ≤ D.faults reach.exit.0.now }
     ensures source_later { I.faults input.old ≤ I.faults input.new }
     ensures sink_later { O.faults output.old ≤ O.faults output.new }
 {
     let mut lines = Lines::new(alloc, limits.input)?;
-    answer_all(
-        alloc, limits, cache, log, mirrors, &mut lines, input, output, changes,
-    )
+    answer_all(alloc, limits, cache, reach, &mut lines, input, output)
 }
 
 /// The status of an end.
@@ -302,16 +298,12 @@ pub fn run_lines<D: Disk, I: Source, O: Sink, R: Remote>(
     ensures sink { result.status ≡ 6 → Rose (O.faults output.old) (O.faults output.new) }
 {
     let mut changes = Vec::new(alloc);
-    let end = run(
-        alloc,
-        limits,
-        cache,
-        log,
+    let reach = Reach {
+        disk: log,
         mirrors,
-        input,
-        output,
-        &mut changes,
-    );
+        changes: &mut changes,
+    };
+    let end = run(alloc, limits, cache, reach, input, output);
     Report {
         status: status(end),
         changes: Moments::of(changes),
@@ -329,10 +321,9 @@ fn usage_of(alloc: Global, words: &[String]) -> Result<Usage, u8>
     }
 }
 
-/// Does what the usage's mode says, within these limits.
+/// Does what the usage's mode says, within the program's limits.
 fn run_mode<D: Disk, I: Source, O: Sink, R: Remote>(
     alloc: Global,
-    limits: Limits,
     usage: Usage,
     log: &mut D,
     spare: &mut D,
@@ -340,27 +331,26 @@ fn run_mode<D: Disk, I: Source, O: Sink, R: Remote>(
     input: &mut I,
     output: &mut O,
 ) -> Report
-    requires limits { AreLimits limits }
     requires cache { 0 < usage.cache }
     requires size { 1 ≤ usage.size }
     ensures known { IsModeStatus usage.mode result.status }
     ensures means { let first = map R.shown mirrors.old.list.items in let left = map R.shown mirrors.new.list.items in
         (w : World Name) (payloads : List Payload) → usage.mode ≡ Mode.Run → WhereTold (seen (D.told log.old) (I.left input.old) (O.taken output.old)) (seen (D.told log.new) (I.left input.new) (O.taken output.new))
-        (λ before after. Begins limits w payloads usage.cache first before → StatusMeans limits w payloads usage.cache first left
+        (λ before after. Begins standard w payloads usage.cache first before → StatusMeans standard w payloads usage.cache first left
         (Rose (D.faults log.old) (D.faults log.new)) (Rose (I.faults input.old) (I.faults input.new)) (Rose (O.faults output.old) (O.faults output.new)) result.status result.changes before after) }
-    ensures over { usage.mode ≡ Mode.Run → WhereTold (I.left input.old) (I.left input.new) (λ before after. IsOverBy limits.input result.status (length before)) }
-    ensures refuses { (usage.mode ≡ Mode.Run) ⊎ (usage.mode ≡ Mode.Bundle) → IfSome (D.bytes log.old) (λ bytes. StatusRefuses limits.log bytes result.status) }
-    ensures no_log { usage.mode ≡ Mode.Run → WhereTold (seen (D.told log.old) (I.left input.old) (O.taken output.old)) (seen (D.told log.new) (I.left input.new) (O.taken output.new)) (EndRefuses limits result.status) }
+    ensures over { usage.mode ≡ Mode.Run → WhereTold (I.left input.old) (I.left input.new) (λ before after. IsOverBy standard.input result.status (length before)) }
+    ensures refuses { (usage.mode ≡ Mode.Run) ⊎ (usage.mode ≡ Mode.Bundle) → IfSome (D.bytes log.old) (λ bytes. StatusRefuses standard.log bytes result.status) }
+    ensures no_log { usage.mode ≡ Mode.Run → WhereTold (seen (D.told log.old) (I.left input.old) (O.taken output.old)) (seen (D.told log.new) (I.left input.new) (O.taken output.new)) (EndRefuses standard result.status) }
     ensures demo { usage.mode ≡ Mode.Demo → WhereTold (O.taken output.old) (O.taken output.new) (DemoMeans usage.size usage.start result.status) }
     ensures serves { let first = map R.shown mirrors.old.list.items in let left = map R.shown mirrors.new.list.items in
         usage.mode ≡ Mode.Serve → length mirrors.old.list.items ≡ 1 → WhereTold (ports (I.left input.old) (O.taken output.old)) (ports (I.left input.new) (O.taken output.new))
-        (λ before after. ServeMeans limits.input result.status (served_streams before after) first left) }
+        (λ before after. ServeMeans standard.input result.status (served_streams before after) first left) }
     ensures one { usage.mode ≡ Mode.Serve → WantsOne (length mirrors.old.list.items) result.status }
-    ensures bundles { (payloads : List Payload) (w : World Name) → usage.mode ≡ Mode.Bundle → IfSome (D.bytes log.old) (λ bytes. HoldAs limits.log bytes payloads w
+    ensures bundles { (payloads : List Payload) (w : World Name) → usage.mode ≡ Mode.Bundle → IfSome (D.bytes log.old) (λ bytes. HoldAs standard.log bytes payloads w
         → WhereTold (O.taken output.old) (O.taken output.new) (BundleMeans payloads w result.status)) }
     ensures compacts { usage.mode ≡ Mode.Compact
-        → CompactMeans limits.log (D.bytes log.old) (D.bytes spare.old) (D.told spare.old) (D.told spare.new) (O.taken output.old) (O.taken output.new) result.status }
-    ensures holds { (w : World Name) → (usage.mode ≡ Mode.Bundle) ⊎ (usage.mode ≡ Mode.Compact) → Goes (KeepsHolding limits.log w) (D.told log.old) (D.told log.new) }
+        → CompactMeans standard.log (D.bytes log.old) (D.bytes spare.old) (D.told spare.old) (D.told spare.new) (O.taken output.old) (O.taken output.new) result.status }
+    ensures holds { (w : World Name) → (usage.mode ≡ Mode.Bundle) ⊎ (usage.mode ≡ Mode.Compact) → Goes (KeepsHolding standard.log w) (D.told log.old) (D.told log.new) }
     ensures loaded { (usage.mode ≡ Mode.Bundle) ⊎ (usage.mode ≡ Mode.Compact) → Goes LeavesOldOrFresh (D.told log.old) (D.told log.new) }
     ensures log { (usage.mode ≡ Mode.Demo) ⊎ (usage.mode ≡ Mode.Serve) → log.new ≡ log.old }
     ensures changes { (usage.mode ≡ Mode.Run → ⊥) → result.changes ≡ [] }
@@ -374,6 +364,7 @@ fn run_mode<D: Disk, I: Source, O: Sink, R: Remote>(
     ensures source { result.status ≡ 5 → Rose (I.faults input.old) (I.faults input.new) }
     ensures sink { result.status ≡ 6 → Rose (O.faults output.old) (O.faults output.new) }
 {
+    let limits = Limits::standard();
     match usage.mode {
         Mode::Run => run_lines(alloc, limits, usage.cache, log, mirrors, input, output),
         Mode::Demo => Report::idle(alloc, demo::<O, R>(alloc, usage.size, usage.start, output)),
@@ -447,10 +438,7 @@ pub fn top<D: Disk, I: Source, O: Sink, R: Remote>(
     ensures spare { (IsUsageOf Mode.Compact (map string_bytes words.now) → ⊥) ⊎ ((result.status ≡ 3) ⊎ (result.status ≡ 4)) → spare.new ≡ spare.old }
 {
     match usage_of(alloc, words) {
-        Ok(usage) => {
-            let limits = Limits::standard();
-            run_mode(alloc, limits, usage, log, spare, mirrors, input, output)
-        }
+        Ok(usage) => run_mode(alloc, usage, log, spare, mirrors, input, output),
         Err(status) => Report::idle(alloc, status),
     }
 }

@@ -20,15 +20,15 @@ use Rattle.step_rules.specs.Worlds.{has, with_added}
 use Rattle.step_rules.specs.Tests.{plain, unknown, twice, differs, tests}
 use Rattle.step_rules.specs.Asking.{TriesAll}
 use Rattle.step_rules.proofs.Sessions.{base-changed, pending-changed}
-use Rattle.dag_store.specs.declared.replies.Added.{Added}
-use Rattle.dag_store.specs.declared.replies.Added.TheVariants.{New, Old}
+use Rattle.store_queries.specs.declared.adding.Added.{Added}
+use Rattle.store_queries.specs.declared.adding.Added.TheVariants.{New, Old}
 use Rattle.store_plans.specs.Sessions.{PlainSession, base_added}
 use Rattle.dag_store.specs.Kept.{PlainStore, IsKept, session_at, no_cache, sixteen}
 use Rattle.dag_store.specs.Stands.{IsAnswerable, Stands, StandsBeside}
 use Rattle.store_plans.specs.Looking.{AreRight, AsksAlike, IsSoundCache, refusal_in, seen_tests, IsSeen}
-use Rattle.dag_store.specs.Adding.{AddsRow, add_tests, room_test}
+use Rattle.store_queries.specs.Adding.{AddsRow, add_tests, room_test}
 use Rattle.dag_store.specs.Steps.{Leads, add_reply}
-use Rattle.dag_store.proofs.AddingWorlds.{pending-named}
+use Rattle.store_queries.proofs.AddingWorlds.{pending-named}
 use Rattle.dag_store.proofs.Leading.{leads-to, next-goes, payloads-are, right-base, session-seen, sound-of, test-same, tests-same}
 use Rattle.dag_store.proofs.Standing.{stands-with}
 
@@ -41,13 +41,13 @@ set-back (x ∷ xs) (suc s) = ap (λ l. x ∷ l) (set-back xs s)
 by-has : (b c : Bool) (P Q : Type 0) → b ≡ c → MatchBool c P Q → MatchBool b P Q
 by-has b c P Q e h = subst (λ z. MatchBool z P Q) (sym e) h
 
+pub on-err-any : {X F : Type 0} {P : Type 0} (r : Result X F) → P → OnErr r P
+on-err-any (Ok v) p = tt
+on-err-any (Err e) p = p
+
 pub on-ok-any : {X F : Type 0} {P : Type 0} (r : Result X F) → P → OnOk r P
 on-ok-any (Ok v) p = p
 on-ok-any (Err e) p = tt
-
-pub on-err-map : {X F : Type 0} {P Q : Type 0} (r : Result X F) → (P → Q) → OnErr r P → OnErr r Q
-on-err-map (Ok v) f h = tt
-on-err-map (Err e) f h = f h
 
 module _ (log : Held) (tables : PlainTables) (sessions : List PlainSession) (limits : Limits) (k : IsKept log tables sessions limits) (s : ℕ) (lt : s < sixteen) (a b : PlainCache) (old new : List Mirror) (began : ℕ)
     (name : Name) (parents : List Name) (good : IsVerb (Add name parents)) (r : Result Added Refusal) (next : PlainSession) where

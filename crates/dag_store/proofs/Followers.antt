@@ -130,16 +130,6 @@ pub record FollowsSoFar (old : PlainStore) (texts : List (List ℕ)) (k : ℕ) (
   pub taken : HasTaken old (take k texts) store
   pub stands : (began : ℕ) (mirrors : List Mirror) (st : State) (changes : List Written) → StandsBeside began old mirrors st → texts ≡ texts_of changes → GoOn st changes → StandsBeside began store mirrors (all_on st (take k changes))
 
-pub follow-start : (old : PlainStore) (texts : List (List ℕ)) → FollowsSoFar old texts 0 old
-follow-start old texts = record {
-  taken = (refl, sym (append-nil old.log.payloads) ∙ ap (λ l. old.log.payloads ++ l) (sym (take-zero texts)));
-  stands = λ began mirrors st changes h is on. subst (λ l. StandsBeside began old mirrors (all_on st l)) (sym (take-zero changes)) h;
-}
-  where
-    take-zero : {X : Type 0} (xs : List X) → take 0 xs ≡ []
-    take-zero [] = refl
-    take-zero (x ∷ xs) = refl
-
 has-more : (old store next : PlainStore) (texts : List (List ℕ)) (k : ℕ) (text : List ℕ) → k < length texts → text ≡ get_or texts k [] → HasTaken old (take k texts) store → HasTaken store (text ∷ []) next → HasTaken old (take (k + 1) texts) next
 has-more old store next texts k text lt is h g = (
   g.0 ∙ ap (λ (q : PlainStore). record q { log = next.log }) h.0,
@@ -175,15 +165,6 @@ module _ (texts : List (List ℕ)) (k : ℕ) (text : List ℕ) (lt : k < length 
         let n = next-one st changes same on in
         subst (StandsBeside began next mirrors) (sym n.on) (step began mirrors (all_on st (take k changes)) n.change (f.stands began mirrors st changes h same on) n.spelled n.may);
   }
-
-  -- it is refused
-  pub refused-takes : (old store same : PlainStore) (fault : FollowFault) → FollowsSoFar old texts k store → same ≡ record store { log = same.log } → HasRoom store.log same.log → IsWhyNot same text fault
-      → (k < length texts) × HasTaken old (take k texts) same × IsWhyNot same (get_or texts k []) fault
-  refused-takes old store same fault f kept room why = (
-    lt,
-    (kept ∙ ap (λ (q : PlainStore). record q { log = same.log }) f.taken.0, ap (λ (l : Held). l.payloads) room ∙ f.taken.1),
-    subst (λ t. IsWhyNot same t fault) is why,
-  )
 
   pub refused-stands : (old store same : PlainStore) (fault : FollowFault) → FollowsSoFar old texts k store → same ≡ record store { log = same.log } → HasRoom store.log same.log
       → ((began : ℕ) (mirrors : List Mirror) (st : State) (c : Written) → StandsBeside began store mirrors st → IsSpelled text c.payload → MayGoOn st.store c → fault ≡ Unlawful → ⊥)

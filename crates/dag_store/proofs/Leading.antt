@@ -34,11 +34,12 @@ use Rattle.store_plans.specs.Sessions.{PlainSession, base_added}
 use Rattle.dag_store.specs.Kept.{PlainStore, IsKept, session_at, no_cache, sixteen}
 use Rattle.dag_store.specs.Stands.{IsAnswerable, Stands, IsOutsideOf, StandsBeside}
 use Rattle.store_plans.specs.Looking.{AreRight, AsksAlike, IsSoundCache, entries_of, found_in, refusal_in, test_in, FindsOne, IsSeen}
-use Rattle.dag_store.specs.Querying.{Evaluates}
+use Rattle.store_queries.specs.Querying.{Evaluates}
 use Rattle.dag_store.specs.Steps.{CountStep, Leads, id_reply}
 use Rattle.set_expr.specs.Expr.{Expr, commits_in}
 use Rattle.set_query.specs.declared.evaluation.Answer.{Answer}
 use Rattle.span_set.specs.Members.{ids_of as span_ids}
+use Rattle.store_queries.proofs.Printing.{ids-length, in-ids}
 use Rattle.dag_store.proofs.Sees.{asked-same, base-are, base-holds, behind-base, lazy-front, lazy-same, none-before, stored-holds}
 
 -- ---- a cache as a map
@@ -55,11 +56,6 @@ has-entry (x ∷ es) id name e = by_key (nat_eq x.0 id) refl e (has-entry es id 
     by_key : (b : Bool) → nat_eq x.0 id ≡ b → (if b then Some x.1 else cache_of es id) ≡ Some name → (cache_of es id ≡ Some name → IsIn (id, name) es) → IsIn (id, name) (x ∷ es)
     by_key true t f rec = let same = same-exact x.0 id t in let is : x.1 ≡ name = cc in inl (ap₂ {C = Entry} (λ a b. (a, b)) (sym same) (sym is))
     by_key false t f rec = inr (rec f)
-
-pub in-ids : (es : List Entry) (id : ℕ) (name : Name) → IsIn (id, name) es → IsIn id (cached_ids es)
-in-ids [] id name i = i
-in-ids (x ∷ es) id name (inl e) = inl (ap (λ (z : Entry). z.0) e)
-in-ids (x ∷ es) id name (inr i) = inr (in-ids es id name i)
 
 entry-has : (es : List Entry) → AreDistinct (cached_ids es) → (id : ℕ) (name : Name) → IsIn (id, name) es → cache_of es id ≡ Some name
 entry-has [] d id name i = absurd i
@@ -87,9 +83,6 @@ gained-ids : (found : List KnownName) (ids : List ℕ) → AreAllIn (map (λ (k 
 gained-ids [] ids h e i = absurd i
 gained-ids (k ∷ found) ids h e (inl f) = subst (λ n. IsIn n ids) (sym (ap (λ (z : Entry). z.0) f)) h.0
 gained-ids (k ∷ found) ids h e (inr i) = gained-ids found ids h.1 e i
-
-pub ids-length : (es : List Entry) → length (cached_ids es) ≡ length es
-ids-length es = length-map es (λ (e : Entry). e.0)
 
 abbrev next_cache : Cache → List KnownName → PlainCache → Cache
 next_cache old [] now = old

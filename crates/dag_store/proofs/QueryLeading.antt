@@ -9,17 +9,16 @@ use Rattle.id_groups.specs.Name.{Name, same_name}
 use Rattle.id_groups.specs.Id.{other_id}
 use Rattle.id_groups.proofs.Names.{same_name-exact, same_name-self}
 use Rattle.id_groups.proofs.Listing.{and_true, found, there}
-use Rattle.commit_graph.specs.World.{Row, World, names_of, rows_of, with_pending}
+use Rattle.commit_graph.specs.World.{Row, World, names_of, rows_of}
 use Rattle.commit_graph.specs.Ids.{id_in, place_of}
 use Rattle.commit_graph.proofs.Down.{in-left, in-right}
 use Rattle.commit_graph.proofs.Histories.{in-append}
 use Rattle.commit_graph.proofs.Naming.{each}
 use Rattle.segment_codec.proofs.Tables.{le_or_lt}
-use Rattle.id_groups.specs.declared.span.IdSpan.{IdSpan}
-use Rattle.span_set.specs.Members.{AreUnder, IsDescending, IsMember, ids_of}
+use Rattle.span_set.specs.Members.{AreUnder, IsDescending, ids_of}
 use Rattle.batch_codec.specs.Payload.{Payload, Known}
 use Rattle.gated_log.specs.Held.{Held}
-use Rattle.name_map.specs.Added.{Placed, payloads_of}
+use Rattle.name_map.specs.Added.{payloads_of}
 use Rattle.change_rules.specs.declared.Limits.{Limits}
 use Rattle.change_rules.specs.Lazy.{is_lazy}
 use Rattle.change_rules.specs.Tables.{known_in}
@@ -28,9 +27,7 @@ use Rattle.remote_rules.specs.CloneData.{KnownName}
 use Rattle.remote_rules.specs.Mirror.{Mirror}
 use Rattle.remote_rules.specs.declared.MirrorFault.{MirrorFault}
 use Rattle.remote_rules.specs.declared.MirrorFault.TheVariants as mirror
-use Rattle.payload_tables.specs.Kept.{PlainTables, AreTablesOf}
-use Rattle.payload_tables.specs.Bases.{held_row}
-use Rattle.payload_tables.proofs.Rows.{count-rows}
+use Rattle.payload_tables.specs.Kept.{PlainTables}
 use Rattle.payload_tables.proofs.Lists.{get-front, same-exact, same-self}
 use Rattle.lazy_names.specs.Cache.{Entry, PlainCache, Keeps, cached_ids}
 use Rattle.lazy_names.specs.Fetching.{IsCacheOf}
@@ -48,20 +45,20 @@ use Rattle.step_rules.specs.Tests.{plain, looked_up, unknown, refuse_if, tests}
 use Rattle.step_rules.specs.Asking.{TriesAll, refusal_for}
 use Rattle.step_rules.specs.Step.{answer_tests, printing_test}
 use Rattle.step_rules.proofs.Cached.{FindsRight, found-cached, gained-right, named-right}
-use Rattle.dag_store.specs.declared.query.Found.{Found}
-use Rattle.store_plans.specs.Sessions.{PlainSession, IsSessionOf, base_added}
+use Rattle.store_queries.specs.declared.query.Found.{Found}
+use Rattle.store_plans.specs.Sessions.{PlainSession, base_added}
 use Rattle.dag_store.specs.Kept.{PlainStore, IsKept, session_at, no_cache, sixteen}
 use Rattle.dag_store.specs.Stands.{IsAnswerable, Stands, StandsBeside}
-use Rattle.store_plans.specs.Looking.{AreRight, AsksAlike, IsSoundCache, IsViewId, entries_of, found_in, refusal_in, seen_tests, IsSeen}
-use Rattle.dag_store.specs.Querying.{AreNamesIn, AreViewIds, AsksQuery, Evaluates, Fetches, FetchesSo, FindsMembers, IsRightEnd, Prints, absent_ids, absent_of, lazy_ids, printing}
-use Rattle.dag_store.specs.Steps.{Leads, QueryStep, known_name}
-use Rattle.dag_store.proofs.AddingWorlds.{seen-small}
+use Rattle.store_plans.specs.Looking.{AreRight, AsksAlike, IsSoundCache, entries_of, found_in, refusal_in, seen_tests, IsSeen}
+use Rattle.store_queries.specs.Querying.{AreNamesIn, AsksQuery, Evaluates, Fetches, FetchesSo, FindsMembers, IsRightEnd, Prints, absent_ids, absent_of, lazy_ids, printing}
+use Rattle.store_queries.specs.Names.{known_name}
+use Rattle.dag_store.specs.Steps.{Leads, QueryStep}
+use Rattle.store_queries.proofs.AddingWorlds.{seen-small}
 use Rattle.store_plans.proofs.Asking.{get-name, master-id}
 use Rattle.store_plans.proofs.Heads.{filtered, from-map, kept}
-use Rattle.dag_store.proofs.Leading.{found-same, grown, in-gained, in-ids, leads-to, next-goes, payloads-are, right-base, session-seen, sound-of, tests-same}
+use Rattle.dag_store.proofs.Leading.{found-same, grown, in-gained, leads-to, next-goes, payloads-are, right-base, session-seen, sound-of, tests-same}
 use Rattle.change_rules.proofs.Cloned.{get-some}
-use Rattle.dag_store.proofs.QueryWorld.{some-seen}
-use Rattle.dag_store.proofs.Printing.{asked-most, distinct-filter, entry-at, fewer, prints-so, told-so, wanted-most}
+use Rattle.store_queries.proofs.Printing.{asked-most, distinct-filter, entry-at, fewer, in-ids, prints-so, told-so, wanted-most}
 use Rattle.store_plans.proofs.Trials.{tried-serves, tries-append, tries-plain, tries-stop}
 
 -- ---- a cache that takes in less
@@ -501,18 +498,6 @@ err-in (Err g) f h = ap Some h
 pub few-as : (r : Result Found Refusal) (answer : Answer) → IfOk r (λ found. found.answer ≡ answer) → (P : Answer → Type 0) → P answer → IfOk r (λ found. P found.answer)
 few-as (Ok found) answer e P h = subst P (sym e) h
 few-as (Err f) answer e P h = tt
-
--- what a session sees are ids of a view of its sizes
-pub view-ids : (tables : PlainTables) (added : List Placed) (x : PlainSession) → AreTablesOf tables added → IsSessionOf added x → (set : List IdSpan)
-    → ((w : World Name) (rows : List (Row Name)) → IsSeen added x w rows → (id : ℕ) → IsMember set id → IsViewId w rows id) → AreViewIds added x set
-view-ids tables added x t of set view =
-    let (w, rows, h) = some-seen tables added x t of in
-    let below = of.below in
-    let count = h.stand.count in
-    let first = h.pending_rows.first in
-    let many = count-rows x.pending (map (held_row (with_pending w rows)) rows) h.pending_rows.held in
-    let long = length-map rows (held_row (with_pending w rows)) in
-    (w, rows, omega (arith, below, count), omega (arith, first), omega (arith, many, long), view w rows h)
 
 -- ---- the same of a store as it is seen, and a session that was indexed
 

@@ -20,16 +20,14 @@ use Rattle.change_rules.specs.Holding.{HoldPayloads}
 use Rattle.change_rules.specs.Lazy.{is_lazy, has_lazy, stored_names}
 use Rattle.change_rules.specs.Tables.{StandFor, known_in}
 use Rattle.change_rules.proofs.Cloned.{in-range}
-use Rattle.payload_tables.specs.declared.base.BaseRef.{BaseRef}
 use Rattle.payload_tables.specs.Kept.{PlainTables}
-use Rattle.payload_tables.specs.Bases.{IsBaseOf}
 use Rattle.step_rules.specs.State.{Stored, session, pending_of, base_of, world_at}
 use Rattle.step_rules.specs.Asked.{is_asked}
 use Rattle.step_rules.proofs.Sessions.{newest-now}
 use Rattle.store_plans.specs.Sessions.{PlainSession, base_added}
 use Rattle.dag_store.specs.Kept.{IsKept, session_at, no_cache, sixteen}
 use Rattle.dag_store.specs.Stands.{Stands}
-use Rattle.store_plans.specs.Looking.{Sees, is_asked_in}
+use Rattle.store_plans.specs.Looking.{is_asked_in}
 use Rattle.store_plans.proofs.LawfulParts.{lawful-behind, known-above}
 
 both : {X : Type 0} {x y : X} {xs ys : List X} → x ≡ y → xs ≡ ys → x ∷ xs ≡ y ∷ ys
@@ -135,17 +133,6 @@ module _ (log : Held) (tables : PlainTables) (sessions : List PlainSession) (lim
   -- which stands for its world
   pub base-holds : (s : ℕ) → s < sixteen → HoldPayloads (payloads_of (base_added k.added (session_at sessions s))) (base_of st s)
   base-holds s lt = subst (λ l. HoldPayloads l (base_of st s)) (sym (base-are s lt)) (h.worlds (session st s).base (h.state.sessions s).base)
-
-  -- what a session sees through a base that was lent
-  pub session-sees : (s : ℕ) → s < sixteen → (base : BaseRef) → IsBaseOf base (base_added k.added (session_at sessions s))
-      → Sees base (session_at sessions s).pending (base_added k.added (session_at sessions s)) (base_of st s) (pending_of st s)
-  session-sees s lt base b = record {
-    base_of = b;
-    stand = (base-holds s lt).stand;
-    world = (base-holds s lt).world;
-    pending_rows = (h.sessions s lt).pending;
-    view = (h.state.sessions s).view;
-  }
 
   -- the payloads behind a session's base
   pub behind-base : (s : ℕ) → s < sixteen → st.payloads ≡ payloads_of (base_added k.added (session_at sessions s)) ++ drop (began + (session st s).base) st.payloads

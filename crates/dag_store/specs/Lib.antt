@@ -1,9 +1,5 @@
 pub mod Kept
 pub mod Stands
-pub mod Adding
-pub mod Names
-pub mod Querying
-pub mod Bounds
 pub mod Steps
 pub mod Loading
 pub mod Changes

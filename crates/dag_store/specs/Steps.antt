@@ -17,13 +17,13 @@ use Rattle.step_rules.specs.Verb.{Verb, Query, Count}
 use Rattle.step_rules.specs.Reply.{Reply, Added as IsAdded, Old as IsOld, Reloaded, Identified, Listed, Counted, Refused}
 use Rattle.step_rules.specs.Asked.{lazy_among}
 use Rattle.step_rules.specs.Step.{CommandStep}
-use Rattle.dag_store.specs.declared.replies.Added.{Added}
-use Rattle.dag_store.specs.declared.replies.Added.TheVariants.{New, Old}
+use Rattle.store_queries.specs.declared.adding.Added.{Added}
+use Rattle.store_queries.specs.declared.adding.Added.TheVariants.{New, Old}
 use Rattle.store_plans.specs.Sessions.{PlainSession}
 use Rattle.dag_store.specs.Kept.{PlainStore}
 use Rattle.dag_store.specs.Stands.{StandsBeside}
-use Rattle.lazy_names.specs.declared.fetched.FetchedName.{FetchedName}
-use Rattle.dag_store.specs.declared.query.Found.{Found}
+use Rattle.store_queries.specs.Names.{known_name}
+use Rattle.store_queries.specs.declared.query.Found.{Found}
 
 -- only the session changes, and names that are kept
 abbrev pub ChangesOnly : ℕ → PlainStore → PlainStore → Type 0
@@ -50,10 +50,6 @@ reload_reply (Err refusal) = Refused refusal
 abbrev pub id_reply : Result ℕ Refusal → Reply
 id_reply (Ok id) = Identified id
 id_reply (Err refusal) = Refused refusal
-
--- a name that was fetched
-abbrev pub known_name : FetchedName → KnownName
-known_name f = record { id = f.id; name = f.name }
 
 -- The ids are those of these names of the session's view; those of them that aren't stored were fetched, or were in the cache.
 pub record AreIdsOf (st : Stored) (s : ℕ) (ids : List ℕ) (fetched : List KnownName) (names : List Name) : Type 0 where

@@ -13,13 +13,13 @@ ghost use Rattle.dag_store.specs.Asks.{verb_of, HasNames, KeepsCache, PreparesAs
 use change_rules::Limits;
 use gated_log::Log;
 use id_groups::Name;
-use lazy_names::LazyNames;
 use payload_tables::Tables;
 use remote_trait::Remote;
 use std::alloc::Global;
 use step_rules::Refusal;
 use store_plans::{
-    Next, Session, are_names, prepare_clone, prepare_flush, prepare_pull, prepare_strip,
+    NameSources, Next, Session, are_names, prepare_clone, prepare_flush, prepare_pull,
+    prepare_strip,
 };
 
 /// What a session asks of a store that may change what is stored.
@@ -57,12 +57,11 @@ pub(crate) fn prepare_ask<R: Remote>(
     log: &mut Log,
     tables: &mut Tables,
     session: &Session,
-    cache: &mut LazyNames,
-    mirrors: &mut Vec<R>,
+    sources: NameSources<'_, '_, R>,
     ask: Ask<'_>,
     limits: Limits,
 ) -> Result<Next, Refusal>
-    requires mirrors { length mirrors.old.items < 2 ^ 32 }
+    requires mirrors { length sources.mirrors.now.items < 2 ^ 32 }
     requires limits { AreLimits limits }
     requires limit { log.old.limit ≡ limits.log }
     requires kept { (added : List Placed) × AreOver log.old tables.old added × IsSessionOf added session.now }
@@ -72,21 +71,19 @@ pub(crate) fn prepare_ask<R: Remote>(
         → IfOk result (λ next. IsPrepared limits log.old log.new tables.old tables.new added next.change next.session) }
     ensures prepares { (began s : ℕ) (added : List Placed) (st : Stored) → AreOver log.old tables.old added → IsSessionOf added session.now
         → IsOn began added session.now st s
-        → PreparesAsk limits st s (length (log_bytes log.old)) (verb_of ask.entry) (map R.shown mirrors.old.items) (map R.shown mirrors.new.items) cache.old cache.new result }
-    ensures sound { IsSoundCache cache.old → IsSoundCache cache.new }
-    ensures keeps { KeepsCache (verb_of ask.entry) cache.old cache.new }
+        → PreparesAsk limits st s (length (log_bytes log.old)) (verb_of ask.entry) (map R.shown sources.entry.mirrors.now.items) (map R.shown sources.exit.1.0.now.items) sources.entry.cache.now sources.exit.0.now result }
+    ensures sound { IsSoundCache sources.entry.cache.now → IsSoundCache sources.exit.0.now }
+    ensures keeps { KeepsCache (verb_of ask.entry) sources.entry.cache.now sources.exit.0.now }
     ensures named { HasNames (verb_of ask.entry) }
-    ensures len { length mirrors.new.items ≡ length mirrors.old.items }
+    ensures len { length sources.exit.1.0.now.items ≡ length sources.entry.mirrors.now.items }
 {
     match ask {
         Ask::Flush(heads) => {
             are_names(heads);
-            prepare_flush(alloc, log, tables, session, cache, mirrors, heads, limits)
+            prepare_flush(alloc, log, tables, session, sources, heads, limits)
         }
-        Ask::Strip(names) => prepare_strip(
-            alloc, log, tables, session, cache, mirrors, names, limits,
-        ),
-        Ask::Clone => prepare_clone(alloc, log, tables, session, mirrors, limits),
-        Ask::Pull => prepare_pull(alloc, log, tables, session, mirrors, limits),
+        Ask::Strip(names) => prepare_strip(alloc, log, tables, session, sources, names, limits),
+        Ask::Clone => prepare_clone(alloc, log, tables, session, sources.mirrors, limits),
+        Ask::Pull => prepare_pull(alloc, log, tables, session, sources.mirrors, limits),
     }
 }

@@ -15,14 +15,14 @@ ghost use Rattle.dag_store.specs.Changes.{ChangeLeaves, IsQuiet, LeavesStore};
 ghost use Rattle.dag_store.specs.Asks.{verb_of, MayBeAsked, MayChange, AskStep, AskAnswers};
 
 use crate::asks::{Ask, prepare_ask};
-use crate::finishing::finish;
+use crate::finishing::{Parts, finish};
 use crate::replies::Changed;
 use crate::store::Store;
 use disk_trait::Disk;
 use mirror_set::Mirrors;
 use remote_trait::Remote;
 use step_rules::Refusal;
-use store_plans::reloaded;
+use store_plans::{NameSources, reloaded};
 
 impl Store {
     /// Puts a session on the newest world, with its rows that this doesn't have, and answers how many these are.
@@ -87,17 +87,26 @@ impl Store {
             cache: mut names,
         } = self;
         let at = usize::from(s);
-        let list = &mut mirrors.list;
+        let sources = NameSources {
+            cache: &mut names,
+            mirrors: &mut mirrors.list,
+        };
         let next = prepare_ask(
             alloc,
             &mut log,
             &mut tables,
             &sessions[at],
-            &mut names,
-            list,
+            sources,
             ask,
             limits,
         );
-        finish(disk, alloc, log, tables, sessions, limits, names, at, next)
+        let parts = Parts {
+            log,
+            tables,
+            sessions,
+            limits,
+            names,
+        };
+        finish(disk, alloc, parts, at, next)
     }
 }

@@ -33,24 +33,40 @@ fn indexed(tables: Box<Tables>, bytes: &[u8]) -> Box<Tables>
     tables
 }
 
+/// The parts of a store, of which a change is still to be stored.
+#[derive(Drop)]
+pub(crate) struct Parts {
+    pub(crate) log: Log,
+    pub(crate) tables: Box<Tables>,
+    pub(crate) sessions: Vec<Session>,
+    pub(crate) limits: Limits,
+    pub(crate) names: LazyNames,
+}
+
+/// The store of these parts.
+fn store_of(alloc: Global, parts: Parts) -> Store
+    requires { IsKept parts.log parts.tables.value parts.sessions.items parts.limits }
+    ensures { result ≡ record { log = parts.log; sessions = parts.sessions.items; limits = parts.limits; cache = parts.names } }
+{
+    Store {
+        alloc,
+        log: parts.log,
+        tables: parts.tables,
+        sessions: parts.sessions,
+        limits: parts.limits,
+        cache: parts.names,
+    }
+}
+
 /// Stores what was prepared, where something changes, for sessions as they are then.
-fn commit<D: Disk>(
-    disk: &mut D,
-    alloc: Global,
-    log: Log,
-    tables: Box<Tables>,
-    sessions: Vec<Session>,
-    limits: Limits,
-    names: LazyNames,
-    change: Change,
-) -> Changed
-    requires begins { IfSome (D.told disk.old) (IsOnDisk log) }
-    requires limit { log.limit ≡ limits.log }
-    requires same { change.same ≡ true → IsKept log tables.value sessions.items limits }
-    requires room { change.same ≡ false → (longer log change.payload ≤ log.limit) × (longer log change.payload ≤ log.room) }
-    requires stored { (new : Held) → change.same ≡ false → IsBehind log change.payload new → IsKept new tables.value sessions.items limits }
-    ensures finishes { Finishes log sessions.items limits names change result }
-    ensures leaves { Goes (ChangeLeaves (record { log = log; sessions = sessions.items; limits = limits; cache = names }) change.payload result) (D.told disk.old) (D.told disk.new) }
+fn commit<D: Disk>(disk: &mut D, alloc: Global, parts: Parts, change: Change) -> Changed
+    requires begins { IfSome (D.told disk.old) (IsOnDisk parts.log) }
+    requires limit { parts.log.limit ≡ parts.limits.log }
+    requires same { change.same ≡ true → IsKept parts.log parts.tables.value parts.sessions.items parts.limits }
+    requires room { change.same ≡ false → (longer parts.log change.payload ≤ parts.log.limit) × (longer parts.log change.payload ≤ parts.log.room) }
+    requires stored { (new : Held) → change.same ≡ false → IsBehind parts.log change.payload new → IsKept new parts.tables.value parts.sessions.items parts.limits }
+    ensures finishes { Finishes parts.log parts.sessions.items parts.limits parts.names change result }
+    ensures leaves { Goes (ChangeLeaves (record { log = parts.log; sessions = parts.sessions.items; limits = parts.limits; cache = parts.names }) change.payload result) (D.told disk.old) (D.told disk.new) }
     ensures quiet { change.same ≡ true → disk.new ≡ disk.old }
     ensures later { D.faults disk.old ≤ D.faults disk.new }
     ensures cause { (fault : _) → result ≡ Changed.Disk fault → Rose (D.faults disk.old) (D.faults disk.new) }
@@ -61,28 +77,26 @@ fn commit<D: Disk>(
         pending: 0,
     };
     if change.same {
-        let store = Store {
-            alloc,
-            log,
-            tables,
-            sessions,
-            limits,
-            cache: names,
-        };
-        return Changed::Done(store, counts, None);
+        return Changed::Done(store_of(alloc, parts), counts, None);
     }
+    let Parts {
+        log,
+        tables,
+        sessions,
+        limits,
+        names,
+    } = parts;
     match log.commit(disk, change.payload.bytes()) {
         Committed::Done(log, clock) => {
             let tables = indexed(tables, log.bytes());
-            let store = Store {
-                alloc,
+            let parts = Parts {
                 log,
                 tables,
                 sessions,
                 limits,
-                cache: names,
+                names,
             };
-            Changed::Done(store, counts, Some(clock))
+            Changed::Done(store_of(alloc, parts), counts, Some(clock))
         }
         Committed::Disk(fault) => Changed::Disk(fault),
         Committed::Full(_log, _limit) => unreachable!(),
@@ -94,39 +108,25 @@ fn commit<D: Disk>(
 pub(crate) fn finish<D: Disk>(
     disk: &mut D,
     alloc: Global,
-    log: Log,
-    tables: Box<Tables>,
-    sessions: Vec<Session>,
-    limits: Limits,
-    names: LazyNames,
+    parts: Parts,
     at: usize,
     next: Result<Next, Refusal>,
 ) -> Changed
-    requires begins { IfSome (D.told disk.old) (IsOnDisk log) }
-    requires made { (old : Held) × (before : PlainTables) × IsToFinish old log before tables.value sessions.items limits at next }
-    ensures ends { FinishesAs log sessions.items limits names at next result }
-    ensures leaves { Goes (ChangeLeaves (record { log = log; sessions = sessions.items; limits = limits; cache = names }) (payload_in next) result) (D.told disk.old) (D.told disk.new) }
+    requires begins { IfSome (D.told disk.old) (IsOnDisk parts.log) }
+    requires made { (old : Held) × (before : PlainTables) × IsToFinish old parts.log before parts.tables.value parts.sessions.items parts.limits at next }
+    ensures ends { FinishesAs parts.log parts.sessions.items parts.limits parts.names at next result }
+    ensures leaves { Goes (ChangeLeaves (record { log = parts.log; sessions = parts.sessions.items; limits = parts.limits; cache = parts.names }) (payload_in next) result) (D.told disk.old) (D.told disk.new) }
     ensures quiet { IsQuiet result → disk.new ≡ disk.old }
     ensures later { D.faults disk.old ≤ D.faults disk.new }
     ensures cause { (fault : _) → result ≡ Changed.Disk fault → Rose (D.faults disk.old) (D.faults disk.new) }
 {
-    let mut sessions = sessions;
+    let mut parts = parts;
     match next {
         Ok(ready) => {
             let Next { change, session } = ready;
-            sessions[at] = session;
-            commit(disk, alloc, log, tables, sessions, limits, names, change)
+            parts.sessions[at] = session;
+            commit(disk, alloc, parts, change)
         }
-        Err(refusal) => {
-            let store = Store {
-                alloc,
-                log,
-                tables,
-                sessions,
-                limits,
-                cache: names,
-            };
-            Changed::Refused(store, refusal)
-        }
+        Err(refusal) => Changed::Refused(store_of(alloc, parts), refusal),
     }
 }

@@ -2,7 +2,6 @@
 
 use crate::store::Store;
 use disk_trait::DiskFault;
-use id_groups::Id;
 use step_rules::Refusal;
 
 /// The sizes of what a session works on, in rows.
@@ -14,15 +13,6 @@ pub struct Counts {
     pub others: u64,
     /// Its rows that aren't stored.
     pub pending: u64,
-}
-
-/// What an add did.
-#[derive(Clone, Copy, PartialEq, Eq, Debug)]
-pub enum Added {
-    /// The row is pending, with this id.
-    New(Id),
-    /// The commit was there with these parents, with this id.
-    Old(Id),
 }
 
 /// Why a store isn't loaded.

@@ -24,6 +24,3 @@ pub use crate::disk::MemoryDisk;
 pub fn chosen_is_left()
     ensures { (scene : Scene) (fill : Filling) (size : ℕ) (image : List ℕ) → IsChosen scene fill size image → IsImage scene.unsynced image }
 {}
-
-#[cfg(test)]
-mod tests;

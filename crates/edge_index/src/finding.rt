@@ -7,6 +7,7 @@ ghost use Rattle.segment_codec.specs.Edges.{edge_of};
 ghost use Rattle.segment_codec.specs.Lent.{segment_of};
 ghost use Rattle.edge_index.specs.Index.{HaveEdges};
 
+use crate::order::sort_edges;
 use segment_codec::{SegmentRef, SegmentTable, Steps};
 use std::alloc::{AllocError, Global};
 
@@ -75,6 +76,6 @@ pub(crate) fn edges_between<T: SegmentTable>(
     ensures few { from ≤ length (T.flats table.now) → IfOk result (λ found. found.1 ≤ length (T.flats table.now)) }
 {
     let (mut found, count) = found_edges(alloc, table, from, upto)?;
-    found.sort_unstable();
+    sort_edges(alloc, &mut found);
     Ok((found, count))
 }

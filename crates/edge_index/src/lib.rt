@@ -5,5 +5,6 @@
 mod finding;
 mod index;
 mod merge;
+mod order;
 
 pub use index::EdgeIndex;

@@ -169,3 +169,21 @@ some-bytes s = omega arith
 
 pub shorter : (s : Segment) (rest after : List ℕ) → rest ≡ segment_bytes s ++ after → length after < length rest
 shorter s rest after e = let some = some-bytes s in let len = ap length e ∙ length-append (segment_bytes s) after in omega (arith, some, len)
+
+-- what is left begins with a record
+pub some-left : (left : List Segment) (rest : List ℕ) → AllByRecursion IsSegment left → rest ≡ flat_map segment_bytes left → (length rest ≡ 0 → ⊥)
+    → (s : Segment) × (after : List ℕ) × IsSegment s × (rest ≡ segment_bytes s ++ after)
+some-left [] rest each rest_is some = absurd (some (ap (length {A = ℕ}) rest_is))
+some-left (s ∷ more) rest each rest_is some = (s, flat_map segment_bytes more, each.0, rest_is ∙ flat_map-cons segment_bytes s more)
+
+-- what was passed is a record, and the first of those that are left
+pub passed-first : (left : List Segment) (rest after : List ℕ) (t : Segment) → AllByRecursion IsSegment left → rest ≡ flat_map segment_bytes left → (length rest ≡ 0 → ⊥)
+    → ((s : Segment) (behind : List ℕ) → IsSegment s → rest ≡ segment_bytes s ++ behind → (t ≡ s) × (after ≡ behind))
+    → IsSegment t × (rest ≡ segment_bytes t ++ after)
+passed-first left rest after t each rest_is some passed =
+    let f = some-left left rest each rest_is some in
+    let p = passed f.0 f.1 f.2 f.3 in
+    (subst IsSegment (sym p.0) f.2, f.3 ∙ ap (λ (z : Segment). segment_bytes z ++ f.1) (sym p.0) ∙ ap (λ (z : List ℕ). segment_bytes t ++ z) (sym p.1))
+
+pub no-record : (s : Segment) (rest after : List ℕ) → length rest ≡ 0 → rest ≡ segment_bytes s ++ after → ⊥
+no-record s rest after none whole = let less = shorter s rest after whole in omega (arith, none, less)

@@ -4,7 +4,7 @@ ghost use Rattle.std.specs.Prelude.{◌≡◌, ◌≤◌, ◌<◌, ◌^◌, ◌+
 ghost use Rattle.segment_codec.specs.Record.{Segment, IsSegment};
 ghost use Rattle.segment_codec.specs.Lent.{segment_of};
 ghost use Rattle.segment_codec.specs.Flat.{IsFlat};
-ghost use Rattle.segment_codec.specs.Turns.{StandInTurn, IsFirstBroken, place_behind};
+ghost use Rattle.segment_codec.specs.Turns.{goes_on, StandInTurn, IsFirstBroken, place_behind};
 ghost use Rattle.flat_segments.specs.Placed.{placed_segments, AreRecords, MasterMayStandAt};
 ghost use Rattle.flat_segments.specs.Kept.{kept_of};
 ghost use Rattle.flat_segments.specs.declared.fault.FlatFault.{FlatFault as Fault};
@@ -12,27 +12,36 @@ ghost use Rattle.flat_segments.specs.declared.fault.FlatFault.{FlatFault as Faul
 use crate::entry::Entry;
 use crate::fault::FlatFault;
 use id_groups::FIRST_OTHER;
-use segment_codec::{SegmentRef, read_segment};
+use segment_codec::{SegmentRef, pass_segment};
 use std::alloc::AllocError;
 
-/// Whether the record may come at this place of a batch whose first id is given.
-fn may_stand_at(first: u64, place: u64, segment: &SegmentRef<'_>) -> bool
-    requires { IsSegment (segment_of segment.now) }
+/// Whether the record, of which it is told whether it goes on, may come at this place of a batch whose first id is given.
+#[inline(always)]
+fn may_stand_at(first: u64, place: u64, segment: &SegmentRef<'_>, continues: bool) -> bool
+    requires segment { IsSegment (segment_of segment.now) }
+    requires continues { continues ≡ goes_on (segment_of segment.now) }
     ensures { IsTrue result ↔ MasterMayStandAt first place (segment_of segment.now) }
 {
     segment.level() == 0
         && segment.high().number() < FIRST_OTHER
         && segment.low().number() == place
-        && (place == first || !segment.goes_on())
+        && (place == first || !continues)
 }
 
-/// Keeps the segment, where it doesn't go on from the one before.
-fn keep(entries: &mut Vec<Entry>, segment: &SegmentRef<'_>, place: u64) -> Result<(), AllocError>
-    requires { IsFlat (segment_of segment.now) }
+/// Keeps the segment, of which it is told whether it goes on, where it doesn't go on from the one before.
+#[inline(always)]
+fn keep(
+    entries: &mut Vec<Entry>,
+    segment: &SegmentRef<'_>,
+    place: u64,
+    continues: bool,
+) -> Result<(), AllocError>
+    requires flat { IsFlat (segment_of segment.now) }
+    requires continues { continues ≡ goes_on (segment_of segment.now) }
     ensures ok { OnOk result (entries.new.items ≡ entries.old.items ++ kept_of (record { place = place; segment = segment_of segment.now } ∷ [])) }
     ensures err { OnErr result (entries.new.items ≡ entries.old.items) }
 {
-    if segment.goes_on() {
+    if continues {
         return Ok(());
     }
     entries.push(Entry::of(segment, place))?;
@@ -40,7 +49,8 @@ fn keep(entries: &mut Vec<Entry>, segment: &SegmentRef<'_>, place: u64) -> Resul
 }
 
 /// Keeps the segments of a batch, which begins at an id and whose records stand or will stand at a place, and answers
-/// the id behind the last. On a refusal some of them may have been kept behind those before.
+/// the id behind the last. They are known to be records, so none is looked at twice. On a refusal some of them may have been kept
+/// behind those before.
 pub(crate) fn append(
     entries: &mut Vec<Entry>,
     first: u64,
@@ -61,11 +71,14 @@ pub(crate) fn append(
     let mut rest = records;
     let mut next = first;
     let mut number = 0u32;
-    'records: while let Some((segment, after)) = read_segment(rest) {
-        if !may_stand_at(first, next, &segment) {
+    'records: while !rest.is_empty() {
+        let (segment, after) = pass_segment(rest);
+        let continues = segment.goes_on();
+        if !may_stand_at(first, next, &segment, continues) {
             return Err(FlatFault::BadSegment(number));
         }
-        keep(entries, &segment, at + (records.len() - rest.len()) as u64)?;
+        let place = at + (records.len() - rest.len()) as u64;
+        keep(entries, &segment, place, continues)?;
         next = segment.high().number() + 1;
         number += 1;
         rest = after;

@@ -18,7 +18,7 @@ use Rattle.segment_codec.specs.Table.{IsLawful}
 use Rattle.assign_ids.specs.Numbers.{order_of}
 use Rattle.change_parts.specs.Moves.{nodes_in, rest_of}
 use Rattle.change_parts.specs.Rows.{table_rows}
-use Rattle.change_parts.specs.Plans.{stored_id, over, first_fault, size_refusal}
+use Rattle.change_parts.specs.Plans.{stored_id, first_fault, size_refusal}
 use Rattle.change_parts.specs.Asked.{IsFoundIn, MayStore}
 use Rattle.change_parts.specs.Facts.{MoveFacts}
 

@@ -16,8 +16,8 @@ ghost use Rattle.payload_tables.specs.Kept.{AreTablesOf};
 ghost use Rattle.change_parts.specs.Rows.{table_rows, AreRowsBelow};
 
 use crate::graph::Graph;
-use crate::numbers::ids_of;
-use crate::runs::{Run, add_runs};
+use crate::numbers::{Moved, ids_of};
+use crate::runs::{Numbered, Run, add_runs};
 use batch_codec::BatchBuild;
 use change_parts::{FLUSH, Names, add_levels, add_other_names};
 use id_groups::{FIRST_OTHER, Group, Id};
@@ -44,29 +44,32 @@ fn add_known(
     Ok(())
 }
 
-/// Adds the records and the known names of these numbers, which have the master ids from `before` on. `ids` has the new id of
-/// each number.
+/// Adds the records and the known names of the numbers that move. `ids` has the new id of each number.
 fn add_master_section(
     build: &mut BatchBuild,
     graph: &Graph,
     names: &Names<'_>,
     ids: &[Id],
-    order: &[u32],
-    before: u64,
+    moved: &Moved<'_>,
     run: &mut Run,
 ) -> Result<(), AllocError>
     requires rows { AreRowsBelow (length ids.now) graph.now }
-    requires names { AreBelow (names.now.count + names.now.more) order.now }
-    requires room { before + length order.now ≤ 2 ^ 56 }
-    requires records { AllByRecursion (λ s. IsSegment (flat_record s)) (flat_segments before (map (λ k. map (new_id ids.now) (slice_index_or graph.now k [])) order.now)) }
+    requires names { AreBelow (names.now.count + names.now.more) moved.now.order.now }
+    requires room { moved.now.before + length moved.now.order.now ≤ 2 ^ 56 }
+    requires records { AllByRecursion (λ s. IsSegment (flat_record s)) (flat_segments moved.now.before (map (λ k. map (new_id ids.now) (slice_index_or graph.now k [])) moved.now.order.now)) }
     ensures built { OnOk result ((p : PlainPayload) → IsBuilt build.old p → IsBuilt build.new (record p {
-      master = p.master ++ map flat_record (flat_segments before (map (λ k. map (new_id ids.now) (slice_index_or graph.now k [])) order.now));
-      known = p.known ++ known_from before (map (name_at (names.now.stored.now ++ names.now.pending.now)) order.now);
+      master = p.master ++ map flat_record (flat_segments moved.now.before (map (λ k. map (new_id ids.now) (slice_index_or graph.now k [])) moved.now.order.now));
+      known = p.known ++ known_from moved.now.before (map (name_at (names.now.stored.now ++ names.now.pending.now)) moved.now.order.now);
     })) }
     ensures count { build.new.other_count ≡ build.old.other_count }
 {
-    add_runs(build, Group::Master, graph, ids, order, before, run)?;
-    add_known(build, names, order, before)?;
+    let numbered = Numbered {
+        group: Group::Master,
+        first: moved.before,
+        numbers: moved.order,
+    };
+    add_runs(build, graph, ids, &numbered, run)?;
+    add_known(build, names, moved.order, moved.before)?;
     Ok(())
 }
 
@@ -90,7 +93,12 @@ fn add_others_section(
     })) }
     ensures count { OnOk result (build.new.other_count ≡ length rest.now) }
 {
-    add_runs(build, Group::Others, graph, ids, rest, FIRST_OTHER, run)?;
+    let numbered = Numbered {
+        group: Group::Others,
+        first: FIRST_OTHER,
+        numbers: rest,
+    };
+    add_runs(build, graph, ids, &numbered, run)?;
     add_other_names(build, names, rest)?;
     build.other_count(rest.len() as u32)?;
     Ok(())
@@ -103,93 +111,84 @@ fn add_sections(
     graph: &Graph,
     names: &Names<'_>,
     ids: &[Id],
-    before: u64,
-    order: &[u32],
-    rest: &[u32],
+    moved: &Moved<'_>,
 ) -> Result<(), AllocError>
     requires rows { AreRowsBelow (length ids.now) graph.now }
-    requires order { AreBelow (names.now.count + names.now.more) order.now }
-    requires rest { AreBelow (names.now.count + names.now.more) rest.now }
-    requires room { before + length order.now ≤ 2 ^ 56 }
-    requires few { length rest.now < 2 ^ 32 }
-    requires master { AllByRecursion (λ s. IsSegment (flat_record s)) (flat_segments before (map (λ k. map (new_id ids.now) (slice_index_or graph.now k [])) order.now)) }
-    requires others { AllByRecursion (λ s. IsSegment (flat_record s)) (flat_segments (2 ^ 56) (map (λ k. map (new_id ids.now) (slice_index_or graph.now k [])) rest.now)) }
+    requires order { AreBelow (names.now.count + names.now.more) moved.now.order.now }
+    requires rest { AreBelow (names.now.count + names.now.more) moved.now.rest.now }
+    requires room { moved.now.before + length moved.now.order.now ≤ 2 ^ 56 }
+    requires few { length moved.now.rest.now < 2 ^ 32 }
+    requires master { AllByRecursion (λ s. IsSegment (flat_record s)) (flat_segments moved.now.before (map (λ k. map (new_id ids.now) (slice_index_or graph.now k [])) moved.now.order.now)) }
+    requires others { AllByRecursion (λ s. IsSegment (flat_record s)) (flat_segments (2 ^ 56) (map (λ k. map (new_id ids.now) (slice_index_or graph.now k [])) moved.now.rest.now)) }
     ensures built { OnOk result ((p : PlainPayload) → IsBuilt build.old p → IsBuilt build.new (record p {
-      master = p.master ++ map flat_record (flat_segments before (map (λ k. map (new_id ids.now) (slice_index_or graph.now k [])) order.now));
-      known = p.known ++ known_from before (map (name_at (names.now.stored.now ++ names.now.pending.now)) order.now);
-      others = p.others ++ map flat_record (flat_segments (2 ^ 56) (map (λ k. map (new_id ids.now) (slice_index_or graph.now k [])) rest.now));
-      other_names = p.other_names ++ map (name_at (names.now.stored.now ++ names.now.pending.now)) rest.now;
+      master = p.master ++ map flat_record (flat_segments moved.now.before (map (λ k. map (new_id ids.now) (slice_index_or graph.now k [])) moved.now.order.now));
+      known = p.known ++ known_from moved.now.before (map (name_at (names.now.stored.now ++ names.now.pending.now)) moved.now.order.now);
+      others = p.others ++ map flat_record (flat_segments (2 ^ 56) (map (λ k. map (new_id ids.now) (slice_index_or graph.now k [])) moved.now.rest.now));
+      other_names = p.other_names ++ map (name_at (names.now.stored.now ++ names.now.pending.now)) moved.now.rest.now;
     })) }
-    ensures count { OnOk result (build.new.other_count ≡ length rest.now) }
+    ensures count { OnOk result (build.new.other_count ≡ length moved.now.rest.now) }
 {
     let mut run = Run::blank(alloc);
-    add_master_section(build, graph, names, ids, order, before, &mut run)?;
-    add_others_section(build, graph, names, ids, rest, &mut run)?;
+    add_master_section(build, graph, names, ids, moved, &mut run)?;
+    add_others_section(build, graph, names, ids, moved.rest, &mut run)?;
     Ok(())
 }
 
-/// Adds the sections of a flush in which the numbers of the order move behind so many master ids, to a payload without sections, and the
-/// levels that come with them.
+/// Adds the sections of a flush in which these numbers move to a payload without sections, and the levels that come with them.
 fn add_change(
     alloc: Global,
     tables: &mut Tables,
     bytes: &[u8],
     graph: &Graph,
     names: &Names<'_>,
-    before: u64,
-    order: &[u32],
-    rest: &[u32],
+    moved: &Moved<'_>,
     build: &mut BatchBuild,
 ) -> Result<(), AllocError>
     requires numbers { names.now.count + names.now.more < 2 ^ 32 }
-    requires room { before + length order.now ≤ 2 ^ 56 }
-    requires order { AreBelow (names.now.count + names.now.more) order.now }
-    requires rest { rest.now ≡ rest_of (names.now.count + names.now.more) order.now }
+    requires room { moved.now.before + length moved.now.order.now ≤ 2 ^ 56 }
+    requires order { AreBelow (names.now.count + names.now.more) moved.now.order.now }
+    requires rest { moved.now.rest.now ≡ rest_of (names.now.count + names.now.more) moved.now.order.now }
     requires payload { (flats : List Segment) × IsLawful flats × (graph.now ≡ table_rows flats (names.now.count + names.now.more))
         × (added : List Placed) × AreTablesOf tables.old added × AllStand bytes.now added
-        × MayFollow (payloads_of added) (change_in flats (names.now.stored.now ++ names.now.pending.now) before (names.now.count + names.now.more) order.now) }
-    requires build { IsBuilt build.old (empty_payload 1 before (before + length order.now) 0) }
+        × MayFollow (payloads_of added) (change_in flats (names.now.stored.now ++ names.now.pending.now) moved.now.before (names.now.count + names.now.more) moved.now.order.now) }
+    requires build { IsBuilt build.old (empty_payload 1 moved.now.before (moved.now.before + length moved.now.order.now) 0) }
     ensures unchanged { tables.new ≡ tables.old }
     ensures built { (flats : List Segment) (added : List Placed) → IsLawful flats → graph.now ≡ table_rows flats (names.now.count + names.now.more)
         → AreTablesOf tables.old added → AllStand bytes.now added
-        → MayFollow (payloads_of added) (change_in flats (names.now.stored.now ++ names.now.pending.now) before (names.now.count + names.now.more) order.now)
-        → OnOk result (IsBuilt build.new (change_in flats (names.now.stored.now ++ names.now.pending.now) before (names.now.count + names.now.more) order.now)) }
-    ensures count { OnOk result (build.new.other_count ≡ length rest.now) }
+        → MayFollow (payloads_of added) (change_in flats (names.now.stored.now ++ names.now.pending.now) moved.now.before (names.now.count + names.now.more) moved.now.order.now)
+        → OnOk result (IsBuilt build.new (change_in flats (names.now.stored.now ++ names.now.pending.now) moved.now.before (names.now.count + names.now.more) moved.now.order.now)) }
+    ensures count { OnOk result (build.new.other_count ≡ length moved.now.rest.now) }
 {
-    let ids = ids_of(alloc, before, names.count + names.more, order, rest)?;
-    add_sections(alloc, build, graph, names, &ids, before, order, rest)?;
+    let ids = ids_of(alloc, names.count + names.more, moved)?;
+    add_sections(alloc, build, graph, names, &ids, moved)?;
     add_levels(alloc, tables, bytes, build)?;
     Ok(())
 }
 
-/// The payload of a flush in which the numbers of the order move behind so many master ids.
+/// The payload of a flush in which these numbers move.
 pub(crate) fn payload_of(
     alloc: Global,
     tables: &mut Tables,
     bytes: &[u8],
     graph: &Graph,
     names: &Names<'_>,
-    before: u64,
-    order: &[u32],
-    rest: &[u32],
+    moved: &Moved<'_>,
 ) -> Result<Vec<u8>, AllocError>
     requires numbers { names.now.count + names.now.more < 2 ^ 32 }
-    requires room { before + length order.now ≤ 2 ^ 56 }
-    requires order { AreBelow (names.now.count + names.now.more) order.now }
-    requires rest { rest.now ≡ rest_of (names.now.count + names.now.more) order.now }
+    requires room { moved.now.before + length moved.now.order.now ≤ 2 ^ 56 }
+    requires order { AreBelow (names.now.count + names.now.more) moved.now.order.now }
+    requires rest { moved.now.rest.now ≡ rest_of (names.now.count + names.now.more) moved.now.order.now }
     requires payload { (flats : List Segment) × IsLawful flats × (graph.now ≡ table_rows flats (names.now.count + names.now.more))
         × (added : List Placed) × AreTablesOf tables.old added × AllStand bytes.now added
-        × MayFollow (payloads_of added) (change_in flats (names.now.stored.now ++ names.now.pending.now) before (names.now.count + names.now.more) order.now) }
+        × MayFollow (payloads_of added) (change_in flats (names.now.stored.now ++ names.now.pending.now) moved.now.before (names.now.count + names.now.more) moved.now.order.now) }
     ensures unchanged { tables.new ≡ tables.old }
     ensures payload { (flats : List Segment) (added : List Placed) → IsLawful flats → graph.now ≡ table_rows flats (names.now.count + names.now.more)
         → AreTablesOf tables.old added → AllStand bytes.now added
-        → MayFollow (payloads_of added) (change_in flats (names.now.stored.now ++ names.now.pending.now) before (names.now.count + names.now.more) order.now)
-        → IfOk result (λ payload. payload.items ≡ payload_bytes (change_in flats (names.now.stored.now ++ names.now.pending.now) before (names.now.count + names.now.more) order.now)) }
+        → MayFollow (payloads_of added) (change_in flats (names.now.stored.now ++ names.now.pending.now) moved.now.before (names.now.count + names.now.more) moved.now.order.now)
+        → IfOk result (λ payload. payload.items ≡ payload_bytes (change_in flats (names.now.stored.now ++ names.now.pending.now) moved.now.before (names.now.count + names.now.more) moved.now.order.now)) }
 {
-    let after = before + order.len() as u64;
-    let mut build = BatchBuild::new(alloc, FLUSH, before, after, 0)?;
-    add_change(
-        alloc, tables, bytes, graph, names, before, order, rest, &mut build,
-    )?;
+    let after = moved.before + moved.order.len() as u64;
+    let mut build = BatchBuild::new(alloc, FLUSH, moved.before, after, 0)?;
+    add_change(alloc, tables, bytes, graph, names, moved, &mut build)?;
     build.finish()
 }

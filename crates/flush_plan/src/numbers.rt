@@ -9,6 +9,14 @@ use change_parts::{blank, marks_of, numbered, unmarked};
 use id_groups::{FIRST_OTHER, Id};
 use std::alloc::{AllocError, Global};
 
+/// The numbers that move, in order, behind so many master ids, and those that stay.
+#[derive(Clone, Copy)]
+pub(crate) struct Moved<'a> {
+    pub(crate) before: u64,
+    pub(crate) order: &'a [u32],
+    pub(crate) rest: &'a [u32],
+}
+
 /// The numbers below n that don't move.
 pub(crate) fn rest(alloc: Global, n: u32, order: &[u32]) -> Result<Vec<u32>, AllocError>
     requires { AreBelow n order.now }
@@ -19,22 +27,16 @@ pub(crate) fn rest(alloc: Global, n: u32, order: &[u32]) -> Result<Vec<u32>, All
     Ok(rest)
 }
 
-/// The new ids of the numbers below n: those of the order come behind so many master ids, and the rest keep their order.
-pub(crate) fn ids_of(
-    alloc: Global,
-    before: u64,
-    n: u32,
-    order: &[u32],
-    rest: &[u32],
-) -> Result<Vec<Id>, AllocError>
-    requires order { AreBelow n order.now }
-    requires rest { rest.now ≡ rest_of n order.now }
-    requires room { before + length order.now ≤ 2 ^ 56 }
-    ensures ids { IfOk result (λ ids. (k : ℕ) → k < n → slice_index ids.items k ≡ moved_id before n order.now (other_id k)) }
+/// The new ids of the numbers below n: those that move come behind so many master ids, and the rest keep their order.
+pub(crate) fn ids_of(alloc: Global, n: u32, moved: &Moved<'_>) -> Result<Vec<Id>, AllocError>
+    requires order { AreBelow n moved.now.order.now }
+    requires rest { moved.now.rest.now ≡ rest_of n moved.now.order.now }
+    requires room { moved.now.before + length moved.now.order.now ≤ 2 ^ 56 }
+    ensures ids { IfOk result (λ ids. (k : ℕ) → k < n → slice_index ids.items k ≡ moved_id moved.now.before n moved.now.order.now (other_id k)) }
     ensures len { IfOk result (λ ids. length ids.items ≡ n) }
 {
     let ids = blank(alloc, n)?;
-    let ids = numbered(ids, rest, FIRST_OTHER);
-    let ids = numbered(ids, order, before);
+    let ids = numbered(ids, moved.rest, FIRST_OTHER);
+    let ids = numbered(ids, moved.order, moved.before);
     Ok(ids)
 }

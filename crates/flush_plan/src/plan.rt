@@ -21,7 +21,7 @@ ghost use Rattle.id_groups.specs.Id.{other_id};
 
 use crate::building::payload_of;
 use crate::graph::{Graph, graph_of};
-use crate::numbers::rest;
+use crate::numbers::{Moved, rest};
 use assign_ids::place;
 use change_parts::{Change, Names, Payload, PlanFault, check, names_of};
 use change_rules::{Limit, Limits};
@@ -34,6 +34,21 @@ use std::alloc::{AllocError, Global};
 struct Moves {
     order: Vec<u32>,
     rest: Vec<u32>,
+}
+
+impl Moves {
+    /// That they move behind so many master ids.
+    fn behind(&self, before: u64) -> Moved<'_>
+        ensures before { result.before ≡ before }
+        ensures order { result.order.now ≡ self.now.order.items }
+        ensures rest { result.rest.now ≡ self.now.rest.items }
+    {
+        Moved {
+            before,
+            order: &self.order,
+            rest: &self.rest,
+        }
+    }
 }
 
 /// What moves where these numbers are the heads, by the parents of the n numbers.
@@ -50,43 +65,41 @@ fn moves_of(alloc: Global, graph: &Graph, n: u32, numbers: &[u32]) -> Result<Mov
     Ok(Moves { order, rest })
 }
 
-/// The change in which these numbers move behind so many master ids, with a log of so many bytes. The tables are asked for the levels
-/// that come with it, and stay as they are.
+/// The change in which these numbers move, with a log of these bytes. The tables are asked for the levels that come with it, and
+/// stay as they are.
 fn change_of(
     alloc: Global,
     tables: &mut Tables,
     bytes: &[u8],
     names: &Names<'_>,
     graph: &Graph,
-    moves: &Moves,
-    before: u64,
-    log: u64,
+    moved: &Moved<'_>,
     limits: Limits,
 ) -> Result<Change, PlanFault>
     requires limits { AreLimits limits }
-    requires log { log ≤ 2 ^ 32 }
-    requires few { before ≤ 2 ^ 56 }
+    requires log { length bytes.now ≤ 2 ^ 32 }
+    requires few { moved.now.before ≤ 2 ^ 56 }
     requires world { (w : World NameBytes) × (rows : List (Row NameBytes)) × (heads : List NameBytes)
-        × (m : IsMove (names.now.stored.now ++ names.now.pending.now) (names.now.count + names.now.more) names.now.more before log graph.now moves.now.order.items moves.now.rest.items w rows heads)
+        × (m : IsMove (names.now.stored.now ++ names.now.pending.now) (names.now.count + names.now.more) names.now.more moved.now.before (length bytes.now) graph.now moved.now.order.now moved.now.rest.now w rows heads)
         × (m.tables ≡ tables.old) × (m.bytes ≡ bytes.now) }
     ensures worlds { (w : World NameBytes) (rows : List (Row NameBytes)) (heads : List NameBytes) (payload : List ℕ)
-        (m : IsMove (names.now.stored.now ++ names.now.pending.now) (names.now.count + names.now.more) names.now.more before log graph.now moves.now.order.items moves.now.rest.items w rows heads)
+        (m : IsMove (names.now.stored.now ++ names.now.pending.now) (names.now.count + names.now.more) names.now.more moved.now.before (length bytes.now) graph.now moved.now.order.now moved.now.rest.now w rows heads)
         → m.tables ≡ tables.old → m.bytes ≡ bytes.now
         → IsChangeOf w (flushed same_name (with_pending w rows) heads) payload
         → MatchResult result
-        (λ plan. (size_refusal limits log (flushed same_name (with_pending w rows) heads) payload ≡ None) × IsPlanOf plan w (flushed same_name (with_pending w rows) heads) payload)
-        (λ fault. (fault ≡ Memory) ⊎ (size_refusal limits log (flushed same_name (with_pending w rows) heads) payload ≡ Some fault)) }
+        (λ plan. (size_refusal limits (length bytes.now) (flushed same_name (with_pending w rows) heads) payload ≡ None) × IsPlanOf plan w (flushed same_name (with_pending w rows) heads) payload)
+        (λ fault. (fault ≡ Memory) ⊎ (size_refusal limits (length bytes.now) (flushed same_name (with_pending w rows) heads) payload ≡ Some fault)) }
     ensures unchanged { tables.new ≡ tables.old }
     ensures stored { (w : World NameBytes) (rows : List (Row NameBytes)) (heads : List NameBytes) (added : List Placed)
-        (m : IsMove (names.now.stored.now ++ names.now.pending.now) (names.now.count + names.now.more) names.now.more before log graph.now moves.now.order.items moves.now.rest.items w rows heads)
+        (m : IsMove (names.now.stored.now ++ names.now.pending.now) (names.now.count + names.now.more) names.now.more moved.now.before (length bytes.now) graph.now moved.now.order.now moved.now.rest.now w rows heads)
         → m.tables ≡ tables.old → m.bytes ≡ bytes.now
-        → AreLawful [] (payloads_of added) → StandFor (payloads_of added) w → IfOk result (MayBeStored 1 limits log added) }
+        → AreLawful [] (payloads_of added) → StandFor (payloads_of added) w → IfOk result (MayBeStored 1 limits (length bytes.now) added) }
 {
-    let master = before + moves.order.len() as u64;
-    let others = moves.rest.len() as u64;
+    let master = moved.before + moved.order.len() as u64;
+    let others = moved.rest.len() as u64;
     check(Limit::Others, others, u64::from(limits.others))?;
     check(Limit::Master, master, u64::from(limits.master))?;
-    if moves.order.is_empty() && names.more == 0 {
+    if moved.order.is_empty() && names.more == 0 {
         return Ok(Change {
             payload: Payload::empty(alloc),
             master,
@@ -94,16 +107,8 @@ fn change_of(
             same: true,
         });
     }
-    let payload = payload_of(
-        alloc,
-        tables,
-        bytes,
-        graph,
-        names,
-        before,
-        &moves.order,
-        &moves.rest,
-    )?;
+    let payload = payload_of(alloc, tables, bytes, graph, names, moved)?;
+    let log = bytes.len() as u64;
     check(Limit::Log, log + 9 + payload.len() as u64, limits.log)?;
     Ok(Change {
         payload: Payload::of(payload),
@@ -140,11 +145,8 @@ pub fn plan_moves<'x>(
     let n = names.count + names.more;
     let graph = graph_of(alloc, &view, n)?;
     let moves = moves_of(alloc, &graph, n, numbers)?;
-    let before = tables.master_count();
-    let log = bytes.len() as u64;
-    change_of(
-        alloc, tables, bytes, &names, &graph, &moves, before, log, limits,
-    )
+    let moved = moves.behind(tables.master_count());
+    change_of(alloc, tables, bytes, &names, &graph, &moved, limits)
 }
 
 /// The id of a head in a session's view: the one that was found in the stored world, or that of a pending row.

@@ -115,24 +115,35 @@ impl Run {
     }
 }
 
-/// Puts the flat segments of these numbers, which have the ids from the first on, into the section of their group. `ids` has
-/// the new id of each number; `run` is what is used to make them.
+/// Numbers that have the ids of a group from the first on.
+#[derive(Clone, Copy)]
+pub(crate) struct Numbered<'a> {
+    pub(crate) group: Group,
+    pub(crate) first: u64,
+    pub(crate) numbers: &'a [u32],
+}
+
+/// Puts the flat segments of these numbers into the section of their group. `ids` has the new id of each number; `run` is what
+/// is used to make them.
 pub(crate) fn add_runs(
     build: &mut BatchBuild,
-    group: Group,
     graph: &Graph,
     ids: &[Id],
-    numbers: &[u32],
-    first: u64,
+    numbered: &Numbered<'_>,
     run: &mut Run,
 ) -> Result<(), AllocError>
     requires rows { AreRowsBelow (length ids.now) graph.now }
-    requires room { first + length numbers.now ≤ 2 ^ 57 }
-    requires records { AllByRecursion (λ s. IsSegment (flat_record s)) (flat_segments first (map (λ k. map (new_id ids.now) (slice_index_or graph.now k [])) numbers.now)) }
-    ensures built { OnOk result ((p : PlainPayload) → IsBuilt build.old (with_spans group p [])
-        → IsBuilt build.new (with_spans group p (flat_segments first (map (λ k. map (new_id ids.now) (slice_index_or graph.now k [])) numbers.now)))) }
+    requires room { numbered.now.first + length numbered.now.numbers.now ≤ 2 ^ 57 }
+    requires records { AllByRecursion (λ s. IsSegment (flat_record s)) (flat_segments numbered.now.first (map (λ k. map (new_id ids.now) (slice_index_or graph.now k [])) numbered.now.numbers.now)) }
+    ensures built { OnOk result ((p : PlainPayload) → IsBuilt build.old (with_spans numbered.now.group p [])
+        → IsBuilt build.new (with_spans numbered.now.group p (flat_segments numbered.now.first (map (λ k. map (new_id ids.now) (slice_index_or graph.now k [])) numbered.now.numbers.now)))) }
     ensures count { build.new.other_count ≡ build.old.other_count }
 {
+    let Numbered {
+        group,
+        first,
+        numbers,
+    } = *numbered;
     if numbers.is_empty() {
         return Ok(());
     }

@@ -118,7 +118,7 @@ some-drop zero (x ∷ xs) lt = (x, xs, refl)
 some-drop (suc at) [] lt = absurd (omega (arith, lt))
 some-drop (suc at) (x ∷ xs) lt = some-drop at xs (le_of_suc-le-suc lt)
 
-get-drop : (at k : ℕ) (xs : List Segment) → slice_get (drop at xs) k ≡ slice_get xs (at + k)
+pub get-drop : (at k : ℕ) (xs : List Segment) → slice_get (drop at xs) k ≡ slice_get xs (at + k)
 get-drop zero k xs = ap (slice_get xs) (let z : k ≡ 0 + k = omega arith in z)
 get-drop (suc at) k [] = refl
 get-drop (suc at) k (x ∷ xs) = get-drop at k xs ∙ ap (slice_get (x ∷ xs)) (let z : suc (at + k) ≡ suc at + k = omega arith in z)

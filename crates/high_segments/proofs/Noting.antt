@@ -92,22 +92,24 @@ noted-more xs k old new noted s get notes = record {
 
 -- ---- what the note says of the fifteen behind a segment
 
-pub none-behind : (xs : List Segment) (from : ℕ) (s : Segment) → slice_get xs from ≡ Some s → HasNoChild xs (length xs) from → from + 16 ≤ length xs
-    → list_any (λ (t : Segment). is_in nat_eq s.high t.parents) (take 15 (drop (from + 1) xs)) ≡ false
-none-behind xs from s get none room = go 15 (omega arith)
+-- as far as the segments go, none of those behind it has it as a parent
+pub none-next : (xs : List Segment) (from : ℕ) (s : Segment) → slice_get xs from ≡ Some s → HasNoChild xs (length xs) from → (k : ℕ) → k ≤ 15 → from + 1 + k ≤ length xs
+    → list_any (λ (t : Segment). is_in nat_eq s.high t.parents) (take k (drop (from + 1) xs)) ≡ false
+none-next xs from s get none zero le room = first (drop (from + 1) xs)
   where
     first : (xs : List Segment) → list_any (λ (t : Segment). is_in nat_eq s.high t.parents) (take 0 xs) ≡ false
     first [] = refl
     first (x ∷ xs) = refl
+none-next xs from s get none (suc k) le room =
+    let t = some-at xs (from + 1 + k) (omega (arith, room)) in
+    let here = none s t.0 (from + 1 + k) get t.1 (omega arith) (omega (arith, le)) (omega (arith, room)) in
+    let one : k + 1 ≡ suc k = omega arith in
+    ap (λ n. list_any (λ (t : Segment). is_in nat_eq s.high t.parents) (take n (drop (from + 1) xs))) (sym one)
+    ∙ child-none s.high (from + 1) k xs t.0 t.1 (none-next xs from s get none k (omega (arith, le)) (omega (arith, room))) here
 
-    go : (k : ℕ) → k ≤ 15 → list_any (λ (t : Segment). is_in nat_eq s.high t.parents) (take k (drop (from + 1) xs)) ≡ false
-    go zero le = first (drop (from + 1) xs)
-    go (suc k) le =
-        let t = some-at xs (from + 1 + k) (omega (arith, le, room)) in
-        let here = none s t.0 (from + 1 + k) get t.1 (omega arith) (omega (arith, le)) (omega (arith, le, room)) in
-        let one : k + 1 ≡ suc k = omega arith in
-        ap (λ n. list_any (λ (t : Segment). is_in nat_eq s.high t.parents) (take n (drop (from + 1) xs))) (sym one)
-        ∙ child-none s.high (from + 1) k xs t.0 t.1 (go k (omega (arith, le))) here
+pub none-behind : (xs : List Segment) (from : ℕ) (s : Segment) → slice_get xs from ≡ Some s → HasNoChild xs (length xs) from → from + 16 ≤ length xs
+    → list_any (λ (t : Segment). is_in nat_eq s.high t.parents) (take 15 (drop (from + 1) xs)) ≡ false
+none-behind xs from s get none room = none-next xs from s get none 15 (omega arith) (omega (arith, room))
 
 -- ---- the loops
 
@@ -115,6 +117,17 @@ none-behind xs from s get none room = go 15 (omega arith)
 pub record SoughtDown (xs : List Segment) (to id place : ℕ) : Type 0 where
   pub within : place ≤ to
   pub none : (at : ℕ) (s : Segment) → slice_get xs at ≡ Some s → place ≤ at → at < to → s.high ≡ id → ⊥
+
+-- nor at the place before
+pub sought-more : (xs : List Segment) (to id place from : ℕ) → SoughtDown xs to id place → from < place → ((s : Segment) → slice_get xs (place - 1) ≡ Some s → s.high ≡ id → ⊥) → SoughtDown xs to id (place - 1)
+sought-more xs to id place from h some here = record {
+  within = let within = h.within in omega (arith, within);
+  none = λ at s get le lt same.
+      ⊎_elim
+      (λ (far : place ≤ at). h.none at s get far lt same)
+      (λ (near : at < place). let is : at ≡ place - 1 = omega (arith, le, near) in here s (ap (slice_get xs) (sym is) ∙ get) same)
+      (le_or_lt place at);
+}
 
 -- with the parents that are left noted too, all of the segment are
 pub record NotesSoFar (xs : List Segment) (place : ℕ) (parents left : List ℕ) (old now : List Bool) : Type 0 where

@@ -22,12 +22,12 @@ fn place_of(below: &Level, from: usize, to: usize, id: u64) -> Option<usize>
     if from >= to {
         return None;
     }
-    if below.at(from).high().number() > id {
+    if below.high_at(from) > id {
         return None;
     }
     let mut place = to;
     'places: while from < place {
-        let high = below.at(place - 1).high().number();
+        let high = below.high_at(place - 1);
         if high == id {
             return Some(place - 1);
         }

@@ -1,6 +1,6 @@
 //! Which segments form the next group, and its parents.
 
-ghost use Rattle.std.specs.Prelude.{◌≡◌, ◌≤◌, ◌+◌, ◌++◌, ℕ, [], ◌∷◌, length, take, drop, filter, not, nat_eq, nat_lt, OnOk, IfOk};
+ghost use Rattle.std.specs.Prelude.{◌≡◌, ◌≤◌, ◌+◌, ◌++◌, ℕ, [], ◌∷◌, length, take, drop, filter, not, nat_eq, nat_lt, ◌<◌, ◌-◌, true, false, get_or, OnOk, IfOk};
 ghost use Rattle.id_groups.specs.Lists.{is_in};
 ghost use Rattle.segment_codec.specs.Lent.{segment_of};
 ghost use Rattle.segment_rules.specs.Levels.{group_limit, group_size as size_of, parents_below as below_of, ascending};
@@ -34,16 +34,40 @@ fn add_head(heads: &mut Vec<u64>, segment: SegmentRef<'_>) -> Result<(), AllocEr
     Ok(())
 }
 
-/// How many of the sixteen segments from a place on form a group, by their heads. What `heads` has is written over.
-fn scan_group(heads: &mut Vec<u64>, below: &Level, from: usize) -> Result<usize, AllocError>
+/// How many of the sixteen segments from a place on may form a group: none that is noted to have no child has others behind it.
+fn most_of(children: &[bool], from: usize) -> usize
+    requires { from + 16 ≤ length children.now }
+    ensures some { 1 ≤ result }
+    ensures most { result ≤ 16 }
+    ensures last { result < 16 → get_or children.now (from + result - 1) true ≡ false }
+{
+    let mut count = 1;
+    'places: while count < GROUP_LIMIT {
+        if !children[from + count - 1] {
+            return count;
+        }
+        count += 1;
+    }
+    count
+}
+
+/// How many of the sixteen segments from a place on form a group, by the heads of the first ones. What `heads` has is written over.
+fn scan_group(
+    heads: &mut Vec<u64>,
+    below: &Level,
+    children: &[bool],
+    from: usize,
+) -> Result<usize, AllocError>
     requires sound { IsSound below.now }
     requires room { from + 16 ≤ length below.now.entries }
+    requires noted { AreNoted (segments_in below.now) (length below.now.entries) children.now }
     ensures { IfOk result (λ n. n ≡ size_of group_limit (drop from (segments_in below.now))) }
 {
     let _count = below.len();
     heads.clear();
+    let most = most_of(children, from);
     let mut size = 0;
-    for k in 0..GROUP_LIMIT {
+    for k in 0..most {
         add_head(heads, below.at(from + k))?;
         if heads.len() == 1 {
             size = k + 1;
@@ -68,7 +92,7 @@ pub(crate) fn group_size(
     if !children[from] {
         return Ok(1);
     }
-    scan_group(heads, below, from)
+    scan_group(heads, below, children, from)
 }
 
 /// Adds the parents of the segment that lie below an id.

@@ -11,7 +11,7 @@ ghost use Rattle.high_segments.specs.Storing.{HasNewAt, CameSince};
 use crate::held::held;
 use crate::kept::{KeptLevel, Mark};
 use crate::levels::{Levels, LevelsMark};
-use segment_codec::{SegmentRef, read_segment};
+use segment_codec::{SegmentRef, read_segment, strip_short};
 
 /// Whether both are the same segment.
 #[inline(always)]
@@ -24,13 +24,16 @@ fn is_same(a: SegmentRef<'_>, b: SegmentRef<'_>) -> bool
         && a.parents_bytes() == b.parents_bytes()
 }
 
-/// What stands behind the record of the segment; `None` exactly where it doesn't stand in front.
+/// What stands behind the record of the segment; `None` exactly where it doesn't stand in front. A short one isn't read.
 #[inline(always)]
 fn strip_record<'a>(bytes: &'a [u8], segment: SegmentRef<'_>) -> Option<&'a [u8]>
     requires { IsSegment (segment_of segment) }
     ensures { MatchOption result ((rest : List ℕ) → bytes.now ≡ segment_bytes (segment_of segment.entry) ++ rest → ⊥)
         (λ rest. bytes.now ≡ segment_bytes (segment_of segment.entry) ++ rest.now) }
 {
+    if let Some(behind) = strip_short(bytes, segment) {
+        return Some(behind);
+    }
     let (found, rest) = read_segment(bytes)?;
     if is_same(found, segment) {
         return Some(rest);

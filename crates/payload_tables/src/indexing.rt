@@ -13,6 +13,8 @@ use std::alloc::Global;
 
 /// Fewer segments than so many are gone over when they are asked for: the index is written anew as a whole.
 const MANY: usize = 2048;
+/// And fewer than this share of those that are in it: what is written anew stays a fixed share of what came, however much is there.
+const SHARE: usize = 128;
 
 /// Takes the segments of the table that aren't in the index into it, where they are many. For want of memory it stays as it is.
 pub(crate) fn index_table(alloc: Global, flat: &FlatTable, edges: &mut EdgeIndex, bytes: &[u8])
@@ -20,8 +22,9 @@ pub(crate) fn index_table(alloc: Global, flat: &FlatTable, edges: &mut EdgeIndex
     ensures { (records : List PlacedSegment) → IsTableOf flat.now records → Stand bytes.now records → IsEdgeIndexOf edges.old (flats_of flat.now records)
         → IsEdgeIndexOf edges.new (flats_of flat.now records) }
 {
-    let late = flat.len().saturating_sub(edges.count() as usize);
-    if late < MANY {
+    let indexed = edges.count() as usize;
+    let late = flat.len().saturating_sub(indexed);
+    if late < MANY.max(indexed / SHARE) {
         return;
     }
     let view = flat.view(bytes, flat.count());

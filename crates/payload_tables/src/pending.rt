@@ -47,6 +47,13 @@ struct Pushed<'a> {
     is_held: bool,
 }
 
+/// The segment of a row that is pushed, and the place where its record begins.
+#[derive(Clone, Copy)]
+struct PlacedRef<'a> {
+    segment: SegmentRef<'a>,
+    place: u64,
+}
+
 /// Puts a name, which stands or will stand behind these, into the index; one that is held already stays where it was. Want
 /// of memory changes nothing.
 fn add_name(index: &mut NameIndex, names: &[u8], pushed: &Pushed<'_>) -> Result<(), AllocError>
@@ -66,20 +73,19 @@ fn add_found(
     section: &mut Section,
     index: &mut NameIndex,
     names: &[u8],
-    segment: SegmentRef<'_>,
-    place: u64,
+    placed: PlacedRef<'_>,
     pushed: &Pushed<'_>,
 ) -> Result<(), AllocError>
-    requires segment { MayPush section.old (segment_of segment) }
+    requires segment { MayPush section.old (segment_of placed.segment) }
     requires section { (records : List PlacedSegment) × IsSectionOf section.old records }
-    ensures section { OnOk result ((records : List PlacedSegment) → IsSectionOf section.old records → IsSectionOf section.new (records ++ record { place = place; segment = segment_of segment.entry } ∷ [])) }
+    ensures section { OnOk result ((records : List PlacedSegment) → IsSectionOf section.old records → IsSectionOf section.new (records ++ record { place = placed.entry.place; segment = segment_of placed.entry.segment } ∷ [])) }
     ensures found { (before : List NameBytes) → FindsNames index.old before → names.now ≡ names_bytes before → AllByRecursion IsName before
         → (IsTrue pushed.now.is_held ↔ IsIn pushed.now.name.now before) → OnOk result (FindsNames index.new (before ++ pushed.now.name.now ∷ [])) }
     ensures unchanged { OnErr result ((section.new ≡ section.old) × (index.new ≡ index.old)) }
 {
     let len = section.len();
     let end = section.end();
-    section.push(segment, place)?;
+    section.push(placed.segment, placed.place)?;
     let added = add_name(index, names, pushed);
     if added.is_err() {
         section.cut_back(len, end);
@@ -92,13 +98,12 @@ fn add_named(
     names: &mut Vec<u8>,
     section: &mut Section,
     index: &mut NameIndex,
-    segment: SegmentRef<'_>,
-    place: u64,
+    placed: PlacedRef<'_>,
     pushed: &Pushed<'_>,
 ) -> Result<(), AllocError>
-    requires segment { MayPush section.old (segment_of segment) }
+    requires segment { MayPush section.old (segment_of placed.segment) }
     requires section { (records : List PlacedSegment) × IsSectionOf section.old records }
-    ensures section { OnOk result ((records : List PlacedSegment) → IsSectionOf section.old records → IsSectionOf section.new (records ++ record { place = place; segment = segment_of segment.entry } ∷ [])) }
+    ensures section { OnOk result ((records : List PlacedSegment) → IsSectionOf section.old records → IsSectionOf section.new (records ++ record { place = placed.entry.place; segment = segment_of placed.entry.segment } ∷ [])) }
     ensures found { (before : List NameBytes) → FindsNames index.old before → names.old.items ≡ names_bytes before → AllByRecursion IsName before
         → (IsTrue pushed.now.is_held ↔ IsIn pushed.now.name.now before) → OnOk result (FindsNames index.new (before ++ pushed.now.name.now ∷ [])) }
     ensures names { OnOk result (names.new.items ≡ names.old.items ++ pushed.now.name.now) }
@@ -108,7 +113,7 @@ fn add_named(
     let len = names.len();
     names.extend_from_slice(pushed.name.lend().bytes)?;
     let (before, _) = names.split_at(len);
-    let added = add_found(section, index, before, segment, place, pushed);
+    let added = add_found(section, index, before, placed, pushed);
     if added.is_err() {
         names.truncate(len);
     }
@@ -121,23 +126,22 @@ fn add_parts(
     names: &mut Vec<u8>,
     section: &mut Section,
     index: &mut NameIndex,
-    segment: SegmentRef<'_>,
-    place: u64,
+    placed: PlacedRef<'_>,
     pushed: &Pushed<'_>,
 ) -> Result<(), AllocError>
-    requires segment { MayPush section.old (segment_of segment) }
+    requires segment { MayPush section.old (segment_of placed.segment) }
     requires section { (records : List PlacedSegment) × IsSectionOf section.old records }
-    ensures section { OnOk result ((records : List PlacedSegment) → IsSectionOf section.old records → IsSectionOf section.new (records ++ record { place = place; segment = segment_of segment.entry } ∷ [])) }
+    ensures section { OnOk result ((records : List PlacedSegment) → IsSectionOf section.old records → IsSectionOf section.new (records ++ record { place = placed.entry.place; segment = segment_of placed.entry.segment } ∷ [])) }
     ensures found { (before : List NameBytes) → FindsNames index.old before → names.old.items ≡ names_bytes before → AllByRecursion IsName before
         → (IsTrue pushed.now.is_held ↔ IsIn pushed.now.name.now before) → OnOk result (FindsNames index.new (before ++ pushed.now.name.now ∷ [])) }
     ensures names { OnOk result (names.new.items ≡ names.old.items ++ pushed.now.name.now) }
     ensures whole { OnOk result (IsName pushed.now.name.now) }
-    ensures places { OnOk result (places.new.items ≡ places.old.items ++ place ∷ []) }
+    ensures places { OnOk result (places.new.items ≡ places.old.items ++ placed.entry.place ∷ []) }
     ensures unchanged { OnErr result ((places.new.items ≡ places.old.items) × (names.new.items ≡ names.old.items) × (section.new ≡ section.old) × (index.new ≡ index.old)) }
 {
     let len = places.len();
-    places.push(place)?;
-    let added = add_named(names, section, index, segment, place, pushed);
+    places.push(placed.place)?;
+    let added = add_named(names, section, index, placed, pushed);
     if added.is_err() {
         places.truncate(len);
     }
@@ -197,14 +201,16 @@ impl PendingRows {
         let place = self.records.len();
         write_segment(&mut self.records, id, id, 0, parents)?;
         let (_, written) = self.records.split_at(place);
-        let segment = segment_of_row(written, id);
+        let placed = PlacedRef {
+            segment: segment_of_row(written, id),
+            place: place as u64,
+        };
         let added = add_parts(
             &mut self.places,
             &mut self.names,
             &mut self.section,
             &mut self.index,
-            segment,
-            place as u64,
+            placed,
             pushed,
         );
         if added.is_err() {

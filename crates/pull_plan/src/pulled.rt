@@ -32,6 +32,14 @@ use std::alloc::{AllocError, Global};
 /// For how many rows there is room behind a world's others.
 const MOST_ROWS: u32 = 16_777_216;
 
+/// The newest world: its base and the view of it, and how many of its rows were cloned.
+#[derive(Clone, Copy)]
+struct Newest<'a> {
+    base: BaseRef<'a>,
+    view: View<'a>,
+    cloned: u64,
+}
+
 /// The id beside the world of one of the remote's: the cloned ones stay, and the others have these ids.
 fn id_beside(ids: &[Id], cloned: u64, number: u64) -> Id
     requires small { cloned ≤ 2 ^ 56 }
@@ -113,9 +121,7 @@ fn row_beside(
 /// Goes on by the row with this name and the parents with these numbers.
 fn add_row(
     alloc: Global,
-    newest: &BaseRef<'_>,
-    view: &View<'_>,
-    cloned: u64,
+    newest: &Newest<'_>,
     name: &Name,
     numbers: &[u64],
     ids: &mut Vec<Id>,
@@ -123,15 +129,15 @@ fn add_row(
 ) -> Result<(), PlanFault>
     requires few { length numbers.now ≤ 8 }
     requires row { (w : World NameBytes) × (rows front rest : List (Row NameBytes)) × (row : Row NameBytes)
-        × MayAdd newest.now (flats_in view.now) cloned ids.old.items left.old name.now numbers.now w rows front rest row }
+        × MayAdd newest.now.base (flats_in newest.now.view) newest.now.cloned ids.old.items left.old name.now numbers.now w rows front rest row }
     ensures { (w : World NameBytes) (rows front rest : List (Row NameBytes)) (row : Row NameBytes)
-        → MayAdd newest.now (flats_in view.now) cloned ids.old.items left.old name.now numbers.now w rows front rest row
+        → MayAdd newest.now.base (flats_in newest.now.view) newest.now.cloned ids.old.items left.old name.now numbers.now w rows front rest row
         → MatchResult result
-        (λ done. AreTaken w cloned (front ++ row ∷ []) ids.new.items left.new)
+        (λ done. AreTaken w newest.now.cloned (front ++ row ∷ []) ids.new.items left.new)
         (λ fault. (fault ≡ Memory) ⊎ (conflict_fault (first_conflict same_name w rows) ≡ Some fault)) }
 {
-    let parents = parents_beside(alloc, ids, cloned, numbers)?;
-    let id = row_beside(alloc, newest, view, name, &parents, left)?;
+    let parents = parents_beside(alloc, ids, newest.cloned, numbers)?;
+    let id = row_beside(alloc, &newest.base, &newest.view, name, &parents, left)?;
     add_id(ids, id)?;
     Ok(())
 }
@@ -151,29 +157,27 @@ fn parents_in<'a>(segment: &'a CloneSegment, id: u64, previous: &'a [u64]) -> &'
 /// Goes on by the rows of a segment from the cloned ones on.
 fn add_segment(
     alloc: Global,
-    newest: &BaseRef<'_>,
-    view: &View<'_>,
-    cloned: u64,
+    newest: &Newest<'_>,
     fresh: &Fresh,
     segment: &CloneSegment,
     ids: &mut Vec<Id>,
     left: &mut PendingRows,
 ) -> Result<(), PlanFault>
     requires names { length fresh.now.names < 2 ^ 31 }
-    requires rows { (w : World NameBytes) × (rows : List (Row NameBytes)) × MayWalk newest.now (flats_in view.now) cloned fresh.now w rows
-        × IsIn segment.now fresh.now.cloned.segments × AreTaken w cloned (take (max cloned segment.now.low) rows) ids.old.items left.old }
-    ensures { (w : World NameBytes) (rows : List (Row NameBytes)) → MayWalk newest.now (flats_in view.now) cloned fresh.now w rows
-        → IsIn segment.now fresh.now.cloned.segments → AreTaken w cloned (take (max cloned segment.now.low) rows) ids.old.items left.old
+    requires rows { (w : World NameBytes) × (rows : List (Row NameBytes)) × MayWalk newest.now.base (flats_in newest.now.view) newest.now.cloned fresh.now w rows
+        × IsIn segment.now fresh.now.cloned.segments × AreTaken w newest.now.cloned (take (max newest.now.cloned segment.now.low) rows) ids.old.items left.old }
+    ensures { (w : World NameBytes) (rows : List (Row NameBytes)) → MayWalk newest.now.base (flats_in newest.now.view) newest.now.cloned fresh.now w rows
+        → IsIn segment.now fresh.now.cloned.segments → AreTaken w newest.now.cloned (take (max newest.now.cloned segment.now.low) rows) ids.old.items left.old
         → MatchResult result
-        (λ done. AreTaken w cloned (take (max cloned (segment.now.high + 1)) rows) ids.new.items left.new)
+        (λ done. AreTaken w newest.now.cloned (take (max newest.now.cloned (segment.now.high + 1)) rows) ids.new.items left.new)
         (λ fault. (fault ≡ Memory) ⊎ (conflict_fault (first_conflict same_name w rows) ≡ Some fault)) }
 {
-    let mut id = cloned.max(segment.low);
+    let mut id = newest.cloned.max(segment.low);
     'ids: while id <= segment.high {
-        let name = fresh.names.at((id - cloned) as u32);
+        let name = fresh.names.at((id - newest.cloned) as u32);
         let previous = [id.saturating_sub(1)];
         let numbers = parents_in(segment, id, &previous);
-        add_row(alloc, newest, view, cloned, name, numbers, ids, left)?;
+        add_row(alloc, newest, name, numbers, ids, left)?;
         id += 1;
     }
     Ok(())
@@ -182,9 +186,7 @@ fn add_segment(
 /// Goes on by all rows from the cloned ones on; `told` is what was told of their ids and parents.
 fn add_rows(
     alloc: Global,
-    newest: &BaseRef<'_>,
-    view: &View<'_>,
-    cloned: u64,
+    newest: &Newest<'_>,
     fresh: &Fresh,
     told: &CloneData,
     ids: &mut Vec<Id>,
@@ -192,19 +194,19 @@ fn add_rows(
 ) -> Result<(), PlanFault>
     requires names { length fresh.now.names < 2 ^ 31 }
     requires told { told.now ≡ fresh.now.cloned }
-    requires rows { (w : World NameBytes) × (rows : List (Row NameBytes)) × MayWalk newest.now (flats_in view.now) cloned fresh.now w rows
+    requires rows { (w : World NameBytes) × (rows : List (Row NameBytes)) × MayWalk newest.now.base (flats_in newest.now.view) newest.now.cloned fresh.now w rows
         × (left.old.first ≡ length w.others) }
     requires ids { ids.old.items ≡ [] }
     requires left { HoldsRows left.old [] }
-    ensures { (w : World NameBytes) (rows : List (Row NameBytes)) → MayWalk newest.now (flats_in view.now) cloned fresh.now w rows
+    ensures { (w : World NameBytes) (rows : List (Row NameBytes)) → MayWalk newest.now.base (flats_in newest.now.view) newest.now.cloned fresh.now w rows
         → left.old.first ≡ length w.others
         → MatchResult result
-        (λ done. AreTaken w cloned rows ids.new.items left.new)
+        (λ done. AreTaken w newest.now.cloned rows ids.new.items left.new)
         (λ fault. (fault ≡ Memory) ⊎ (conflict_fault (first_conflict same_name w rows) ≡ Some fault)) }
 {
     'segments: for k in 0..told.segments.len() {
         let segment = told.segments.at(k);
-        add_segment(alloc, newest, view, cloned, fresh, segment, ids, left)?;
+        add_segment(alloc, newest, fresh, segment, ids, left)?;
     }
     Ok(())
 }
@@ -251,20 +253,13 @@ pub(crate) fn taken_of(
 {
     check_fresh(alloc, tables, bytes, fresh)?;
     count_parents(&fresh.cloned);
-    let newest = tables.newest(bytes);
-    let view = newest.view(none);
+    let base = tables.newest(bytes);
+    let view = base.view(none);
+    let cloned = tables.cloned();
+    let newest = Newest { base, view, cloned };
     let count = fresh.names.len();
     let mut ids = Vec::with_capacity(alloc, count as usize)?;
     let mut left = PendingRows::empty(alloc, none.first());
-    add_rows(
-        alloc,
-        &newest,
-        &view,
-        tables.cloned(),
-        fresh,
-        &fresh.cloned,
-        &mut ids,
-        &mut left,
-    )?;
+    add_rows(alloc, &newest, fresh, &fresh.cloned, &mut ids, &mut left)?;
     Ok(Taken { ids, left })
 }

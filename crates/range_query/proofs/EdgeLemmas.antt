@@ -1,5 +1,5 @@
 -- Children that edges lead to.
-use Rattle.std.proofs.Common.{◌≡◌, ◌∙◌, ℕ, zero, suc, ◌+◌, ◌-◌, ◌*◌, ◌/◌, ◌%◌, ◌<◌, ◌≤◌, ◌^◌, ◌⊎◌, inl, inr, ◌↔◌, true, false, List, [], ◌∷◌, Some, length, get_or, min, max, refl, sym, subst, ap, arith, ⊎_elim, le_of_suc-le-suc, zero-le}
+use Rattle.std.proofs.Common.{◌≡◌, ◌∙◌, ℕ, zero, suc, ◌+◌, ◌-◌, ◌/◌, ◌%◌, ◌<◌, ◌≤◌, ◌^◌, ◌⊎◌, inl, inr, ◌↔◌, true, false, List, [], ◌∷◌, Some, length, get_or, max, sym, subst, ap, arith, ⊎_elim, le_of_suc-le-suc, zero-le}
 use Rattle.std.specs.Prelude.{slice_get, nat_lt}
 use Rattle.std.specs.List.{AllWithin}
 use Rattle.std.specs.List.Sorted.{IsNonDecreasing, IsPartitionedBy}
@@ -9,7 +9,7 @@ use Rattle.id_groups.specs.declared.span.IdSpan.{IdSpan}
 use Rattle.commit_graph.specs.Sets as sets
 use Rattle.segment_codec.specs.Edges.{edge_of, AreEdgesOf}
 use Rattle.segment_codec.specs.Record.{Segment}
-use Rattle.segment_codec.specs.Table.{IsInSegment, segment_at, Cover, IsLawful}
+use Rattle.segment_codec.specs.Table.{Cover, IsLawful}
 use Rattle.segment_codec.proofs.Numbers.{some_is}
 use Rattle.segment_codec.proofs.Tables.{le_or_lt, AreRising, over-in, segment-in, lawful-rising, lawful-at, parent-below}
 use Rattle.span_set.specs.Members.{IsMember, ids_of}

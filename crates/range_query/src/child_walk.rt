@@ -21,6 +21,21 @@ use std::alloc::{AllocError, Global};
 /// To go past so many flat segments takes about as long as the look-up of one of a level.
 const FLATS_WORTH: u64 = 8;
 
+/// What is left of a set on a way down: all but its first `at` spans.
+#[derive(Clone, Copy)]
+struct Rest<'a> {
+    set: &'a IdSet,
+    at: usize,
+}
+
+/// The ids from `low` to before `end`, over which a way goes down by segments of levels up to `top`.
+#[derive(Clone, Copy)]
+struct Stretch {
+    low: u64,
+    end: u64,
+    top: usize,
+}
+
 /// How many spans begin at the id or above it, of which `at` are known to.
 fn skip_from(spans: &[IdSpan], at: usize, id: Id) -> usize
     requires { at ≤ length spans.now }
@@ -148,33 +163,32 @@ fn are_below(spans: &[IdSpan], at: usize, id: Id) -> bool
     spans[at].high.number() < id.number()
 }
 
-/// Whether the segment, whose parents ascend, has no member below its highest id, and none of its parents is one. The first `at` spans of the set
-/// stand from its highest id on.
-fn is_apart(set: &IdSet, at: usize, segment: SegmentRef<'_>) -> bool
-    requires within { at ≤ length set.now }
-    requires passed { StandFrom (segment_of segment).high (take at set.now) }
+/// Whether the segment, whose parents ascend, has no member below its highest id, and none of its parents is one. The spans that
+/// are passed stand from its highest id on.
+fn is_apart(rest: Rest<'_>, segment: SegmentRef<'_>) -> bool
+    requires within { rest.at ≤ length rest.set.now }
+    requires passed { StandFrom (segment_of segment).high (take rest.at rest.set.now) }
     requires ascending { ascend_from 0 (segment_of segment).parents ≡ true }
-    ensures { IsTrue result → IsApart set.now (segment_of segment.entry) }
+    ensures { IsTrue result → IsApart rest.entry.set.now (segment_of segment.entry) }
 {
-    if !are_below(set.spans(), at, segment.low()) {
+    if !are_below(rest.set.spans(), rest.at, segment.low()) {
         return false;
     }
-    !has_parent_among(set, segment)
+    !has_parent_among(rest.set, segment)
 }
 
 /// A segment above the flat ones that ends at the id and none of whose ids has a parent in the set: the first that the
-/// ladder leads to from its level down. The first `at` spans of the set stand from the id on.
+/// ladder leads to from its level down. The spans that are passed stand from the id on.
 fn childless_ending<'a, T: SegmentTable>(
     table: &'a T,
-    set: &IdSet,
-    at: usize,
+    rest: Rest<'_>,
     id: Id,
     ladder: &mut Ladder,
     steps: &mut Steps,
 ) -> Option<SegmentRef<'a>>
-    requires within { at ≤ length set.now }
-    requires passed { StandFrom id (take at set.now) }
-    ensures none { IfSome result (λ s. ((segment_of s).low ≤ id) × LackChildren (table_graph (T.flats table.now)) set.now (segment_of s).low id) }
+    requires within { rest.at ≤ length rest.set.now }
+    requires passed { StandFrom id (take rest.at rest.set.now) }
+    ensures none { IfSome result (λ s. ((segment_of s).low ≤ id) × LackChildren (table_graph (T.flats table.now)) rest.entry.set.now (segment_of s).low id) }
     ensures counted { min steps.old.taken (2 ^ 64 - 1) ≤ steps.new.taken }
 {
     'levels: while ladder.level() > 0 {
@@ -182,7 +196,7 @@ fn childless_ending<'a, T: SegmentTable>(
             None => ladder.go_down(),
             Some(segment) => {
                 if !ladder.rise() {
-                    if is_apart(set, at, segment) {
+                    if is_apart(rest, segment) {
                         return Some(segment);
                     }
                     ladder.go_into(segment.low().number());
@@ -194,26 +208,25 @@ fn childless_ending<'a, T: SegmentTable>(
 }
 
 /// Adds the children among the ids of the flat segment that has the id, up to this one, and answers the segment's lowest id.
-/// The first `at` spans of the set stand from the id on.
+/// The spans that are passed stand from the id on.
 fn add_flat<T: SegmentTable>(
     answer: &mut IdSet,
     table: &T,
-    set: &IdSet,
-    at: usize,
+    rest: Rest<'_>,
     id: Id,
     segment: SegmentRef<'_>,
 ) -> Result<u64, AllocError>
     requires found { segment_at (T.flats table.now) id ≡ Some (segment_of segment) }
-    requires within { at ≤ length set.now }
-    requires passed { StandFrom id (take at set.now) }
+    requires within { rest.at ≤ length rest.set.now }
+    requires passed { StandFrom id (take rest.at rest.set.now) }
     ensures low { IfOk result (λ low. low ≤ id) }
     ensures members { IfOk result (λ low. (x : ℕ) → IsMember answer.new x
-        ↔ (IsMember answer.old x ⊎ ((low ≤ x) × (x ≤ id) × sets.children (table_graph (T.flats table.now)) (IsMember set.now) x))) }
+        ↔ (IsMember answer.old x ⊎ ((low ≤ x) × (x ≤ id) × sets.children (table_graph (T.flats table.now)) (IsMember rest.entry.set.now) x))) }
     ensures canonical { IsCanonical answer.old → IsCanonical answer.new }
 {
     let part = segment.ending_at(id);
-    add_moved(answer, set.spans(), at, part)?;
-    add_lowest(answer, set, part)?;
+    add_moved(answer, rest.set.spans(), rest.at, part)?;
+    add_lowest(answer, rest.set, part)?;
     Ok(part.low().number())
 }
 
@@ -246,23 +259,22 @@ fn flat_near<'a, T: SegmentTable>(
 }
 
 /// Goes past a segment above the flat ones none of whose ids up to this one, its highest, has a parent in the set. It answers
-/// its lowest id, and one above the id where it found none. The first `at` spans of the set stand from the id on.
+/// its lowest id, and one above the id where it found none. The spans that are passed stand from the id on.
 fn pass_level<T: SegmentTable>(
     table: &T,
-    set: &IdSet,
-    at: usize,
+    rest: Rest<'_>,
     id: Id,
     ladder: &mut Ladder,
     steps: &mut Steps,
 ) -> u64
     requires held { IsHeld (T.flats table.now) id }
-    requires within { at ≤ length set.now }
-    requires passed { StandFrom id (take at set.now) }
-    ensures none { LackChildren (table_graph (T.flats table.now)) set.now result id }
+    requires within { rest.at ≤ length rest.set.now }
+    requires passed { StandFrom id (take rest.at rest.set.now) }
+    ensures none { LackChildren (table_graph (T.flats table.now)) rest.entry.set.now result id }
     ensures counted { min steps.old.taken (2 ^ 64 - 1) ≤ steps.new.taken }
 {
     ladder.climb(id);
-    match childless_ending(table, set, at, id, ladder, steps) {
+    match childless_ending(table, rest, id, ladder, steps) {
         Some(segment) => {
             let low = segment.low().number();
             ladder.note(id.number().saturating_sub(low));
@@ -273,57 +285,55 @@ fn pass_level<T: SegmentTable>(
 }
 
 /// Goes past ids up to this one none of which has a parent in the set, by a level or by flat segments. It answers the lowest
-/// of them, and one above the id where it knows of none. The first `at` spans of the set stand from the id on.
+/// of them, and one above the id where it knows of none. The spans that are passed stand from the id on.
 fn pass<T: SegmentTable>(
     table: &T,
-    set: &IdSet,
-    at: usize,
+    rest: Rest<'_>,
     id: Id,
     ladder: &mut Ladder,
     steps: &mut Steps,
 ) -> u64
     requires held { IsHeld (T.flats table.now) id }
-    requires within { at ≤ length set.now }
-    requires passed { StandFrom id (take at set.now) }
-    ensures none { LackChildren (table_graph (T.flats table.now)) set.now result id }
+    requires within { rest.at ≤ length rest.set.now }
+    requires passed { StandFrom id (take rest.at rest.set.now) }
+    ensures none { LackChildren (table_graph (T.flats table.now)) rest.entry.set.now result id }
     ensures counted { min steps.old.taken (2 ^ 64 - 1) ≤ steps.new.taken }
 {
-    let from = end_at(set.spans(), at).max(ladder.floor());
+    let from = end_at(rest.set.spans(), rest.at).max(ladder.floor());
     if id.number() <= from {
         return id.number() + 1;
     }
     if ladder.pause() > 0 {
-        return pass_flats(table, set, from, id, ladder, steps);
+        return pass_flats(table, rest.set, from, id, ladder, steps);
     }
-    pass_level(table, set, at, id, ladder, steps)
+    pass_level(table, rest, id, ladder, steps)
 }
 
 /// Adds the children among the ids of a segment of any level, or of several, up to one of its ids, and answers the lowest id.
-/// The first `at` spans of the set stand from the id on.
+/// The spans that are passed stand from the id on.
 fn add_next<T: SegmentTable>(
     answer: &mut IdSet,
     table: &T,
-    set: &IdSet,
-    at: usize,
+    rest: Rest<'_>,
     id: Id,
     ladder: &mut Ladder,
     steps: &mut Steps,
 ) -> Result<u64, AllocError>
     requires held { IsHeld (T.flats table.now) id }
-    requires within { at ≤ length set.now }
-    requires passed { StandFrom id (take at set.now) }
+    requires within { rest.at ≤ length rest.set.now }
+    requires passed { StandFrom id (take rest.at rest.set.now) }
     ensures low { IfOk result (λ low. low ≤ id) }
     ensures members { IfOk result (λ low. (x : ℕ) → IsMember answer.new x
-        ↔ (IsMember answer.old x ⊎ ((low ≤ x) × (x ≤ id) × sets.children (table_graph (T.flats table.now)) (IsMember set.now) x))) }
+        ↔ (IsMember answer.old x ⊎ ((low ≤ x) × (x ≤ id) × sets.children (table_graph (T.flats table.now)) (IsMember rest.entry.set.now) x))) }
     ensures canonical { IsCanonical answer.old → IsCanonical answer.new }
     ensures counted { min steps.old.taken (2 ^ 64 - 1) ≤ steps.new.taken }
 {
-    let low = pass(table, set, at, id, ladder, steps);
+    let low = pass(table, rest, id, ladder, steps);
     if low <= id.number() {
         return Ok(low);
     }
     let segment = flat_near(table, id, ladder, steps);
-    add_flat(answer, table, set, at, id, segment)
+    add_flat(answer, table, rest, id, segment)
 }
 
 /// Over how many ids a level has to lead to be worth its look-up: as many as some flat segments have.
@@ -333,33 +343,31 @@ fn ids_worth<T: SegmentTable>(table: &T) -> u64 {
     (bounds.master / flats).saturating_mul(FLATS_WORTH)
 }
 
-/// Adds the children among the ids from `low` to before `end`, and maybe some that are lower. It goes down by segments of
-/// levels up to `top`.
+/// Adds the children among the ids of the stretch, and maybe some that are lower.
 fn add_between<T: SegmentTable>(
     answer: &mut IdSet,
     table: &T,
     set: &IdSet,
-    low: u64,
-    end: u64,
-    top: usize,
+    stretch: Stretch,
     steps: &mut Steps,
 ) -> Result<(), AllocError>
-    requires held { (x : ℕ) → low ≤ x → x < end → IsHeld (T.flats table.now) x }
-    requires bound { end ≤ 2 ^ 57 }
-    requires top { top < 8 }
+    requires held { (x : ℕ) → stretch.low ≤ x → x < stretch.end → IsHeld (T.flats table.now) x }
+    requires bound { stretch.end ≤ 2 ^ 57 }
+    requires top { stretch.top < 8 }
     ensures sound { OnOk result ((x : ℕ) → IsMember answer.new x → IsMember answer.old x ⊎ sets.children (table_graph (T.flats table.now)) (IsMember set.now) x) }
-    ensures whole { OnOk result ((x : ℕ) → low ≤ x → x < end → sets.children (table_graph (T.flats table.now)) (IsMember set.now) x → IsMember answer.new x) }
+    ensures whole { OnOk result ((x : ℕ) → stretch.low ≤ x → x < stretch.end → sets.children (table_graph (T.flats table.now)) (IsMember set.now) x → IsMember answer.new x) }
     ensures kept { OnOk result ((x : ℕ) → IsMember answer.old x → IsMember answer.new x) }
     ensures canonical { IsCanonical answer.old → IsCanonical answer.new }
     ensures counted { min steps.old.taken (2 ^ 64 - 1) ≤ steps.new.taken }
 {
-    let mut ladder = Ladder::new(top, ids_worth(table), low);
-    let mut below = end;
+    let mut ladder = Ladder::new(stretch.top, ids_worth(table), stretch.low);
+    let mut below = stretch.end;
     let mut at = 0;
-    'down: while low < below {
+    'down: while stretch.low < below {
         let id = Id::from_number(below - 1);
         at = skip_from(set.spans(), at, id);
-        below = add_next(answer, table, set, at, id, &mut ladder, steps)?;
+        let rest = Rest { set, at };
+        below = add_next(answer, table, rest, id, &mut ladder, steps)?;
     }
     Ok(())
 }
@@ -380,16 +388,18 @@ fn add_from<T: SegmentTable>(
 {
     let bounds = table.bounds();
     let others = low.max(FIRST_OTHER);
-    add_between(
-        answer,
-        table,
-        set,
-        others,
-        FIRST_OTHER + bounds.others,
-        0,
-        steps,
-    )?;
-    add_between(answer, table, set, low, bounds.master, HIGHEST_LEVEL, steps)?;
+    let above = Stretch {
+        low: others,
+        end: FIRST_OTHER + bounds.others,
+        top: 0,
+    };
+    add_between(answer, table, set, above, steps)?;
+    let masters = Stretch {
+        low,
+        end: bounds.master,
+        top: HIGHEST_LEVEL,
+    };
+    add_between(answer, table, set, masters, steps)?;
     Ok(())
 }
 

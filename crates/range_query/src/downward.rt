@@ -147,16 +147,13 @@ fn push_parents(
     Ok(more)
 }
 
-/// Lets go of what waits from the segment's lowest id on, lets its parents wait, and keeps a cut at that lowest id if the
-/// segment's place is one that leaves a cut.
+/// Lets go of what waits from the segment's lowest id on, and lets its parents wait.
 #[inline(always)]
 fn visit(
     near: &mut Window,
     far: &mut WorkList,
-    cuts: &mut Vec<Cut>,
     to: &IdSet,
     ways: Ways,
-    place: u32,
     segment: SegmentRef<'_>,
 ) -> Result<Ways, AllocError>
     ensures keeps { OnOk result (Keeps ((near.old ++ far.old) ++ (segment_of segment.entry).parents) (near.new ++ far.new) (segment_of segment.entry).low) }
@@ -164,7 +161,6 @@ fn visit(
     ensures end { IfOk result (λ r. (b : ℕ) → (segment_of segment.entry).low ≤ b → IsEndOf (ToVisit (IsMember to.now) far.old) b ways.end
         → IsEndOf (ToVisit (IsMember to.now) far.new) (segment_of segment.entry).low r.end) }
     ensures least { IfOk result (λ r. IsLeastParent (segment_of segment.entry).parents ways.least r.least) }
-    ensures cuts { IfOk result (λ r. (c : PlainCut) → IsIn c cuts.new.items → IsIn c cuts.old.items ⊎ (c ≡ record { at = (segment_of segment.entry).low; least = r.least })) }
 {
     let low = segment.low().number();
     near.slide(low);
@@ -172,13 +168,7 @@ fn visit(
         least: ways.least,
         end: end_from(far, to, ways.end, low),
     };
-    let ways = push_parents(near, far, left, segment)?;
-    let cut = Cut {
-        at: low,
-        least: ways.least,
-    };
-    keep_cut(cuts, place, cut)?;
-    Ok(ways)
+    push_parents(near, far, left, segment)
 }
 
 /// The ids from `lowest` on that some member of `to` reaches along parents, the members from `lowest` on among them, and cuts
@@ -196,19 +186,21 @@ pub(crate) fn walk_down<T: SegmentTable>(
     ensures cuts { IfOk result (λ r. (c : PlainCut) → IsIn c r.cuts.items → IsCut (table_graph (T.flats table.now)) (IsMember r.ids) c) }
     ensures counted { min steps.old.taken (2 ^ 64 - 1) ≤ steps.new.taken }
 {
-    let mut ids = IdSet::empty(alloc);
-    let mut cuts = Vec::new(alloc);
+    let mut found = Descent {
+        ids: IdSet::empty(alloc),
+        cuts: Vec::new(alloc),
+    };
     let mut far = WorkList::empty(alloc);
-    let tail = go_down(&mut ids, &mut cuts, &mut far, table, to, lowest, steps)?;
-    tail.put_into(&mut ids)?;
-    Ok(Descent { ids, cuts })
+    let tail = go_down(&mut found, &mut far, table, to, lowest, steps)?;
+    tail.put_into(&mut found.ids)?;
+    Ok(found)
 }
 
-/// The walk: the ids and the cuts get what it finds, and are none before. The lowest of the ids are the tail that it answers.
+/// The walk: what it finds goes to the ids and the cuts, which are none before. At the lowest id of a segment whose place is one
+/// that leaves a cut, it keeps a cut. The lowest of the ids are the tail that it answers.
 /// What waits outside the window is on the list, which is empty before.
 fn go_down<T: SegmentTable>(
-    ids: &mut IdSet,
-    cuts: &mut Vec<Cut>,
+    found: &mut Descent,
     far: &mut WorkList,
     table: &T,
     to: &IdSet,
@@ -216,11 +208,11 @@ fn go_down<T: SegmentTable>(
     steps: &mut Steps,
 ) -> Result<Tail, AllocError>
     requires held { (x : ℕ) → IsMember to.now x → IsHeld (T.flats table.now) x }
-    requires ids { ids.old ≡ [] }
-    requires cuts { cuts.old.items ≡ [] }
+    requires ids { found.old.ids ≡ [] }
+    requires cuts { found.old.cuts.items ≡ [] }
     requires far { far.old ≡ [] }
-    ensures members { IfOk result (λ tail. (x : ℕ) → HasFallen ids.new tail.low tail.end x ↔ (sets.ancestors (table_graph (T.flats table.now)) (IsMember to.now) x × (lowest ≤ x))) }
-    ensures cuts { IfOk result (λ tail. (c : PlainCut) → IsIn c cuts.new.items → IsCut (table_graph (T.flats table.now)) (HasFallen ids.new tail.low tail.end) c) }
+    ensures members { IfOk result (λ tail. (x : ℕ) → HasFallen found.new.ids tail.low tail.end x ↔ (sets.ancestors (table_graph (T.flats table.now)) (IsMember to.now) x × (lowest ≤ x))) }
+    ensures cuts { IfOk result (λ tail. (c : PlainCut) → IsIn c found.new.cuts.items → IsCut (table_graph (T.flats table.now)) (HasFallen found.new.ids tail.low tail.end) c) }
     ensures counted { min steps.old.taken (2 ^ 64 - 1) ≤ steps.new.taken }
 {
     let mut tail = Tail::empty();
@@ -238,8 +230,13 @@ fn go_down<T: SegmentTable>(
         if reached <= low {
             continue;
         }
-        tail.add(ids, low.max(lowest.number()), reached)?;
-        ways = visit(&mut near, far, cuts, to, ways, place, segment)?;
+        tail.add(&mut found.ids, low.max(lowest.number()), reached)?;
+        ways = visit(&mut near, far, to, ways, segment)?;
+        let cut = Cut {
+            at: low,
+            least: ways.least,
+        };
+        keep_cut(&mut found.cuts, place, cut)?;
         reached = after(near.greatest()).max(ways.end);
     }
     Ok(tail)

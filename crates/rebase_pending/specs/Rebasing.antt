@@ -4,6 +4,7 @@ use Rattle.std.specs.Cmp.Lexicographic.{pointwise}
 use Rattle.std.specs.List.{AllByRecursion, AllZip}
 use Rattle.id_groups.specs.Lists.{IsIn, AreDistinct}
 use Rattle.id_groups.specs.Name.{Name}
+use Rattle.commit_graph.specs.World.{Row, World}
 use Rattle.id_groups.specs.Id.{other_id}
 use Rattle.segment_codec.specs.Record.{Segment}
 use Rattle.segment_codec.specs.Table.{parents_at}
@@ -16,6 +17,15 @@ use Rattle.payload_tables.specs.Bases.{stored_in}
 use Rattle.change_parts.specs.declared.fault.PlanFault.{PlanFault}
 use Rattle.change_parts.specs.declared.fault.PlanFault.TheVariants.{Lost, Conflict}
 use Rattle.change_parts.specs.Asked.{others_count, IsStored, HaveParents}
+use Rattle.rebase_pending.specs.declared.rebasing.Reads.{Reads}
+use Rattle.rebase_pending.specs.Rebases.{MayRebase, MayRebaseOn}
+
+-- what a rebase reads, for these worlds and whatever world it is
+abbrev pub ReadsFor : Reads → World Name → World Name → List (Row Name) → Type 0
+ReadsFor reads = MayRebase reads.tables.now reads.bytes.now reads.base reads.pending.now reads.found.now
+
+abbrev pub ReadsOn : Reads → List Placed → List Placed → Type 0
+ReadsOn reads = MayRebaseOn reads.tables.now reads.bytes.now reads.base reads.pending.now reads.found.now
 
 -- the name of an other id of the base
 abbrev pub IsOtherName : List Placed → ℕ → Name → Type 0

@@ -19,7 +19,7 @@ ghost use Rattle.change_rules.specs.Rebase.{first_conflict, first_lost, left_of}
 ghost use Rattle.rebase_pending.specs.Rebases.{MayRebase, lost_fault, rebase_refusal, MayRebaseOn};
 ghost use Rattle.change_parts.specs.Plans.{conflict_fault};
 ghost use Rattle.change_parts.specs.Asked.{others_count, MayStore};
-ghost use Rattle.rebase_pending.specs.Rebasing.{IsAt, IsNowhere, AreStoredAs, AreStoredWhere, IsMoved, IsLostBy, LosesFirst, IsKept, IsRebased, IsNotLeft, LeftSoFar};
+ghost use Rattle.rebase_pending.specs.Rebasing.{IsAt, IsNowhere, AreStoredAs, AreStoredWhere, IsMoved, IsLostBy, LosesFirst, IsKept, IsRebased, IsNotLeft, LeftSoFar, ReadsFor, ReadsOn};
 
 use change_parts::PlanFault;
 use high_segments::View;
@@ -27,6 +27,17 @@ use id_groups::{FIRST_OTHER, Id, Name};
 use payload_tables::{BaseRef, PendingRows, Tables};
 use segment_codec::{Parents, SegmentTable, Steps};
 use std::alloc::{AllocError, Global};
+
+/// What a rebase reads: the tables and bytes of the newest world, the base of the pending rows, these rows, and of each the id that was
+/// found in the newest world.
+#[derive(Clone, Copy)]
+struct Reads<'a> {
+    tables: &'a Tables,
+    bytes: &'a [u8],
+    base: BaseRef<'a>,
+    pending: &'a PendingRows,
+    found: &'a [Option<Id>],
+}
 
 /// These parents as a list.
 fn listed(alloc: Global, parents: Parents<'_>) -> Result<Vec<Id>, AllocError>
@@ -128,27 +139,33 @@ fn are_same(a: &[Id], b: &[Id]) -> bool
 /// Whether the stored id has the parents of this pending row, in order.
 fn is_stored_so(
     alloc: Global,
+    reads: &Reads<'_>,
     newest: &BaseRef<'_>,
     view: &View<'_>,
-    base: &BaseRef<'_>,
-    pending: &PendingRows,
     i: u32,
-    found: &[Option<Id>],
     id: Id,
 ) -> Result<bool, AllocError>
     requires newest { (added : List Placed) × IsBaseOf newest.now added }
-    requires base { (before : List Placed) × IsBaseOf base.now before × (pending.now.first ≡ others_count before) }
-    requires row { (rows : List HeldRow) × (row : HeldRow) × HoldsRows pending.now rows × (slice_get rows i ≡ Some row)
-        × AllByRecursion (λ p. p < other_id (pending.now.first + length found.now)) row.parents }
-    ensures { (added before : List Placed) (rows : List HeldRow) (row : HeldRow) → IsBaseOf newest.now added → IsBaseOf base.now before
-        → pending.now.first ≡ others_count before → HoldsRows pending.now rows → slice_get rows i ≡ Some row
-        → IfOk result (AreStoredAs before added pending.now.first found.now (parents_at (flats_in view.now) id) row.parents) }
+    requires base { (before : List Placed) × IsBaseOf reads.now.base before × (reads.now.pending.now.first ≡ others_count before) }
+    requires row { (rows : List HeldRow) × (row : HeldRow) × HoldsRows reads.now.pending.now rows × (slice_get rows i ≡ Some row)
+        × AllByRecursion (λ p. p < other_id (reads.now.pending.now.first + length reads.now.found.now)) row.parents }
+    ensures { (added before : List Placed) (rows : List HeldRow) (row : HeldRow) → IsBaseOf newest.now added → IsBaseOf reads.now.base before
+        → reads.now.pending.now.first ≡ others_count before → HoldsRows reads.now.pending.now rows → slice_get rows i ≡ Some row
+        → IfOk result (AreStoredAs before added reads.now.pending.now.first reads.now.found.now (parents_at (flats_in view.now) id) row.parents) }
 {
+    let pending = reads.pending;
     let Some(parents) = pending.parents(i) else {
         unreachable!()
     };
     let parents = listed(alloc, parents)?;
-    match stored_parents(alloc, newest, base, pending.first(), found, &parents)? {
+    match stored_parents(
+        alloc,
+        newest,
+        &reads.base,
+        pending.first(),
+        reads.found,
+        &parents,
+    )? {
         Some(stored) => has_parents(alloc, view, id, &stored),
         None => Ok(false),
     }
@@ -157,55 +174,46 @@ fn is_stored_so(
 /// Refuses a pending row that was found, where it is stored with other parents.
 fn check_row(
     alloc: Global,
+    reads: &Reads<'_>,
     newest: &BaseRef<'_>,
     view: &View<'_>,
-    base: &BaseRef<'_>,
-    pending: &PendingRows,
     i: u32,
-    found: &[Option<Id>],
     own: Option<Id>,
 ) -> Result<(), PlanFault>
     requires newest { (added : List Placed) × IsBaseOf newest.now added }
-    requires base { (before : List Placed) × IsBaseOf base.now before × (pending.now.first ≡ others_count before) }
-    requires row { (rows : List HeldRow) × (row : HeldRow) × HoldsRows pending.now rows × (slice_get rows i ≡ Some row)
-        × AllByRecursion (λ p. p < other_id (pending.now.first + length found.now)) row.parents }
-    ensures { (added before : List Placed) (rows : List HeldRow) (row : HeldRow) → IsBaseOf newest.now added → IsBaseOf base.now before
-        → pending.now.first ≡ others_count before → HoldsRows pending.now rows → slice_get rows i ≡ Some row
+    requires base { (before : List Placed) × IsBaseOf reads.now.base before × (reads.now.pending.now.first ≡ others_count before) }
+    requires row { (rows : List HeldRow) × (row : HeldRow) × HoldsRows reads.now.pending.now rows × (slice_get rows i ≡ Some row)
+        × AllByRecursion (λ p. p < other_id (reads.now.pending.now.first + length reads.now.found.now)) row.parents }
+    ensures { (added before : List Placed) (rows : List HeldRow) (row : HeldRow) → IsBaseOf newest.now added → IsBaseOf reads.now.base before
+        → reads.now.pending.now.first ≡ others_count before → HoldsRows reads.now.pending.now rows → slice_get rows i ≡ Some row
         → MatchResult result
-        (λ done. AreStoredWhere before added pending.now.first found.now (flats_in view.now) own row.parents true)
-        (λ fault. (fault ≡ Memory) ⊎ ((fault ≡ Conflict row.name) × AreStoredWhere before added pending.now.first found.now (flats_in view.now) own row.parents false)) }
+        (λ done. AreStoredWhere before added reads.now.pending.now.first reads.now.found.now (flats_in view.now) own row.parents true)
+        (λ fault. (fault ≡ Memory) ⊎ ((fault ≡ Conflict row.name) × AreStoredWhere before added reads.now.pending.now.first reads.now.found.now (flats_in view.now) own row.parents false)) }
 {
     let Some(id) = own else {
         return Ok(());
     };
-    if is_stored_so(alloc, newest, view, base, pending, i, found, id)? {
+    if is_stored_so(alloc, reads, newest, view, i, id)? {
         return Ok(());
     }
-    Err(PlanFault::Conflict(pending.name(i).to_name()))
+    Err(PlanFault::Conflict(reads.pending.name(i).to_name()))
 }
 
 /// Refuses the first pending row that the newest world has with other parents. `none` has no rows.
-fn check_rows(
-    alloc: Global,
-    tables: &Tables,
-    bytes: &[u8],
-    base: &BaseRef<'_>,
-    pending: &PendingRows,
-    found: &[Option<Id>],
-    none: &PendingRows,
-) -> Result<(), PlanFault>
-    requires rebase { (added before : List Placed) × MayRebaseOn tables.now bytes.now base.now pending.now found.now added before }
-    requires none { HoldsRows none.now [] × (none.now.first ≡ tables.now.others.count) }
-    ensures { (w old : World NameBytes) (rows : List (Row NameBytes)) → MayRebase tables.now bytes.now base.now pending.now found.now w old rows
+fn check_rows(alloc: Global, reads: &Reads<'_>, none: &PendingRows) -> Result<(), PlanFault>
+    requires rebase { (added before : List Placed) × ReadsOn reads.now added before }
+    requires none { HoldsRows none.now [] × (none.now.first ≡ reads.now.tables.now.others.count) }
+    ensures { (w old : World NameBytes) (rows : List (Row NameBytes)) → ReadsFor reads.now w old rows
         → MatchResult result
         (λ done. first_conflict same_name w rows ≡ None)
         (λ fault. (fault ≡ Memory) ⊎ (conflict_fault (first_conflict same_name w rows) ≡ Some fault)) }
 {
-    let newest = tables.newest(bytes);
+    let newest = reads.tables.newest(reads.bytes);
     let view = newest.view(none);
-    'rows: for i in 0..pending.len() {
+    let found = reads.found;
+    'rows: for i in 0..reads.pending.len() {
         let own = found[i as usize];
-        check_row(alloc, &newest, &view, base, pending, i, found, own)?;
+        check_row(alloc, reads, &newest, &view, i, own)?;
     }
     Ok(())
 }
@@ -334,28 +342,27 @@ fn row_parents(
 /// The id of this pending row in the newest base, where it was found there; else the row is put behind those that are left.
 fn left_row(
     alloc: Global,
+    reads: &Reads<'_>,
     newest: &BaseRef<'_>,
-    base: &BaseRef<'_>,
-    pending: &PendingRows,
     i: u32,
     found: Option<Id>,
     ids: &[Id],
     left: &mut PendingRows,
 ) -> Result<Id, PlanFault>
     requires newest { (added : List Placed) × IsBaseOf newest.now added }
-    requires row { (tables : PlainTables) × (bytes : List ℕ) × (all : List (Option ℕ)) × (added before : List Placed) × (m : MayRebaseOn tables bytes base.now pending.now all added before)
+    requires row { (tables : PlainTables) × (bytes : List ℕ) × (all : List (Option ℕ)) × (added before : List Placed) × (m : MayRebaseOn tables bytes reads.now.base reads.now.pending.now all added before)
         × (row : HeldRow) × IsBaseOf newest.now added × (slice_get m.rows i ≡ Some row) × LeftSoFar added (take i m.rows) ids.now left.old }
-    ensures { (added before : List Placed) (rows : List HeldRow) (row : HeldRow) → IsBaseOf newest.now added → IsBaseOf base.now before
-        → pending.now.first ≡ others_count before → HoldsRows pending.now rows → slice_get rows i ≡ Some row
+    ensures { (added before : List Placed) (rows : List HeldRow) (row : HeldRow) → IsBaseOf newest.now added → IsBaseOf reads.now.base before
+        → reads.now.pending.now.first ≡ others_count before → HoldsRows reads.now.pending.now rows → slice_get rows i ≡ Some row
         → MatchResult result
-        (IsRebased before added pending.now.first ids.now found left.old left.new row)
-        (λ fault. (fault ≡ Memory) ⊎ IsNotLeft before added pending.now.first ids.now found row fault) }
+        (IsRebased before added reads.now.pending.now.first ids.now found left.old left.new row)
+        (λ fault. (fault ≡ Memory) ⊎ IsNotLeft before added reads.now.pending.now.first ids.now found row fault) }
 {
     if let Some(id) = found {
         return Ok(id);
     }
-    let name = pending.name(i).to_name();
-    let moved = row_parents(alloc, newest, base, pending, i, ids)?;
+    let name = reads.pending.name(i).to_name();
+    let moved = row_parents(alloc, newest, &reads.base, reads.pending, i, ids)?;
     keep_row(&name, &moved, left)
 }
 
@@ -371,35 +378,24 @@ pub fn add_id(ids: &mut Vec<Id>, id: Id) -> Result<(), AllocError>
 /// behind `ids`, which has none either. The newest world has none of them with other parents.
 fn keep_rows(
     alloc: Global,
-    tables: &Tables,
-    bytes: &[u8],
-    base: &BaseRef<'_>,
-    pending: &PendingRows,
-    found: &[Option<Id>],
+    reads: &Reads<'_>,
     left: &mut PendingRows,
     ids: &mut Vec<Id>,
 ) -> Result<(), PlanFault>
-    requires rebase { (added before : List Placed) × MayRebaseOn tables.now bytes.now base.now pending.now found.now added before }
-    requires left { HoldsRows left.old [] × (left.old.first ≡ tables.now.others.count) }
+    requires rebase { (added before : List Placed) × ReadsOn reads.now added before }
+    requires left { HoldsRows left.old [] × (left.old.first ≡ reads.now.tables.now.others.count) }
     requires ids { ids.old.items ≡ [] }
-    ensures worlds { (w old : World NameBytes) (rows : List (Row NameBytes)) → MayRebase tables.now bytes.now base.now pending.now found.now w old rows
+    ensures worlds { (w old : World NameBytes) (rows : List (Row NameBytes)) → ReadsFor reads.now w old rows
         → MatchResult result
         (λ done. (first_lost same_name w rows ≡ None) × ArePending w left.new (left_of same_name w rows))
         (λ fault. (fault ≡ Memory) ⊎ (lost_fault (first_lost same_name w rows) ≡ Some fault)) }
-    ensures left { (added before : List Placed) → MayRebaseOn tables.now bytes.now base.now pending.now found.now added before → OnOk result (MayStore left.new added) }
+    ensures left { (added before : List Placed) → ReadsOn reads.now added before → OnOk result (MayStore left.new added) }
 {
-    let newest = tables.newest(bytes);
-    'rows: for i in 0..pending.len() {
-        let id = left_row(
-            alloc,
-            &newest,
-            base,
-            pending,
-            i,
-            found[i as usize],
-            ids,
-            left,
-        )?;
+    let newest = reads.tables.newest(reads.bytes);
+    let found = reads.found;
+    'rows: for i in 0..reads.pending.len() {
+        let own = found[i as usize];
+        let id = left_row(alloc, reads, &newest, i, own, ids, left)?;
         add_id(ids, id)?;
     }
     Ok(())
@@ -408,26 +404,22 @@ fn keep_rows(
 /// Puts the pending rows that the newest world doesn't have behind `left`, which has none yet; `none` has none either.
 fn add_left(
     alloc: Global,
-    tables: &Tables,
-    bytes: &[u8],
-    base: &BaseRef<'_>,
-    pending: &PendingRows,
-    found: &[Option<Id>],
+    reads: &Reads<'_>,
     none: &PendingRows,
     left: &mut PendingRows,
 ) -> Result<(), PlanFault>
-    requires rebase { (added before : List Placed) × MayRebaseOn tables.now bytes.now base.now pending.now found.now added before }
-    requires none { HoldsRows none.now [] × (none.now.first ≡ tables.now.others.count) }
-    requires left { HoldsRows left.old [] × (left.old.first ≡ tables.now.others.count) }
-    ensures worlds { (w old : World NameBytes) (rows : List (Row NameBytes)) → MayRebase tables.now bytes.now base.now pending.now found.now w old rows
+    requires rebase { (added before : List Placed) × ReadsOn reads.now added before }
+    requires none { HoldsRows none.now [] × (none.now.first ≡ reads.now.tables.now.others.count) }
+    requires left { HoldsRows left.old [] × (left.old.first ≡ reads.now.tables.now.others.count) }
+    ensures worlds { (w old : World NameBytes) (rows : List (Row NameBytes)) → ReadsFor reads.now w old rows
         → MatchResult result
         (λ done. (rebase_refusal w rows ≡ None) × ArePending w left.new (left_of same_name w rows))
         (λ fault. (fault ≡ Memory) ⊎ (rebase_refusal w rows ≡ Some fault)) }
-    ensures left { (added before : List Placed) → MayRebaseOn tables.now bytes.now base.now pending.now found.now added before → OnOk result (MayStore left.new added) }
+    ensures left { (added before : List Placed) → ReadsOn reads.now added before → OnOk result (MayStore left.new added) }
 {
-    check_rows(alloc, tables, bytes, base, pending, found, none)?;
-    let mut ids = Vec::with_capacity(alloc, found.len())?;
-    keep_rows(alloc, tables, bytes, base, pending, found, left, &mut ids)?;
+    check_rows(alloc, reads, none)?;
+    let mut ids = Vec::with_capacity(alloc, reads.found.len())?;
+    keep_rows(alloc, reads, left, &mut ids)?;
     Ok(())
 }
 
@@ -458,8 +450,13 @@ pub fn rebase(
     let others = u64::from(tables.others().count());
     let none = PendingRows::empty(alloc, others);
     let mut left = PendingRows::empty(alloc, others);
-    add_left(
-        alloc, tables, bytes, &base, pending, found, &none, &mut left,
-    )?;
+    let reads = Reads {
+        tables,
+        bytes,
+        base,
+        pending,
+        found,
+    };
+    add_left(alloc, &reads, &none, &mut left)?;
     Ok(left)
 }

@@ -3,3 +3,4 @@ pub mod Mastering
 pub mod Tabling
 pub mod Fitting
 pub mod Sound
+pub mod Indexing

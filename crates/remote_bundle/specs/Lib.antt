@@ -1,3 +1,4 @@
 pub mod Names
+pub mod Segments
 pub mod Held
 pub mod Remote

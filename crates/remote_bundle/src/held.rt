@@ -80,6 +80,7 @@ impl Held {
         ensures same { self.new ≡ self.old }
         ensures path { IfOk result (λ found. IfSome (rows_in self.old) (λ rows. IsPathOf rows heads.now name.now found)) }
     {
+        self.bundle.index_edges(alloc);
         let table = self.bundle.segments();
         let names = self.bundle.names();
         self.reached.go_to(alloc, &table, &names, heads)?;

@@ -4,9 +4,11 @@
 
 mod held;
 mod laws;
+mod lookups;
 mod names;
 mod reading;
 mod remote;
+mod segments;
 mod whole;
 
 pub use bundle_codec::{Bundle, BundleBuild, BundleFault};

@@ -13,32 +13,39 @@ ghost use Rattle.bundle_codec.specs.declared.fault.BundleFault.{BundleFault as F
 ghost use Rattle.remote_answers.specs.Master.{IsMasterIn};
 ghost use Rattle.remote_bundle.specs.Names.{ArePlaced};
 ghost use Rattle.remote_bundle.specs.Held.{IsReadOf};
+ghost use Rattle.remote_bundle.specs.Segments.{segments_in};
 
 use crate::names::BundleNames;
+use crate::segments::Segments;
 use bundle_codec::{Bundle, BundleFault};
+use edge_index::EdgeIndex;
 use flat_segments::{FlatFault, FlatTable, FlatView};
 use name_index::NameIndex;
+use segment_codec::SegmentTable;
 use std::alloc::Global;
 use std::marker::Model;
 
-/// A bundle that was read: its bytes, where its names stand, the table of its segments, and the index of its names.
+/// A bundle that was read: its bytes, where its names stand, the table of its segments, the index of its names, and that of its edges,
+/// of which contracts see nothing.
 #[derive(Drop)]
 pub(crate) struct ReadBundle {
     bytes: Vec<u8>,
     start: u64,
     table: FlatTable,
     index: NameIndex,
+    edges: EdgeIndex,
 }
 
 impl Model for ReadBundle {
     ghost use Rattle.bundle_codec.specs.Bundle.{Contents};
+    ghost use Rattle.edge_index.specs.Index.{IsEdgeIndexOf};
     ghost use Rattle.remote_bundle.specs.Held.{PlainRead, IsReadOf};
 
     ghost Value = { PlainRead };
 
     ghost view = { λ b. record { bytes = b.bytes.items; start = b.start; table = b.table; index = b.index } };
 
-    ghost invariant = { λ b. (c : Contents) × IsReadOf (record { bytes = b.bytes.items; start = b.start; table = b.table; index = b.index }) c };
+    ghost invariant = { λ b. (c : Contents) × IsReadOf (record { bytes = b.bytes.items; start = b.start; table = b.table; index = b.index }) c × IsEdgeIndexOf b.edges c.segments };
 }
 
 /// The table of a bundle's records.
@@ -72,14 +79,33 @@ impl ReadBundle {
             start,
             table,
             index,
+            edges: EdgeIndex::empty(alloc),
         })
     }
 
-    /// Its segments.
-    pub(crate) fn segments(&self) -> FlatView<'_>
+    /// The view of its segments without edges.
+    fn view(&self) -> FlatView<'_>
         ensures { (c : Contents) → IsReadOf self.now c → (view_flats result ≡ c.segments) × IsMasterIn (view_flats result) (rows_of c) }
     {
         self.table.view(&self.bytes, self.table.count())
+    }
+
+    /// Its segments.
+    pub(crate) fn segments(&self) -> Segments<'_>
+        ensures { (c : Contents) → IsReadOf self.now c → (segments_in result ≡ c.segments) × IsMasterIn (segments_in result) (rows_of c) }
+    {
+        Segments::new(self.view(), self.edges.lend())
+    }
+
+    /// Takes its segments into the index of edges, once, so that paths go by it. For want of memory that stays as it is.
+    pub(crate) fn index_edges(&mut self, alloc: Global)
+        ensures { self.new ≡ self.old }
+    {
+        if self.edges.count() > 0 {
+            return;
+        }
+        let view = self.table.view(&self.bytes, self.table.count());
+        let _full = self.edges.grow(alloc, &view, view.flat_count());
     }
 
     /// The names of its rows.

@@ -1,8 +1,7 @@
 -- The calls of a remote that asked ahead, in the words of remotes.
-use Rattle.std.proofs.Common.{◌≡◌, ◌≤◌, ◌+◌, ◌⊎◌, inl, inr, ⊎_elim, ℕ, min, List, [], ◌∷◌, length, take, Option, Some, None, Ok, Err, refl, sym, ap, subst, ◌∙◌, arith}
+use Rattle.std.proofs.Common.{◌≡◌, ◌≤◌, ◌⊎◌, inl, inr, ⊎_elim, ℕ, List, [], ◌∷◌, take, Option, None, Ok, Err, refl, sym, ap, subst, ◌∙◌, arith}
 use Rattle.std.specs.Prelude.{IfOk, IfSome, IsErrOf}
 use Rattle.std.specs.declared.result.Result.{Result}
-use Rattle.outside.specs.Counts.{last_count}
 use Rattle.id_groups.specs.Name.{Name}
 use Rattle.remote_rules.specs.CloneData.{CloneData}
 use Rattle.remote_rules.specs.Clones.{IsCloneOf}
@@ -17,9 +16,9 @@ use Rattle.remote_serve.specs.Requests.{Request, ToRefresh, ToClone, ToNames, To
 use Rattle.remote_serve.specs.Answers.{Answer, Refreshed, Cloned, Led}
 use Rattle.remote_pipe.specs.Line.{PlainLine, CountsOne, Asks, served_by}
 use Rattle.remote_pipe.specs.Remote.{mirror_by, AsksNames}
-use Rattle.remote_pipe.specs.Ahead.{PassesTo, Passes, Awaits, IsWanted, IsNext, TakesAhead, NamesAhead}
+use Rattle.remote_pipe.specs.Ahead.{PassesTo, Passes, Awaits, IsWanted, TakesAhead, NamesAhead}
 use Rattle.remote_pipe.proofs.Asking.{counts-so}
-use Rattle.remote_pipe.proofs.Mirrors.{IsQuiet, Stands, asks-quiet, same-left, stands-leaves, stands-self}
+use Rattle.remote_pipe.proofs.Mirrors.{IsQuiet, same-left, stands-leaves}
 use Rattle.remote_pipe.proofs.RemoteCalls.{left-refreshes, refresh-left, call-failed, clone-left, clone-told, clone-honest, path-left, path-honest, names-left, names-leaves, names-failed, names-honest, fails-so, master-served}
 use Rattle.remote_pipe.proofs.Awaited.{IsStuck, awaits-nothing, nothing-awaits, passes-served, passes-awaits, passes-stuck, passes-counted, takes-served, takes-awaits, takes-right, same-stands}
 

@@ -1,5 +1,5 @@
 -- What comes of a request that is asked over a line.
-use Rattle.std.proofs.Common.{◌≡◌, ◌≤◌, ◌+◌, ◌⊎◌, inl, inr, ⊎_elim, ℕ, min, Bool, true, false, List, [], ◌++◌, length, Option, Some, None, Ok, Err, Vec, refl, sym, ap, subst, ◌∙◌, arith}
+use Rattle.std.proofs.Common.{◌≡◌, ◌≤◌, ◌+◌, ◌⊎◌, inl, inr, ℕ, min, List, length, Option, Some, None, Ok, Err, Vec, refl, sym, ap, subst, ◌∙◌, arith}
 use Rattle.std.specs.Prelude.{is_some, IfOk}
 use Rattle.std.specs.declared.result.Result.{Result}
 use Rattle.std.specs.declared.alloc.Global.{Global}
@@ -11,12 +11,12 @@ use Rattle.remote_trait.specs.declared.fault.RemoteFault.{RemoteFault}
 use Rattle.remote_trait.specs.declared.fault.RemoteFault.TheVariants as remote
 use Rattle.remote_serve.specs.Frames.{frame}
 use Rattle.remote_serve.specs.Requests.{Request, IsRequest}
-use Rattle.remote_serve.specs.Answers.{Answer, answer_bytes, frame_of}
+use Rattle.remote_serve.specs.Answers.{Answer, frame_of}
 use Rattle.remote_pipe.specs.Answering.{Answers, Fits, IsRefusal, IsAnswerLength}
 use Rattle.remote_pipe.specs.Reading.{answer_at}
 use Rattle.remote_pipe.specs.Peer.{Peer, request_frame}
 use Rattle.remote_pipe.specs.Exchange.{Asked, StopsAs}
-use Rattle.remote_pipe.specs.Line.{PlainLine, Keeps, HasFaultCause, StopsBehind, TookAnswer, Failing, Wanting, CountsOne, Ends, Asks, served_by}
+use Rattle.remote_pipe.specs.Line.{PlainLine, Keeps, HasFaultCause, StopsBehind, TookAnswer, Failing, Wanting, CountsOne, Asks, served_by}
 use Rattle.remote_pipe.specs.Steps.{Reads, LeavesLink, StopsNow, WantsNow, GetsBody, EndsRead, AreBytes}
 use Rattle.remote_pipe.specs.declared.fault.PipeFault.{PipeFault}
 use Rattle.remote_pipe.specs.declared.fault.PipeFault.TheVariants.{NotPut, NotTaken, Ended, BadLength, NoAnswer, Memory}
@@ -25,10 +25,6 @@ use Rattle.remote_pipe.specs.declared.reading.ReadFault.TheVariants as read
 use Rattle.remote_pipe.proofs.AnswerReads.{answer_takes, answer_again}
 
 -- ---- no body
-
-pub stopped-before : (bytes : List ℕ) (before now : PlainLine) (was is : Option PipeFault) → is_some was ≡ true → is ≡ was → now.peer ≡ before.peer → StopsNow bytes before now was is
-stopped-before bytes before now None is t e p = absurd cc
-stopped-before bytes before now (Some fault) is t e p = (e, p)
 
 -- a line was stopped by this fault
 pub record Stops (fault : PipeFault) (bytes : List ℕ) (before mid now : PlainLine) (result : RemoteFault) : Type 0 where
@@ -120,11 +116,6 @@ pub asks-fault : {T : Type 0} (request : Request) (answer_of : T → Answer) (be
     → GetsBody (request_frame request) before now (Err fault) → Asks request answer_of before now (Err fault)
 asks-fault request answer_of before now remote.Failed r k g = record { keeps = k; ends = (g.0, failing-so request before now before.stopped now.stopped r g.1) }
 asks-fault request answer_of before now remote.Memory r k g = record { keeps = k; ends = (g.0, wanting-so request before now before.stopped now.stopped r g.1) }
-
--- what can't be asked
-pub asks-unasked : {T : Type 0} (request : Request) (answer_of : T → Answer) (before now : PlainLine) (was is : Option PipeFault) → (IsRequest request → ⊥) → is ≡ was → now.peer ≡ before.peer → Failing request before now was is
-asks-unasked request answer_of before now None is never e p = subst (λ (b : Option PipeFault). Failing request before now None b) (sym e) (inr (never, p))
-asks-unasked request answer_of before now (Some fault) is never e p = (e, p)
 
 -- ---- a body
 
@@ -232,11 +223,6 @@ asks-same request f g before now (Ok v) e a =
     record { keeps = a.keeps; ends = (a.ends.0, a.ends.1, a.ends.2, subst (Fits request) e a.ends.3, subst (λ (b : Answer). TookAnswer request b before now) e a.ends.4) }
 asks-same request f g before now (Err remote.Failed) e a = record { keeps = a.keeps; ends = a.ends }
 asks-same request f g before now (Err remote.Memory) e a = record { keeps = a.keeps; ends = a.ends }
-
--- a fault is one whatever would be answered
-pub asks-err : {S T : Type 0} (request : Request) (f : S → Answer) (g : T → Answer) (before now : PlainLine) (fault : RemoteFault) → Asks request f before now (Err fault) → Asks request g before now (Err fault)
-asks-err request f g before now remote.Failed a = record { keeps = a.keeps; ends = a.ends }
-asks-err request f g before now remote.Memory a = record { keeps = a.keeps; ends = a.ends }
 
 -- an answer that is another value's
 pub asks-value : {S T : Type 0} (request : Request) (f : S → Answer) (g : T → Answer) (before now : PlainLine) (s : S) (t : T) → f s ≡ g t → Asks request f before now (Ok s) → Asks request g before now (Ok t)

@@ -1,5 +1,5 @@
 -- What is still to come of who is served at the other end, where it was asked ahead.
-use Rattle.std.proofs.Common.{◌≡◌, ◌≤◌, ◌<◌, ◌^◌, ◌⊎◌, inl, inr, ⊎_elim, ℕ, Bool, true, false, List, [], ◌∷◌, ◌++◌, length, take, Option, Some, None, Ok, Err, refl, sym, ap, subst, ◌∙◌, arith, append_assoc, append-nil}
+use Rattle.std.proofs.Common.{◌≡◌, ◌≤◌, ◌<◌, ◌^◌, ◌⊎◌, inr, ⊎_elim, ℕ, Bool, false, List, [], ◌∷◌, ◌++◌, length, take, Option, Some, None, Ok, Err, refl, sym, ap, subst, ◌∙◌, append_assoc, append-nil}
 use Rattle.std.specs.Prelude.{is_some, IfSome}
 use Rattle.std.specs.declared.result.Result.{Result}
 use Rattle.outside.specs.Told.{WhereTold}
@@ -7,20 +7,18 @@ use Rattle.id_groups.specs.Name.{Name}
 use Rattle.commit_graph.specs.World.{Row}
 use Rattle.remote_rules.specs.CloneData.{CloneData}
 use Rattle.remote_rules.specs.Mirror.{Mirror}
-use Rattle.remote_trait.specs.Calls.{Leaves}
 use Rattle.remote_trait.specs.Honest.{AreNamesOf}
 use Rattle.remote_trait.specs.Runs.{Run}
 use Rattle.remote_trait.specs.declared.fault.RemoteFault.{RemoteFault}
 use Rattle.remote_trait.specs.declared.fault.RemoteFault.TheVariants as remote
 use Rattle.remote_serve.specs.Frames.{frame}
-use Rattle.remote_serve.specs.Requests.{ToNames, IsRequest}
-use Rattle.remote_serve.specs.Answers.{Answer, Named, Allows, LeftBy, answer_bytes, frame_of, longest_answer, IsAnswer}
-use Rattle.remote_pipe.specs.Answering.{IsRefusal}
+use Rattle.remote_serve.specs.Requests.{IsRequest}
+use Rattle.remote_serve.specs.Answers.{Answer, Named, LeftBy, answer_bytes, frame_of, longest_answer, IsAnswer}
 use Rattle.remote_pipe.specs.Peer.{Peer, request_frame, PutsWhole, PutsFront}
 use Rattle.remote_pipe.specs.Exchange.{Took}
 use Rattle.remote_pipe.specs.Line.{PlainLine, Keeps, CountsOne, AwaitsNothing, served_by}
 use Rattle.remote_pipe.specs.Remote.{mirror_by}
-use Rattle.remote_pipe.specs.Ahead.{request_of, PutsAhead, AsksAhead, AsksBehind, BreaksAt, PutsAll, TookAhead, StopsAhead, Stopping, FailingAhead, TakesAhead, Passes, WasAllowed, AreToCome, AwaitsOf, Awaits, IsWanted}
+use Rattle.remote_pipe.specs.Ahead.{request_of, AsksAhead, AsksBehind, BreaksAt, PutsAll, TookAhead, StopsAhead, Stopping, FailingAhead, TakesAhead, Passes, WasAllowed, AreToCome, AwaitsOf, Awaits}
 use Rattle.remote_pipe.specs.declared.fault.PipeFault.{PipeFault}
 use Rattle.remote_pipe.specs.declared.fault.PipeFault.TheVariants.{NotPut, NotTaken, Ended, BadLength, NoAnswer, Memory}
 use Rattle.remote_pipe.proofs.Framing.{one-frame, one-framed, short-frame, allowed-short, served-put}

@@ -1,12 +1,12 @@
 -- Names that are asked for in blocks.
-use Rattle.std.proofs.Common.{◌≡◌, ◌≤◌, ◌<◌, ◌+◌, ◌-◌, ◌⊎◌, inl, inr, ⊎_elim, ℕ, min, Bool, true, false, ltb, List, [], ◌∷◌, ◌++◌, length, take, drop, Ok, refl, sym, ap, ap₂, subst, ◌∙◌, arith, length-take, length-drop, length-append, append-nil}
+use Rattle.std.proofs.Common.{◌≡◌, ◌≤◌, ◌<◌, ◌+◌, ◌-◌, ◌⊎◌, inl, inr, ⊎_elim, ℕ, Bool, true, false, ltb, List, [], ◌∷◌, ◌++◌, length, take, Ok, refl, sym, ap, ap₂, subst, ◌∙◌, arith, length-take, length-append, append-nil}
 use Rattle.std.specs.List.{flat_map}
 use Rattle.std.proofs.lemmas.Bool.{ltb-true, ltb-false}
 use Rattle.std.proofs.lemmas.Grind.{flat_map-append}
 use Rattle.std.proofs.lemmas.List.Concat.{flat_map-cons}
 use Rattle.id_groups.specs.Name.{Name}
 use Rattle.remote_serve.specs.Requests.{Request, ToNames, most_names}
-use Rattle.remote_serve.specs.Answers.{Answer, Named}
+use Rattle.remote_serve.specs.Answers.{Named}
 use Rattle.remote_pipe.specs.Line.{PlainLine, Asks}
 use Rattle.remote_pipe.specs.Remote.{AsksBlocks, AsksNames, EndsNames, LastNames, block_of}
 use Rattle.remote_pipe.proofs.Asking.{asks-value}

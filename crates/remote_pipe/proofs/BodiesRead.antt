@@ -1,5 +1,5 @@
 -- What a body is, by its first byte.
-use Rattle.std.proofs.Common.{◌≡◌, ℕ, zero, suc, ◌+◌, ◌*◌, ◌<◌, ◌≤◌, ◌⊎◌, inl, inr, ⊎_elim, List, [], ◌∷◌, ◌++◌, length, take, drop, Option, Some, None, Ok, Err, Bool, true, false, refl, sym, ap, subst, ◌∙◌, arith, length-drop, length-take, ltb, cond}
+use Rattle.std.proofs.Common.{◌≡◌, ℕ, zero, suc, ◌+◌, ◌*◌, ◌≤◌, ◌⊎◌, inl, inr, ⊎_elim, List, [], ◌∷◌, length, take, drop, Option, Some, None, Ok, Err, Bool, true, false, refl, sym, ap, subst, ◌∙◌, arith, length-drop, length-take, ltb, cond}
 use Rattle.std.specs.Prelude.{MatchOption, IfSome, IfNone}
 use Rattle.std.specs.Option.{option_map}
 use Rattle.std.specs.declared.result.Result.{Result}
@@ -10,7 +10,6 @@ use Rattle.id_groups.specs.Name.{Name}
 use Rattle.segment_codec.specs.Reading.{◌>>=◌}
 use Rattle.segment_codec.proofs.Numbers.{IsBytes, bind_some, some_is}
 use Rattle.batch_codec.specs.Reading.{fixed_at, piece_at, names_read}
-use Rattle.batch_codec.proofs.Entries.{names-length}
 use Rattle.remote_rules.specs.CloneData.{CloneData}
 use Rattle.remote_rules.specs.Known.{Path}
 use Rattle.remote_serve.specs.Requests.{Request, ToRefresh, ToClone, ToNames, ToPath}
@@ -121,9 +120,6 @@ clone-at body rest e = ap answer_at e
 pub names-at : (body rest : List ℕ) → body ≡ 131 ∷ rest → answer_at body ≡ option_map Named (names_told_at rest)
 unfolding answer_at
 names-at body rest e = ap answer_at e
-
-way-led : Path → Answer
-way-led path = Led (Some path)
 
 path-at : (body rest : List ℕ) → body ≡ 132 ∷ rest → answer_at body ≡ option_map (λ (path : Path). Led (Some path)) (way_at rest)
 unfolding answer_at

@@ -1,14 +1,13 @@
 -- Which bodies may be the answer to a request for so many names.
-use Rattle.std.proofs.Common.{◌≡◌, ◌≤◌, ◌*◌, ◌⊎◌, inl, inr, ⊎_elim, ℕ, Bool, true, false, List, [], ◌∷◌, length, Option, Some, refl, sym, ap, subst, ◌∙◌, arith}
+use Rattle.std.proofs.Common.{◌≡◌, ◌≤◌, ◌*◌, ◌⊎◌, inl, inr, ⊎_elim, ℕ, List, ◌∷◌, length, Option, Some, sym, ap, ◌∙◌, arith}
 use Rattle.std.specs.Option.{option_map}
 use Rattle.std.specs.Int.{w32}
 use Rattle.id_groups.specs.Name.{Name}
 use Rattle.segment_codec.proofs.Numbers.{IsBytes}
 use Rattle.batch_codec.specs.Reading.{fixed_at, names_read}
 use Rattle.batch_codec.proofs.Entries.{names-length}
-use Rattle.remote_serve.specs.Requests.{Request, ToNames}
-use Rattle.remote_serve.specs.Answers.{Answer, Named, Refreshed, Cloned, Led, HasFailed, IsTooLong, IsNoRequest, HasNoMemory}
-use Rattle.remote_pipe.specs.Answering.{Fits, IsRefusal}
+use Rattle.remote_serve.specs.Answers.{Answer, Named}
+use Rattle.remote_pipe.specs.Answering.{IsRefusal}
 use Rattle.remote_pipe.specs.Reading.{names_told_at, answer_at}
 use Rattle.remote_pipe.specs.Steps.{IsFit, IsUnfit}
 use Rattle.remote_pipe.proofs.AnswerReads.{mapped}

@@ -1,10 +1,8 @@
 -- The pieces of requests that are put one behind another.
-use Rattle.std.proofs.Common.{◌≡◌, ℕ, ◌+◌, ◌*◌, List, [], ◌∷◌, ◌++◌, length, refl, sym, ap, ◌∙◌, arith, length-append, append_assoc}
-use Rattle.std.specs.Int.{w16, w32, w64, to_be_bytes}
-use Rattle.id_groups.specs.Name.{Name}
-use Rattle.batch_codec.specs.Payload.{names_bytes}
+use Rattle.std.proofs.Common.{◌≡◌, ℕ, ◌+◌, List, [], ◌∷◌, ◌++◌, length, sym, ap, ◌∙◌, arith, length-append, append_assoc}
+use Rattle.std.specs.Int.{w32, w64, to_be_bytes}
 use Rattle.remote_serve.specs.Frames.{frame}
-use Rattle.remote_serve.specs.Requests.{ToNames, ToPath}
+use Rattle.remote_serve.specs.Requests.{ToNames}
 use Rattle.remote_pipe.specs.Peer.{request_frame}
 
 -- a kind and three pieces behind a front
@@ -23,11 +21,3 @@ names-framed o t u v z x back count size twenty is a b c d e =
     let rest = to_be_bytes w64 back ++ to_be_bytes w32 count in
     let all : length (3 ∷ x ++ rest) ≡ 13 + size = omega (arith, twenty, is, length-append x rest) in
     framed z (3 ∷ x ++ rest) (13 + size) all (four-behind o t u v z x (to_be_bytes w64 back) (to_be_bytes w32 count) 3 b c d e ∙ ap (λ (l : List ℕ). l ++ (3 ∷ x ++ rest)) a)
-
-pub path-framed : (o t u v z name : List ℕ) (heads : List Name) (size more : ℕ) → length name ≡ 20 → more ≡ 20 → size ≡ length (names_bytes heads) → o ≡ to_be_bytes w32 (3 + (size + more))
-    → t ≡ o ++ 4 ∷ [] → u ≡ t ++ to_be_bytes w16 (length heads) → v ≡ u ++ names_bytes heads → z ≡ v ++ name → z ≡ request_frame (ToPath heads name)
-path-framed o t u v z name heads size more twenty is total a b c d e =
-    let rest = names_bytes heads ++ name in
-    let all : length (4 ∷ to_be_bytes w16 (length heads) ++ rest) ≡ 3 + (size + more) = omega (arith, twenty, is, total, length-append (names_bytes heads) name) in
-    framed z (4 ∷ to_be_bytes w16 (length heads) ++ rest) (3 + (size + more)) all
-    (four-behind o t u v z (to_be_bytes w16 (length heads)) (names_bytes heads) name 4 b c d e ∙ ap (λ (l : List ℕ). l ++ (4 ∷ to_be_bytes w16 (length heads) ++ rest)) a)

@@ -1,10 +1,10 @@
 -- A frame stands in front of bytes in one way, and what is answered to who serves a mirror.
-use Rattle.std.proofs.Common.{◌≡◌, ℕ, ◌+◌, ◌^◌, ◌<◌, ◌≤◌, List, [], ◌∷◌, ◌++◌, length, take, drop, Some, refl, sym, ap, subst, ◌∙◌, arith, append_assoc, lit≤, Option, None}
+use Rattle.std.proofs.Common.{◌≡◌, ℕ, ◌+◌, ◌^◌, ◌<◌, ◌≤◌, List, [], ◌++◌, length, take, drop, Some, refl, sym, ap, subst, ◌∙◌, arith, append_assoc, lit≤, Option, None}
 use Rattle.std.specs.Int.{w32, to_be_bytes}
 use Rattle.std.proofs.lemmas.List.{take_at, drop_at, append-nil}
 use Rattle.remote_rules.specs.Mirror.{Mirror}
 use Rattle.remote_serve.specs.Frames.{frame}
-use Rattle.remote_serve.specs.Requests.{Request, ToRefresh, ToClone, ToNames, ToPath, IsRequest}
+use Rattle.remote_serve.specs.Requests.{Request, IsRequest}
 use Rattle.remote_serve.specs.Answers.{Answer, Refreshed, Cloned, Named, Led, HasFailed, IsTooLong, IsNoRequest, HasNoMemory, Allows, LeftBy, answer_bytes, frame_of, longest_answer, IsAnswer}
 use Rattle.remote_serve.proofs.Fronts.{one-length}
 use Rattle.remote_pipe.specs.Peer.{Peer, request_frame, Brings, Serves}

@@ -1,9 +1,8 @@
 -- Items that are read one after another are those that were spelled, and what was spelled is read again.
-use Rattle.std.proofs.Common.{◌≡◌, ℕ, zero, suc, ◌+◌, ◌*◌, ◌^◌, ◌<◌, ◌≤◌, Bool, true, false, cond, ltb, leb, List, [], ◌∷◌, ◌++◌, length, take, drop, Option, Some, None, refl, sym, ap, subst, ◌∙◌, arith, lit≤, append_assoc}
+use Rattle.std.proofs.Common.{◌≡◌, ℕ, zero, suc, ◌+◌, ◌^◌, ◌<◌, ◌≤◌, leb, List, [], ◌∷◌, ◌++◌, length, Option, Some, refl, sym, ap, subst, ◌∙◌, arith, append_assoc}
 use Rattle.std.specs.List.{flat_map, AllByRecursion}
 use Rattle.std.specs.Int.{w32, w64, to_be_bytes}
-use Rattle.std.proofs.lemmas.Bool.{ltb-false, leb-true, le-leb}
-use Rattle.std.proofs.lemmas.List.{append-nil}
+use Rattle.std.proofs.lemmas.Bool.{leb-true, le-leb}
 use Rattle.std.proofs.lemmas.List.Concat.{flat_map-cons}
 use Rattle.id_groups.specs.Name.{Name, IsName}
 use Rattle.segment_codec.specs.Record.{Segment}
@@ -14,7 +13,7 @@ use Rattle.batch_codec.proofs.Pieces.{wide32, wide64, fixed_takes, fixed_again, 
 use Rattle.remote_rules.specs.CloneData.{KnownName}
 use Rattle.remote_serve.specs.Telling.{IsTold, IsToldName}
 use Rattle.remote_serve.specs.Answers.{numbers_bytes, told_segment_bytes, told_name_bytes}
-use Rattle.remote_pipe.specs.Reading.{only, items_at, counted_at, parents_at, segment_at, known_at}
+use Rattle.remote_pipe.specs.Reading.{items_at, counted_at, parents_at, segment_at, known_at}
 
 bytes-all : (xs : List ℕ) → IsBytes xs → AllByRecursion (λ b. b < 256) xs
 bytes-all [] f = tt

@@ -1,5 +1,5 @@
 -- The three lists of clone data, read one behind another.
-use Rattle.std.proofs.Common.{◌≡◌, ℕ, List, Option, Some, None, refl, sym, ap, ◌∙◌}
+use Rattle.std.proofs.Common.{◌≡◌, ℕ, List, Option, Some, None, sym, ap, ◌∙◌}
 use Rattle.id_groups.specs.Name.{Name}
 use Rattle.segment_codec.specs.Record.{Segment}
 use Rattle.segment_codec.specs.Reading.{◌>>=◌}

@@ -1,22 +1,19 @@
 -- What a call over a line leaves of who is served at the other end.
-use Rattle.std.proofs.Common.{◌≡◌, ◌≤◌, ◌<◌, ◌+◌, ◌^◌, ◌⊎◌, inl, inr, ⊎_elim, ℕ, min, Bool, true, false, List, [], ◌∷◌, ◌++◌, length, take, Option, Some, None, Ok, Err, refl, sym, ap, subst, ◌∙◌, arith}
-use Rattle.std.specs.Prelude.{is_some, IfOk, IfSome, IsErrOf}
+use Rattle.std.proofs.Common.{◌≡◌, ◌≤◌, ◌<◌, ◌^◌, ◌⊎◌, inl, inr, ⊎_elim, ℕ, false, List, [], length, Option, Some, None, Ok, Err, refl, sym, ap, subst, ◌∙◌}
+use Rattle.std.specs.Prelude.{is_some, IfSome}
 use Rattle.std.specs.declared.result.Result.{Result}
-use Rattle.outside.specs.Counts.{Rose, last_count}
 use Rattle.outside.specs.Told.{WhereTold}
 use Rattle.remote_rules.specs.Mirror.{Mirror}
-use Rattle.remote_trait.specs.Calls.{Leaves, Refreshes, Fails, AreGrown, raised}
+use Rattle.remote_trait.specs.Calls.{Leaves}
 use Rattle.remote_trait.specs.declared.fault.RemoteFault.{RemoteFault}
 use Rattle.remote_trait.specs.declared.fault.RemoteFault.TheVariants as remote
-use Rattle.remote_rules.specs.Honest.{IsSoundMirror}
 use Rattle.remote_serve.specs.Frames.{frame}
-use Rattle.remote_serve.specs.Requests.{Request, ToRefresh, ToClone, ToNames, ToPath, IsRequest}
-use Rattle.remote_serve.specs.Answers.{Answer, Allows, LeftBy, answer_bytes, frame_of, IsAnswer}
-use Rattle.remote_pipe.specs.Answering.{IsRefusal, Fits, IsAnswerLength}
+use Rattle.remote_serve.specs.Requests.{Request, ToClone, ToNames, ToPath, IsRequest}
+use Rattle.remote_serve.specs.Answers.{Answer, Allows, LeftBy, answer_bytes, frame_of}
 use Rattle.remote_pipe.specs.Peer.{Peer, request_frame}
 use Rattle.remote_pipe.specs.Exchange.{Asked, StopsAs}
-use Rattle.remote_pipe.specs.Line.{PlainLine, Keeps, StopsBehind, TookAnswer, TookRefusal, Failing, Wanting, CountsOne, Ends, Asks, AwaitsNothing, served_by}
-use Rattle.remote_pipe.specs.Remote.{PlainPipe, mirror_by, mirror_of}
+use Rattle.remote_pipe.specs.Line.{PlainLine, Keeps, StopsBehind, TookAnswer, Failing, Wanting, Asks, AwaitsNothing, served_by}
+use Rattle.remote_pipe.specs.Remote.{mirror_by}
 use Rattle.remote_pipe.specs.declared.fault.PipeFault.{PipeFault}
 use Rattle.remote_pipe.specs.declared.fault.PipeFault.TheVariants.{NotPut, NotTaken, Ended, BadLength, NoAnswer, Memory}
 use Rattle.remote_pipe.proofs.Framing.{served-put, served-body, served-answer, short-frame}

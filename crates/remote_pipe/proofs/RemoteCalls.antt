@@ -1,11 +1,10 @@
 -- The calls of a remote over a line, in the words of remotes.
-use Rattle.std.proofs.Common.{◌≡◌, ◌≤◌, ◌<◌, ◌+◌, ◌-◌, ◌^◌, ◌⊎◌, inl, inr, ⊎_elim, ℕ, zero, suc, min, Bool, true, false, ltb, List, [], ◌∷◌, ◌++◌, length, take, slice_get, Option, Some, None, Ok, Err, refl, sym, ap, subst, ◌∙◌, arith, append-nil, length-append}
-use Rattle.std.specs.Prelude.{is_some, IfOk, IfSome, IsErrOf, MatchOption}
+use Rattle.std.proofs.Common.{◌≡◌, ◌≤◌, ◌<◌, ◌+◌, ◌-◌, ◌⊎◌, inl, inr, ⊎_elim, ℕ, zero, suc, min, Bool, true, false, ltb, List, [], ◌∷◌, ◌++◌, length, take, slice_get, Option, Some, None, Ok, Err, refl, sym, ap, subst, ◌∙◌, arith, append-nil, length-append}
+use Rattle.std.specs.Prelude.{IfOk, IfSome, IsErrOf}
 use Rattle.std.specs.declared.result.Result.{Result}
-use Rattle.std.specs.List.{flat_map}
 use Rattle.std.proofs.lemmas.Bool.{ltb-true, ltb-false}
 use Rattle.std.proofs.lemmas.List.Concat.{flat_map-cons}
-use Rattle.outside.specs.Counts.{Rose, last_count}
+use Rattle.outside.specs.Counts.{last_count}
 use Rattle.id_groups.specs.Lists.{IsIn}
 use Rattle.id_groups.specs.Name.{Name}
 use Rattle.commit_graph.specs.World.{Row, names_of}
@@ -13,16 +12,15 @@ use Rattle.commit_graph.specs.Graph.{Graph, first_ancestor}
 use Rattle.remote_rules.specs.CloneData.{CloneData}
 use Rattle.remote_rules.specs.Clones.{IsCloneOf}
 use Rattle.remote_rules.specs.Known.{Path}
-use Rattle.remote_rules.specs.Honest.{IsHonest, IsSoundMirror}
 use Rattle.remote_rules.specs.Mirror.{Mirror}
-use Rattle.remote_trait.specs.Calls.{Leaves, Refreshes, Fails, ToldSo, AreGrown, AreMaster, raised}
-use Rattle.remote_trait.specs.Honest.{AreNamesOf, AreNamesIn, IsPathOf, rows_graph}
+use Rattle.remote_trait.specs.Calls.{Leaves, Refreshes, Fails, ToldSo, AreGrown, raised}
+use Rattle.remote_trait.specs.Honest.{AreNamesOf, IsPathOf, rows_graph}
 use Rattle.remote_trait.specs.declared.fault.RemoteFault.{RemoteFault}
 use Rattle.remote_trait.specs.declared.fault.RemoteFault.TheVariants as remote
-use Rattle.remote_serve.specs.Requests.{Request, ToRefresh, ToClone, ToNames, ToPath, IsRequest, most_names}
-use Rattle.remote_serve.specs.Answers.{Answer, Refreshed, Cloned, Named, Led, Allows, LeftBy}
-use Rattle.remote_pipe.specs.Line.{PlainLine, Keeps, CountsOne, Asks, AwaitsNothing, served_by}
-use Rattle.remote_pipe.specs.Remote.{PlainPipe, mirror_by, mirror_of, AsksBlocks, AsksNames, EndsNames, LastNames, block_of}
+use Rattle.remote_serve.specs.Requests.{Request, ToRefresh, ToClone, ToNames, ToPath, most_names}
+use Rattle.remote_serve.specs.Answers.{Answer, Refreshed, Cloned, Named, Led}
+use Rattle.remote_pipe.specs.Line.{PlainLine, CountsOne, Asks, served_by}
+use Rattle.remote_pipe.specs.Remote.{mirror_by, AsksBlocks, AsksNames, LastNames, block_of}
 use Rattle.remote_pipe.proofs.Blocks.{joined}
 use Rattle.remote_pipe.proofs.Mirrors.{Left, IsQuiet, Stands, asks-left, asks-quiet, asks-allowed, clone-stands, names-stands, path-stands, stands-self, stands-then, stands-leaves}
 

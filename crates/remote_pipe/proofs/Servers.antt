@@ -1,15 +1,14 @@
 -- What the server answers is what comes of a mirror that is served.
-use Rattle.std.proofs.Common.{◌≡◌, ◌<◌, ℕ, List, [], ◌∷◌, ◌++◌, length, drop, Option, Some, map, refl, sym, ap, subst, ◌∙◌, arith, length-append}
+use Rattle.std.proofs.Common.{◌≡◌, ◌<◌, ℕ, List, [], ◌∷◌, length, drop, Option, Some, map, refl, sym, ap, subst, ◌∙◌, arith, length-append}
 use Rattle.std.specs.Prelude.{MatchOption}
 use Rattle.std.specs.Int.{w32, to_be_bytes}
 use Rattle.std.proofs.lemmas.List.{drop_at}
 use Rattle.remote_rules.specs.Mirror.{Mirror}
 use Rattle.remote_serve.specs.Frames.{frame}
 use Rattle.remote_serve.specs.Requests.{Request, IsRequest, request_bytes}
-use Rattle.remote_serve.specs.Reading.{request_at}
 use Rattle.remote_serve.specs.Answers.{Answer, IsNoRequest, LeftBy, Allows, IsAnswerTo, Answered, frame_of}
 use Rattle.remote_serve.proofs.Requests.{request_again}
-use Rattle.remote_pipe.specs.Peer.{request_frame, Brings, BringsEach, Serves}
+use Rattle.remote_pipe.specs.Peer.{Brings, BringsEach, Serves}
 
 -- a body by its frame
 body-of : (a b : List ℕ) → frame a ≡ frame b → a ≡ b

@@ -1,6 +1,5 @@
 -- What comes of a frame that is taken of what was asked ahead.
-use Rattle.std.proofs.Common.{◌≡◌, ◌≤◌, ◌⊎◌, inl, inr, ⊎_elim, ℕ, Bool, true, List, length, take, Option, Some, None, Ok, Err, Vec, refl, sym, ap, subst, ◌∙◌, arith}
-use Rattle.std.specs.Prelude.{is_some}
+use Rattle.std.proofs.Common.{◌≡◌, ◌⊎◌, ℕ, List, length, take, Option, Some, None, Ok, Err, Vec, refl, sym, ap, subst, ◌∙◌, arith}
 use Rattle.std.specs.declared.result.Result.{Result}
 use Rattle.std.specs.declared.alloc.Global.{Global}
 use Rattle.outside.specs.Counts.{Rose}
@@ -12,7 +11,7 @@ use Rattle.remote_trait.specs.declared.fault.RemoteFault.{RemoteFault}
 use Rattle.remote_trait.specs.declared.fault.RemoteFault.TheVariants as remote
 use Rattle.remote_serve.specs.Frames.{frame}
 use Rattle.remote_serve.specs.Requests.{Request, ToNames}
-use Rattle.remote_serve.specs.Answers.{Answer, Named, answer_bytes, frame_of}
+use Rattle.remote_serve.specs.Answers.{Answer, Named, frame_of}
 use Rattle.remote_pipe.specs.Answering.{Fits, IsRefusal, IsAnswerLength}
 use Rattle.remote_pipe.specs.Reading.{answer_at}
 use Rattle.remote_pipe.specs.Peer.{Peer}
@@ -28,10 +27,6 @@ use Rattle.remote_pipe.proofs.AnswerReads.{answer_takes}
 use Rattle.remote_pipe.proofs.Asking.{trade-cause, cause-kept, counts-so, keeps-more, no-answers}
 
 -- ---- no body
-
-pub stopped-taken : (before now : PlainLine) (was is : Option PipeFault) → is_some was ≡ true → is ≡ was → now.peer ≡ before.peer → StopsTaken before now was is
-stopped-taken before now None is t e p = absurd cc
-stopped-taken before now (Some fault) is t e p = (e, p)
 
 -- a line was stopped by this fault
 pub record StopsTake (fault : PipeFault) (before mid now : PlainLine) (result : RemoteFault) : Type 0 where

@@ -1,22 +1,20 @@
 -- Bytes that are taken one piece after another.
 use Rattle.std.proofs.Common.{◌≡◌, ◌≤◌, ◌<◌, ◌+◌, ◌-◌, ◌++◌, ℕ, List, length, take, drop, refl, sym, ap, ◌∙◌, arith, append_assoc, length-append, length-take, length-drop}
 use Rattle.std.proofs.Math.Seq.{take-append-add}
-use Rattle.std.proofs.lemmas.List.{take-append-le, take_at}
+use Rattle.std.proofs.lemmas.List.{take-append-le}
 use Rattle.remote_pipe.specs.Peer.{Peer}
-use Rattle.std.proofs.Common.{Ok, Err, Some, None, [], ◌^◌, lit≤, subst}
-use Rattle.std.proofs.lemmas.List.{append-nil, nil_from_length}
+use Rattle.std.proofs.Common.{Ok, Err, [], ◌^◌, subst}
+use Rattle.std.proofs.lemmas.List.{append-nil}
 use Rattle.std.specs.Prelude.{Vec}
 use Rattle.std.specs.declared.alloc.Global.{Global}
 use Rattle.std.specs.declared.result.Result.{Result}
-use Rattle.std.specs.Int.{w32, to_be_bytes, from_be_bytes}
-use Rattle.segment_codec.proofs.Numbers.{IsBytes}
-use Rattle.batch_codec.specs.Reading.{fixed_at}
+use Rattle.std.specs.Int.{w32, to_be_bytes}
 use Rattle.remote_serve.specs.Frames.{frame}
-use Rattle.remote_serve.proofs.Fronts.{one-length, read-none, read-some}
+use Rattle.remote_serve.proofs.Fronts.{one-length}
 use Rattle.remote_pipe.specs.Answering.{IsAnswerLength}
-use Rattle.remote_pipe.specs.Peer.{PutsWhole, PutsFront, PutsTo}
-use Rattle.remote_pipe.specs.Exchange.{Asked, HasAnswer, StopsAs, Exchanges, Took}
-use Rattle.remote_pipe.specs.Steps.{TakesExactly, AddsPiece, FillsBody, TakesBody, TakesLength, TakesRest, TakesFrame}
+use Rattle.remote_pipe.specs.Peer.{PutsWhole}
+use Rattle.remote_pipe.specs.Exchange.{Asked, HasAnswer, Exchanges, Took}
+use Rattle.remote_pipe.specs.Steps.{AddsPiece, FillsBody, TakesLength, TakesRest, TakesFrame}
 use Rattle.remote_pipe.specs.declared.fault.PipeFault.{PipeFault}
 use Rattle.remote_pipe.specs.declared.fault.PipeFault.TheVariants.{NotPut, NotTaken, Ended, BadLength, NoAnswer, Memory}
 use Rattle.remote_pipe.proofs.Framing.{short-frame}
@@ -42,26 +40,9 @@ took-more a b whole x y z e p q = record {
   mirror = q.mirror ∙ p.mirror;
 }
 
--- nothing was taken
-pub took-none : (x : Peer) → Took [] x x
-took-none x = record { split = refl; taken = refl; mirror = refl }
-
 -- ---- a piece
 
-pub adds-fault : (count : ℕ) (old out new : List ℕ) (fault : PipeFault) (x y : Peer) → length out ≡ count → TakesExactly (Err fault) out x y → AddsPiece count old (Err fault) new x y
-adds-fault count old out new NotPut x y e t = absurd t
-adds-fault count old out new NotTaken x y e t = (t.0, t.1, (let lt = t.2 in omega (arith, lt, e)))
-adds-fault count old out new Ended x y e t = (t.0, t.1, (let lt = t.2 in omega (arith, lt, e)), t.3)
-adds-fault count old out new BadLength x y e t = absurd t
-adds-fault count old out new NoAnswer x y e t = absurd t
-adds-fault count old out new Memory x y e t = absurd t
-
 -- ---- pieces in turn
-
-pub fills-more : (old body more : List ℕ) (count : ℕ) (x y z : Peer) → ((came : List ℕ) × Took came x y × (body ≡ old ++ came)) → AddsPiece count body (Ok tt) more y z
-    → (came : List ℕ) × Took came x z × (more ≡ old ++ came)
-fills-more old body more count x y z f a =
-    (f.0 ++ a.0, took-more f.0 a.0 (f.0 ++ a.0) x y z refl f.1 a.1, a.2 ∙ ap (λ (l : List ℕ). l ++ a.0) f.2 ∙ append_assoc old f.0 a.0)
 
 few-more : (len count : ℕ) (old body f a : List ℕ) → body ≡ old ++ f → count ≤ len - length body → length a < count → length old + length (f ++ a) < len
 few-more len count old body f a e within lt =
@@ -79,14 +60,6 @@ fills-fault len count old body more BadLength x y z within f a = absurd a
 fills-fault len count old body more NoAnswer x y z within f a = absurd a
 fills-fault len count old body more Memory x y z within f a = (f.0 ++ a.0, took-more f.0 a.0 (f.0 ++ a.0) x y z refl f.1 a.1)
 
-pub body-fault : (len : ℕ) (new : List ℕ) (fault : PipeFault) (x y : Peer) → FillsBody len [] (Err fault) new x y → TakesBody len (Err fault) x y
-body-fault len new NotPut x y f = absurd f
-body-fault len new NotTaken x y f = (f.0, f.1, (let lt = f.2 in omega (arith, lt)))
-body-fault len new Ended x y f = (f.0, f.1, (let lt = f.2 in omega (arith, lt)), f.3)
-body-fault len new BadLength x y f = absurd f
-body-fault len new NoAnswer x y f = absurd f
-body-fault len new Memory x y f = (f.0, f.1)
-
 -- ---- a frame
 
 no-answer-short : (came : List ℕ) → length came < 4 → HasAnswer came → ⊥
@@ -95,34 +68,6 @@ no-answer-short came lt h =
     let more = length-append (to_be_bytes w32 (length h.0)) h.0 in
     let four : length (to_be_bytes w32 (length h.0)) ≡ 4 = refl in
     omega (arith, len, more, four, lt)
-
-pub length-fault : (out : List ℕ) (fault : PipeFault) (x y : Peer) → length out ≡ 4 → TakesExactly (Err fault) out x y → TakesLength (Err fault) x y
-length-fault out NotPut x y e t = absurd t
-length-fault out NotTaken x y e t = (t.0, t.1, (let lt = t.2 in omega (arith, lt, e)))
-length-fault out Ended x y e t = (t.0, t.1, (let lt = t.2 in omega (arith, lt, e)), t.3)
-length-fault out BadLength x y e t = absurd t
-length-fault out NoAnswer x y e t = absurd t
-length-fault out Memory x y e t = absurd t
-
-pub length-taken : (out rest : List ℕ) (n : ℕ) (x y : Peer) → length out ≡ 4 → IsBytes out → fixed_at w32 out ≡ Some (n, rest) → Took out x y → TakesLength (Ok n) x y
-length-taken out rest n x y size fits e t =
-    let r = read-some out n rest fits e in
-    let len = ap (length {A = ℕ}) r.1 ∙ length-append (to_be_bytes w32 n) rest in
-    let four : length (to_be_bytes w32 n) ≡ 4 = refl in
-    let none : rest ≡ [] = nil_from_length rest (omega (arith, len, four, size)) in
-    (r.0, subst (λ (l : List ℕ). Took l x y) (r.1 ∙ ap (λ (l : List ℕ). to_be_bytes w32 n ++ l) none ∙ append-nil (to_be_bytes w32 n)) t)
-
-pub length-there : (out : List ℕ) → length out ≡ 4 → fixed_at w32 out ≡ None → ⊥
-length-there out size e = let lt = read-none out e in omega (arith, lt, size)
-
-pub rest-taken : (n : ℕ) (result : Result (Vec ℕ Global) PipeFault) (x y : Peer) → IsAnswerLength n → TakesBody n result x y → TakesRest n result x y
-rest-taken n (Ok body) x y is b = (is, b)
-rest-taken n (Err NotPut) x y is b = absurd b
-rest-taken n (Err NotTaken) x y is b = (is, b)
-rest-taken n (Err Ended) x y is b = (is, b)
-rest-taken n (Err BadLength) x y is b = absurd b
-rest-taken n (Err NoAnswer) x y is b = absurd b
-rest-taken n (Err Memory) x y is b = (is, b)
 
 pub frame-fault : (fault : PipeFault) (x y : Peer) → TakesLength (Err fault) x y → TakesFrame (Err fault) x y
 frame-fault NotPut x y t = absurd t

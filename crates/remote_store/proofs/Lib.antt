@@ -11,3 +11,4 @@ pub mod Honest
 pub mod Sound
 pub mod Growing
 pub mod Readings
+pub mod Indexing

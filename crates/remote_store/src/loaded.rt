@@ -129,6 +129,14 @@ fn names_of<'a>(log: &'a Log, tables: &'a Tables) -> LogNames<'a>
     }
 }
 
+/// Takes the segments of a log that was read into the index of edges of its tables, where they are many, so that paths go by it.
+fn index_edges(log: &Log, tables: &mut Tables)
+    requires { (none : PlainPending) × IsRead log.now tables.old none }
+    ensures { (none : PlainPending) (read : IsRead log.now tables.old none) → (later : IsRead log.now tables.new none) × (later.of_world ≡ read.of_world) }
+{
+    tables.index(log.bytes());
+}
+
 impl Loaded {
     /// Reads what is on the disk. `Failed` where a call of the disk fails, or its bytes are no log, or one of a world with commits
     /// that have no known name.
@@ -201,6 +209,7 @@ impl Loaded {
         ensures same { self.new ≡ self.old }
         ensures path { IfOk result (λ found. IfSome (told_in self.old) (λ rows. IsPathOf rows heads.now name.now found)) }
     {
+        index_edges(&self.log, &mut self.tables);
         let table = table_of(&self.log, &self.tables, &self.none);
         let names = names_of(&self.log, &self.tables);
         self.reached.go_to(alloc, &table, &names, heads)?;

@@ -5,7 +5,7 @@ ghost use Rattle.std.specs.Prelude.{◌≡◌, ◌≤◌, IfOk};
 mod grow;
 
 use flat_segments::{FlatFault, FlatTable, FlatView};
-use grow::add_records;
+use grow::{Tables, add_records};
 use high_segments::{LevelCounts, Levels, View};
 use segment_codec::Edges;
 use std::alloc::Global;
@@ -19,9 +19,7 @@ const MOST_RECORDS: u32 = 1 << 30;
 #[derive(Drop)]
 pub struct LevelSample {
     log: Vec<u8>,
-    table: FlatTable,
-    probe: FlatTable,
-    levels: Levels,
+    tables: Tables,
     most: u32,
     done: usize,
     is_rehearsed: bool,
@@ -32,9 +30,9 @@ impl Model for LevelSample {
 
     ghost Value = { Grown };
 
-    ghost view = { λ s. record { log = s.log.items; table = s.table; probe = s.probe; levels = s.levels; most = s.most } };
+    ghost view = { λ s. record { log = s.log.items; table = s.tables.table; probe = s.tables.probe; levels = s.tables.levels; most = s.most } };
 
-    ghost invariant = { λ s. IsGrown s.log.items s.table s.probe s.levels s.most };
+    ghost invariant = { λ s. IsGrown s.log.items s.tables.table s.tables.probe s.tables.levels s.most };
 }
 
 impl LevelSample {
@@ -45,9 +43,11 @@ impl LevelSample {
     {
         LevelSample {
             log,
-            table: FlatTable::empty(alloc),
-            probe: FlatTable::empty(alloc),
-            levels: Levels::empty(alloc),
+            tables: Tables {
+                table: FlatTable::empty(alloc),
+                probe: FlatTable::empty(alloc),
+                levels: Levels::empty(alloc),
+            },
             most: 0,
             done: 0,
             is_rehearsed,
@@ -60,9 +60,7 @@ impl LevelSample {
     {
         let LevelSample {
             log,
-            mut table,
-            mut probe,
-            mut levels,
+            mut tables,
             most,
             done,
             is_rehearsed,
@@ -70,21 +68,10 @@ impl LevelSample {
         if most > MOST_RECORDS {
             return Err(FlatFault::Memory);
         }
-        add_records(
-            &log,
-            &mut table,
-            &mut probe,
-            &mut levels,
-            done,
-            len,
-            most,
-            is_rehearsed,
-        )?;
+        add_records(&log, &mut tables, done, len, most, is_rehearsed)?;
         Ok(LevelSample {
             log,
-            table,
-            probe,
-            levels,
+            tables,
             most: most + 1000,
             done: done.saturating_add(len),
             is_rehearsed,
@@ -95,31 +82,31 @@ impl LevelSample {
     pub fn count(&self) -> u64
         ensures { result ≡ self.now.table.end }
     {
-        self.table.count()
+        self.tables.table.count()
     }
 
     /// The commits below a count, without levels.
     pub fn flat<'a>(&'a self, below: u64) -> FlatView<'a>
         requires { below ≤ self.now.table.end }
     {
-        self.table.view(&self.log, below)
+        self.tables.table.view(&self.log, below)
     }
 
     /// The commits below a count, with levels.
     pub fn view<'a>(&'a self, below: u64) -> View<'a>
         requires { below ≤ self.now.table.end }
     {
-        let flat = self.table.view(&self.log, below);
-        View::new(flat, &self.levels, Edges::none())
+        let flat = self.tables.table.view(&self.log, below);
+        View::new(flat, &self.tables.levels, Edges::none())
     }
 
     /// How many segments there are on each level.
     pub fn counts(&self) -> LevelCounts {
-        self.levels.counts()
+        self.tables.levels.counts()
     }
 
     /// How many bytes the levels take.
     pub fn memory(&self) -> u64 {
-        self.levels.memory()
+        self.tables.levels.memory()
     }
 }

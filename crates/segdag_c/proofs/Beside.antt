@@ -10,9 +10,10 @@ use Rattle.step_rules.specs.Verb.{Verb, IsVerb, Count, Query}
 use Rattle.step_rules.specs.Reply.{Reply, Counted, Listed}
 use Rattle.step_rules.specs.Step.{CommandStep}
 use Rattle.dag_store.specs.Kept.{PlainStore}
-use Rattle.dag_store.specs.declared.query.Found.{Found}
+use Rattle.store_queries.specs.declared.query.Found.{Found}
 use Rattle.dag_store.specs.Stands.{Stands, StandsBeside, IsAnswerable}
-use Rattle.dag_store.specs.Steps.{AreIdsOf, CountStep, KeepsAll, Leads, QueryStep, known_name}
+use Rattle.dag_store.specs.Steps.{AreIdsOf, CountStep, KeepsAll, Leads, QueryStep}
+use Rattle.store_queries.specs.Names.{known_name}
 use Rattle.dag_run.proofs.Doing.{same-outside}
 use Rattle.segdag_c.specs.Does.{Does}
 

@@ -1,8 +1,8 @@
 -- Names that stand one behind the other.
-use Rattle.std.proofs.Common.{◌≡◌, ◌≤◌, ◌<◌, ◌+◌, ◌*◌, ◌%◌, ℕ, zero, suc, List, [], ◌∷◌, ◌++◌, length, take, drop, refl, sym, ap, subst, ◌∙◌, arith, append_assoc, append-nil, take-append-drop, length-take}
+use Rattle.std.proofs.Common.{◌≡◌, ◌+◌, ℕ, List, [], ◌∷◌, ◌++◌, length, refl, sym, ap, subst, ◌∙◌, arith, append_assoc, append-nil}
 use Rattle.std.specs.List.{AllByRecursion, concat}
 use Rattle.id_groups.specs.Name.{Name}
-use Rattle.segdag_c.specs.Names.{AreJoined, HasTwenty}
+use Rattle.segdag_c.specs.Names.{HasTwenty}
 
 pub concat-append : (xs ys : List (List ℕ)) → concat (xs ++ ys) ≡ concat xs ++ concat ys
 concat-append [] ys = refl
@@ -29,10 +29,3 @@ next-twenty names now name all is items = subst (AllByRecursion HasTwenty) (sym 
 pub all-names : (names : List Name) (rest bytes : List ℕ) → concat names ++ rest ≡ bytes → length rest ≡ 0 → concat names ≡ bytes
 all-names names [] bytes was none = sym (append-nil (concat names)) ∙ was
 all-names names (b ∷ rest) bytes was none = absurd (omega (arith, none))
-
--- the bytes of a name come behind those before it, and what is left follows
-pub joined-next : (bytes now name : List ℕ) (left : List Name) (whole : List ℕ) → now ≡ bytes ++ name → bytes ++ concat (name ∷ left) ≡ whole → now ++ concat left ≡ whole
-joined-next bytes now name left whole added was = ap (λ l. l ++ concat left) added ∙ append_assoc bytes name (concat left) ∙ was
-
-pub joined-all : (bytes : List ℕ) (left : List Name) (whole : List ℕ) → left ≡ [] → bytes ++ concat left ≡ whole → bytes ≡ whole
-joined-all bytes left whole none was = sym (append-nil bytes) ∙ ap (λ l. bytes ++ concat l) (sym none) ∙ was

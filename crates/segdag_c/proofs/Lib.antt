@@ -8,4 +8,3 @@ mod Finding
 mod Deciding
 mod Storing
 mod Settling
-mod EmptyDisk

@@ -4,7 +4,7 @@ use Rattle.std.specs.List.{concat}
 use Rattle.id_groups.specs.Name.{Name}
 use Rattle.set_expr.specs.Expr.{Expr}
 use Rattle.set_expr.specs.Spelling.{SpellsExpr}
-use Rattle.dag_store.specs.declared.replies.Added.{Added}
+use Rattle.store_queries.specs.declared.adding.Added.{Added}
 use Rattle.step_rules.specs.Verb.{Verb, Add, Query}
 use Rattle.step_rules.specs.Reply.{Reply, Listed, Refused}
 use Rattle.step_rules.specs.declared.Refusal.{Refusal}

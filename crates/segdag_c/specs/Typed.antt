@@ -2,8 +2,8 @@
 use Rattle.std.specs.Prelude.{ℕ, ⊤, Option, Some, None, Result, Ok, Err}
 use Rattle.step_rules.specs.declared.Refusal.{Refusal}
 use Rattle.step_rules.specs.Reply.{Reply, Counted, Reloaded, Refused as IsRefused}
-use Rattle.dag_store.specs.declared.replies.Added.{Added}
-use Rattle.dag_store.specs.declared.replies.Added.TheVariants.{New, Old}
+use Rattle.store_queries.specs.declared.adding.Added.{Added}
+use Rattle.store_queries.specs.declared.adding.Added.TheVariants.{New, Old}
 use Rattle.dag_store.specs.Steps.{add_reply, id_reply as reply_of_id}
 use Rattle.segdag_c.specs.declared.codes.Failure.{Failure}
 use Rattle.segdag_c.specs.declared.codes.Failure.TheVariants.{Refused}

@@ -13,7 +13,7 @@ ghost use Rattle.segdag_c.specs.Mirrors.{shown_all};
 use crate::held::Held;
 use crate::mirror::Mirror;
 use call_disk::{Beneath, NotedCalls, NotedDisk};
-use dag_run::{Stop, execute_line};
+use dag_run::{Reach, Stop, execute_line};
 use dag_store::Store;
 use line_io::{Line, MemorySink};
 use mirror_set::Mirrors;
@@ -50,16 +50,12 @@ fn answer_on<B: Beneath>(
     let mut changes = Vec::new(alloc);
     let mut log = NotedDisk::<B>::new(alloc);
     let kind = kind_of(line);
-    let answered = execute_line(
-        alloc,
-        store,
-        &mut log,
+    let reach = Reach {
+        disk: &mut log,
         mirrors,
-        &mut changes,
-        kind,
-        line,
-        reply,
-    );
+        changes: &mut changes,
+    };
+    let answered = execute_line(alloc, store, reach, kind, line, reply);
     (answered, log.into_noted())
 }
 

@@ -2,7 +2,7 @@
 
 ghost use Rattle.std.specs.Prelude.{◌≡◌, ◌≤◌, ◌*◌, ◌%◌, ◌++◌, length, IfOk};
 ghost use Rattle.std.specs.List.{concat};
-ghost use Rattle.dag_store.specs.Names.{names_left};
+ghost use Rattle.store_queries.specs.Names.{names_left};
 ghost use Rattle.segdag_c.specs.Names.{AreJoined};
 
 use dag_store::Names;

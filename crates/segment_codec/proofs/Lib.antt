@@ -8,8 +8,10 @@ pub mod Lengths
 pub mod Orders
 pub mod Records
 pub mod Known
+pub mod Heads
 pub mod Short
 pub mod Spelled
+pub mod Stripped
 pub mod Tables
 pub mod Turns
 pub mod Flats

@@ -1,8 +1,8 @@
 -- The tests of parents mean what they should.
-use Rattle.std.proofs.Common.{◌≡◌, ℕ, zero, suc, ◌+◌, ◌<◌, ◌≤◌, Bool, true, false, not, cond, leb, eqb, List, [], ◌∷◌, length, get_or, refl, sym, ◌∙◌, inl, inr, arith}
+use Rattle.std.proofs.Common.{◌≡◌, ℕ, zero, suc, ◌+◌, ◌<◌, ◌≤◌, ◌⊎◌, ◌&&◌, Bool, true, false, not, cond, leb, ltb, eqb, List, [], ◌∷◌, length, get_or, refl, sym, ap, ◌∙◌, inl, inr, arith}
 use Rattle.std.specs.Prelude.{nat_eq}
 use Rattle.std.specs.List.Sorted.{IsStrictlyIncreasing}
-use Rattle.std.proofs.lemmas.Bool.{and_parts, and_from, not-true, leb-true, le-leb, eqb-true, eq-eqb, ne_eqb}
+use Rattle.std.proofs.lemmas.Bool.{and_parts, and_from, not-true, leb-true, le-leb, eqb-true, eq-eqb, ne_eqb, cases_lt, lt-ltb, le-ltb, lt-leb}
 use Rattle.id_groups.specs.Lists.{IsIn, is_in, AreDistinct}
 use Rattle.id_groups.proofs.Listing.{found, missing}
 use Rattle.segment_codec.specs.Reading.{are_distinct, ascend_from, are_in_order}
@@ -91,3 +91,15 @@ few-in-order level (n ∷ []) few = either (nat_eq level 0)
     either true = refl
     either false = and_from (leb 0 n) true (le-leb 0 n (omega arith)) refl
 few-in-order level (n ∷ m ∷ ns) few = absurd (omega (arith, few))
+
+-- two numbers of a higher level are in order where the first is less
+pub two-rise : (level a b : ℕ) (ns more : List ℕ) → (level ≡ 0 → ⊥) → ns ≡ a ∷ b ∷ more → length ns ≡ 2 → ltb a b ≡ are_in_order level ns
+two-rise zero a b ns more high is two = absurd (high refl)
+two-rise (suc k) a b ns [] high is two =
+    either (cases_lt a b) ∙ sym (above-flat k (are_distinct (a ∷ b ∷ [])) (ascend_from 0 (a ∷ b ∷ []))) ∙ ap (are_in_order (suc k)) (sym is)
+  where
+    either : (a < b) ⊎ (b ≤ a) → ltb a b ≡ ascend_from 0 (a ∷ b ∷ [])
+    either (inl lt) = lt-ltb a b lt ∙ sym (and_from (leb 0 a) (ascend_from (a + 1) (b ∷ [])) (le-leb 0 a (omega arith)) (and_from (leb (a + 1) b) true (le-leb (a + 1) b (omega (arith, lt))) refl))
+    either (inr le) =
+        le-ltb a b le ∙ sym (ap (λ t. t && (leb (a + 1) b && true)) (le-leb 0 a (omega arith)) ∙ ap (λ t. t && true) (lt-leb (a + 1) b (omega (arith, le))))
+two-rise (suc k) a b ns (n ∷ more) high is two = absurd (let len = ap (length {A = ℕ}) is in omega (arith, len, two))

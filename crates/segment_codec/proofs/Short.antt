@@ -61,3 +61,7 @@ unfolding number_at
 fits-so bytes n value rest same small is =
     let t = lt-ltb n (2 ^ 64) small in
     rw (is, t, same) refl
+
+-- a byte below 128 is a number
+pub one-byte : (byte : ℕ) (rest : List ℕ) → byte < 128 → number_at (byte ∷ rest) ≡ Some (byte, rest)
+one-byte byte rest small = fits-so (byte ∷ rest) byte byte rest refl (omega (arith, small)) (only-byte byte rest small)

@@ -1,6 +1,6 @@
 //! What stands before the parents of a record.
 
-ghost use Rattle.std.specs.Prelude.{◌≡◌, ◌≤◌, ◌<◌, ◌^◌, IfSome};
+ghost use Rattle.std.specs.Prelude.{◌≡◌, ◌≤◌, ◌<◌, ◌^◌, Some, IfSome};
 ghost use Rattle.segment_codec.specs.Reading.{Gives, fixed_at, is_head, head_at, most_parents};
 
 use crate::number::read_number;
@@ -63,10 +63,37 @@ fn is_valid_head(flags: u8, level: u8, high: u64, span: u64, count: u64) -> bool
         && flags == if count == 0 { 1 } else { 0 }
 }
 
-/// What stands before the parents, and the rest.
+/// What stands before the parents, and the rest, if the number of ids and that of parents take one byte each; `None` also where
+/// one takes more.
 #[inline(always)]
+fn read_short_head(bytes: &[u8]) -> Option<(Head, &[u8])>
+    ensures exact { IfSome result (λ r. head_at bytes.now ≡ Some (r.0, r.1.now)) }
+    ensures order { IfSome result (λ r. (r.0.low ≤ r.0.high) × (r.0.high < 2 ^ 57)) }
+{
+    let [flags, level, a, b, c, d, e, f, g, h, span, count, rest @ ..] = bytes else {
+        return None;
+    };
+    if *span >= 128 || *count >= 128 {
+        return None;
+    }
+    let high = u64::from_be_bytes([*a, *b, *c, *d, *e, *f, *g, *h]);
+    let (span, count) = (u64::from(*span), u64::from(*count));
+    if !is_valid_head(*flags, *level, high, span, count) {
+        return None;
+    }
+    let head = Head {
+        low: high - span,
+        high,
+        level: *level,
+        count,
+    };
+    Some((head, rest))
+}
+
+/// What stands before the parents, and the rest, read field by field.
+#[inline(never)]
 #[tactic(auto, unfolding(crate::specs::Reading::head_at))]
-pub fn read_head(bytes: &[u8]) -> Option<(Head, &[u8])>
+fn read_any_head(bytes: &[u8]) -> Option<(Head, &[u8])>
     ensures exact { Gives (λ r. (r.0, r.1.now)) result (head_at bytes.now) }
     ensures order { IfSome result (λ r. (r.0.low ≤ r.0.high) × (r.0.high < 2 ^ 57)) }
 {
@@ -86,4 +113,16 @@ pub fn read_head(bytes: &[u8]) -> Option<(Head, &[u8])>
         count,
     };
     Some((head, rest))
+}
+
+/// What stands before the parents, and the rest; `None` exactly where no record's head stands in front.
+#[inline(always)]
+pub fn read_head(bytes: &[u8]) -> Option<(Head, &[u8])>
+    ensures exact { Gives (λ r. (r.0, r.1.now)) result (head_at bytes.now) }
+    ensures order { IfSome result (λ r. (r.0.low ≤ r.0.high) × (r.0.high < 2 ^ 57)) }
+{
+    if let Some(short) = read_short_head(bytes) {
+        return Some(short);
+    }
+    read_any_head(bytes)
 }

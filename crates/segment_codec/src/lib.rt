@@ -14,6 +14,7 @@ mod passing;
 mod reading;
 mod segment;
 mod steps;
+mod stripping;
 mod table;
 mod writing;
 
@@ -25,8 +26,6 @@ pub use number::number_len;
 pub use passing::pass_segment;
 pub use reading::read_segment;
 pub use steps::Steps;
+pub use stripping::strip_short;
 pub use table::{Bounds, SegmentTable};
 pub use writing::{write_lent, write_segment};
-
-#[cfg(test)]
-mod tests;

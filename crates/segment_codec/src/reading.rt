@@ -70,6 +70,24 @@ fn ascend(parents: Parents<'_>) -> bool
     true
 }
 
+/// Whether two parents stand as those of this level do.
+fn are_two_in_order(level: u8, parents: Parents<'_>) -> bool
+    requires { length (parents_left parents) ≡ 2 }
+    ensures { result ≡ are_in_order level (parents_left parents.entry) }
+{
+    let mut rest = parents;
+    let Some(first) = rest.next() else {
+        return true;
+    };
+    let Some(second) = rest.next() else {
+        return true;
+    };
+    if level == 0 {
+        return first.number() != second.number();
+    }
+    first.number() < second.number()
+}
+
 /// Whether these parents, of which there are so many, stand as those of this level do. Of one alone nothing is read.
 fn have_levels_order(level: u8, count: u64, parents: Parents<'_>) -> bool
     requires { length (parents_left parents) ≡ count }
@@ -77,6 +95,9 @@ fn have_levels_order(level: u8, count: u64, parents: Parents<'_>) -> bool
 {
     if count <= 1 {
         return true;
+    }
+    if count == 2 {
+        return are_two_in_order(level, parents);
     }
     if level == 0 {
         are_all_distinct(parents)

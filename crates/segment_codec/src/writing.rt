@@ -34,7 +34,7 @@ fn append_numbers(out: &mut Vec<u8>, ids: &[Id]) -> Result<(), AllocError>
 
 /// What stands before the parents of a record whose span of ids and whose count of parents take a byte each.
 #[inline(always)]
-fn short_head(flags: u8, level: u8, high: u64, span: u64, count: u64) -> [u8; 12]
+pub fn short_head(flags: u8, level: u8, high: u64, span: u64, count: u64) -> [u8; 12]
     requires { (span < 128) × (count < 128) }
     ensures { result ≡ flags ∷ level ∷ to_be_bytes w64 high ++ (number_bytes span ++ number_bytes count) }
 {
@@ -135,7 +135,7 @@ fn ends(byte: u8) -> u64
 
 /// How many numbers stand one behind another in the bytes.
 #[inline(always)]
-fn count_numbers(bytes: &[u8]) -> u64
+pub fn count_numbers(bytes: &[u8]) -> u64
     ensures { result ≡ length (numbers_in bytes.now) }
 {
     let mut count = 0;
@@ -149,7 +149,7 @@ fn count_numbers(bytes: &[u8]) -> u64
 
 /// The flags of a record with so many parents.
 #[inline(always)]
-fn flags_for(count: u64) -> u8
+pub fn flags_for(count: u64) -> u8
     ensures { (parents : List ℕ) → length parents ≡ count → result ≡ flags_of parents }
 {
     if count == 0 { 1 } else { 0 }

@@ -16,6 +16,7 @@ ghost use Rattle.store_plans.specs.Changes.{AreOver, IsOn, IsPrepared, PreparesF
 
 use crate::planning::{plan, rebased};
 use crate::session::Session;
+use crate::sources::NameSources;
 use batch_codec::BatchRef;
 use change_parts::Change;
 use change_rules::Limits;
@@ -65,7 +66,8 @@ pub fn reloaded<R: Remote>(
     ensures sound { IsSoundCache cache.old → IsSoundCache cache.new }
     ensures len { length mirrors.new.items ≡ length mirrors.old.items }
 {
-    let left = rebased(alloc, log, tables, session, cache, mirrors, &[], &mut [])?;
+    let sources = NameSources { cache, mirrors };
+    let left = rebased(alloc, log, tables, session, sources, &[], &mut [])?;
     match session_with(alloc, tables, log.batch_count(), left) {
         Ok(session) => Ok(session),
         Err(AllocError) => Err(Refusal::Memory),
@@ -155,12 +157,11 @@ pub fn prepare_flush<R: Remote>(
     log: &mut Log,
     tables: &mut Tables,
     session: &Session,
-    cache: &mut LazyNames,
-    mirrors: &mut Vec<R>,
+    sources: NameSources<'_, '_, R>,
     heads: &[Name],
     limits: Limits,
 ) -> Result<Next, Refusal>
-    requires mirrors { length mirrors.old.items < 2 ^ 32 }
+    requires mirrors { length sources.mirrors.now.items < 2 ^ 32 }
     requires limits { AreLimits limits }
     requires limit { log.old.limit ≡ limits.log }
     requires kept { (added : List Placed) × AreOver log.old tables.old added × IsSessionOf added session.now }
@@ -170,11 +171,11 @@ pub fn prepare_flush<R: Remote>(
         → IfOk result (λ next. IsPrepared limits log.old log.new tables.old tables.new added next.change next.session) }
     ensures step { (began s : ℕ) (added : List Placed) (st : Stored) → AreOver log.old tables.old added → IsSessionOf added session.now
         → IsOn began added session.now st s
-        → PreparesFlush limits st s heads.now (map R.shown mirrors.old.items) (map R.shown mirrors.new.items) cache.old cache.new result }
-    ensures sound { IsSoundCache cache.old → IsSoundCache cache.new }
-    ensures len { length mirrors.new.items ≡ length mirrors.old.items }
+        → PreparesFlush limits st s heads.now (map R.shown sources.entry.mirrors.now.items) (map R.shown sources.exit.1.0.now.items) sources.entry.cache.now sources.exit.0.now result }
+    ensures sound { IsSoundCache sources.entry.cache.now → IsSoundCache sources.exit.0.now }
+    ensures len { length sources.exit.1.0.now.items ≡ length sources.entry.mirrors.now.items }
 {
-    let change = plan(alloc, log, tables, session, cache, mirrors, heads, limits)?;
+    let change = plan(alloc, log, tables, session, sources, heads, limits)?;
     match take_change(alloc, log, tables, &change, limits) {
         Ok(session) => Ok(Next { change, session }),
         Err(AllocError) => Err(Refusal::Memory),

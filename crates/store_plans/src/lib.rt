@@ -10,6 +10,7 @@ mod planning;
 mod pulling;
 mod seen;
 mod session;
+mod sources;
 mod stripping;
 
 pub use changing::{Next, prepare_flush, reloaded};
@@ -19,4 +20,5 @@ pub use planning::lacks_names;
 pub use pulling::prepare_pull;
 pub use seen::Seen;
 pub use session::Session;
+pub use sources::NameSources;
 pub use stripping::prepare_strip;

@@ -19,7 +19,7 @@ ghost use Rattle.store_plans.specs.Looking.{MaySee, Shows, Asked, FindsOne, Look
 use crate::seen::Seen;
 use high_segments::View;
 use id_groups::{Id, Name};
-use lazy_names::{LazyFault, LazyNames};
+use lazy_names::{LazyFault, LazyNames, Stored};
 use payload_tables::Tables;
 use remote_trait::Remote;
 use segment_codec::{Parents, SegmentTable, Steps};
@@ -82,15 +82,12 @@ pub(crate) fn ask_name<R: Remote>(
     ensures sound { IsSoundCache cache.new }
     ensures len { length mirrors.new.items ≡ length mirrors.old.items }
 {
-    let found = cache.find_among(
-        alloc,
-        &seen.base.view(seen.pending),
-        seen.tables.names(),
-        seen.bytes,
-        seen.tables.heads(),
-        mirrors,
-        name,
-    );
+    let stored = Stored {
+        table: &seen.base.view(seen.pending),
+        known: seen.tables.names(),
+        bytes: seen.bytes,
+    };
+    let found = cache.find_among(alloc, stored, seen.tables.heads(), mirrors, name);
     let _sound = cache.len();
     or_refused(found)
 }

@@ -24,6 +24,7 @@ ghost use Rattle.store_plans.specs.Changes.{AreOver, FindsHeads, FindsRows, Have
 use crate::finding::{look_up_heads, look_up_rows, take_rows};
 use crate::seen::Seen;
 use crate::session::Session;
+use crate::sources::NameSources;
 use change_parts::{Change, PlanFault};
 use change_rules::Limits;
 use flush_plan::plan_change;
@@ -124,12 +125,11 @@ pub(crate) fn rebased<R: Remote>(
     log: &Log,
     tables: &Tables,
     session: &Session,
-    cache: &mut LazyNames,
-    mirrors: &mut Vec<R>,
+    sources: NameSources<'_, '_, R>,
     heads: &[Name],
     found: &mut [Option<Id>],
 ) -> Result<PendingRows, Refusal>
-    requires mirrors { length mirrors.old.items < 2 ^ 32 }
+    requires mirrors { length sources.mirrors.now.items < 2 ^ 32 }
     requires heads { length found.old ≡ length heads.now }
     requires over { (added : List Placed) × AreOver log.now tables.now added × IsSessionOf added session.now }
     ensures left { (added : List Placed) → AreOver log.now tables.now added → IsSessionOf added session.now → IfOk result (λ left. MayStore left added) }
@@ -137,14 +137,15 @@ pub(crate) fn rebased<R: Remote>(
         → AllZip (IsFoundIn added) heads.now found.old → IfOk result (λ left. AllZip (IsFoundIn added) heads.now found.new) }
     ensures step { (began s : ℕ) (added : List Placed) (st : Stored) (limits : _) → AreOver log.now tables.now added → IsSessionOf added session.now
         → IsOn began added session.now st s
-        → Rebases limits st s heads.now (map R.shown mirrors.old.items) (map R.shown mirrors.new.items) cache.old cache.new found.old found.new result }
+        → Rebases limits st s heads.now (map R.shown sources.entry.mirrors.now.items) (map R.shown sources.exit.1.0.now.items) sources.entry.cache.now sources.exit.0.now found.old found.new result }
     ensures size { length found.new ≡ length found.old }
-    ensures sound { IsSoundCache cache.old → IsSoundCache cache.new }
-    ensures len { length mirrors.new.items ≡ length mirrors.old.items }
+    ensures sound { IsSoundCache sources.entry.cache.now → IsSoundCache sources.exit.0.now }
+    ensures len { length sources.exit.1.0.now.items ≡ length sources.entry.mirrors.now.items }
 {
     if session.payloads == log.batch_count() {
         return copied(alloc, &session.pending);
     }
+    let NameSources { cache, mirrors } = sources;
     let rows = rows_found(alloc, log, tables, session, cache, mirrors)?;
     take_rows(&session.pending, heads, &rows, found);
     rebased_anew(alloc, log, tables, session, &rows)
@@ -156,12 +157,11 @@ pub(crate) fn plan<R: Remote>(
     log: &Log,
     tables: &mut Tables,
     session: &Session,
-    cache: &mut LazyNames,
-    mirrors: &mut Vec<R>,
+    sources: NameSources<'_, '_, R>,
     heads: &[Name],
     limits: Limits,
 ) -> Result<Change, Refusal>
-    requires mirrors { length mirrors.old.items < 2 ^ 32 }
+    requires mirrors { length sources.mirrors.now.items < 2 ^ 32 }
     requires limits { AreLimits limits }
     requires limit { log.now.limit ≡ limits.log }
     requires kept { (added : List Placed) × AreOver log.now tables.old added × IsSessionOf added session.now }
@@ -170,14 +170,25 @@ pub(crate) fn plan<R: Remote>(
     ensures unchanged { tables.new ≡ tables.old }
     ensures step { (began s : ℕ) (added : List Placed) (st : Stored) → AreOver log.now tables.old added → IsSessionOf added session.now
         → IsOn began added session.now st s
-        → PlansFlush limits st s heads.now (map R.shown mirrors.old.items) (map R.shown mirrors.new.items) cache.old cache.new result }
-    ensures sound { IsSoundCache cache.old → IsSoundCache cache.new }
-    ensures len { length mirrors.new.items ≡ length mirrors.old.items }
+        → PlansFlush limits st s heads.now (map R.shown sources.entry.mirrors.now.items) (map R.shown sources.exit.1.0.now.items) sources.entry.cache.now sources.exit.0.now result }
+    ensures sound { IsSoundCache sources.entry.cache.now → IsSoundCache sources.exit.0.now }
+    ensures len { length sources.exit.1.0.now.items ≡ length sources.entry.mirrors.now.items }
 {
+    let NameSources { cache, mirrors } = sources;
     let mut found = heads_found(alloc, log, tables, session, cache, mirrors, heads)?;
-    plan_found(
-        alloc, log, tables, session, cache, mirrors, heads, &mut found, limits,
-    )
+    let sources = NameSources { cache, mirrors };
+    let sought = Sought {
+        heads,
+        found: &mut found,
+    };
+    plan_found(alloc, log, tables, session, sources, sought, limits)
+}
+
+/// Heads, and what was found of each in the newest base.
+#[derive(Drop)]
+struct Sought<'h, 'f> {
+    heads: &'h [Name],
+    found: &'f mut [Option<Id>],
 }
 
 /// What a flush of these heads changes, of which these ids were found in the newest base, or none.
@@ -186,27 +197,26 @@ fn plan_found<R: Remote>(
     log: &Log,
     tables: &mut Tables,
     session: &Session,
-    cache: &mut LazyNames,
-    mirrors: &mut Vec<R>,
-    heads: &[Name],
-    found: &mut [Option<Id>],
+    sources: NameSources<'_, '_, R>,
+    sought: Sought<'_, '_>,
     limits: Limits,
 ) -> Result<Change, Refusal>
-    requires mirrors { length mirrors.old.items < 2 ^ 32 }
+    requires mirrors { length sources.mirrors.now.items < 2 ^ 32 }
     requires limits { AreLimits limits }
     requires limit { log.now.limit ≡ limits.log }
-    requires kept { (added : List Placed) × AreOver log.now tables.old added × IsSessionOf added session.now × AllZip (IsFoundIn added) heads.now found.old }
-    ensures stored { (added : List Placed) → AreOver log.now tables.old added → IsSessionOf added session.now → AllZip (IsFoundIn added) heads.now found.old
+    requires kept { (added : List Placed) × AreOver log.now tables.old added × IsSessionOf added session.now × AllZip (IsFoundIn added) sought.heads.now sought.found.now }
+    ensures stored { (added : List Placed) → AreOver log.now tables.old added → IsSessionOf added session.now → AllZip (IsFoundIn added) sought.entry.heads.now sought.entry.found.now
         → IfOk result (MayBeStored 1 limits (length (log_bytes log.now)) added) }
     ensures unchanged { tables.new ≡ tables.old }
     ensures step { (began s : ℕ) (added : List Placed) (st : Stored) (first : List Mirror) (before : PlainCache) → AreOver log.now tables.old added → IsSessionOf added session.now
         → IsOn began added session.now st s
-        → FindsHeads added st.stored (pending_of st s) heads.now first (map R.shown mirrors.old.items) before cache.old (Ok found.old)
-        → PlansFlush limits st s heads.now first (map R.shown mirrors.new.items) before cache.new result }
-    ensures sound { IsSoundCache cache.old → IsSoundCache cache.new }
-    ensures len { length mirrors.new.items ≡ length mirrors.old.items }
+        → FindsHeads added st.stored (pending_of st s) sought.entry.heads.now first (map R.shown sources.entry.mirrors.now.items) before sources.entry.cache.now (Ok sought.entry.found.now)
+        → PlansFlush limits st s sought.entry.heads.now first (map R.shown sources.exit.1.0.now.items) before sources.exit.0.now result }
+    ensures sound { IsSoundCache sources.entry.cache.now → IsSoundCache sources.exit.0.now }
+    ensures len { length sources.exit.1.0.now.items ≡ length sources.entry.mirrors.now.items }
 {
-    let left = rebased(alloc, log, tables, session, cache, mirrors, heads, found)?;
+    let Sought { heads, found } = sought;
+    let left = rebased(alloc, log, tables, session, sources, heads, found)?;
     match plan_change(alloc, tables, log.bytes(), &left, heads, found, limits) {
         Ok(change) => Ok(change),
         Err(fault) => Err(refusal_of(fault)),

@@ -21,6 +21,7 @@ use crate::lookup::find;
 use crate::planning::refusal_of;
 use crate::seen::Seen;
 use crate::session::Session;
+use crate::sources::NameSources;
 use change_parts::Change;
 use change_rules::Limits;
 use gated_log::Log;
@@ -111,22 +112,22 @@ fn plan_stripped<R: Remote>(
     log: &Log,
     tables: &Tables,
     session: &Session,
-    cache: &mut LazyNames,
-    mirrors: &mut Vec<R>,
+    sources: NameSources<'_, '_, R>,
     names: &[Name],
     limits: Limits,
 ) -> Result<Change, Refusal>
-    requires mirrors { length mirrors.old.items < 2 ^ 32 }
+    requires mirrors { length sources.mirrors.now.items < 2 ^ 32 }
     requires limits { AreLimits limits }
     requires limit { log.now.limit ≡ limits.log }
     requires kept { (added : List Placed) × AreOver log.now tables.now added × IsSessionOf added session.now }
     ensures stored { (added : List Placed) → AreOver log.now tables.now added → IfOk result (MayComeNext 1 limits (length (log_bytes log.now)) added) }
     ensures step { (began s : ℕ) (added : List Placed) (st : Stored) → AreOver log.now tables.now added → IsOn began added session.now st s
-        → PlansStrip limits st s names.now (map R.shown mirrors.old.items) (map R.shown mirrors.new.items) cache.old cache.new result }
-    ensures sound { IsSoundCache cache.old → IsSoundCache cache.new }
-    ensures len { length mirrors.new.items ≡ length mirrors.old.items }
+        → PlansStrip limits st s names.now (map R.shown sources.entry.mirrors.now.items) (map R.shown sources.exit.1.0.now.items) sources.entry.cache.now sources.exit.0.now result }
+    ensures sound { IsSoundCache sources.entry.cache.now → IsSoundCache sources.exit.0.now }
+    ensures len { length sources.exit.1.0.now.items ≡ length sources.entry.mirrors.now.items }
 {
     check_pending(session)?;
+    let NameSources { cache, mirrors } = sources;
     let ids = others_found(alloc, log, tables, cache, mirrors, names)?;
     match plan_strip_change(alloc, tables, log.bytes(), &ids, limits) {
         Ok(change) => Ok(change),
@@ -140,12 +141,11 @@ pub fn prepare_strip<R: Remote>(
     log: &mut Log,
     tables: &mut Tables,
     session: &Session,
-    cache: &mut LazyNames,
-    mirrors: &mut Vec<R>,
+    sources: NameSources<'_, '_, R>,
     names: &[Name],
     limits: Limits,
 ) -> Result<Next, Refusal>
-    requires mirrors { length mirrors.old.items < 2 ^ 32 }
+    requires mirrors { length sources.mirrors.now.items < 2 ^ 32 }
     requires limits { AreLimits limits }
     requires limit { log.old.limit ≡ limits.log }
     requires kept { (added : List Placed) × AreOver log.old tables.old added × IsSessionOf added session.now }
@@ -154,11 +154,11 @@ pub fn prepare_strip<R: Remote>(
     ensures ready { (added : List Placed) → AreOver log.old tables.old added
         → IfOk result (λ next. IsPrepared limits log.old log.new tables.old tables.new added next.change next.session) }
     ensures step { (began s : ℕ) (added : List Placed) (st : Stored) → AreOver log.old tables.old added → IsOn began added session.now st s
-        → PreparesStrip limits st s names.now (map R.shown mirrors.old.items) (map R.shown mirrors.new.items) cache.old cache.new result }
-    ensures sound { IsSoundCache cache.old → IsSoundCache cache.new }
-    ensures len { length mirrors.new.items ≡ length mirrors.old.items }
+        → PreparesStrip limits st s names.now (map R.shown sources.entry.mirrors.now.items) (map R.shown sources.exit.1.0.now.items) sources.entry.cache.now sources.exit.0.now result }
+    ensures sound { IsSoundCache sources.entry.cache.now → IsSoundCache sources.exit.0.now }
+    ensures len { length sources.exit.1.0.now.items ≡ length sources.entry.mirrors.now.items }
 {
-    let change = plan_stripped(alloc, log, tables, session, cache, mirrors, names, limits)?;
+    let change = plan_stripped(alloc, log, tables, session, sources, names, limits)?;
     match take_change(alloc, log, tables, &change, limits) {
         Ok(session) => Ok(Next { change, session }),
         Err(AllocError) => Err(Refusal::Memory),

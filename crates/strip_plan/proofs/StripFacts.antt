@@ -15,7 +15,7 @@ use Rattle.segment_codec.proofs.Tables.{parent-below}
 use Rattle.name_map.specs.Added.{Placed, AllStand, payloads_of}
 use Rattle.name_map.specs.Part.{upward}
 use Rattle.change_rules.specs.Holding.{HoldPayloads}
-use Rattle.change_rules.specs.Tables.{StandFor, newest}
+use Rattle.change_rules.specs.Tables.{StandFor}
 use Rattle.payload_tables.specs.Kept.{PlainTables, AreTablesOf}
 use Rattle.payload_tables.specs.Pending.{PlainPending, HoldsRows}
 use Rattle.payload_tables.specs.declared.base.BaseRef.{BaseRef}

@@ -111,15 +111,23 @@ fn add_one(new: &mut Vec<Id>, id: Id) -> Result<(), AllocError>
     Ok(())
 }
 
-/// The new ids of the parents of the number k, in place of what was there.
-fn moved_row(new: &mut Vec<Id>, row: Row<'_>, k: u32, ids: &[Id]) -> Result<(), AllocError>
-    requires { AllByRecursion (λ p. p < 2 ^ 56 + length ids.now) (lent_row k row) }
-    ensures { OnOk result (new.new.items ≡ map (new_id ids.now) (lent_row k row.entry)) }
+/// A number, the id that it has now, and its parents.
+#[derive(Clone, Copy)]
+struct Numbered<'a> {
+    id: Id,
+    k: u32,
+    row: Row<'a>,
+}
+
+/// The new ids of the parents of the number, in place of what was there.
+fn moved_row(new: &mut Vec<Id>, numbered: &Numbered<'_>, ids: &[Id]) -> Result<(), AllocError>
+    requires { AllByRecursion (λ p. p < 2 ^ 56 + length ids.now) (lent_row numbered.now.k numbered.now.row) }
+    ensures { OnOk result (new.new.items ≡ map (new_id ids.now) (lent_row numbered.now.k numbered.now.row)) }
 {
     new.clear();
-    match row {
+    match numbered.row {
         Row::Root => Ok(()),
-        Row::Follows => add_one(new, moved(before(k), ids)),
+        Row::Follows => add_one(new, moved(before(numbered.k), ids)),
         Row::Begins(parents) => add_moved(new, parents, ids),
     }
 }
@@ -221,64 +229,59 @@ impl<'a> LentRun<'a> {
         Ok(())
     }
 
-    /// Goes on by the number k, which has this id now. `ids` has the new ids of its parents, `new` is what is used to tell them.
+    /// Goes on by the number. `ids` has the new ids of its parents, `new` is what is used to tell them.
     fn go_on(
         &mut self,
         build: &mut BatchBuild,
-        id: Id,
-        row: Row<'a>,
-        k: u32,
+        numbered: &Numbered<'a>,
         ids: &[Id],
         new: &mut Vec<Id>,
     ) -> Result<(), AllocError>
         requires high { 2 ^ 56 ≤ self.old.high }
-        requires parents { AllByRecursion (λ p. p < 2 ^ 56 + length ids.now) (lent_row k row) }
-        requires segment { pointwise nat_eq (map (new_id ids.now) (lent_row k row)) (self.old.high ∷ []) ≡ false → IsSegment (flat_record self.old) }
-        ensures grows { OnOk result ((done : List Span) → (next : List Span) × (grown (done ++ self.old ∷ []) id (map (new_id ids.now) (lent_row k row.entry)) ≡ next ++ self.new ∷ [])
+        requires parents { AllByRecursion (λ p. p < 2 ^ 56 + length ids.now) (lent_row numbered.now.k numbered.now.row) }
+        requires segment { pointwise nat_eq (map (new_id ids.now) (lent_row numbered.now.k numbered.now.row)) (self.old.high ∷ []) ≡ false → IsSegment (flat_record self.old) }
+        ensures grows { OnOk result ((done : List Span) → (next : List Span) × (grown (done ++ self.old ∷ []) numbered.now.id (map (new_id ids.now) (lent_row numbered.now.k numbered.now.row)) ≡ next ++ self.new ∷ [])
             × ((p : PlainPayload) → IsBuilt build.old (with_spans Others p done) → IsBuilt build.new (with_spans Others p next))) }
         ensures count { build.new.other_count ≡ build.old.other_count }
-        ensures high { OnOk result (self.new.high ≡ id) }
+        ensures high { OnOk result (self.new.high ≡ numbered.now.id) }
     {
-        let Some(parents) = masters_of(row) else {
-            return self.go_on_row(build, id, row, k, ids, new);
+        let Some(parents) = masters_of(numbered.row) else {
+            return self.go_on_row(build, numbered, ids, new);
         };
-        self.go_on_lent(build, id, parents, ids)
+        self.go_on_lent(build, numbered.id, parents, ids)
     }
 
-    /// Goes on by the number k as `go_on` does, whatever its parents are.
+    /// Goes on by the number as `go_on` does, whatever its parents are.
     fn go_on_row(
         &mut self,
         build: &mut BatchBuild,
-        id: Id,
-        row: Row<'a>,
-        k: u32,
+        numbered: &Numbered<'a>,
         ids: &[Id],
         new: &mut Vec<Id>,
     ) -> Result<(), AllocError>
-        requires parents { AllByRecursion (λ p. p < 2 ^ 56 + length ids.now) (lent_row k row) }
-        requires segment { pointwise nat_eq (map (new_id ids.now) (lent_row k row)) (self.old.high ∷ []) ≡ false → IsSegment (flat_record self.old) }
-        ensures grows { OnOk result ((done : List Span) → (next : List Span) × (grown (done ++ self.old ∷ []) id (map (new_id ids.now) (lent_row k row.entry)) ≡ next ++ self.new ∷ [])
+        requires parents { AllByRecursion (λ p. p < 2 ^ 56 + length ids.now) (lent_row numbered.now.k numbered.now.row) }
+        requires segment { pointwise nat_eq (map (new_id ids.now) (lent_row numbered.now.k numbered.now.row)) (self.old.high ∷ []) ≡ false → IsSegment (flat_record self.old) }
+        ensures grows { OnOk result ((done : List Span) → (next : List Span) × (grown (done ++ self.old ∷ []) numbered.now.id (map (new_id ids.now) (lent_row numbered.now.k numbered.now.row)) ≡ next ++ self.new ∷ [])
             × ((p : PlainPayload) → IsBuilt build.old (with_spans Others p done) → IsBuilt build.new (with_spans Others p next))) }
         ensures count { build.new.other_count ≡ build.old.other_count }
-        ensures high { OnOk result (self.new.high ≡ id) }
+        ensures high { OnOk result (self.new.high ≡ numbered.now.id) }
     {
-        moved_row(new, row, k, ids)?;
-        self.go_on_moved(build, id, new)
+        moved_row(new, numbered, ids)?;
+        self.go_on_moved(build, numbered.id, new)
     }
 
-    /// Begins with the number k, which has the first id of the others now.
+    /// Begins with the number. `ids` has the new ids of its parents, `new` is what is used to tell them.
     fn begin_row(
         &mut self,
-        row: Row<'a>,
-        k: u32,
+        numbered: &Numbered<'a>,
         ids: &[Id],
         new: &mut Vec<Id>,
     ) -> Result<(), AllocError>
-        requires { AllByRecursion (λ p. p < 2 ^ 56 + length ids.now) (lent_row k row) }
-        ensures { OnOk result (self.new ≡ single_span (2 ^ 56) (map (new_id ids.now) (lent_row k row.entry))) }
+        requires { AllByRecursion (λ p. p < 2 ^ 56 + length ids.now) (lent_row numbered.now.k numbered.now.row) }
+        ensures { OnOk result (self.new ≡ single_span numbered.now.id (map (new_id ids.now) (lent_row numbered.now.k numbered.now.row))) }
     {
-        moved_row(new, row, k, ids)?;
-        self.begin(Id::other(0), new)
+        moved_row(new, numbered, ids)?;
+        self.begin(numbered.id, new)
     }
 }
 
@@ -302,12 +305,19 @@ fn add_lent_runs<'a>(
     if numbers.is_empty() {
         return Ok(());
     }
-    let first = graph.row(numbers[0]);
-    run.begin_row(first, numbers[0], ids, new)?;
+    let first = Numbered {
+        id: Id::other(0),
+        k: numbers[0],
+        row: graph.row(numbers[0]),
+    };
+    run.begin_row(&first, ids, new)?;
     'numbers: for i in 1..numbers.len() {
-        let id = Id::other(i as u64);
-        let row = graph.row(numbers[i]);
-        run.go_on(build, id, row, numbers[i], ids, new)?;
+        let next = Numbered {
+            id: Id::other(i as u64),
+            k: numbers[i],
+            row: graph.row(numbers[i]),
+        };
+        run.go_on(build, &next, ids, new)?;
     }
     run.put(build)?;
     Ok(())

@@ -11,6 +11,14 @@ use high_segments::Levels;
 use segment_codec::read_segment;
 use std::alloc::AllocError;
 
+/// A table of records and its levels, and a second table of the same records.
+#[derive(Drop)]
+pub(crate) struct Tables {
+    pub(crate) table: FlatTable,
+    pub(crate) probe: FlatTable,
+    pub(crate) levels: Levels,
+}
+
 /// Whether the bytes are records, at most a thousand.
 fn are_records(bytes: &[u8]) -> bool
     ensures { result ≡ true → (segments : List Segment) × AreRecords segments bytes.now × (length segments ≤ 1000) }
@@ -64,17 +72,15 @@ fn rehearse_if(
 /// extended again.
 pub(crate) fn add_records(
     log: &[u8],
-    table: &mut FlatTable,
-    probe: &mut FlatTable,
-    levels: &mut Levels,
+    tables: &mut Tables,
     at: usize,
     len: usize,
     most: u32,
     is_rehearsed: bool,
 ) -> Result<(), FlatFault>
     requires small { most ≤ 2 ^ 30 }
-    requires grown { IsGrown log.now table.old probe.old levels.old most }
-    ensures { OnOk result (IsGrown log.now table.new probe.new levels.new (most + 1000)) }
+    requires grown { IsGrown log.now tables.old.table tables.old.probe tables.old.levels most }
+    ensures { OnOk result (IsGrown log.now tables.new.table tables.new.probe tables.new.levels (most + 1000)) }
 {
     if at > log.len() || len > log.len() - at || log.len() > 1 << 40 {
         return Err(FlatFault::Memory);
@@ -84,11 +90,17 @@ pub(crate) fn add_records(
     if !are_records(records) {
         return Err(FlatFault::Memory);
     }
-    probe.extend(log, records, at as u64)?;
-    if probe.count() > 1 << 24 {
+    tables.probe.extend(log, records, at as u64)?;
+    if tables.probe.count() > 1 << 24 {
         return Err(FlatFault::Memory);
     }
-    rehearse_if(is_rehearsed, levels, table, log, records)?;
-    levels.extend(table, log, records)?;
-    table.extend(log, records, at as u64)
+    rehearse_if(
+        is_rehearsed,
+        &mut tables.levels,
+        &tables.table,
+        log,
+        records,
+    )?;
+    tables.levels.extend(&tables.table, log, records)?;
+    tables.table.extend(log, records, at as u64)
 }

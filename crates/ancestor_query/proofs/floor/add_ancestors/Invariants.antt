@@ -1,5 +1,6 @@
 use Rattle.std.proofs.Common.{ℕ, ◌≡◌, ◌≤◌, ◌+◌, ◌-◌, ◌^◌, min}
 use Rattle.span_set.specs.Members.{IsMember, IsCanonical}
+use Rattle.ancestor_query.specs.Visits.{IsEnd}
 use Rattle.ancestor_query.proofs.Turns.{Going}
 use Rattle.ancestor_query.proofs.floor.add_ancestors.Given as goal
 
@@ -9,6 +10,7 @@ invariant-visit g l = record {
   counted : min l.fn.steps.taken (2 ^ 64 - 1) ≤ l.steps.taken;
   looked : (x : ℕ) → IsMember l.answer x → min (l.fn.steps.taken + 8) (2 ^ 64 - 1) ≤ l.steps.taken;
   canonical : IsCanonical l.answer;
+  set : IsEnd (IsMember l.set) l.frontier l.end;
   first : l.frontier ≡ 2 ^ 57 → l.pace.pause ≡ 0;
 }
 

@@ -1,4 +1,4 @@
-use Rattle.std.proofs.Common.{◌+◌, ◌≤◌, ◌<◌, ◌-◌, ◌^◌, min}
+use Rattle.std.proofs.Common.{◌+◌, ◌≤◌, ◌-◌, ◌^◌, min}
 use Rattle.segment_codec.specs.Lent.{segment_of}
 use Rattle.ancestor_query.specs.Jumps.{IsBest}
 use Rattle.ancestor_query.proofs.jump.best_jump.Given as goal

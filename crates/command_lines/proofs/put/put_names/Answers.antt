@@ -3,7 +3,7 @@ use Rattle.std.proofs.lemmas.Result.{err_from_is_err_and}
 use Rattle.outside.specs.Told.{WhereTold, TookFront}
 use Rattle.outside.proofs.ToldLemmas.{WhereTold-join}
 use Rattle.id_groups.specs.Name.{hex_text}
-use Rattle.dag_store.specs.Names.{names_left, name_of}
+use Rattle.store_queries.specs.Names.{names_left, name_of}
 use Rattle.command_lines.specs.Sending.{Sends, lines_text}
 use Rattle.command_lines.proofs.PutLemmas.{count-short, count_lines, names-part, names-all, sends-more, sends-front, sends-puts}
 use Rattle.command_lines.proofs.put.put_names.Goals as goal

@@ -1,7 +1,7 @@
 use Rattle.std.proofs.Common.{◌≡◌, ◌≤◌, ◌++◌, map}
 use Rattle.outside.specs.Told.{WhereTold}
 use Rattle.id_groups.specs.Name.{hex_text}
-use Rattle.dag_store.specs.Names.{names_left, name_of}
+use Rattle.store_queries.specs.Names.{names_left, name_of}
 use Rattle.command_lines.specs.Sending.{Sends, lines_text}
 use Rattle.command_lines.proofs.put.put_names.Given as goal
 

@@ -10,7 +10,7 @@ visit-init g c =
     let flats = g.T.SegmentTable.flats c.args.table.now in
     let A = IsMember c.args.from.now in let B = IsMember c.args.minus.now in
     record {
-      visits = subst (λ t. OnlyVisits flats A B (2 ^ 57) c.args.mine.now t c.args.answer.now) (sym c.requires.theirs)
+      visits = subst (λ t. OnlyVisits flats A B (2 ^ 57) c.args.unvisited.now.mine t c.args.answer.now) (sym c.requires.theirs)
           (subst (λ m. OnlyVisits flats A B (2 ^ 57) m [] c.args.answer.now) (sym c.requires.mine)
           (subst (λ z. OnlyVisits flats A B (2 ^ 57) [] [] z) (sym c.requires.answer)
           (only-none flats (g.met.T.SegmentTable.lawful c.args.table.now) A B c.requires.from c.requires.minus)));
@@ -22,7 +22,7 @@ visit-init g c =
 pub jump_above-segment-requires : goal.jump_above-segment-requires
 jump_above-segment-requires g c =
     turn-held (g.T.SegmentTable.flats c.args.table.now) (g.met.T.SegmentTable.lawful c.args.table.now) (IsMember c.args.from.now) (IsMember c.args.minus.now)
-    c.visit.frontier c.visit.mine c.visit.theirs c.next_id.new.self c.next_id-reached.new.self c.visit.answer c.visit.invariant.visits
+    c.visit.frontier c.visit.unvisited.mine c.visit.unvisited.theirs c.next_id.new.self c.next_id-reached.new.self c.visit.answer c.visit.invariant.visits
     c.in-Some.next c.next_id-reached.result c.in-Some.ensures c.next_id-reached.ensures c.greater_with-id.result c.greater_with-id.ensures c.requires.from c.requires.minus
 
 pub insert_between-requires : goal.insert_between-requires
@@ -30,7 +30,7 @@ insert_between-requires g c =
     let flats = g.T.SegmentTable.flats c.args.table.now in
     let number = c.number.ensures.number in let small = c.number.ensures.small in
     let group = turn-group flats (g.met.T.SegmentTable.lawful c.args.table.now) (IsMember c.args.from.now) (IsMember c.args.minus.now)
-    c.visit.frontier c.visit.mine c.visit.theirs c.next_id.new.self c.next_id-reached.new.self c.visit.answer c.visit.invariant.visits
+    c.visit.frontier c.visit.unvisited.mine c.visit.unvisited.theirs c.next_id.new.self c.next_id-reached.new.self c.visit.answer c.visit.invariant.visits
     c.in-Some.next c.next_id-reached.result c.in-Some.ensures c.next_id-reached.ensures c.greater_with-id.result c.greater_with-id.ensures
     (segment_of c.jump_above-segment.result) c.floor_of-floor.result c.jump_above-segment.ensures.jump c.low-low.result c.first_above-start.result c.low-low.ensures c.first_above-start.ensures in
     record { group = λ lt. let below = group lt in omega (arith, below, number); bound = omega (arith, number, small) }
@@ -39,7 +39,7 @@ pub visit-smaller : goal.visit-smaller
 visit-smaller g c =
     let flats = g.T.SegmentTable.flats c.args.table.now in
     let lt = turn-falls flats (g.met.T.SegmentTable.lawful c.args.table.now) (IsMember c.args.from.now) (IsMember c.args.minus.now)
-    c.visit.frontier c.visit.mine c.visit.theirs c.next_id.new.self c.next_id-reached.new.self c.visit.answer c.visit.invariant.visits
+    c.visit.frontier c.visit.unvisited.mine c.visit.unvisited.theirs c.next_id.new.self c.next_id-reached.new.self c.visit.answer c.visit.invariant.visits
     c.in-Some.next c.next_id-reached.result c.in-Some.ensures c.next_id-reached.ensures c.greater_with-id.result c.greater_with-id.ensures
     (segment_of c.jump_above-segment.result) c.floor_of-floor.result c.jump_above-segment.ensures.jump c.low-low.result c.first_above-start.result c.low-low.ensures c.first_above-start.ensures in
     omega (arith, lt, c.number-frontier.ensures.number)
@@ -58,12 +58,12 @@ visit-preserved g c =
     let A = IsMember c.args.from.now in let B = IsMember c.args.minus.now in
     let small = c.number-frontier.ensures.small in
     record {
-      visits = subst (λ f. OnlyVisits flats A B f c.push_either.new.mine c.push_either.new.theirs c.insert_between.new.self) (sym c.number-frontier.ensures.number)
+      visits = subst (λ f. OnlyVisits flats A B f c.push_either.new.unvisited.mine c.push_either.new.unvisited.theirs c.insert_between.new.self) (sym c.number-frontier.ensures.number)
           (turn-visits flats (g.met.T.SegmentTable.lawful c.args.table.now) A B
-          c.visit.frontier c.visit.mine c.visit.theirs c.next_id.new.self c.next_id-reached.new.self c.visit.answer c.visit.invariant.visits
+          c.visit.frontier c.visit.unvisited.mine c.visit.unvisited.theirs c.next_id.new.self c.next_id-reached.new.self c.visit.answer c.visit.invariant.visits
           c.in-Some.next c.next_id-reached.result c.in-Some.ensures c.next_id-reached.ensures c.greater_with-id.result c.greater_with-id.ensures
           (segment_of c.jump_above-segment.result) c.floor_of-floor.result c.jump_above-segment.ensures.jump c.low-low.result c.first_above-start.result c.low-low.ensures c.first_above-start.ensures
-          (parents_left c.parents.result) c.push_either.new.mine c.push_either.new.theirs c.insert_between.new.self c.floor_of-floor.ensures c.parents.ensures c.in_ok-push_either.ensures (up-to c.insert_between.new.self c.visit.answer c.first_above-start.result c.number.result c.greater_with-id.result c.number.ensures.number c.in_ok-insert_between.ensures.members));
+          (parents_left c.parents.result) c.push_either.new.unvisited.mine c.push_either.new.unvisited.theirs c.insert_between.new.self c.floor_of-floor.ensures c.parents.ensures c.in_ok-push_either.ensures (up-to c.insert_between.new.self c.visit.answer c.first_above-start.result c.number.result c.greater_with-id.result c.number.ensures.number c.in_ok-insert_between.ensures.members));
       canonical = c.insert_between.ensures.canonical c.visit.invariant.canonical;
       counted = let more = c.jump_above-segment.ensures.counted in let before = c.visit.invariant.counted in omega arith;
       bound = omega arith;
@@ -75,7 +75,7 @@ returns-clause-members g c =
     let lawful = g.met.T.SegmentTable.lawful c.args.table.now in
     let A = IsMember c.args.from.now in let B = IsMember c.args.minus.now in
     let next = c.in_default.ensures in
-    only-done flats lawful A B c.visit.frontier c.next_id.new.self c.visit.theirs c.visit.answer
-    (only-kept flats lawful A B c.visit.frontier c.visit.mine c.visit.theirs c.next_id.new.self c.visit.theirs c.visit.answer next.keeps
+    only-done flats lawful A B c.visit.frontier c.next_id.new.self c.visit.unvisited.theirs c.visit.answer
+    (only-kept flats lawful A B c.visit.frontier c.visit.unvisited.mine c.visit.unvisited.theirs c.next_id.new.self c.visit.unvisited.theirs c.visit.answer next.keeps
     (record { kept = λ x i. i; lost = λ x i lt. i }) c.visit.invariant.visits)
     next.greatest

@@ -6,7 +6,7 @@ use Rattle.dag_run.proofs.demo.answer.Goals as goal
 pub returns-clause-ready : goal.returns-clause-ready
 returns-clause-ready g c =
     let step = c.execute.ensures.step in
-    ready-next c.args.store step.0 step.1 c.execute.result (g.D.Disk.told c.args.log.now) (g.D.Disk.told c.execute.new.log) c.requires.ready c.execute.ensures.limits step.3
+    ready-next c.args.store step.0 step.1 c.execute.result (g.D.Disk.told c.args.log.now) (g.D.Disk.told c.execute.new.reach.0) c.requires.ready c.execute.ensures.limits step.3
 
 pub returns-clause-leads : goal.returns-clause-leads
 returns-clause-leads g c =

@@ -1,4 +1,4 @@
-use Rattle.std.proofs.Common.{[], None, Ok, true, refl, sym, subst, ◌∙◌}
+use Rattle.std.proofs.Common.{ℕ, List, [], None, Ok, true, refl, sym, subst, ◌∙◌}
 use Rattle.outside.specs.Counts.{Rose}
 use Rattle.outside.proofs.ToldLemmas.{WhereTold-map, WhereTold-same}
 use Rattle.line_io.specs.Next.{IsLine}
@@ -17,8 +17,8 @@ returns-in-TooLong-clause-step g c =
     let failed : Type 0 = Rose (g.O.Sink.faults c.args.output.now) (g.O.Sink.faults c.tell.new.output) in (
       [],
       None,
-      refl,
-      still-goes store store [] r (g.D.Disk.told c.args.log.now) c.tell.ensures.same c.tell.ensures.stop refl,
+      refl {A = List ℕ} {a = c.args.reach.changes.now.items},
+      still-goes store store [] r (g.D.Disk.told c.args.reach.disk.now) c.tell.ensures.same c.tell.ensures.stop refl,
       WhereTold-map (g.O.Sink.taken c.args.output.now) (g.O.Sink.taken c.tell.new.output) (PutsReply store LongLine r) _
           (λ before now put line is.
           let long = long-line line (subst (λ (k : Line). IsLine k text line) c.in-TooLong.is is) in
@@ -51,8 +51,8 @@ returns-in-Text-clause-step g c =
     let failed : Type 0 = Rose (g.O.Sink.faults c.args.output.now) (g.O.Sink.faults c.args.output.now) in (
       [],
       None,
-      refl,
-      still-goes store store [] (Ok store) (g.D.Disk.told c.args.log.now) refl tt refl,
+      refl {A = List ℕ} {a = c.args.reach.changes.now.items},
+      still-goes store store [] (Ok store) (g.D.Disk.told c.args.reach.disk.now) refl tt refl,
       WhereTold-same (g.O.Sink.taken c.args.output.now) _
           (λ x line is.
           let e = text-short text line (subst (λ k. IsLine k text line) c.in-Text.is is) in

@@ -1,4 +1,4 @@
-use Rattle.std.proofs.Common.{[], None, refl, ap}
+use Rattle.std.proofs.Common.{ℕ, List, [], None, refl, ap}
 use Rattle.outside.specs.Counts.{Rose}
 use Rattle.set_expr.specs.Whole.{tree_of}
 use Rattle.step_rules.specs.Verb.{Query}
@@ -12,8 +12,8 @@ returns-in-Query-clause-step g c =
     let failed : Type 0 = Rose (g.O.Sink.faults c.args.output.now) (g.O.Sink.faults c.list.new.output) in (
       [],
       None,
-      refl,
-      kept-goes old [] c.list.result (g.D.Disk.told c.args.log.now) c.list.ensures.kept c.list.ensures.stop,
+      refl {A = List ℕ} {a = c.args.reach.changes.now.items},
+      kept-goes old [] c.list.result (g.D.Disk.told c.args.reach.disk.now) c.list.ensures.kept c.list.ensures.stop,
       told-as _ _ failed old c.args.command.now.session (Query (tree_of c.in-Query.expr)) (meant c.args.command.now.verb) [] None c.list.result (g.O.Sink.taken c.args.output.now) (g.O.Sink.taken c.list.new.output) (ap meant c.in-Query.is) c.list.ensures.told,
     )
 
@@ -21,7 +21,7 @@ pub returns-in_default-clause-step : goal.returns-in_default-clause-step
 returns-in_default-clause-step g c = (
   [],
   None,
-  refl,
-  room-goes c.args.store [] c.tell_brief.result (g.D.Disk.told c.args.log.now) c.tell_brief.ensures.room c.tell_brief.ensures.stop,
+  refl {A = List ℕ} {a = c.args.reach.changes.now.items},
+  room-goes c.args.store [] c.tell_brief.result (g.D.Disk.told c.args.reach.disk.now) c.tell_brief.ensures.room c.tell_brief.ensures.stop,
   c.tell_brief.ensures.told,
 )

@@ -1,4 +1,4 @@
-use Rattle.std.proofs.Common.{[], None, false, refl}
+use Rattle.std.proofs.Common.{ℕ, List, [], None, false, refl}
 use Rattle.outside.specs.Counts.{Rose}
 use Rattle.outside.proofs.ToldLemmas.{WhereTold-map}
 use Rattle.command_lines.specs.Meant.{meant}
@@ -35,8 +35,8 @@ returns-in-Err-clause-step g c =
     let failed : Type 0 = Rose (g.O.Sink.faults c.args.output.now) (g.O.Sink.faults c.tell_unread.new.output) in (
       [],
       None,
-      refl,
-      still-goes store store [] r (g.D.Disk.told c.args.log.now) c.tell_unread.ensures.same c.tell_unread.ensures.stop refl,
+      refl {A = List ℕ} {a = c.args.reach.changes.now.items},
+      still-goes store store [] r (g.D.Disk.told c.args.reach.disk.now) c.tell_unread.ensures.same c.tell_unread.ensures.stop refl,
       WhereTold-map (g.O.Sink.taken c.args.output.now) (g.O.Sink.taken c.tell_unread.new.output) (PutsReply store (reply_of_fault fault) r) _
           (λ before now put text heard le is.
           let e = text-short text text (refl, le) in

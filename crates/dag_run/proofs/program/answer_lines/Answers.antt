@@ -10,7 +10,7 @@ pub lines-init : goal.lines-init
 lines-init g c = record {
   limits = refl;
   ready = c.requires.ready;
-  told = λ limits w payloads room first fair same. WhereTold-same (seen (g.D.Disk.told c.args.log.now) (g.I.Source.left c.args.input.now) (g.O.Sink.taken c.args.output.now)) _ (λ x before begins h. h);
+  told = λ limits w payloads room first fair same. WhereTold-same (seen (g.D.Disk.told c.args.reach.disk.now) (g.I.Source.left c.args.input.now) (g.O.Sink.taken c.args.output.now)) _ (λ x before begins h. h);
   over = WhereTold-same (g.I.Source.left c.args.input.now) _ (λ x. refl);
   disk_later = search rules;
   source_later = search rules;
@@ -24,9 +24,9 @@ lines-preserved g c =
     let le : faults ≤ faults = omega arith in record {
       limits = limits ∙ c.lines.invariant.limits;
       ready = rw c.in-Some.is at c.in_ok-next.ensures.ready;
-      told = λ limits w payloads room first fair same. WhereTold-join (seen (g.D.Disk.told c.args.log.now) (g.I.Source.left c.args.input.now) (g.O.Sink.taken c.args.output.now))
-          (seen (g.D.Disk.told c.lines.log) (g.I.Source.left c.lines.input) (g.O.Sink.taken c.lines.output))
-          (seen (g.D.Disk.told c.answer_next.new.log) (g.I.Source.left c.answer_next.new.input) (g.O.Sink.taken c.answer_next.new.output)) _ _ _
+      told = λ limits w payloads room first fair same. WhereTold-join (seen (g.D.Disk.told c.args.reach.disk.now) (g.I.Source.left c.args.input.now) (g.O.Sink.taken c.args.output.now))
+          (seen (g.D.Disk.told c.lines.disk) (g.I.Source.left c.lines.input) (g.O.Sink.taken c.lines.output))
+          (seen (g.D.Disk.told c.answer_next.new.reach.0) (g.I.Source.left c.answer_next.new.input) (g.O.Sink.taken c.answer_next.new.output)) _ _ _
           (λ x y z a turn before begins h. turn before begins (a before begins h))
           (c.lines.invariant.told limits w payloads room first fair same)
           (rw c.in-Some.is at c.in_ok-next.ensures.means limits w payloads room first faults fair (c.lines.invariant.limits ∙ same) le);
@@ -42,9 +42,9 @@ returns-in_err-next-clause-means g c = λ limits w payloads room first faults fa
     let p = err_from_is_err_and c.from_residual.result c.from_residual.ensures.1 in
     let later = c.lines.invariant.sink_later in
     let before_it : faults ≤ g.O.Sink.faults c.lines.output = omega (arith, le, later) in
-    rw (p.1, p.2) (WhereTold-join (seen (g.D.Disk.told c.args.log.now) (g.I.Source.left c.args.input.now) (g.O.Sink.taken c.args.output.now))
-    (seen (g.D.Disk.told c.lines.log) (g.I.Source.left c.lines.input) (g.O.Sink.taken c.lines.output))
-    (seen (g.D.Disk.told c.answer_next.new.log) (g.I.Source.left c.answer_next.new.input) (g.O.Sink.taken c.answer_next.new.output)) _ _ _
+    rw (p.1, p.2) (WhereTold-join (seen (g.D.Disk.told c.args.reach.disk.now) (g.I.Source.left c.args.input.now) (g.O.Sink.taken c.args.output.now))
+    (seen (g.D.Disk.told c.lines.disk) (g.I.Source.left c.lines.input) (g.O.Sink.taken c.lines.output))
+    (seen (g.D.Disk.told c.answer_next.new.reach.0) (g.I.Source.left c.answer_next.new.input) (g.O.Sink.taken c.answer_next.new.output)) _ _ _
     (λ x y z a turn before begins h. turn before begins (a before begins h))
     (c.lines.invariant.told limits w payloads room first fair same)
     (c.in_err-next.ensures.means limits w payloads room first faults fair (c.lines.invariant.limits ∙ same) before_it))
@@ -58,9 +58,9 @@ pub returns-clause-means : goal.returns-clause-means
 returns-clause-means g c = λ limits w payloads room first faults fair same le.
     let later = c.lines.invariant.sink_later in
     let before_it : faults ≤ g.O.Sink.faults c.lines.output = omega (arith, le, later) in
-    WhereTold-join (seen (g.D.Disk.told c.args.log.now) (g.I.Source.left c.args.input.now) (g.O.Sink.taken c.args.output.now))
-    (seen (g.D.Disk.told c.lines.log) (g.I.Source.left c.lines.input) (g.O.Sink.taken c.lines.output))
-    (seen (g.D.Disk.told c.answer_next.new.log) (g.I.Source.left c.answer_next.new.input) (g.O.Sink.taken c.answer_next.new.output)) _ _ _
+    WhereTold-join (seen (g.D.Disk.told c.args.reach.disk.now) (g.I.Source.left c.args.input.now) (g.O.Sink.taken c.args.output.now))
+    (seen (g.D.Disk.told c.lines.disk) (g.I.Source.left c.lines.input) (g.O.Sink.taken c.lines.output))
+    (seen (g.D.Disk.told c.answer_next.new.reach.0) (g.I.Source.left c.answer_next.new.input) (g.O.Sink.taken c.answer_next.new.output)) _ _ _
     (λ x y z a turn before begins h. turn before begins (a before begins h))
     (c.lines.invariant.told limits w payloads room first fair same)
     (rw c.in_default.is at c.in_ok-next.ensures.means limits w payloads room first faults fair (c.lines.invariant.limits ∙ same) before_it)

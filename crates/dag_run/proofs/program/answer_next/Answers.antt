@@ -21,14 +21,14 @@ pub returns-in-Err-clause-means : goal.returns-in-Err-clause-means
 returns-in-Err-clause-means g c = λ limits w payloads room first faults fair same le.
     let fault = c.in-Err.fault in
     let failed : Type 0 = Rose faults (g.O.Sink.faults c.args.output.now) in
-    let e = g.D.Disk.told c.args.log.now in
+    let e = g.D.Disk.told c.args.reach.disk.now in
     let j = g.I.Source.left c.args.input.now in let k = g.I.Source.left c.next.new.source in
     let q = g.O.Sink.taken c.args.output.now in
     let Q : Told → Told → Type 0 = λ x y. (y ≡ x) × IsSound x in
     let L : List ℕ → List ℕ → Type 0 = λ x y. NextLine (Err fault) c.args.lines.now x c.next.new.self y in
     rw c.fail_run.ensures (WhereTold-map (seen e j q) (seen e k q) (Each Q L (λ x y. y ≡ x)) _
-    (λ y z t before begins h. going-fault limits fair w payloads room first failed before begins _ c.args.store c.args.changes.now.items c.args.lines.now c.next.new.self y z h fault t.disk.0 t.disk.1 t.taken t.left)
-    (seen-each e e j k q q Q L (λ x y. y ≡ x) (sound-told e (g.met.D.Disk.sound c.args.log.now)) c.in-Err.ensures.line (same-told q)))
+    (λ y z t before begins h. going-fault limits fair w payloads room first failed before begins _ c.args.store c.args.reach.changes.now.items c.args.lines.now c.next.new.self y z h fault t.disk.0 t.disk.1 t.taken t.left)
+    (seen-each e e j k q q Q L (λ x y. y ≡ x) (sound-told e (g.met.D.Disk.sound c.args.reach.disk.now)) c.in-Err.ensures.line (same-told q)))
 
 pub returns-in-Err-clause-stop : goal.returns-in-Err-clause-stop
 returns-in-Err-clause-stop g c =
@@ -43,7 +43,7 @@ returns-in-Err-execute-clause-means g c = λ limits w payloads room first faults
     let step = c.in-Err-execute.ensures.step in
     let failed : Type 0 = Rose faults (g.O.Sink.faults c.execute.new.output) in
     let here : Type 0 = Rose (g.O.Sink.faults c.args.output.now) (g.O.Sink.faults c.execute.new.output) in
-    let e = g.D.Disk.told c.args.log.now in let f = g.D.Disk.told c.execute.new.log in
+    let e = g.D.Disk.told c.args.reach.disk.now in let f = g.D.Disk.told c.execute.new.reach.0 in
     let j = g.I.Source.left c.args.input.now in let k = g.I.Source.left c.next.new.source in
     let q = g.O.Sink.taken c.args.output.now in let r = g.O.Sink.taken c.execute.new.output in
     let Q : Told → Told → Type 0 = LineLeaves store step.0 step.1 (Err stop) in
@@ -52,7 +52,7 @@ returns-in-Err-execute-clause-means g c = λ limits w payloads room first faults
     let left = WhereTold-both j k (λ x y. NextLine (Ok (Some kind)) old x new y) (λ x y. IsReadOut old x → IsReadOut new y) L (λ x y a b. (a, b)) (rw c.in-Ok-Some.field-0-is at c.in-Ok-Some.ensures.line) c.in-Ok-Some.ensures.end in
     (WhereTold-map (seen e j q) (seen f k r) (Each Q L T) _
     (λ y z t before begins h. means-as limits w payloads room _ _ failed (Err stop) _ _ before z step.2
-    (going-stop limits fair w payloads room first failed before begins _ store c.args.changes.now.items old new y z h _ kind step.0 step.1 same t.left.0 t.left.1 here
+    (going-stop limits fair w payloads room first failed before begins _ store c.args.reach.changes.now.items old new y z h _ kind step.0 step.1 same t.left.0 t.left.1 here
     (rose-since faults (g.O.Sink.faults c.args.output.now) (g.O.Sink.faults c.execute.new.output) le) stop
     (λ l is. t.taken l (subst (λ text. IsLine kind text l) (sym c.text.ensures) is)) t.disk))
     (seen-each e f j k q r Q L T (goes-told Q e f step.3) left step.4))
@@ -69,7 +69,7 @@ returns-in-Ok-clause-means g c = λ limits w payloads room first faults fair sam
     let old = c.args.lines.now in let new = c.next.new.self in
     let step = c.in-Ok.ensures.step in
     let here : Type 0 = Rose (g.O.Sink.faults c.args.output.now) (g.O.Sink.faults c.execute.new.output) in
-    let e = g.D.Disk.told c.args.log.now in let f = g.D.Disk.told c.execute.new.log in
+    let e = g.D.Disk.told c.args.reach.disk.now in let f = g.D.Disk.told c.execute.new.reach.0 in
     let j = g.I.Source.left c.args.input.now in let k = g.I.Source.left c.next.new.source in
     let q = g.O.Sink.taken c.args.output.now in let r = g.O.Sink.taken c.execute.new.output in
     let Q : Told → Told → Type 0 = LineLeaves store step.0 step.1 (Ok next) in
@@ -78,7 +78,7 @@ returns-in-Ok-clause-means g c = λ limits w payloads room first faults fair sam
     let left = WhereTold-both j k (λ x y. NextLine (Ok (Some kind)) old x new y) (λ x y. IsReadOut old x → IsReadOut new y) L (λ x y a b. (a, b)) (rw c.in-Ok-Some.field-0-is at c.in-Ok-Some.ensures.line) c.in-Ok-Some.ensures.end in
     WhereTold-map (seen e j q) (seen f k r) (Each Q L T) _
     (λ y z t before begins h. going-as limits w payloads room _ _ next _ _ new before z step.2
-    (going-line limits fair w payloads room _ _ _ before y z begins store c.args.changes.now.items old new kind step.0 step.1 same h t.left.0 t.left.1 next here
+    (going-line limits fair w payloads room _ _ _ before y z begins store c.args.reach.changes.now.items old new kind step.0 step.1 same h t.left.0 t.left.1 next here
     (λ l is. t.taken l (subst (λ text. IsLine kind text l) (sym c.text.ensures) is)) t.disk))
     (seen-each e f j k q r Q L T (goes-told Q e f step.3) left step.4)
 
@@ -87,13 +87,13 @@ returns-in-Ok-clause-ready g c =
     let store = c.args.store in
     let next = c.in-Ok.next in
     let step = c.in-Ok.ensures.step in
-    if_forth (LineLeaves store step.0 step.1 (Ok next)) (IsOnDisk store.log) (IsOnDisk next.log) (g.D.Disk.told c.args.log.now) (g.D.Disk.told c.execute.new.log) (ready-line store next step.0 step.1) step.3 c.requires.ready
+    if_forth (LineLeaves store step.0 step.1 (Ok next)) (IsOnDisk store.log) (IsOnDisk next.log) (g.D.Disk.told c.args.reach.disk.now) (g.D.Disk.told c.execute.new.reach.0) (ready-line store next step.0 step.1) step.3 c.requires.ready
 
 pub returns-in-Ok-None-clause-means : goal.returns-in-Ok-None-clause-means
 returns-in-Ok-None-clause-means g c = λ limits w payloads room first faults fair same le.
     let failed : Type 0 = Rose faults (g.O.Sink.faults c.args.output.now) in
     let old = c.args.lines.now in let new = c.next.new.self in
-    let e = g.D.Disk.told c.args.log.now in
+    let e = g.D.Disk.told c.args.reach.disk.now in
     let j = g.I.Source.left c.args.input.now in let k = g.I.Source.left c.next.new.source in
     let q = g.O.Sink.taken c.args.output.now in
     let ended = (c.in-Ok-None.ensures.done (ap Ok c.in-Ok-None.field-0-is)).ended in
@@ -101,8 +101,8 @@ returns-in-Ok-None-clause-means g c = λ limits w payloads room first faults fai
     let L : List ℕ → List ℕ → Type 0 = λ x y. NextLine (Ok None) old x new y × (IsReadOut old x → IsReadOut new y) in
     let left = WhereTold-both j k (λ x y. NextLine (Ok None) old x new y) (λ x y. IsReadOut old x → IsReadOut new y) L (λ x y a b. (a, b)) (rw c.in-Ok-None.field-0-is at c.in-Ok-None.ensures.line) c.in-Ok-None.ensures.end in
     rw c.end_run.ensures (WhereTold-map (seen e j q) (seen e k q) (Each Q L (λ x y. y ≡ x)) _
-    (λ y z t before begins h. going-end limits fair w payloads room first failed before begins _ c.args.store c.args.changes.now.items old new y z h t.disk.0 t.disk.1 t.taken t.left.0 (t.left.1 h.reads.out ended))
-    (seen-each e e j k q q Q L (λ x y. y ≡ x) (sound-told e (g.met.D.Disk.sound c.args.log.now)) left (same-told q)))
+    (λ y z t before begins h. going-end limits fair w payloads room first failed before begins _ c.args.store c.args.reach.changes.now.items old new y z h t.disk.0 t.disk.1 t.taken t.left.0 (t.left.1 h.reads.out ended))
+    (seen-each e e j k q q Q L (λ x y. y ≡ x) (sound-told e (g.met.D.Disk.sound c.args.reach.disk.now)) left (same-told q)))
 
 pub returns-in-Err-clause-over : goal.returns-in-Err-clause-over
 returns-in-Err-clause-over g c =

@@ -11,14 +11,14 @@ pub returns-in_err-lines-clause-means : goal.returns-in_err-lines-clause-means
 returns-in_err-lines-clause-means g c = λ w payloads.
     let p = err_from_is_err_and c.from_residual.result c.from_residual.ensures.1 in
     let failed : Type 0 = Rose (g.O.Sink.faults c.args.output.now) (g.O.Sink.faults c.args.output.now) in
-    rw (p.1, p.2, c.requires.none) (WhereTold-same (seen (g.D.Disk.told c.args.log.now) (g.I.Source.left c.args.input.now) (g.O.Sink.taken c.args.output.now))
+    rw (p.1, p.2, c.requires.none) (WhereTold-same (seen (g.D.Disk.told c.args.reach.disk.now) (g.I.Source.left c.args.input.now) (g.O.Sink.taken c.args.output.now))
     _
     (λ x begins. ends-unread c.args.limits c.requires.limits w payloads c.args.cache _ failed x begins x refl refl refl))
 
 pub returns-in_err-lines-clause-refuses : goal.returns-in_err-lines-clause-refuses
 returns-in_err-lines-clause-refuses g c =
     let p = err_from_is_err_and c.from_residual.result c.from_residual.ensures.1 in
-    rw (p.1, p.2) (refuses-nothing c.args.limits.log (g.D.Disk.bytes c.args.log.now))
+    rw (p.1, p.2) (refuses-nothing c.args.limits.log (g.D.Disk.bytes c.args.reach.disk.now))
 
 pub returns-in_err-lines-clause-over : goal.returns-in_err-lines-clause-over
 returns-in_err-lines-clause-over g c =

@@ -18,10 +18,10 @@ pub returns-clause-means : goal.returns-clause-means
 returns-clause-means g c = λ w payloads.
     let limits = c.args.limits in
     let end = c.run-end.result in
-    let cs = c.run-end.new.changes.items in
+    let cs = c.run-end.new.reach.1.1.0.items in
     let a = seen (g.D.Disk.told c.args.log.now) (g.I.Source.left c.args.input.now) (g.O.Sink.taken c.args.output.now) in
-    let b = seen (g.D.Disk.told c.run-end.new.log) (g.I.Source.left c.run-end.new.input) (g.O.Sink.taken c.run-end.new.output) in
-    let disk : Type 0 = Rose (g.D.Disk.faults c.args.log.now) (g.D.Disk.faults c.run-end.new.log) in
+    let b = seen (g.D.Disk.told c.run-end.new.reach.0) (g.I.Source.left c.run-end.new.input) (g.O.Sink.taken c.run-end.new.output) in
+    let disk : Type 0 = Rose (g.D.Disk.faults c.args.log.now) (g.D.Disk.faults c.run-end.new.reach.0) in
     let source : Type 0 = Rose (g.I.Source.faults c.args.input.now) (g.I.Source.faults c.run-end.new.input) in
     let sink : Type 0 = Rose (g.O.Sink.faults c.args.output.now) (g.O.Sink.faults c.run-end.new.output) in
     run-means limits w payloads c.args.cache _ _ disk source sink end c.status.result cs c.of.result a b c.status.ensures c.of.ensures c.run-end.ensures.disk c.run-end.ensures.source c.run-end.ensures.sink (c.run-end.ensures.means w payloads)
@@ -48,8 +48,8 @@ pub returns-clause-no_log : goal.returns-clause-no_log
 returns-clause-no_log g c =
     let limits = c.args.limits in
     let end = c.run-end.result in
-    let cs = c.run-end.new.changes.items in
-    let d = g.D.Disk.told c.args.log.now in let e = g.D.Disk.told c.run-end.new.log in
+    let cs = c.run-end.new.reach.1.1.0.items in
+    let d = g.D.Disk.told c.args.log.now in let e = g.D.Disk.told c.run-end.new.reach.0 in
     let i = g.I.Source.left c.args.input.now in let j = g.I.Source.left c.run-end.new.input in
     let o = g.O.Sink.taken c.args.output.now in let p = g.O.Sink.taken c.run-end.new.output in
     let sink : Type 0 = Rose (g.O.Sink.faults c.args.output.now) (g.O.Sink.faults c.run-end.new.output) in

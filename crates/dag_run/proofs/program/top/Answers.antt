@@ -30,17 +30,17 @@ returns-in-Ok-clause-usage g c = mode-refuses (map string_bytes c.args.words.now
 pub returns-in-Ok-clause-means : goal.returns-in-Ok-clause-means
 returns-in-Ok-clause-means g c = λ cache w payloads of.
     let words = map string_bytes c.args.words.now in
-    let means = rw c.standard-limits.ensures at c.run_mode.ensures.means w payloads (one-mode words c.in-Ok.usage Run c.in-Ok.ensures (of.0, of.1, of.2)) in
+    let means = c.run_mode.ensures.means w payloads (one-mode words c.in-Ok.usage Run c.in-Ok.ensures (of.0, of.1, of.2)) in
     rw (sym (one-cache words c.in-Ok.usage cache c.in-Ok.ensures of)) means
 
 pub returns-in-Ok-clause-over : goal.returns-in-Ok-clause-over
-returns-in-Ok-clause-over g c = λ of. rw c.standard-limits.ensures at c.run_mode.ensures.over (one-mode (map string_bytes c.args.words.now) c.in-Ok.usage Run c.in-Ok.ensures of)
+returns-in-Ok-clause-over g c = λ of. c.run_mode.ensures.over (one-mode (map string_bytes c.args.words.now) c.in-Ok.usage Run c.in-Ok.ensures of)
 
 pub returns-in-Ok-clause-refuses : goal.returns-in-Ok-clause-refuses
-returns-in-Ok-clause-refuses g c = λ of. rw c.standard-limits.ensures at c.run_mode.ensures.refuses (inl (one-mode (map string_bytes c.args.words.now) c.in-Ok.usage Run c.in-Ok.ensures of))
+returns-in-Ok-clause-refuses g c = λ of. c.run_mode.ensures.refuses (inl (one-mode (map string_bytes c.args.words.now) c.in-Ok.usage Run c.in-Ok.ensures of))
 
 pub returns-in-Ok-clause-no_log : goal.returns-in-Ok-clause-no_log
-returns-in-Ok-clause-no_log g c = λ of. rw c.standard-limits.ensures at c.run_mode.ensures.no_log (one-mode (map string_bytes c.args.words.now) c.in-Ok.usage Run c.in-Ok.ensures of)
+returns-in-Ok-clause-no_log g c = λ of. c.run_mode.ensures.no_log (one-mode (map string_bytes c.args.words.now) c.in-Ok.usage Run c.in-Ok.ensures of)
 
 pub returns-in-Ok-clause-demo : goal.returns-in-Ok-clause-demo
 returns-in-Ok-clause-demo g c = λ size start of.
@@ -55,7 +55,7 @@ returns-in-Ok-clause-aside g c = λ of.
     ((mode-words (map string_bytes c.args.words.now) c.in-Ok.usage c.run_mode.result.status c.in-Ok.ensures c.run_mode.ensures.known).usages Demo of, c.run_mode.ensures.log (inl mode), beside.0, beside.1, c.run_mode.ensures.changes (λ run. (let same : Demo ≡ Run = sym mode ∙ run in cc same)))
 
 pub returns-in-Ok-clause-serves : goal.returns-in-Ok-clause-serves
-returns-in-Ok-clause-serves g c = λ of. rw c.standard-limits.ensures at c.run_mode.ensures.serves (one-mode (map string_bytes c.args.words.now) c.in-Ok.usage Serve c.in-Ok.ensures of)
+returns-in-Ok-clause-serves g c = λ of. c.run_mode.ensures.serves (one-mode (map string_bytes c.args.words.now) c.in-Ok.usage Serve c.in-Ok.ensures of)
 
 pub returns-in-Ok-clause-one : goal.returns-in-Ok-clause-one
 returns-in-Ok-clause-one g c = λ of. c.run_mode.ensures.one (one-mode (map string_bytes c.args.words.now) c.in-Ok.usage Serve c.in-Ok.ensures of)
@@ -66,13 +66,13 @@ returns-in-Ok-clause-beside g c = λ of.
     ((mode-words (map string_bytes c.args.words.now) c.in-Ok.usage c.run_mode.result.status c.in-Ok.ensures c.run_mode.ensures.known).usages Serve of, c.run_mode.ensures.log (inr mode), c.run_mode.ensures.changes (λ run. (let same : Serve ≡ Run = sym mode ∙ run in cc same)))
 
 pub returns-in-Ok-clause-bundles : goal.returns-in-Ok-clause-bundles
-returns-in-Ok-clause-bundles g c = λ payloads w of. rw c.standard-limits.ensures at c.run_mode.ensures.bundles payloads w (one-mode (map string_bytes c.args.words.now) c.in-Ok.usage Bundle c.in-Ok.ensures of)
+returns-in-Ok-clause-bundles g c = λ payloads w of. c.run_mode.ensures.bundles payloads w (one-mode (map string_bytes c.args.words.now) c.in-Ok.usage Bundle c.in-Ok.ensures of)
 
 pub returns-in-Ok-clause-unbundled : goal.returns-in-Ok-clause-unbundled
-returns-in-Ok-clause-unbundled g c = λ of. rw c.standard-limits.ensures at c.run_mode.ensures.refuses (inr (one-mode (map string_bytes c.args.words.now) c.in-Ok.usage Bundle c.in-Ok.ensures of))
+returns-in-Ok-clause-unbundled g c = λ of. c.run_mode.ensures.refuses (inr (one-mode (map string_bytes c.args.words.now) c.in-Ok.usage Bundle c.in-Ok.ensures of))
 
 pub returns-in-Ok-clause-held : goal.returns-in-Ok-clause-held
-returns-in-Ok-clause-held g c = λ w of. rw c.standard-limits.ensures at c.run_mode.ensures.holds w (inl (one-mode (map string_bytes c.args.words.now) c.in-Ok.usage Bundle c.in-Ok.ensures of))
+returns-in-Ok-clause-held g c = λ w of. c.run_mode.ensures.holds w (inl (one-mode (map string_bytes c.args.words.now) c.in-Ok.usage Bundle c.in-Ok.ensures of))
 
 pub returns-in-Ok-clause-apart : goal.returns-in-Ok-clause-apart
 returns-in-Ok-clause-apart g c = λ of.
@@ -81,10 +81,10 @@ returns-in-Ok-clause-apart g c = λ of.
     (beside.0, beside.1, c.run_mode.ensures.changes (λ run. (let same : Bundle ≡ Run = sym mode ∙ run in cc same)), c.run_mode.ensures.nothing (inl mode))
 
 pub returns-in-Ok-clause-compacts : goal.returns-in-Ok-clause-compacts
-returns-in-Ok-clause-compacts g c = λ of. rw c.standard-limits.ensures at c.run_mode.ensures.compacts (one-mode (map string_bytes c.args.words.now) c.in-Ok.usage Compact c.in-Ok.ensures of)
+returns-in-Ok-clause-compacts g c = λ of. c.run_mode.ensures.compacts (one-mode (map string_bytes c.args.words.now) c.in-Ok.usage Compact c.in-Ok.ensures of)
 
 pub returns-in-Ok-clause-kept : goal.returns-in-Ok-clause-kept
-returns-in-Ok-clause-kept g c = λ w of. rw c.standard-limits.ensures at c.run_mode.ensures.holds w (inr (one-mode (map string_bytes c.args.words.now) c.in-Ok.usage Compact c.in-Ok.ensures of))
+returns-in-Ok-clause-kept g c = λ w of. c.run_mode.ensures.holds w (inr (one-mode (map string_bytes c.args.words.now) c.in-Ok.usage Compact c.in-Ok.ensures of))
 
 pub returns-in-Ok-clause-loaded : goal.returns-in-Ok-clause-loaded
 returns-in-Ok-clause-loaded g c = λ of.

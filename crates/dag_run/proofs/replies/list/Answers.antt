@@ -8,7 +8,8 @@ use Rattle.step_rules.specs.State.{Stored}
 use Rattle.step_rules.specs.Verb.{Query}
 use Rattle.step_rules.specs.Reply.{Listed, Refused}
 use Rattle.dag_store.specs.Stands.{Stands}
-use Rattle.dag_store.specs.Steps.{AreIdsOf, known_name}
+use Rattle.dag_store.specs.Steps.{AreIdsOf}
+use Rattle.store_queries.specs.Names.{known_name}
 use Rattle.dag_run.specs.Lines.{CommandReplies, PutsReply}
 use Rattle.dag_run.proofs.Doing.{command-told, listed-replies, refused-changes}
 use Rattle.dag_run.proofs.replies.list.Goals as goal

@@ -7,9 +7,9 @@ use Rattle.span_set.specs.Members.{ids_of}
 use Rattle.step_rules.specs.State.{Stored}
 use Rattle.step_rules.specs.Reply.{Listed}
 use Rattle.set_query.specs.declared.evaluation.Answer.{Answer}
-use Rattle.dag_store.specs.Names.{names_left}
+use Rattle.store_queries.specs.Names.{known_name, names_left}
 use Rattle.dag_store.specs.Stands.{Stands}
-use Rattle.dag_store.specs.Steps.{AreIdsOf, known_name}
+use Rattle.dag_store.specs.Steps.{AreIdsOf}
 use Rattle.command_lines.specs.Sending.{listed_text}
 use Rattle.dag_run.specs.Lines.{PutsReply}
 use Rattle.dag_run.specs.declared.stops.Stop.TheVariants as stops

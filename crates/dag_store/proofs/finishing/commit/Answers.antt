@@ -4,6 +4,8 @@ use Rattle.disk_trait.specs.Calls.{Goes}
 use Rattle.gated_log.specs.Held.{log_bytes}
 use Rattle.gated_log.specs.Holding.{KeepsOldOrNew}
 use Rattle.gated_log.specs.Log.{StandsFrom}
+use Rattle.dag_store.specs.Kept.{PlainStore}
+use Rattle.dag_store.specs.Changes.{HasStored}
 use Rattle.dag_store.proofs.FlushDisk.{leaves-stored}
 use Rattle.dag_store.proofs.Indexed.{kept-again}
 use Rattle.dag_store.proofs.finishing.commit.Goals as goal
@@ -13,28 +15,31 @@ indexed-tables-requires g c =
     let a = c.in-Done.ensures.answers in
     let sent = c.bytes.ensures in
     let kept = c.requires.stored c.in-Done.log c.if-change.false (record {
-      payloads = a.1 ∙ ap (λ (p : List ℕ). c.args.log.payloads ++ p ∷ []) sent;
+      payloads = a.1 ∙ ap (λ (p : List ℕ). c.args.parts.log.payloads ++ p ∷ []) sent;
       limit = a.3;
-      place = subst (λ (p : List ℕ). StandsFrom (length (log_bytes c.args.log) + 8) p (log_bytes c.in-Done.log)) sent (c.in-Done.ensures.place c.in-Done.log c.in-Done.clock refl);
+      place = subst (λ (p : List ℕ). StandsFrom (length (log_bytes c.args.parts.log) + 8) p (log_bytes c.in-Done.log)) sent (c.in-Done.ensures.place c.in-Done.log c.in-Done.clock refl);
     }) in
     (kept.added, kept.tables_of, subst (λ b. AllStand b kept.added) (sym c.bytes-in-Done.ensures.bytes) kept.stand)
 
-pub invariant_of-store-in-Done : goal.invariant_of-store-in-Done
-invariant_of-store-in-Done g c =
+pub store_of-requires-in-Done : goal.store_of-requires-in-Done
+store_of-requires-in-Done g c =
     let a = c.in-Done.ensures.answers in
     let sent = c.bytes.ensures in
     let kept = c.requires.stored c.in-Done.log c.if-change.false (record {
-      payloads = a.1 ∙ ap (λ (p : List ℕ). c.args.log.payloads ++ p ∷ []) sent;
+      payloads = a.1 ∙ ap (λ (p : List ℕ). c.args.parts.log.payloads ++ p ∷ []) sent;
       limit = a.3;
-      place = subst (λ (p : List ℕ). StandsFrom (length (log_bytes c.args.log) + 8) p (log_bytes c.in-Done.log)) sent (c.in-Done.ensures.place c.in-Done.log c.in-Done.clock refl);
+      place = subst (λ (p : List ℕ). StandsFrom (length (log_bytes c.args.parts.log) + 8) p (log_bytes c.in-Done.log)) sent (c.in-Done.ensures.place c.in-Done.log c.in-Done.clock refl);
     }) in
-    kept-again c.in-Done.log c.args.tables.value c.indexed-tables.result.value c.args.sessions.items c.args.limits kept
+    kept-again c.in-Done.log c.args.parts.tables.value c.indexed-tables.result.value c.args.parts.sessions.items c.args.parts.limits kept
     (c.indexed-tables.ensures kept.added kept.tables_of (subst (λ b. AllStand b kept.added) (sym c.bytes-in-Done.ensures.bytes) kept.stand))
 
 pub returns-in-Done-clause-leaves : goal.returns-in-Done-clause-leaves
 returns-in-Done-clause-leaves g c =
     let a = c.in-Done.ensures.answers in
     let sent = c.bytes.ensures in
-    leaves-stored (record { log = c.args.log; sessions = c.args.sessions.items; limits = c.args.limits; cache = c.args.names }) (record { log = c.in-Done.log; sessions = c.args.sessions.items; limits = c.args.limits; cache = c.args.names }) c.args.change.payload c.in-Done.clock
-    (g.D.Disk.told c.args.disk.now) (g.D.Disk.told c.commit.new.disk) c.requires.limit (a.1 ∙ ap (λ (p : List ℕ). c.args.log.payloads ++ p ∷ []) sent) a.3
-    (subst (λ (p : List ℕ). Goes (KeepsOldOrNew c.args.log p) (g.D.Disk.told c.args.disk.now) (g.D.Disk.told c.commit.new.disk)) sent c.in-Done.ensures.moments) (c.in-Done.ensures.done c.in-Done.log c.in-Done.clock refl)
+    let old : PlainStore = record { log = c.args.parts.log; sessions = c.args.parts.sessions.items; limits = c.args.parts.limits; cache = c.args.parts.names } in
+    let new : PlainStore = record old { log = c.in-Done.log } in
+    subst (λ (q : PlainStore). Goes (HasStored old c.args.change.payload q c.in-Done.clock) (g.D.Disk.told c.args.disk.now) (g.D.Disk.told c.commit.new.disk)) (sym c.store_of-in-Done.ensures)
+    (leaves-stored old new c.args.change.payload c.in-Done.clock
+    (g.D.Disk.told c.args.disk.now) (g.D.Disk.told c.commit.new.disk) c.requires.limit (a.1 ∙ ap (λ (p : List ℕ). c.args.parts.log.payloads ++ p ∷ []) sent) a.3
+    (subst (λ (p : List ℕ). Goes (KeepsOldOrNew c.args.parts.log p) (g.D.Disk.told c.args.disk.now) (g.D.Disk.told c.commit.new.disk)) sent c.in-Done.ensures.moments) (c.in-Done.ensures.done c.in-Done.log c.in-Done.clock refl))

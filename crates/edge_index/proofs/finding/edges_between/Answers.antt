@@ -1,11 +1,14 @@
-use Rattle.std.proofs.lemmas.List.Sorted.{IsNonDecreasingBy-from_sort}
+use Rattle.std.proofs.Common.{◌≡◌, ◌∙◌, length, sym, subst}
+use Rattle.std.specs.List.Sorted.{IsPermutation}
+use Rattle.id_groups.specs.Lists.{IsIn}
 use Rattle.segment_codec.specs.Edges.{edge_of}
-use Rattle.edge_index.proofs.Found.{in-moved}
+use Rattle.edge_index.proofs.Found.{in-moved, front-whole}
 use Rattle.edge_index.proofs.finding.edges_between.Goals as goal
 
-pub returns-clause-order : goal.returns-clause-order
-returns-clause-order g c = IsNonDecreasingBy-from_sort (λ n. n) c.sort_unstable.new.self.items c.sort_unstable.ensures.sorted
-
 pub returns-clause-edges : goal.returns-clause-edges
-returns-clause-edges g c = λ k s p le lt get i.
-    in-moved c.in_ok-found.found.items c.sort_unstable.new.self.items (edge_of p k) c.sort_unstable.ensures.permutation (c.in_ok-found.ensures.edges k s p le lt get i)
+returns-clause-edges g c =
+    let all = c.sort_edges.new.edges in
+    let long : length all ≡ c.in_ok-found.found.len = c.sort_edges.ensures.len ∙ c.deref_mut.ensures.len in
+    let moved = subst (λ l. IsPermutation l all) c.deref_mut.ensures.value c.sort_edges.ensures.permutation in
+    λ k s p le lt get i. subst (IsIn (edge_of p k)) (sym (front-whole c.in_ok-found.found.len all _ (sym long)))
+    (in-moved c.in_ok-found.found.items all (edge_of p k) moved (c.in_ok-found.ensures.edges k s p le lt get i))

@@ -22,18 +22,18 @@ add_sections-requires-clause-rows c =
     let flats = c.requires.payload.0 in
     let lawful = c.requires.payload.1 in
     let graph_is = c.requires.payload.2 in
-    let order = c.args.order.now in
+    let order = c.args.moved.now.order.now in
     subst (λ m. AreRowsBelow m c.args.graph.now) (sym (ap (length {A = ℕ}) c.deref.ensures.value ∙ c.in_ok-ids.ensures.len)) (subst (AreRowsBelow n) (sym graph_is) (table-below flats lawful n))
 
 pub add_sections-requires-clause-rest : goal.add_sections-requires-clause-rest
 add_sections-requires-clause-rest c =
     let n = c.args.names.now.count + c.args.names.now.more in
-    subst (AreBelow n) (sym c.requires.rest) (rest-below n c.args.order.now)
+    subst (AreBelow n) (sym c.requires.rest) (rest-below n c.args.moved.now.order.now)
 
 pub add_sections-requires-clause-few : goal.add_sections-requires-clause-few
 add_sections-requires-clause-few c =
     let n = c.args.names.now.count + c.args.names.now.more in
-    let short = rest-short n c.args.order.now in let e = ap (length {A = ℕ}) c.requires.rest in let few = c.requires.numbers in omega (arith, short, e, few)
+    let short = rest-short n c.args.moved.now.order.now in let e = ap (length {A = ℕ}) c.requires.rest in let few = c.requires.numbers in omega (arith, short, e, few)
 
 pub add_sections-requires-clause-master : goal.add_sections-requires-clause-master
 add_sections-requires-clause-master c =
@@ -41,10 +41,10 @@ add_sections-requires-clause-master c =
     let flats = c.requires.payload.0 in
     let lawful = c.requires.payload.1 in
     let graph_is = c.requires.payload.2 in
-    let order = c.args.order.now in
+    let order = c.args.moved.now.order.now in
     subst (λ (l : List Span). AllByRecursion (λ (s : Span). IsSegment (flat_record s)) l)
-    (sym (spans-of flats lawful c.args.graph.now c.in_ok-ids.ids.items c.deref.result.now c.args.before n c.args.before order order graph_is c.in_ok-ids.ensures.ids c.requires.order c.deref.ensures.value))
-    (segments-only (flat_segments c.args.before (moved_parents c.args.before n order (λ k. parents_at flats (other_id k)) order)) c.requires.payload.6.whole.cover.flat_master)
+    (sym (spans-of flats lawful c.args.graph.now c.in_ok-ids.ids.items c.deref.result.now c.args.moved.now.before n c.args.moved.now.before order order graph_is c.in_ok-ids.ensures.ids c.requires.order c.deref.ensures.value))
+    (segments-only (flat_segments c.args.moved.now.before (moved_parents c.args.moved.now.before n order (λ k. parents_at flats (other_id k)) order)) c.requires.payload.6.whole.cover.flat_master)
 
 pub add_sections-requires-clause-others : goal.add_sections-requires-clause-others
 add_sections-requires-clause-others c =
@@ -52,19 +52,19 @@ add_sections-requires-clause-others c =
     let flats = c.requires.payload.0 in
     let lawful = c.requires.payload.1 in
     let graph_is = c.requires.payload.2 in
-    let order = c.args.order.now in
+    let order = c.args.moved.now.order.now in
     subst (λ (l : List Span). AllByRecursion (λ (s : Span). IsSegment (flat_record s)) l)
-    (sym (spans-of flats lawful c.args.graph.now c.in_ok-ids.ids.items c.deref.result.now c.args.before n (2 ^ 56) order c.args.rest.now graph_is c.in_ok-ids.ensures.ids (subst (AreBelow n) (sym c.requires.rest) (rest-below n order)) c.deref.ensures.value
-    ∙ ap (λ l. flat_segments (2 ^ 56) (moved_parents c.args.before n order (λ k. parents_at flats (other_id k)) l)) c.requires.rest))
-    (segments-only (flat_segments (2 ^ 56) (moved_parents c.args.before n order (λ k. parents_at flats (other_id k)) (rest_of n order))) c.requires.payload.6.whole.cover.flat_others)
+    (sym (spans-of flats lawful c.args.graph.now c.in_ok-ids.ids.items c.deref.result.now c.args.moved.now.before n (2 ^ 56) order c.args.moved.now.rest.now graph_is c.in_ok-ids.ensures.ids (subst (AreBelow n) (sym c.requires.rest) (rest-below n order)) c.deref.ensures.value
+    ∙ ap (λ l. flat_segments (2 ^ 56) (moved_parents c.args.moved.now.before n order (λ k. parents_at flats (other_id k)) l)) c.requires.rest))
+    (segments-only (flat_segments (2 ^ 56) (moved_parents c.args.moved.now.before n order (λ k. parents_at flats (other_id k)) (rest_of n order))) c.requires.payload.6.whole.cover.flat_others)
 
 pub add_levels-requires : goal.add_levels-requires
 add_levels-requires c =
     let n = c.args.names.now.count + c.args.names.now.more in
     let r = c.requires.payload in
-    let order = c.args.order.now in
+    let order = c.args.moved.now.order.now in
     let bytes = c.args.names.now.stored.now ++ c.args.names.now.pending.now in
-    let before = c.args.before in
+    let before = c.args.moved.now.before in
     let built = c.in_ok-add_sections.ensures.built (empty_payload 1 before (before + length order) 0) c.requires.build in
     let masters_are = spans-of r.0 r.1 c.args.graph.now c.in_ok-ids.ids.items c.deref.result.now before n before order order r.2 c.in_ok-ids.ensures.ids c.requires.order c.deref.ensures.value in (
       r.3,
@@ -76,10 +76,10 @@ add_levels-requires c =
 pub returns-clause-built : goal.returns-clause-built
 returns-clause-built c = λ flats added lawful graph_is tables_of stand follows.
     let n = c.args.names.now.count + c.args.names.now.more in
-    let order = c.args.order.now in
-    let rest = c.args.rest.now in
+    let order = c.args.moved.now.order.now in
+    let rest = c.args.moved.now.rest.now in
     let bytes = c.args.names.now.stored.now ++ c.args.names.now.pending.now in
-    let before = c.args.before in
+    let before = c.args.moved.now.before in
     let after = before + length order in
     let change = change_in flats bytes before n order in
     let masters = flat_segments before (map (λ k. map (new_id c.deref.result.now) (get_or c.args.graph.now k [])) order) in

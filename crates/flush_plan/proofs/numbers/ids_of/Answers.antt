@@ -14,16 +14,16 @@ returns-clause-ids c = λ k lt.
     let first = c.numbered-ids.ensures.ids k (subst (λ m. k < m) (sym len) lt) in
     let second = c.numbered-ids-2.ensures.ids k (subst (λ m. k < m) (sym (len2 ∙ len)) lt) in
     second
-    ∙ ap (λ x. if is_in nat_eq k c.args.order.now then c.args.before + place_of nat_eq k c.args.order.now else x)
+    ∙ ap (λ x. if is_in nat_eq k c.args.moved.now.order.now then c.args.moved.now.before + place_of nat_eq k c.args.moved.now.order.now else x)
     (first ∙ ap (λ l. if is_in nat_eq k l then 2 ^ 56 + place_of nat_eq k l else get_or c.in_ok-ids.ids.items k 0) c.requires.rest)
-    ∙ moved-is c.args.before n k (get_or c.in_ok-ids.ids.items k 0) c.args.order.now lt
+    ∙ moved-is c.args.moved.now.before n k (get_or c.in_ok-ids.ids.items k 0) c.args.moved.now.order.now lt
 
 pub numbered-ids-requires-clause-below : goal.numbered-ids-requires-clause-below
 numbered-ids-requires-clause-below c =
-    subst (AreBelow (length c.in_ok-ids.ids.items)) (sym c.requires.rest) (subst (λ m. AreBelow m (rest_of c.args.n c.args.order.now)) (sym c.in_ok-ids.ensures) (rest-below c.args.n c.args.order.now))
+    subst (AreBelow (length c.in_ok-ids.ids.items)) (sym c.requires.rest) (subst (λ m. AreBelow m (rest_of c.args.n c.args.moved.now.order.now)) (sym c.in_ok-ids.ensures) (rest-below c.args.n c.args.moved.now.order.now))
 
 pub numbered-ids-requires-clause-room : goal.numbered-ids-requires-clause-room
 numbered-ids-requires-clause-room c =
-    let len : length c.args.rest.now ≡ length (rest_of c.args.n c.args.order.now) = ap (length {A = ℕ}) c.requires.rest in
-    let short = rest-short c.args.n c.args.order.now in
+    let len : length c.args.moved.now.rest.now ≡ length (rest_of c.args.n c.args.moved.now.order.now) = ap (length {A = ℕ}) c.requires.rest in
+    let short = rest-short c.args.n c.args.moved.now.order.now in
     let fits = c.ranges.n.fits in omega (arith, len, short, fits)

@@ -1,14 +1,11 @@
 use Rattle.std.proofs.Common.{◌≡◌, ◌∙◌, ◌<◌, ◌+◌, ◌++◌, refl, ap, sym, subst, length, arith, inl, inr, ℕ, List}
 use Rattle.id_groups.specs.Name.{same_name}
 use Rattle.commit_graph.specs.World.{with_pending}
-use Rattle.batch_codec.specs.Payload.{payload_bytes}
-use Rattle.assign_ids.specs.Numbers.{AreBelow}
-use Rattle.name_map.specs.Added.{payloads_of, AllStand}
-use Rattle.change_rules.specs.Lawful.{MayFollow}
+use Rattle.name_map.specs.Added.{AllStand}
 use Rattle.change_rules.specs.Flush.{flushed}
 use Rattle.payload_tables.specs.Kept.{PlainTables, AreTablesOf}
 use Rattle.change_rules.specs.declared.Limit.TheVariants.{Log}
-use Rattle.change_parts.specs.Moves.{rest_of, change_in}
+use Rattle.change_parts.specs.Moves.{change_in}
 use Rattle.change_parts.specs.Plans.{over, length_with}
 use Rattle.change_parts.proofs.Refusals.{is-zero, not-zero, above-zero, err-match}
 use Rattle.change_parts.proofs.Refusals.{over-none, nothing-written, written, has-bytes}
@@ -19,33 +16,33 @@ use Rattle.flush_plan.proofs.plan.change_of.Goals.{else-is_empty-via-then-is_emp
 
 pub returns-in_err-check-clause-worlds : goal.returns-in_err-check-clause-worlds
 returns-in_err-check-clause-worlds c = λ w rows heads payload m at by change.
-    let a = c.len-others.ensures in let ok = c.args.moves.now.rest.ok.0 in let o = others-size (c.args.names.now.stored.now ++ c.args.names.now.pending.now) (c.args.names.now.count + c.args.names.now.more) c.args.names.now.more c.args.before c.args.log c.args.graph.now c.args.moves.now.order.items c.args.moves.now.rest.items w rows heads m in
-    let b = c.len.ensures in let ok2 = c.args.moves.now.order.ok.0 in let s = master-size (c.args.names.now.stored.now ++ c.args.names.now.pending.now) (c.args.names.now.count + c.args.names.now.more) c.args.names.now.more c.args.before c.args.log c.args.graph.now c.args.moves.now.order.items c.args.moves.now.rest.items w rows heads m in
+    let o = others-size (c.args.names.now.stored.now ++ c.args.names.now.pending.now) (c.args.names.now.count + c.args.names.now.more) c.args.names.now.more c.args.moved.now.before (length c.args.bytes.now) c.args.graph.now c.args.moved.now.order.now c.args.moved.now.rest.now w rows heads m in
+    let s = master-size (c.args.names.now.stored.now ++ c.args.names.now.pending.now) (c.args.names.now.count + c.args.names.now.more) c.args.names.now.more c.args.moved.now.before (length c.args.bytes.now) c.args.graph.now c.args.moved.now.order.now c.args.moved.now.rest.now w rows heads m in
     err-match c.from_residual.result c.in_err-check.field-0.0 _ _ c.from_residual.ensures.1
-    (inr (refused-others c.args.limits c.args.log (flushed same_name (with_pending w rows) heads) payload c.from.result c.len-others.result c.in_err-check.field-0.0 c.from.ensures (omega (arith, a, ok, o)) c.in_err-check.ensures.err))
+    (inr (refused-others c.args.limits (length c.args.bytes.now) (flushed same_name (with_pending w rows) heads) payload c.from.result (length c.args.moved.now.rest.now) c.in_err-check.field-0.0 c.from.ensures (omega (arith, o)) c.in_err-check.ensures.err))
 
 pub returns-in_err-check-2-clause-worlds : goal.returns-in_err-check-2-clause-worlds
 returns-in_err-check-2-clause-worlds c = λ w rows heads payload m at by change.
-    let a = c.len-others.ensures in let ok = c.args.moves.now.rest.ok.0 in let o = others-size (c.args.names.now.stored.now ++ c.args.names.now.pending.now) (c.args.names.now.count + c.args.names.now.more) c.args.names.now.more c.args.before c.args.log c.args.graph.now c.args.moves.now.order.items c.args.moves.now.rest.items w rows heads m in
-    let b = c.len.ensures in let ok2 = c.args.moves.now.order.ok.0 in let s = master-size (c.args.names.now.stored.now ++ c.args.names.now.pending.now) (c.args.names.now.count + c.args.names.now.more) c.args.names.now.more c.args.before c.args.log c.args.graph.now c.args.moves.now.order.items c.args.moves.now.rest.items w rows heads m in
+    let o = others-size (c.args.names.now.stored.now ++ c.args.names.now.pending.now) (c.args.names.now.count + c.args.names.now.more) c.args.names.now.more c.args.moved.now.before (length c.args.bytes.now) c.args.graph.now c.args.moved.now.order.now c.args.moved.now.rest.now w rows heads m in
+    let s = master-size (c.args.names.now.stored.now ++ c.args.names.now.pending.now) (c.args.names.now.count + c.args.names.now.more) c.args.names.now.more c.args.moved.now.before (length c.args.bytes.now) c.args.graph.now c.args.moved.now.order.now c.args.moved.now.rest.now w rows heads m in
     err-match c.from_residual-in_err-check-2.result c.in_err-check-2.field-0.0 _ _ c.from_residual-in_err-check-2.ensures.1
-    (inr (refused-master c.args.limits c.args.log (flushed same_name (with_pending w rows) heads) payload c.from.result c.len-others.result c.from-2.result (c.args.before + c.len.result) c.in_err-check-2.field-0.0
-    c.from.ensures (omega (arith, a, ok, o)) c.in_ok-check.ensures.ok c.from-2.ensures (omega (arith, b, ok2, s)) c.in_err-check-2.ensures.err))
+    (inr (refused-master c.args.limits (length c.args.bytes.now) (flushed same_name (with_pending w rows) heads) payload c.from.result (length c.args.moved.now.rest.now) c.from-2.result (c.args.moved.now.before + length c.args.moved.now.order.now) c.in_err-check-2.field-0.0
+    c.from.ensures (omega (arith, o)) c.in_ok-check.ensures.ok c.from-2.ensures (omega (arith, s)) c.in_err-check-2.ensures.err))
 
 pub returns-then-names-eq0-clause-worlds : goal.returns-then-names-eq0-clause-worlds
 returns-then-names-eq0-clause-worlds c = λ w rows heads payload m at by change.
-    let a = c.len-others.ensures in let ok = c.args.moves.now.rest.ok.0 in let o = others-size (c.args.names.now.stored.now ++ c.args.names.now.pending.now) (c.args.names.now.count + c.args.names.now.more) c.args.names.now.more c.args.before c.args.log c.args.graph.now c.args.moves.now.order.items c.args.moves.now.rest.items w rows heads m in
-    let b = c.len.ensures in let ok2 = c.args.moves.now.order.ok.0 in let s = master-size (c.args.names.now.stored.now ++ c.args.names.now.pending.now) (c.args.names.now.count + c.args.names.now.more) c.args.names.now.more c.args.before c.args.log c.args.graph.now c.args.moves.now.order.items c.args.moves.now.rest.items w rows heads m in
+    let o = others-size (c.args.names.now.stored.now ++ c.args.names.now.pending.now) (c.args.names.now.count + c.args.names.now.more) c.args.names.now.more c.args.moved.now.before (length c.args.bytes.now) c.args.graph.now c.args.moved.now.order.now c.args.moved.now.rest.now w rows heads m in
+    let s = master-size (c.args.names.now.stored.now ++ c.args.names.now.pending.now) (c.args.names.now.count + c.args.names.now.more) c.args.names.now.more c.args.moved.now.before (length c.args.bytes.now) c.args.graph.now c.args.moved.now.order.now c.args.moved.now.rest.now w rows heads m in
     let z = is-zero _ c.if-is_empty.ensures in
-    let same = same-world (c.args.names.now.stored.now ++ c.args.names.now.pending.now) (c.args.names.now.count + c.args.names.now.more) c.args.names.now.more c.args.before c.args.log c.args.graph.now c.args.moves.now.order.items c.args.moves.now.rest.items w rows heads m (omega (arith, z, ok2)) c.if-names-eq0.true in
+    let same = same-world (c.args.names.now.stored.now ++ c.args.names.now.pending.now) (c.args.names.now.count + c.args.names.now.more) c.args.names.now.more c.args.moved.now.before (length c.args.bytes.now) c.args.graph.now c.args.moved.now.order.now c.args.moved.now.rest.now w rows heads m z c.if-names-eq0.true in
     let empty = change.none same in (
-      down-to-log c.args.limits c.args.log (flushed same_name (with_pending w rows) heads) payload c.from.result c.len-others.result c.from-2.result (c.args.before + c.len.result)
-          c.from.ensures (omega (arith, a, ok, o)) c.in_ok-check.ensures.ok c.from-2.ensures (omega (arith, b, ok2, s)) c.in_ok-check-2.ensures.ok
-          ∙ nothing-written c.args.limits c.args.log payload empty,
+      down-to-log c.args.limits (length c.args.bytes.now) (flushed same_name (with_pending w rows) heads) payload c.from.result (length c.args.moved.now.rest.now) c.from-2.result (c.args.moved.now.before + length c.args.moved.now.order.now)
+          c.from.ensures (omega (arith, o)) c.in_ok-check.ensures.ok c.from-2.ensures (omega (arith, s)) c.in_ok-check-2.ensures.ok
+          ∙ nothing-written c.args.limits (length c.args.bytes.now) payload empty,
       record {
         payload_is = c.empty.ensures ∙ sym empty;
-        master = omega (arith, b, ok2, s);
-        others = omega (arith, a, ok, o);
+        master = omega (arith, s);
+        others = omega (arith, o);
         same = (λ t. same, λ e. refl);
       },
     )
@@ -53,117 +50,109 @@ returns-then-names-eq0-clause-worlds c = λ w rows heads payload m at by change.
 pub payload_of-requires-clause-numbers : goal.payload_of-requires-clause-numbers
 payload_of-requires-clause-numbers c =
     let w = c.requires.world.0 in let rows = c.requires.world.1 in let heads = c.requires.world.2 in let m = c.requires.world.3 in
-    let few = n-few (c.args.names.now.stored.now ++ c.args.names.now.pending.now) (c.args.names.now.count + c.args.names.now.more) c.args.names.now.more c.args.before c.args.log c.args.graph.now c.args.moves.now.order.items c.args.moves.now.rest.items w rows heads m in omega (arith, few)
+    let few = n-few (c.args.names.now.stored.now ++ c.args.names.now.pending.now) (c.args.names.now.count + c.args.names.now.more) c.args.names.now.more c.args.moved.now.before (length c.args.bytes.now) c.args.graph.now c.args.moved.now.order.now c.args.moved.now.rest.now w rows heads m in omega (arith, few)
 
 pub payload_of-requires-clause-room : goal.payload_of-requires-clause-room
 payload_of-requires-clause-room c =
-    let b = c.len.ensures in let ok2 = c.args.moves.now.order.ok.0 in
-    let lm = over-none c.from-2.result (c.args.before + c.len.result) _ c.in_ok-check-2.ensures.ok in let fm = c.from-2.ensures in
-    let l = c.requires.limits.master.1 in let e = ap (length {A = ℕ}) c.deref.ensures.value in
-    omega (arith, b, ok2, lm, fm, l, e)
+    let lm = over-none c.from-2.result (c.args.moved.now.before + length c.args.moved.now.order.now) _ c.in_ok-check-2.ensures.ok in let fm = c.from-2.ensures in
+    let l = c.requires.limits.master.1 in omega (arith, lm, fm, l)
 
 pub payload_of-requires-clause-order : goal.payload_of-requires-clause-order
 payload_of-requires-clause-order c =
     let w = c.requires.world.0 in let rows = c.requires.world.1 in let heads = c.requires.world.2 in let m = c.requires.world.3 in
-    subst (AreBelow (c.args.names.now.count + c.args.names.now.more)) (sym c.deref.ensures.value) (order-below (c.args.names.now.stored.now ++ c.args.names.now.pending.now) (c.args.names.now.count + c.args.names.now.more) c.args.names.now.more c.args.before c.args.log c.args.graph.now c.args.moves.now.order.items c.args.moves.now.rest.items w rows heads m)
+    order-below (c.args.names.now.stored.now ++ c.args.names.now.pending.now) (c.args.names.now.count + c.args.names.now.more) c.args.names.now.more c.args.moved.now.before (length c.args.bytes.now) c.args.graph.now c.args.moved.now.order.now c.args.moved.now.rest.now w rows heads m
 
 pub payload_of-requires-clause-rest : goal.payload_of-requires-clause-rest
 payload_of-requires-clause-rest c =
     let w = c.requires.world.0 in let rows = c.requires.world.1 in let heads = c.requires.world.2 in let m = c.requires.world.3 in
-    c.deref-2.ensures.value ∙ m.rest_is ∙ ap (rest_of (c.args.names.now.count + c.args.names.now.more)) (sym c.deref.ensures.value)
+    m.rest_is
 
 pub payload_of-requires-clause-payload : goal.payload_of-requires-clause-payload
 payload_of-requires-clause-payload c =
     let w = c.requires.world.0 in let rows = c.requires.world.1 in let heads = c.requires.world.2 in let m = c.requires.world.3 in let at = c.requires.world.4 in let by = c.requires.world.5 in
-    let a = c.len-others.ensures in let ok = c.args.moves.now.rest.ok.0 in let o = others-size (c.args.names.now.stored.now ++ c.args.names.now.pending.now) (c.args.names.now.count + c.args.names.now.more) c.args.names.now.more c.args.before c.args.log c.args.graph.now c.args.moves.now.order.items c.args.moves.now.rest.items w rows heads m in
-    let b = c.len.ensures in let ok2 = c.args.moves.now.order.ok.0 in let s = master-size (c.args.names.now.stored.now ++ c.args.names.now.pending.now) (c.args.names.now.count + c.args.names.now.more) c.args.names.now.more c.args.before c.args.log c.args.graph.now c.args.moves.now.order.items c.args.moves.now.rest.items w rows heads m in
-    let moved : DoesChange (c.args.names.now.stored.now ++ c.args.names.now.pending.now) (c.args.names.now.count + c.args.names.now.more) c.args.names.now.more c.args.before c.args.log c.args.graph.now c.args.moves.now.order.items c.args.moves.now.rest.items w rows heads m = elim c.else-is_empty.branch [
+    let o = others-size (c.args.names.now.stored.now ++ c.args.names.now.pending.now) (c.args.names.now.count + c.args.names.now.more) c.args.names.now.more c.args.moved.now.before (length c.args.bytes.now) c.args.graph.now c.args.moved.now.order.now c.args.moved.now.rest.now w rows heads m in
+    let s = master-size (c.args.names.now.stored.now ++ c.args.names.now.pending.now) (c.args.names.now.count + c.args.names.now.more) c.args.names.now.more c.args.moved.now.before (length c.args.bytes.now) c.args.graph.now c.args.moved.now.order.now c.args.moved.now.rest.now w rows heads m in
+    let does : DoesChange (c.args.names.now.stored.now ++ c.args.names.now.pending.now) (c.args.names.now.count + c.args.names.now.more) c.args.names.now.more c.args.moved.now.before (length c.args.bytes.now) c.args.graph.now c.args.moved.now.order.now c.args.moved.now.rest.now w rows heads m = elim c.else-is_empty.branch [
       | else-is_empty-via-then-is_empty+else-names-eq0 v ↦ inr (above-zero _ v.if-names-eq0.false)
-      | else-is_empty-via-else-is_empty v ↦ inl (let some = not-zero _ v.if-is_empty.ensures in omega (arith, some, ok2))
+      | else-is_empty-via-else-is_empty v ↦ inl (let some = not-zero _ v.if-is_empty.ensures in omega (arith, some))
     ] in
-    let lo = over-none c.from.result c.len-others.result _ c.in_ok-check.ensures.ok in let lm = over-none c.from-2.result (c.args.before + c.len.result) _ c.in_ok-check-2.ensures.ok in
+    let lo = over-none c.from.result (length c.args.moved.now.rest.now) _ c.in_ok-check.ensures.ok in let lm = over-none c.from-2.result (c.args.moved.now.before + length c.args.moved.now.order.now) _ c.in_ok-check-2.ensures.ok in
     let fo = c.from.ensures in let fm = c.from-2.ensures in
-    let follows = subst (λ l. MayFollow (payloads_of m.facts.may.added) (change_in m.flats (c.args.names.now.stored.now ++ c.args.names.now.pending.now) c.args.before (c.args.names.now.count + c.args.names.now.more) l)) (sym c.deref.ensures.value)
-    (payload-follows (c.args.names.now.stored.now ++ c.args.names.now.pending.now) (c.args.names.now.count + c.args.names.now.more) c.args.names.now.more c.args.before c.args.log c.args.graph.now c.args.moves.now.order.items c.args.moves.now.rest.items w rows heads m c.args.limits c.requires.limits (omega (arith, lo, fo, a, ok)) (omega (arith, lm, fm, b, ok2)) moved) in
+    let follows = payload-follows (c.args.names.now.stored.now ++ c.args.names.now.pending.now) (c.args.names.now.count + c.args.names.now.more) c.args.names.now.more c.args.moved.now.before (length c.args.bytes.now) c.args.graph.now c.args.moved.now.order.now c.args.moved.now.rest.now w rows heads m c.args.limits c.requires.limits (omega (arith, lo, fo)) (omega (arith, lm, fm)) does in
     (m.flats, m.lawful, m.graph_is, m.facts.may.added, subst (λ (t : PlainTables). AreTablesOf t m.facts.may.added) at m.facts.may.tables_of, subst (λ (l : List ℕ). AllStand l m.facts.may.added) by m.facts.may.stand, follows)
 
 pub returns-in_err-check-3-clause-worlds : goal.returns-in_err-check-3-clause-worlds
 returns-in_err-check-3-clause-worlds c = λ w rows heads payload m at by change.
-    let a = c.len-others.ensures in let ok = c.args.moves.now.rest.ok.0 in let o = others-size (c.args.names.now.stored.now ++ c.args.names.now.pending.now) (c.args.names.now.count + c.args.names.now.more) c.args.names.now.more c.args.before c.args.log c.args.graph.now c.args.moves.now.order.items c.args.moves.now.rest.items w rows heads m in
-    let b = c.len.ensures in let ok2 = c.args.moves.now.order.ok.0 in let s = master-size (c.args.names.now.stored.now ++ c.args.names.now.pending.now) (c.args.names.now.count + c.args.names.now.more) c.args.names.now.more c.args.before c.args.log c.args.graph.now c.args.moves.now.order.items c.args.moves.now.rest.items w rows heads m in
-    let moved : DoesChange (c.args.names.now.stored.now ++ c.args.names.now.pending.now) (c.args.names.now.count + c.args.names.now.more) c.args.names.now.more c.args.before c.args.log c.args.graph.now c.args.moves.now.order.items c.args.moves.now.rest.items w rows heads m = elim c.else-is_empty.branch [
+    let o = others-size (c.args.names.now.stored.now ++ c.args.names.now.pending.now) (c.args.names.now.count + c.args.names.now.more) c.args.names.now.more c.args.moved.now.before (length c.args.bytes.now) c.args.graph.now c.args.moved.now.order.now c.args.moved.now.rest.now w rows heads m in
+    let s = master-size (c.args.names.now.stored.now ++ c.args.names.now.pending.now) (c.args.names.now.count + c.args.names.now.more) c.args.names.now.more c.args.moved.now.before (length c.args.bytes.now) c.args.graph.now c.args.moved.now.order.now c.args.moved.now.rest.now w rows heads m in
+    let does : DoesChange (c.args.names.now.stored.now ++ c.args.names.now.pending.now) (c.args.names.now.count + c.args.names.now.more) c.args.names.now.more c.args.moved.now.before (length c.args.bytes.now) c.args.graph.now c.args.moved.now.order.now c.args.moved.now.rest.now w rows heads m = elim c.else-is_empty.branch [
       | else-is_empty-via-then-is_empty+else-names-eq0 v ↦ inr (above-zero _ v.if-names-eq0.false)
-      | else-is_empty-via-else-is_empty v ↦ inl (let some = not-zero _ v.if-is_empty.ensures in omega (arith, some, ok2))
+      | else-is_empty-via-else-is_empty v ↦ inl (let some = not-zero _ v.if-is_empty.ensures in omega (arith, some))
     ] in
-    let lo = over-none c.from.result c.len-others.result _ c.in_ok-check.ensures.ok in let lm = over-none c.from-2.result (c.args.before + c.len.result) _ c.in_ok-check-2.ensures.ok in
+    let lo = over-none c.from.result (length c.args.moved.now.rest.now) _ c.in_ok-check.ensures.ok in let lm = over-none c.from-2.result (c.args.moved.now.before + length c.args.moved.now.order.now) _ c.in_ok-check-2.ensures.ok in
     let fo = c.from.ensures in let fm = c.from-2.ensures in
-    let follows = subst (λ l. MayFollow (payloads_of m.facts.may.added) (change_in m.flats (c.args.names.now.stored.now ++ c.args.names.now.pending.now) c.args.before (c.args.names.now.count + c.args.names.now.more) l)) (sym c.deref.ensures.value)
-    (payload-follows (c.args.names.now.stored.now ++ c.args.names.now.pending.now) (c.args.names.now.count + c.args.names.now.more) c.args.names.now.more c.args.before c.args.log c.args.graph.now c.args.moves.now.order.items c.args.moves.now.rest.items w rows heads m c.args.limits c.requires.limits (omega (arith, lo, fo, a, ok)) (omega (arith, lm, fm, b, ok2)) moved) in
-    let is = payload-written (c.args.names.now.stored.now ++ c.args.names.now.pending.now) (c.args.names.now.count + c.args.names.now.more) c.args.names.now.more c.args.before c.args.log c.args.graph.now c.args.moves.now.order.items c.args.moves.now.rest.items w rows heads m payload change moved
-    ∙ sym (c.in_ok-payload.ensures.payload m.flats m.facts.may.added m.lawful m.graph_is (subst (λ (t : PlainTables). AreTablesOf t m.facts.may.added) at m.facts.may.tables_of) (subst (λ (l : List ℕ). AllStand l m.facts.may.added) by m.facts.may.stand) follows ∙ ap (λ l. payload_bytes (change_in m.flats (c.args.names.now.stored.now ++ c.args.names.now.pending.now) c.args.before (c.args.names.now.count + c.args.names.now.more) l)) c.deref.ensures.value) in
+    let follows = payload-follows (c.args.names.now.stored.now ++ c.args.names.now.pending.now) (c.args.names.now.count + c.args.names.now.more) c.args.names.now.more c.args.moved.now.before (length c.args.bytes.now) c.args.graph.now c.args.moved.now.order.now c.args.moved.now.rest.now w rows heads m c.args.limits c.requires.limits (omega (arith, lo, fo)) (omega (arith, lm, fm)) does in
+    let is = payload-written (c.args.names.now.stored.now ++ c.args.names.now.pending.now) (c.args.names.now.count + c.args.names.now.more) c.args.names.now.more c.args.moved.now.before (length c.args.bytes.now) c.args.graph.now c.args.moved.now.order.now c.args.moved.now.rest.now w rows heads m payload change does
+    ∙ sym (c.in_ok-payload.ensures.payload m.flats m.facts.may.added m.lawful m.graph_is (subst (λ (t : PlainTables). AreTablesOf t m.facts.may.added) at m.facts.may.tables_of) (subst (λ (l : List ℕ). AllStand l m.facts.may.added) by m.facts.may.stand) follows) in
     let size = ap (length {A = ℕ}) is in
-    let log = written c.args.log payload (subst (λ l. 0 < length l) (sym (payload-written (c.args.names.now.stored.now ++ c.args.names.now.pending.now) (c.args.names.now.count + c.args.names.now.more) c.args.names.now.more c.args.before c.args.log c.args.graph.now c.args.moves.now.order.items c.args.moves.now.rest.items w rows heads m payload change moved)) (has-bytes (change_in m.flats (c.args.names.now.stored.now ++ c.args.names.now.pending.now) c.args.before (c.args.names.now.count + c.args.names.now.more) c.args.moves.now.order.items))) in
-    let len = c.len-2.ensures in let ok3 = c.in_ok-payload.payload.ok.0 in
-    let down = down-to-log c.args.limits c.args.log (flushed same_name (with_pending w rows) heads) payload c.from.result c.len-others.result c.from-2.result (c.args.before + c.len.result)
-    c.from.ensures (omega (arith, a, ok, o)) c.in_ok-check.ensures.ok c.from-2.ensures (omega (arith, b, ok2, s)) c.in_ok-check-2.ensures.ok in
-    let sum : length_with c.args.log payload ≡ c.args.log + 9 + c.len-2.result = omega (arith, log, size, len, ok3) in
+    let log = written (length c.args.bytes.now) payload (subst (λ l. 0 < length l) (sym (payload-written (c.args.names.now.stored.now ++ c.args.names.now.pending.now) (c.args.names.now.count + c.args.names.now.more) c.args.names.now.more c.args.moved.now.before (length c.args.bytes.now) c.args.graph.now c.args.moved.now.order.now c.args.moved.now.rest.now w rows heads m payload change does)) (has-bytes (change_in m.flats (c.args.names.now.stored.now ++ c.args.names.now.pending.now) c.args.moved.now.before (c.args.names.now.count + c.args.names.now.more) c.args.moved.now.order.now))) in
+    let len = c.len.ensures in let ok3 = c.in_ok-payload.payload.ok.0 in
+    let down = down-to-log c.args.limits (length c.args.bytes.now) (flushed same_name (with_pending w rows) heads) payload c.from.result (length c.args.moved.now.rest.now) c.from-2.result (c.args.moved.now.before + length c.args.moved.now.order.now)
+    c.from.ensures (omega (arith, o)) c.in_ok-check.ensures.ok c.from-2.ensures (omega (arith, s)) c.in_ok-check-2.ensures.ok in
+    let sum : length_with (length c.args.bytes.now) payload ≡ (length c.args.bytes.now) + 9 + c.len.result = omega (arith, log, size, len, ok3) in
     err-match c.from_residual-in_err-check-3.result c.in_err-check-3.field-0.0 _ _ c.from_residual-in_err-check-3.ensures.1
     (inr (down ∙ ap (λ x. over c.args.limits.log x Log) sum ∙ c.in_err-check-3.ensures.err))
 
 pub returns-clause-worlds : goal.returns-clause-worlds
 returns-clause-worlds c = λ w rows heads payload m at by change.
-    let a = c.len-others.ensures in let ok = c.args.moves.now.rest.ok.0 in let o = others-size (c.args.names.now.stored.now ++ c.args.names.now.pending.now) (c.args.names.now.count + c.args.names.now.more) c.args.names.now.more c.args.before c.args.log c.args.graph.now c.args.moves.now.order.items c.args.moves.now.rest.items w rows heads m in
-    let b = c.len.ensures in let ok2 = c.args.moves.now.order.ok.0 in let s = master-size (c.args.names.now.stored.now ++ c.args.names.now.pending.now) (c.args.names.now.count + c.args.names.now.more) c.args.names.now.more c.args.before c.args.log c.args.graph.now c.args.moves.now.order.items c.args.moves.now.rest.items w rows heads m in
-    let moved : DoesChange (c.args.names.now.stored.now ++ c.args.names.now.pending.now) (c.args.names.now.count + c.args.names.now.more) c.args.names.now.more c.args.before c.args.log c.args.graph.now c.args.moves.now.order.items c.args.moves.now.rest.items w rows heads m = elim c.else-is_empty.branch [
+    let o = others-size (c.args.names.now.stored.now ++ c.args.names.now.pending.now) (c.args.names.now.count + c.args.names.now.more) c.args.names.now.more c.args.moved.now.before (length c.args.bytes.now) c.args.graph.now c.args.moved.now.order.now c.args.moved.now.rest.now w rows heads m in
+    let s = master-size (c.args.names.now.stored.now ++ c.args.names.now.pending.now) (c.args.names.now.count + c.args.names.now.more) c.args.names.now.more c.args.moved.now.before (length c.args.bytes.now) c.args.graph.now c.args.moved.now.order.now c.args.moved.now.rest.now w rows heads m in
+    let does : DoesChange (c.args.names.now.stored.now ++ c.args.names.now.pending.now) (c.args.names.now.count + c.args.names.now.more) c.args.names.now.more c.args.moved.now.before (length c.args.bytes.now) c.args.graph.now c.args.moved.now.order.now c.args.moved.now.rest.now w rows heads m = elim c.else-is_empty.branch [
       | else-is_empty-via-then-is_empty+else-names-eq0 v ↦ inr (above-zero _ v.if-names-eq0.false)
-      | else-is_empty-via-else-is_empty v ↦ inl (let some = not-zero _ v.if-is_empty.ensures in omega (arith, some, ok2))
+      | else-is_empty-via-else-is_empty v ↦ inl (let some = not-zero _ v.if-is_empty.ensures in omega (arith, some))
     ] in
-    let lo = over-none c.from.result c.len-others.result _ c.in_ok-check.ensures.ok in let lm = over-none c.from-2.result (c.args.before + c.len.result) _ c.in_ok-check-2.ensures.ok in
+    let lo = over-none c.from.result (length c.args.moved.now.rest.now) _ c.in_ok-check.ensures.ok in let lm = over-none c.from-2.result (c.args.moved.now.before + length c.args.moved.now.order.now) _ c.in_ok-check-2.ensures.ok in
     let fo = c.from.ensures in let fm = c.from-2.ensures in
-    let follows = subst (λ l. MayFollow (payloads_of m.facts.may.added) (change_in m.flats (c.args.names.now.stored.now ++ c.args.names.now.pending.now) c.args.before (c.args.names.now.count + c.args.names.now.more) l)) (sym c.deref.ensures.value)
-    (payload-follows (c.args.names.now.stored.now ++ c.args.names.now.pending.now) (c.args.names.now.count + c.args.names.now.more) c.args.names.now.more c.args.before c.args.log c.args.graph.now c.args.moves.now.order.items c.args.moves.now.rest.items w rows heads m c.args.limits c.requires.limits (omega (arith, lo, fo, a, ok)) (omega (arith, lm, fm, b, ok2)) moved) in
-    let is = payload-written (c.args.names.now.stored.now ++ c.args.names.now.pending.now) (c.args.names.now.count + c.args.names.now.more) c.args.names.now.more c.args.before c.args.log c.args.graph.now c.args.moves.now.order.items c.args.moves.now.rest.items w rows heads m payload change moved
-    ∙ sym (c.in_ok-payload.ensures.payload m.flats m.facts.may.added m.lawful m.graph_is (subst (λ (t : PlainTables). AreTablesOf t m.facts.may.added) at m.facts.may.tables_of) (subst (λ (l : List ℕ). AllStand l m.facts.may.added) by m.facts.may.stand) follows ∙ ap (λ l. payload_bytes (change_in m.flats (c.args.names.now.stored.now ++ c.args.names.now.pending.now) c.args.before (c.args.names.now.count + c.args.names.now.more) l)) c.deref.ensures.value) in
+    let follows = payload-follows (c.args.names.now.stored.now ++ c.args.names.now.pending.now) (c.args.names.now.count + c.args.names.now.more) c.args.names.now.more c.args.moved.now.before (length c.args.bytes.now) c.args.graph.now c.args.moved.now.order.now c.args.moved.now.rest.now w rows heads m c.args.limits c.requires.limits (omega (arith, lo, fo)) (omega (arith, lm, fm)) does in
+    let is = payload-written (c.args.names.now.stored.now ++ c.args.names.now.pending.now) (c.args.names.now.count + c.args.names.now.more) c.args.names.now.more c.args.moved.now.before (length c.args.bytes.now) c.args.graph.now c.args.moved.now.order.now c.args.moved.now.rest.now w rows heads m payload change does
+    ∙ sym (c.in_ok-payload.ensures.payload m.flats m.facts.may.added m.lawful m.graph_is (subst (λ (t : PlainTables). AreTablesOf t m.facts.may.added) at m.facts.may.tables_of) (subst (λ (l : List ℕ). AllStand l m.facts.may.added) by m.facts.may.stand) follows) in
     let size = ap (length {A = ℕ}) is in
-    let log = written c.args.log payload (subst (λ l. 0 < length l) (sym (payload-written (c.args.names.now.stored.now ++ c.args.names.now.pending.now) (c.args.names.now.count + c.args.names.now.more) c.args.names.now.more c.args.before c.args.log c.args.graph.now c.args.moves.now.order.items c.args.moves.now.rest.items w rows heads m payload change moved)) (has-bytes (change_in m.flats (c.args.names.now.stored.now ++ c.args.names.now.pending.now) c.args.before (c.args.names.now.count + c.args.names.now.more) c.args.moves.now.order.items))) in
-    let len = c.len-2.ensures in let ok3 = c.in_ok-payload.payload.ok.0 in
-    let down = down-to-log c.args.limits c.args.log (flushed same_name (with_pending w rows) heads) payload c.from.result c.len-others.result c.from-2.result (c.args.before + c.len.result)
-    c.from.ensures (omega (arith, a, ok, o)) c.in_ok-check.ensures.ok c.from-2.ensures (omega (arith, b, ok2, s)) c.in_ok-check-2.ensures.ok in
-    let sum : length_with c.args.log payload ≡ c.args.log + 9 + c.len-2.result = omega (arith, log, size, len, ok3) in (
+    let log = written (length c.args.bytes.now) payload (subst (λ l. 0 < length l) (sym (payload-written (c.args.names.now.stored.now ++ c.args.names.now.pending.now) (c.args.names.now.count + c.args.names.now.more) c.args.names.now.more c.args.moved.now.before (length c.args.bytes.now) c.args.graph.now c.args.moved.now.order.now c.args.moved.now.rest.now w rows heads m payload change does)) (has-bytes (change_in m.flats (c.args.names.now.stored.now ++ c.args.names.now.pending.now) c.args.moved.now.before (c.args.names.now.count + c.args.names.now.more) c.args.moved.now.order.now))) in
+    let len = c.len.ensures in let ok3 = c.in_ok-payload.payload.ok.0 in
+    let down = down-to-log c.args.limits (length c.args.bytes.now) (flushed same_name (with_pending w rows) heads) payload c.from.result (length c.args.moved.now.rest.now) c.from-2.result (c.args.moved.now.before + length c.args.moved.now.order.now)
+    c.from.ensures (omega (arith, o)) c.in_ok-check.ensures.ok c.from-2.ensures (omega (arith, s)) c.in_ok-check-2.ensures.ok in
+    let sum : length_with (length c.args.bytes.now) payload ≡ (length c.args.bytes.now) + 9 + c.len.result = omega (arith, log, size, len, ok3) in (
       down ∙ ap (λ x. over c.args.limits.log x Log) sum ∙ c.in_ok-check-3.ensures.ok,
       record {
         payload_is = c.of.ensures ∙ sym is;
-        master = omega (arith, b, ok2, s);
-        others = omega (arith, a, ok, o);
-        same = (λ t. absurd (cc t), λ e. absurd (differs (c.args.names.now.stored.now ++ c.args.names.now.pending.now) (c.args.names.now.count + c.args.names.now.more) c.args.names.now.more c.args.before c.args.log c.args.graph.now c.args.moves.now.order.items c.args.moves.now.rest.items w rows heads m moved e));
+        master = omega (arith, s);
+        others = omega (arith, o);
+        same = (λ t. absurd (cc t), λ e. absurd (differs (c.args.names.now.stored.now ++ c.args.names.now.pending.now) (c.args.names.now.count + c.args.names.now.more) c.args.names.now.more c.args.moved.now.before (length c.args.bytes.now) c.args.graph.now c.args.moved.now.order.now c.args.moved.now.rest.now w rows heads m does e));
       },
     )
 
 pub returns-then-names-eq0-clause-stored : goal.returns-then-names-eq0-clause-stored
 returns-then-names-eq0-clause-stored c = λ w rows heads added m at by lawful stand.
-    let a = c.len-others.ensures in let ok = c.args.moves.now.rest.ok.0 in
-    let b = c.len.ensures in let ok2 = c.args.moves.now.order.ok.0 in
     let z = is-zero _ c.if-is_empty.ensures in
-    let lo = over-none c.from.result c.len-others.result _ c.in_ok-check.ensures.ok in let lm = over-none c.from-2.result (c.args.before + c.len.result) _ c.in_ok-check-2.ensures.ok in
+    let lo = over-none c.from.result (length c.args.moved.now.rest.now) _ c.in_ok-check.ensures.ok in let lm = over-none c.from-2.result (c.args.moved.now.before + length c.args.moved.now.order.now) _ c.in_ok-check-2.ensures.ok in
     let fo = c.from.ensures in let fm = c.from-2.ensures in
-    stays (c.args.names.now.stored.now ++ c.args.names.now.pending.now) (c.args.names.now.count + c.args.names.now.more) c.args.names.now.more c.args.before c.args.log c.args.graph.now c.args.moves.now.order.items c.args.moves.now.rest.items w rows heads m added lawful stand c.args.limits _ (omega (arith, z, ok2)) c.if-names-eq0.true c.empty.ensures refl
-    (omega (arith, b, ok2)) (omega (arith, a, ok)) (omega (arith, lm, fm)) (omega (arith, lo, fo))
+    stays (c.args.names.now.stored.now ++ c.args.names.now.pending.now) (c.args.names.now.count + c.args.names.now.more) c.args.names.now.more c.args.moved.now.before (length c.args.bytes.now) c.args.graph.now c.args.moved.now.order.now c.args.moved.now.rest.now w rows heads m added lawful stand c.args.limits _ z c.if-names-eq0.true c.empty.ensures refl
+    refl refl (omega (arith, lm, fm)) (omega (arith, lo, fo))
 
 pub returns-clause-stored : goal.returns-clause-stored
 returns-clause-stored c = λ w rows heads added m at by lawful_before stand.
-    let a = c.len-others.ensures in let ok = c.args.moves.now.rest.ok.0 in let o = others-size (c.args.names.now.stored.now ++ c.args.names.now.pending.now) (c.args.names.now.count + c.args.names.now.more) c.args.names.now.more c.args.before c.args.log c.args.graph.now c.args.moves.now.order.items c.args.moves.now.rest.items w rows heads m in
-    let b = c.len.ensures in let ok2 = c.args.moves.now.order.ok.0 in let s = master-size (c.args.names.now.stored.now ++ c.args.names.now.pending.now) (c.args.names.now.count + c.args.names.now.more) c.args.names.now.more c.args.before c.args.log c.args.graph.now c.args.moves.now.order.items c.args.moves.now.rest.items w rows heads m in
-    let moved : DoesChange (c.args.names.now.stored.now ++ c.args.names.now.pending.now) (c.args.names.now.count + c.args.names.now.more) c.args.names.now.more c.args.before c.args.log c.args.graph.now c.args.moves.now.order.items c.args.moves.now.rest.items w rows heads m = elim c.else-is_empty.branch [
+    let o = others-size (c.args.names.now.stored.now ++ c.args.names.now.pending.now) (c.args.names.now.count + c.args.names.now.more) c.args.names.now.more c.args.moved.now.before (length c.args.bytes.now) c.args.graph.now c.args.moved.now.order.now c.args.moved.now.rest.now w rows heads m in
+    let s = master-size (c.args.names.now.stored.now ++ c.args.names.now.pending.now) (c.args.names.now.count + c.args.names.now.more) c.args.names.now.more c.args.moved.now.before (length c.args.bytes.now) c.args.graph.now c.args.moved.now.order.now c.args.moved.now.rest.now w rows heads m in
+    let does : DoesChange (c.args.names.now.stored.now ++ c.args.names.now.pending.now) (c.args.names.now.count + c.args.names.now.more) c.args.names.now.more c.args.moved.now.before (length c.args.bytes.now) c.args.graph.now c.args.moved.now.order.now c.args.moved.now.rest.now w rows heads m = elim c.else-is_empty.branch [
       | else-is_empty-via-then-is_empty+else-names-eq0 v ↦ inr (above-zero _ v.if-names-eq0.false)
-      | else-is_empty-via-else-is_empty v ↦ inl (let some = not-zero _ v.if-is_empty.ensures in omega (arith, some, ok2))
+      | else-is_empty-via-else-is_empty v ↦ inl (let some = not-zero _ v.if-is_empty.ensures in omega (arith, some))
     ] in
-    let lo = over-none c.from.result c.len-others.result _ c.in_ok-check.ensures.ok in let lm = over-none c.from-2.result (c.args.before + c.len.result) _ c.in_ok-check-2.ensures.ok in
+    let lo = over-none c.from.result (length c.args.moved.now.rest.now) _ c.in_ok-check.ensures.ok in let lm = over-none c.from-2.result (c.args.moved.now.before + length c.args.moved.now.order.now) _ c.in_ok-check-2.ensures.ok in
     let fo = c.from.ensures in let fm = c.from-2.ensures in
-    let follows = subst (λ l. MayFollow (payloads_of m.facts.may.added) (change_in m.flats (c.args.names.now.stored.now ++ c.args.names.now.pending.now) c.args.before (c.args.names.now.count + c.args.names.now.more) l)) (sym c.deref.ensures.value)
-    (payload-follows (c.args.names.now.stored.now ++ c.args.names.now.pending.now) (c.args.names.now.count + c.args.names.now.more) c.args.names.now.more c.args.before c.args.log c.args.graph.now c.args.moves.now.order.items c.args.moves.now.rest.items w rows heads m c.args.limits c.requires.limits (omega (arith, lo, fo, a, ok)) (omega (arith, lm, fm, b, ok2)) moved) in
-    let is = c.in_ok-payload.ensures.payload m.flats m.facts.may.added m.lawful m.graph_is (subst (λ (t : PlainTables). AreTablesOf t m.facts.may.added) at m.facts.may.tables_of) (subst (λ (l : List ℕ). AllStand l m.facts.may.added) by m.facts.may.stand) follows ∙ ap (λ l. payload_bytes (change_in m.flats (c.args.names.now.stored.now ++ c.args.names.now.pending.now) c.args.before (c.args.names.now.count + c.args.names.now.more) l)) c.deref.ensures.value in
+    let follows = payload-follows (c.args.names.now.stored.now ++ c.args.names.now.pending.now) (c.args.names.now.count + c.args.names.now.more) c.args.names.now.more c.args.moved.now.before (length c.args.bytes.now) c.args.graph.now c.args.moved.now.order.now c.args.moved.now.rest.now w rows heads m c.args.limits c.requires.limits (omega (arith, lo, fo)) (omega (arith, lm, fm)) does in
+    let is = c.in_ok-payload.ensures.payload m.flats m.facts.may.added m.lawful m.graph_is (subst (λ (t : PlainTables). AreTablesOf t m.facts.may.added) at m.facts.may.tables_of) (subst (λ (l : List ℕ). AllStand l m.facts.may.added) by m.facts.may.stand) follows in
     let size = ap (length {A = ℕ}) c.of.ensures in
-    let len = c.len-2.ensures in let ok3 = c.in_ok-payload.payload.ok.0 in
-    let ll = over-none c.args.limits.log (c.args.log + 9 + c.len-2.result) _ c.in_ok-check-3.ensures.ok in
-    changes (c.args.names.now.stored.now ++ c.args.names.now.pending.now) (c.args.names.now.count + c.args.names.now.more) c.args.names.now.more c.args.before c.args.log c.args.graph.now c.args.moves.now.order.items c.args.moves.now.rest.items w rows heads m added lawful_before stand c.args.limits _ c.requires.limits moved (c.of.ensures ∙ is) refl
-    (omega (arith, b, ok2)) (omega (arith, a, ok)) (omega (arith, lm, fm)) (omega (arith, lo, fo)) (omega (arith, ll, len, ok3, size))
+    let len = c.len.ensures in let ok3 = c.in_ok-payload.payload.ok.0 in
+    let ll = over-none c.args.limits.log ((length c.args.bytes.now) + 9 + c.len.result) _ c.in_ok-check-3.ensures.ok in
+    changes (c.args.names.now.stored.now ++ c.args.names.now.pending.now) (c.args.names.now.count + c.args.names.now.more) c.args.names.now.more c.args.moved.now.before (length c.args.bytes.now) c.args.graph.now c.args.moved.now.order.now c.args.moved.now.rest.now w rows heads m added lawful_before stand c.args.limits _ c.requires.limits does (c.of.ensures ∙ is) refl
+    refl refl (omega (arith, lm, fm)) (omega (arith, lo, fo)) (omega (arith, ll, len, ok3, size))

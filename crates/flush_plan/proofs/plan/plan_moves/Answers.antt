@@ -6,7 +6,7 @@ use Rattle.assign_ids.specs.declared.graph.Node.{Node}
 use Rattle.commit_graph.specs.World.{with_pending}
 use Rattle.payload_tables.specs.Bases.{held_row}
 use Rattle.payload_tables.specs.Kept.{PlainOthers}
-use Rattle.change_parts.specs.Moves.{node_of}
+use Rattle.change_parts.specs.Moves.{node_of, rest_of}
 use Rattle.change_parts.proofs.Planning.{names-room}
 use Rattle.flush_plan.proofs.Sizing.{f-older, f-numbers, f-order, may-view, pending-size}
 use Rattle.flush_plan.proofs.Refusing.{code-facts}
@@ -56,7 +56,7 @@ moves_of-requires-clause-order c =
 pub change_of-requires-clause-few : goal.change_of-requires-clause-few
 change_of-requires-clause-few c =
     let r = c.requires.world in
-    let f = (code-facts c.args.bytes.now c.args.pending.now c.args.numbers.now (flats_in c.view-view.result) c.names_of-names.result.stored.now c.names_of-names.result.pending.now c.names_of-names.result.count c.names_of-names.result.more c.master_count-before.result r.0 r.1 r.2 c.args.tables.now c.args.tables.now refl r.3 (λ added t s sf p. c.view-view.ensures.graph added r.0 r.1 (c.newest-base.ensures added t s) sf p) (c.names_of-names.ensures.stored ∙ ap (λ (o : PlainOthers). take (20 * o.count) (drop o.names c.args.bytes.now)) c.others.ensures) c.names_of-names.ensures.pending (c.names_of-names.ensures.count ∙ ap (λ (o : PlainOthers). o.count) c.others.ensures) c.names_of-names.ensures.more c.master_count-before.ensures) in
+    let f = (code-facts c.args.bytes.now c.args.pending.now c.args.numbers.now (flats_in c.view-view.result) c.names_of-names.result.stored.now c.names_of-names.result.pending.now c.names_of-names.result.count c.names_of-names.result.more c.behind-moved.result.before r.0 r.1 r.2 c.args.tables.now c.args.tables.now refl r.3 (λ added t s sf p. c.view-view.ensures.graph added r.0 r.1 (c.newest-base.ensures added t s) sf p) (c.names_of-names.ensures.stored ∙ ap (λ (o : PlainOthers). take (20 * o.count) (drop o.names c.args.bytes.now)) c.others.ensures) c.names_of-names.ensures.pending (c.names_of-names.ensures.count ∙ ap (λ (o : PlainOthers). o.count) c.others.ensures) c.names_of-names.ensures.more (c.behind-moved.ensures.before ∙ c.master_count.ensures)) in
     let b = f.before_is in let s = f.small in omega (arith, b, s)
 
 pub change_of-requires-clause-world : goal.change_of-requires-clause-world
@@ -71,11 +71,11 @@ change_of-requires-clause-world c =
         pending = c.args.pending.now;
         numbers = c.args.numbers.now;
         flats = flats_in c.view-view.result;
-        facts = (code-facts c.args.bytes.now c.args.pending.now c.args.numbers.now (flats_in c.view-view.result) c.names_of-names.result.stored.now c.names_of-names.result.pending.now c.names_of-names.result.count c.names_of-names.result.more c.master_count-before.result r.0 r.1 r.2 c.args.tables.now c.args.tables.now refl r.3 (λ added t s sf p. c.view-view.ensures.graph added r.0 r.1 (c.newest-base.ensures added t s) sf p) (c.names_of-names.ensures.stored ∙ ap (λ (o : PlainOthers). take (20 * o.count) (drop o.names c.args.bytes.now)) c.others.ensures) c.names_of-names.ensures.pending (c.names_of-names.ensures.count ∙ ap (λ (o : PlainOthers). o.count) c.others.ensures) c.names_of-names.ensures.more c.master_count-before.ensures);
+        facts = (code-facts c.args.bytes.now c.args.pending.now c.args.numbers.now (flats_in c.view-view.result) c.names_of-names.result.stored.now c.names_of-names.result.pending.now c.names_of-names.result.count c.names_of-names.result.more c.behind-moved.result.before r.0 r.1 r.2 c.args.tables.now c.args.tables.now refl r.3 (λ added t s sf p. c.view-view.ensures.graph added r.0 r.1 (c.newest-base.ensures added t s) sf p) (c.names_of-names.ensures.stored ∙ ap (λ (o : PlainOthers). take (20 * o.count) (drop o.names c.args.bytes.now)) c.others.ensures) c.names_of-names.ensures.pending (c.names_of-names.ensures.count ∙ ap (λ (o : PlainOthers). o.count) c.others.ensures) c.names_of-names.ensures.more (c.behind-moved.ensures.before ∙ c.master_count.ensures));
         lawful = lawful_flats c.view-view.result;
         graph_is = c.in_ok-graph.ensures;
-        order_is = c.in_ok-moves.ensures.order ∙ ap (λ (gr : List (List Node)). order_of (λ k. get_or gr k []) (c.names_of-names.result.count + c.names_of-names.result.more) c.args.numbers.now) (ap (map (map node_of)) c.in_ok-graph.ensures ∙ nodes-are (flats_in c.view-view.result) (c.names_of-names.result.count + c.names_of-names.result.more));
-        rest_is = c.in_ok-moves.ensures.rest;
+        order_is = c.behind-moved.ensures.order ∙ c.in_ok-moves.ensures.order ∙ ap (λ (gr : List (List Node)). order_of (λ k. get_or gr k []) (c.names_of-names.result.count + c.names_of-names.result.more) c.args.numbers.now) (ap (map (map node_of)) c.in_ok-graph.ensures ∙ nodes-are (flats_in c.view-view.result) (c.names_of-names.result.count + c.names_of-names.result.more));
+        rest_is = c.behind-moved.ensures.rest ∙ c.in_ok-moves.ensures.rest ∙ ap (rest_of (c.names_of-names.result.count + c.names_of-names.result.more)) (sym c.behind-moved.ensures.order);
         pending_is = c.names_of-names.ensures.more;
         log_is = refl;
       },
@@ -92,11 +92,11 @@ returns-clause-worlds c = λ w rows heads payload m change.
       pending = c.args.pending.now;
       numbers = c.args.numbers.now;
       flats = flats_in c.view-view.result;
-      facts = (code-facts c.args.bytes.now c.args.pending.now c.args.numbers.now (flats_in c.view-view.result) c.names_of-names.result.stored.now c.names_of-names.result.pending.now c.names_of-names.result.count c.names_of-names.result.more c.master_count-before.result w rows heads c.args.tables.now c.args.tables.now refl m (λ added t s sf p. c.view-view.ensures.graph added w rows (c.newest-base.ensures added t s) sf p) (c.names_of-names.ensures.stored ∙ ap (λ (o : PlainOthers). take (20 * o.count) (drop o.names c.args.bytes.now)) c.others.ensures) c.names_of-names.ensures.pending (c.names_of-names.ensures.count ∙ ap (λ (o : PlainOthers). o.count) c.others.ensures) c.names_of-names.ensures.more c.master_count-before.ensures);
+      facts = (code-facts c.args.bytes.now c.args.pending.now c.args.numbers.now (flats_in c.view-view.result) c.names_of-names.result.stored.now c.names_of-names.result.pending.now c.names_of-names.result.count c.names_of-names.result.more c.behind-moved.result.before w rows heads c.args.tables.now c.args.tables.now refl m (λ added t s sf p. c.view-view.ensures.graph added w rows (c.newest-base.ensures added t s) sf p) (c.names_of-names.ensures.stored ∙ ap (λ (o : PlainOthers). take (20 * o.count) (drop o.names c.args.bytes.now)) c.others.ensures) c.names_of-names.ensures.pending (c.names_of-names.ensures.count ∙ ap (λ (o : PlainOthers). o.count) c.others.ensures) c.names_of-names.ensures.more (c.behind-moved.ensures.before ∙ c.master_count.ensures));
       lawful = lawful_flats c.view-view.result;
       graph_is = c.in_ok-graph.ensures;
-      order_is = c.in_ok-moves.ensures.order ∙ ap (λ (gr : List (List Node)). order_of (λ k. get_or gr k []) (c.names_of-names.result.count + c.names_of-names.result.more) c.args.numbers.now) (ap (map (map node_of)) c.in_ok-graph.ensures ∙ nodes-are (flats_in c.view-view.result) (c.names_of-names.result.count + c.names_of-names.result.more));
-      rest_is = c.in_ok-moves.ensures.rest;
+      order_is = c.behind-moved.ensures.order ∙ c.in_ok-moves.ensures.order ∙ ap (λ (gr : List (List Node)). order_of (λ k. get_or gr k []) (c.names_of-names.result.count + c.names_of-names.result.more) c.args.numbers.now) (ap (map (map node_of)) c.in_ok-graph.ensures ∙ nodes-are (flats_in c.view-view.result) (c.names_of-names.result.count + c.names_of-names.result.more));
+      rest_is = c.behind-moved.ensures.rest ∙ c.in_ok-moves.ensures.rest ∙ ap (rest_of (c.names_of-names.result.count + c.names_of-names.result.more)) (sym c.behind-moved.ensures.order);
       pending_is = c.names_of-names.ensures.more;
       log_is = refl;
     })
@@ -111,11 +111,11 @@ returns-clause-stored c = λ w rows heads m.
       pending = c.args.pending.now;
       numbers = c.args.numbers.now;
       flats = flats_in c.view-view.result;
-      facts = (code-facts c.args.bytes.now c.args.pending.now c.args.numbers.now (flats_in c.view-view.result) c.names_of-names.result.stored.now c.names_of-names.result.pending.now c.names_of-names.result.count c.names_of-names.result.more c.master_count-before.result w rows heads c.args.tables.now c.args.tables.now refl m (λ added t s sf p. c.view-view.ensures.graph added w rows (c.newest-base.ensures added t s) sf p) (c.names_of-names.ensures.stored ∙ ap (λ (o : PlainOthers). take (20 * o.count) (drop o.names c.args.bytes.now)) c.others.ensures) c.names_of-names.ensures.pending (c.names_of-names.ensures.count ∙ ap (λ (o : PlainOthers). o.count) c.others.ensures) c.names_of-names.ensures.more c.master_count-before.ensures);
+      facts = (code-facts c.args.bytes.now c.args.pending.now c.args.numbers.now (flats_in c.view-view.result) c.names_of-names.result.stored.now c.names_of-names.result.pending.now c.names_of-names.result.count c.names_of-names.result.more c.behind-moved.result.before w rows heads c.args.tables.now c.args.tables.now refl m (λ added t s sf p. c.view-view.ensures.graph added w rows (c.newest-base.ensures added t s) sf p) (c.names_of-names.ensures.stored ∙ ap (λ (o : PlainOthers). take (20 * o.count) (drop o.names c.args.bytes.now)) c.others.ensures) c.names_of-names.ensures.pending (c.names_of-names.ensures.count ∙ ap (λ (o : PlainOthers). o.count) c.others.ensures) c.names_of-names.ensures.more (c.behind-moved.ensures.before ∙ c.master_count.ensures));
       lawful = lawful_flats c.view-view.result;
       graph_is = c.in_ok-graph.ensures;
-      order_is = c.in_ok-moves.ensures.order ∙ ap (λ (gr : List (List Node)). order_of (λ k. get_or gr k []) (c.names_of-names.result.count + c.names_of-names.result.more) c.args.numbers.now) (ap (map (map node_of)) c.in_ok-graph.ensures ∙ nodes-are (flats_in c.view-view.result) (c.names_of-names.result.count + c.names_of-names.result.more));
-      rest_is = c.in_ok-moves.ensures.rest;
+      order_is = c.behind-moved.ensures.order ∙ c.in_ok-moves.ensures.order ∙ ap (λ (gr : List (List Node)). order_of (λ k. get_or gr k []) (c.names_of-names.result.count + c.names_of-names.result.more) c.args.numbers.now) (ap (map (map node_of)) c.in_ok-graph.ensures ∙ nodes-are (flats_in c.view-view.result) (c.names_of-names.result.count + c.names_of-names.result.more));
+      rest_is = c.behind-moved.ensures.rest ∙ c.in_ok-moves.ensures.rest ∙ ap (rest_of (c.names_of-names.result.count + c.names_of-names.result.more)) (sym c.behind-moved.ensures.order);
       pending_is = c.names_of-names.ensures.more;
       log_is = refl;
     })

@@ -12,14 +12,14 @@ use Rattle.flush_plan.proofs.runs.add_runs.Goals as goal
 
 pub begin-requires : goal.begin-requires
 begin-requires c =
-    subst (AllByRecursion (λ p. p < 2 ^ 56 + length c.args.ids.now)) (sym c.parents.ensures) (row-below (length c.args.ids.now) (get_or c.args.numbers.now 0 0) c.args.graph.now c.requires.rows)
+    subst (AllByRecursion (λ p. p < 2 ^ 56 + length c.args.ids.now)) (sym c.parents.ensures) (row-below (length c.args.ids.now) (get_or c.args.numbered.now.numbers.now 0 0) c.args.graph.now c.requires.rows)
 
 pub numbers-init : goal.numbers-init
 numbers-init c =
     let f : ℕ → List ℕ = λ k. map (new_id c.args.ids.now) (get_or c.args.graph.now k []) in record {
       grows = (
         [],
-        first-run c.args.first f c.args.numbers.now (not-zero _ c.if-is_empty.ensures)
+        first-run c.args.numbered.now.first f c.args.numbered.now.numbers.now (not-zero _ c.if-is_empty.ensures)
             ∙ ap (λ (s : Span). s ∷ []) (sym (c.in_ok-begin.ensures ∙ ap₂ single_span c.from_number.ensures (ap (map (new_id c.args.ids.now)) c.parents.ensures))),
         λ p is. is,
       );
@@ -28,13 +28,13 @@ numbers-init c =
 
 pub go_on-requires-clause-parents : goal.go_on-requires-clause-parents
 go_on-requires-clause-parents c =
-    subst (AllByRecursion (λ p. p < 2 ^ 56 + length c.args.ids.now)) (sym c.parents-parents.ensures) (row-below (length c.args.ids.now) (get_or c.args.numbers.now c.numbers.i 0) c.args.graph.now c.requires.rows)
+    subst (AllByRecursion (λ p. p < 2 ^ 56 + length c.args.ids.now)) (sym c.parents-parents.ensures) (row-below (length c.args.ids.now) (get_or c.args.numbered.now.numbers.now c.numbers.i 0) c.args.graph.now c.requires.rows)
 
 pub go_on-requires-clause-segment : goal.go_on-requires-clause-segment
 go_on-requires-clause-segment c = λ test.
     let f : ℕ → List ℕ = λ k. map (new_id c.args.ids.now) (get_or c.args.graph.now k []) in
     let g = c.numbers.invariant.grows in
-    run-segment (λ s. IsSegment (flat_record s)) c.args.first f c.args.numbers.now c.numbers.i g.0 c.numbers.run c.numbers-test.true g.1
+    run-segment (λ s. IsSegment (flat_record s)) c.args.numbered.now.first f c.args.numbered.now.numbers.now c.numbers.i g.0 c.numbers.run c.numbers-test.true g.1
     (ap (λ l. pointwise nat_eq (map (new_id c.args.ids.now) l) (c.numbers.run.high ∷ [])) (sym c.parents-parents.ensures) ∙ test) c.requires.records
 
 pub numbers-preserved : goal.numbers-preserved
@@ -44,8 +44,8 @@ numbers-preserved c =
     let next = c.in_ok-go_on.ensures.grows g.0 in record {
       grows = (
         next.0,
-        sym (runs-next c.args.first (c.args.first + c.numbers.i) f c.args.numbers.now c.numbers.i _ c.numbers-test.true refl refl)
-            ∙ ap (λ l. grown l (c.args.first + c.numbers.i) (f (get_or c.args.numbers.now c.numbers.i 0))) g.1
+        sym (runs-next c.args.numbered.now.first (c.args.numbered.now.first + c.numbers.i) f c.args.numbered.now.numbers.now c.numbers.i _ c.numbers-test.true refl refl)
+            ∙ ap (λ l. grown l (c.args.numbered.now.first + c.numbers.i) (f (get_or c.args.numbered.now.numbers.now c.numbers.i 0))) g.1
             ∙ ap₂ {C = List Span} (λ id ps. grown (g.0 ++ c.numbers.run ∷ []) id ps) (sym c.from_number-id.ensures) (ap (map (new_id c.args.ids.now)) (sym c.parents-parents.ensures))
             ∙ next.1,
         λ p is. next.2 p (g.2 p is),
@@ -58,4 +58,4 @@ put-requires c =
     let f : ℕ → List ℕ = λ k. map (new_id c.args.ids.now) (get_or c.args.graph.now k []) in
     let g = c.numbers.invariant.grows in let ge = c.numbers-test.false in
     last-in (λ s. IsSegment (flat_record s)) g.0 c.numbers.run
-    (subst (AllByRecursion (λ (s : Span). IsSegment (flat_record s))) (sym (ap (λ l. flat_segments c.args.first (map f l)) (all-taken c.args.numbers.now c.numbers.i (omega (arith, ge)))) ∙ g.1) c.requires.records)
+    (subst (AllByRecursion (λ (s : Span). IsSegment (flat_record s))) (sym (ap (λ l. flat_segments c.args.numbered.now.first (map f l)) (all-taken c.args.numbered.now.numbers.now c.numbers.i (omega (arith, ge)))) ∙ g.1) c.requires.records)

@@ -7,5 +7,5 @@ use Rattle.pull_plan.specs.Taken.{AreTaken, MayWalk}
 use Rattle.pull_plan.proofs.pulled.add_rows.Given as goal
 
 abbrev pub invariant-segments : goal.invariant-segments
-invariant-segments l = (w : World Name) (rows : List (Row Name)) → MayWalk l.newest (flats_in l.view) l.cloned l.fresh w rows → l.fn.left.first ≡ length w.others
-    → AreTaken w l.cloned (take (max l.cloned (place_behind 0 (take l.k l.fresh.cloned.segments))) rows) l.ids.items l.left
+invariant-segments l = (w : World Name) (rows : List (Row Name)) → MayWalk l.newest.base (flats_in l.newest.view) l.newest.cloned l.fresh w rows → l.fn.left.first ≡ length w.others
+    → AreTaken w l.newest.cloned (take (max l.newest.cloned (place_behind 0 (take l.k l.fresh.cloned.segments))) rows) l.ids.items l.left

@@ -8,11 +8,11 @@ use Rattle.pull_plan.proofs.pulled.add_segment.Given as goal
 
 abbrev pub invariant-ids : goal.invariant-ids
 invariant-ids l = record {
-  behind : l.cloned ≤ l.id;
+  behind : l.newest.cloned ≤ l.id;
   inside : l.segment.low ≤ l.id;
-  end : l.id ≤ max l.cloned (l.segment.high + 1);
-  taken : (w : World Name) (rows : List (Row Name)) → MayWalk l.newest (flats_in l.view) l.cloned l.fresh w rows → IsIn l.segment l.fresh.cloned.segments
-      → AreTaken w l.cloned (take (max l.cloned l.segment.low) rows) l.fn.ids.items l.fn.left → AreTaken w l.cloned (take l.id rows) l.ids.items l.left;
+  end : l.id ≤ max l.newest.cloned (l.segment.high + 1);
+  taken : (w : World Name) (rows : List (Row Name)) → MayWalk l.newest.base (flats_in l.newest.view) l.newest.cloned l.fresh w rows → IsIn l.segment l.fresh.cloned.segments
+      → AreTaken w l.newest.cloned (take (max l.newest.cloned l.segment.low) rows) l.fn.ids.items l.fn.left → AreTaken w l.newest.cloned (take l.id rows) l.ids.items l.left;
 }
 
 abbrev pub decreases-ids : goal.decreases-ids

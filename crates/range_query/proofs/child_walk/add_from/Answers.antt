@@ -3,8 +3,8 @@ use Rattle.range_query.proofs.Bounds.{cover-held, cover-room}
 use Rattle.range_query.proofs.EdgeLemmas.{from-whole}
 use Rattle.range_query.proofs.child_walk.add_from.Goals as goal
 
-pub overflow_add-bounds : goal.overflow_add-bounds
-overflow_add-bounds g c =
+pub overflow_add-above : goal.overflow_add-above
+overflow_add-above g c =
     let room = cover-room (g.T.SegmentTable.flats c.args.table.now) (g.met.T.SegmentTable.lawful c.args.table.now) c.bounds-bounds.result.master c.bounds-bounds.result.others c.bounds-bounds.ensures in
     omega arith
 

@@ -12,7 +12,7 @@ is_apart-requires-clause-passed g c =
     let lawful = g.met.T.SegmentTable.lawful c.args.table.now in
     let s = segment_of c.in-Some.segment in
     let end = g.met.T.SegmentTable.endings c.args.table.now c.level-in-levels.result c.args.id s c.in-Some.ensures.found in
-    subst (λ n. StandFrom n (take c.args.at c.args.set.now)) (sym (ending-segment flats lawful c.level-in-levels.result c.args.id s end).1) c.requires.passed
+    subst (λ n. StandFrom n (take c.args.rest.at c.args.rest.set.now)) (sym (ending-segment flats lawful c.level-in-levels.result c.args.id s end).1) c.requires.passed
 
 pub returns-then-is_apart-clause-none : goal.returns-then-is_apart-clause-none
 returns-then-is_apart-clause-none g c =
@@ -21,7 +21,7 @@ returns-then-is_apart-clause-none g c =
     let s = segment_of c.in-Some.segment in
     let end = g.met.T.SegmentTable.endings c.args.table.now c.level-in-levels.result c.args.id s c.in-Some.ensures.found in
     let jump = ending-jump flats lawful c.level-in-levels.result c.args.id s end in
-    (jump.order, apart-lacks flats lawful c.args.set.now s c.args.id jump (ending-segment flats lawful c.level-in-levels.result c.args.id s end).1 (c.is_apart.ensures c.if-is_apart.true))
+    (jump.order, apart-lacks flats lawful c.args.rest.set.now s c.args.id jump (ending-segment flats lawful c.level-in-levels.result c.args.id s end).1 (c.is_apart.ensures c.if-is_apart.true))
 
 pub is_apart-requires-clause-ascending : goal.is_apart-requires-clause-ascending
 is_apart-requires-clause-ascending g c =

@@ -11,5 +11,5 @@ returns-clause-members g c = λ x.
 
 pub returns-clause-cuts : goal.returns-clause-cuts
 returns-clause-cuts g c = λ d i.
-    fewer-cut (table_graph (g.T.SegmentTable.flats c.args.table.now)) (HasFallen c.go_down.new.ids c.in_ok-tail.tail.low c.in_ok-tail.tail.end) (IsMember c.put_into.new.ids) d
+    fewer-cut (table_graph (g.T.SegmentTable.flats c.args.table.now)) (HasFallen c.go_down.new.found.ids c.in_ok-tail.tail.low c.in_ok-tail.tail.end) (IsMember c.put_into.new.ids) d
     (λ x m. (c.in_ok-put_into.ensures x).0 m) (c.in_ok-tail.ensures.cuts d i)

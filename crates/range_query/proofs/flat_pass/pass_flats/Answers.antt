@@ -1,4 +1,4 @@
-use Rattle.std.proofs.Common.{arith, sym, subst, ◌-◌, ◌+◌}
+use Rattle.std.proofs.Common.{arith, subst, ◌-◌, ◌+◌}
 use Rattle.segment_codec.specs.Lent.{segment_of}
 use Rattle.range_query.specs.Parts.{AreSpelledWith}
 use Rattle.range_query.proofs.PassLemmas.{lack-none, lack-more, over-more}

@@ -1,4 +1,4 @@
-use Rattle.std.proofs.Common.{ℕ, ◌≤◌, ◌-◌, ◌^◌, min, length, drop}
+use Rattle.std.proofs.Common.{◌≤◌, ◌-◌, ◌^◌, min, length, drop}
 use Rattle.id_groups.specs.Lists.{IsIn}
 use Rattle.segment_codec.specs.Record.{Segment}
 use Rattle.ancestor_query.specs.Graph.{table_graph}

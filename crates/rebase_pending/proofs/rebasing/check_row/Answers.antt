@@ -8,8 +8,8 @@ use Rattle.rebase_pending.proofs.rebasing.check_row.Goals as goal
 
 pub returns-then-branch : goal.returns-then-branch
 returns-then-branch c = λ added before rows row n b e h at.
-    subst (λ o. AreStoredWhere before added c.args.pending.now.first c.args.found.now (flats_in c.args.view.now) o row.parents true) (sym c.in-Some.is)
-    (subst (λ s. AreStoredAs before added c.args.pending.now.first c.args.found.now (parents_at (flats_in c.args.view.now) c.in-Some.id) row.parents s) c.if-branch.true
+    subst (λ o. AreStoredWhere before added c.args.reads.now.pending.now.first c.args.reads.now.found.now (flats_in c.args.view.now) o row.parents true) (sym c.in-Some.is)
+    (subst (λ s. AreStoredAs before added c.args.reads.now.pending.now.first c.args.reads.now.found.now (parents_at (flats_in c.args.view.now) c.in-Some.id) row.parents s) c.if-branch.true
     (c.in_ok-is_stored_so.ensures added before rows row n b e h at))
 
 pub name-requires : goal.name-requires
@@ -19,7 +19,7 @@ pub returns : goal.returns
 returns c = λ added before rows row n b e h at.
     inr (
       ap Conflict (c.to_name.ensures ∙ c.name.ensures rows row h at),
-      subst (λ o. AreStoredWhere before added c.args.pending.now.first c.args.found.now (flats_in c.args.view.now) o row.parents false) (sym c.in-Some.is)
-          (subst (λ s. AreStoredAs before added c.args.pending.now.first c.args.found.now (parents_at (flats_in c.args.view.now) c.in-Some.id) row.parents s) c.if-branch.false
+      subst (λ o. AreStoredWhere before added c.args.reads.now.pending.now.first c.args.reads.now.found.now (flats_in c.args.view.now) o row.parents false) (sym c.in-Some.is)
+          (subst (λ s. AreStoredAs before added c.args.reads.now.pending.now.first c.args.reads.now.found.now (parents_at (flats_in c.args.view.now) c.in-Some.id) row.parents s) c.if-branch.false
           (c.in_ok-is_stored_so.ensures added before rows row n b e h at)),
     )

@@ -14,19 +14,19 @@ pub stored_parents-requires-clause-parents : goal.stored_parents-requires-clause
 stored_parents-requires-clause-parents c =
     let r = c.requires.row in
     let same = c.deref.ensures.value ∙ c.in_ok-parents.ensures ∙ c.in-Some.ensures r.0 r.1 r.2 r.3 in
-    subst (λ f. AllByRecursion (λ p. p < other_id (f + length c.args.found.now)) c.deref.result.now) (sym c.first.ensures)
-    (subst (λ (l : List ℕ). AllByRecursion (λ p. p < other_id (c.args.pending.now.first + length c.args.found.now)) l) (sym same) r.4)
+    subst (λ f. AllByRecursion (λ p. p < other_id (f + length c.args.reads.now.found.now)) c.deref.result.now) (sym c.first.ensures)
+    (subst (λ (l : List ℕ). AllByRecursion (λ p. p < other_id (c.args.reads.now.pending.now.first + length c.args.reads.now.found.now)) l) (sym same) r.4)
 
 pub returns-in-Some-2 : goal.returns-in-Some-2
 returns-in-Some-2 c = λ added before rows row n b e h at.
     let same = c.deref.ensures.value ∙ c.in_ok-parents.ensures ∙ c.in-Some.ensures rows row h at in
-    let got = subst (λ o. MatchOption o ((p : ℕ) × IsIn p c.deref.result.now × IsNowhere before added c.first.result c.args.found.now p) (λ ids. AllZip (IsAt before added c.first.result c.args.found.now) c.deref.result.now ids.items)) c.in-Some-2.is (c.in_ok-stored.ensures added before n b (c.first.ensures ∙ e)) in
-    let z = subst (λ f. AllZip (IsAt before added f c.args.found.now) row.parents c.in-Some-2.stored.items) c.first.ensures (subst (λ l. AllZip (IsAt before added c.first.result c.args.found.now) l c.in-Some-2.stored.items) same got) in
-    ok-more c.has_parents.result _ (AreStoredAs before added c.args.pending.now.first c.args.found.now (parents_at (flats_in c.args.view.now) c.args.id) row.parents)
+    let got = subst (λ o. MatchOption o ((p : ℕ) × IsIn p c.deref.result.now × IsNowhere before added c.first.result c.args.reads.now.found.now p) (λ ids. AllZip (IsAt before added c.first.result c.args.reads.now.found.now) c.deref.result.now ids.items)) c.in-Some-2.is (c.in_ok-stored.ensures added before n b (c.first.ensures ∙ e)) in
+    let z = subst (λ f. AllZip (IsAt before added f c.args.reads.now.found.now) row.parents c.in-Some-2.stored.items) c.first.ensures (subst (λ l. AllZip (IsAt before added c.first.result c.args.reads.now.found.now) l c.in-Some-2.stored.items) same got) in
+    ok-more c.has_parents.result _ (AreStoredAs before added c.args.reads.now.pending.now.first c.args.reads.now.found.now (parents_at (flats_in c.args.view.now) c.args.id) row.parents)
     (λ s q. inr (c.in-Some-2.stored.items, z, q ∙ ap (pointwise nat_eq (parents_at (flats_in c.args.view.now) c.args.id)) c.deref-in-Some-2.ensures.value)) c.has_parents.ensures
 
 pub returns : goal.returns
 returns c = λ added before rows row n b e h at.
     let same = c.deref.ensures.value ∙ c.in_ok-parents.ensures ∙ c.in-Some.ensures rows row h at in
-    let got = subst (λ o. MatchOption o ((p : ℕ) × IsIn p c.deref.result.now × IsNowhere before added c.first.result c.args.found.now p) (λ ids. AllZip (IsAt before added c.first.result c.args.found.now) c.deref.result.now ids.items)) c.in-None.is (c.in_ok-stored.ensures added before n b (c.first.ensures ∙ e)) in
-    inl (refl, (got.0, subst (IsIn got.0) same got.1, subst (λ f. IsNowhere before added f c.args.found.now got.0) c.first.ensures got.2))
+    let got = subst (λ o. MatchOption o ((p : ℕ) × IsIn p c.deref.result.now × IsNowhere before added c.first.result c.args.reads.now.found.now p) (λ ids. AllZip (IsAt before added c.first.result c.args.reads.now.found.now) c.deref.result.now ids.items)) c.in-None.is (c.in_ok-stored.ensures added before n b (c.first.ensures ∙ e)) in
+    inl (refl, (got.0, subst (IsIn got.0) same got.1, subst (λ f. IsNowhere before added f c.args.reads.now.found.now got.0) c.first.ensures got.2))

@@ -1,4 +1,3 @@
-use Rattle.std.proofs.Common.{◌≡◌, ◌∙◌, sym, Err}
 use Rattle.outside.proofs.ToldLemmas.{WhereTold-join}
 use Rattle.remote_pipe.proofs.Taking.{exchanged}
 use Rattle.remote_pipe.proofs.exchange.exchange.Goals as goal

@@ -1,4 +1,4 @@
-use Rattle.std.proofs.Common.{◌≡◌, ◌≤◌, ◌-◌, ℕ, length, take, arith, length-take}
+use Rattle.std.proofs.Common.{◌≤◌, ◌-◌, ℕ, length, take, arith, length-take}
 use Rattle.outside.proofs.ToldLemmas.{WhereTold-join}
 use Rattle.remote_pipe.proofs.Taking.{fills-fault}
 use Rattle.remote_pipe.proofs.exchange.fill_body.Goals as goal

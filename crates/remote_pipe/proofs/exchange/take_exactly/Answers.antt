@@ -1,4 +1,4 @@
-use Rattle.std.proofs.Common.{◌≡◌, ◌≤◌, ◌+◌, ◌-◌, ℕ, length, take, drop, ◌∙◌, arith, length-drop}
+use Rattle.std.proofs.Common.{◌≡◌, ◌-◌, ℕ, length, take, drop, ◌∙◌, arith, length-drop}
 use Rattle.outside.proofs.ToldLemmas.{WhereTold-join}
 use Rattle.remote_pipe.proofs.Taking.{took-more, mid-long, mid-front}
 use Rattle.remote_pipe.proofs.exchange.take_exactly.Goals as goal

@@ -1,4 +1,4 @@
-use Rattle.std.proofs.Common.{◌≡◌, arith, sym, ◌∙◌}
+use Rattle.std.proofs.Common.{arith, sym, ◌∙◌}
 use Rattle.std.proofs.lemmas.Bool.{true≢false}
 use Rattle.remote_pipe.proofs.BodiesRead.{refusal-there, no-refusal}
 use Rattle.remote_pipe.proofs.FitBodies.{names-let, names-barred, refusal-let, refusal-barred}

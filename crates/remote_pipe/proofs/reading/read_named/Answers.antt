@@ -1,4 +1,4 @@
-use Rattle.std.proofs.Common.{◌≡◌, ◌≤◌, ℕ, List, Option, Some, length, take, arith, ap, sym, ◌∙◌, length-take, length-append}
+use Rattle.std.proofs.Common.{◌≡◌, List, Option, Some, length, take, arith, ap, sym, ◌∙◌, length-take}
 use Rattle.std.proofs.lemmas.List.{take_at}
 use Rattle.id_groups.specs.Name.{Name}
 use Rattle.batch_codec.specs.Reading.{names_read}

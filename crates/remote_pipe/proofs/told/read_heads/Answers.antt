@@ -1,6 +1,6 @@
-use Rattle.std.proofs.Common.{◌≡◌, ◌<◌, ◌+◌, ◌-◌, ◌++◌, ◌∷◌, [], ℕ, length, refl, sym, ap, ◌∙◌, arith, length-append, Err}
+use Rattle.std.proofs.Common.{◌+◌, ◌-◌, ◌∷◌, [], length, refl, sym, ap, ◌∙◌, arith, length-append}
 use Rattle.batch_codec.specs.Reading.{piece_at}
-use Rattle.remote_pipe.specs.Reading.{items_at, counted_at}
+use Rattle.remote_pipe.specs.Reading.{items_at}
 use Rattle.remote_rules.specs.CloneData.{CloneData}
 use Rattle.remote_pipe.proofs.ItemsInTurn.{put_front, one-more, none-more, all-read, counted-none, counted-some}
 use Rattle.remote_pipe.proofs.told.read_heads.Goals as goal

@@ -1,7 +1,6 @@
-use Rattle.std.proofs.Common.{◌≡◌, ℕ, List, Err, Some, None, ap, ◌∙◌}
+use Rattle.std.proofs.Common.{◌≡◌, ap, ◌∙◌}
 use Rattle.std.proofs.lemmas.Result.{IfOk-weaker}
 use Rattle.remote_rules.specs.CloneData.{CloneData}
-use Rattle.remote_pipe.specs.Reading.{only as only_of}
 use Rattle.remote_pipe.proofs.ListsRead.{no-segments, no-names, no-heads, all-lists}
 use Rattle.remote_pipe.proofs.told.read_lists.Goals as goal
 

@@ -1,5 +1,5 @@
-use Rattle.std.proofs.Common.{◌≡◌, ◌<◌, ◌+◌, ◌-◌, ◌++◌, ◌∷◌, [], ℕ, length, refl, sym, ap, ◌∙◌, arith, length-append, Err}
-use Rattle.remote_pipe.specs.Reading.{items_at, counted_at, segment_at}
+use Rattle.std.proofs.Common.{◌+◌, ◌-◌, ◌∷◌, [], length, refl, sym, ap, ◌∙◌, arith, length-append}
+use Rattle.remote_pipe.specs.Reading.{items_at, segment_at}
 use Rattle.remote_rules.specs.CloneData.{CloneData}
 use Rattle.remote_pipe.proofs.ItemsInTurn.{put_front, one-more, none-more, all-read, counted-none, counted-some}
 use Rattle.remote_pipe.proofs.told.read_segments.Goals as goal

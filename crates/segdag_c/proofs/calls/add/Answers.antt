@@ -2,7 +2,7 @@ use Rattle.std.proofs.Common.{List, Ok, subst, sym}
 use Rattle.id_groups.specs.Name.{Name}
 use Rattle.step_rules.specs.Verb.{Add}
 use Rattle.dag_store.specs.Steps.{add_reply}
-use Rattle.dag_store.specs.declared.replies.Added.{Added}
+use Rattle.store_queries.specs.declared.adding.Added.{Added}
 use Rattle.segdag_c.specs.Calls.{HeldAdds, HeldDoes}
 use Rattle.segdag_c.specs.Names.{AreJoined}
 use Rattle.segdag_c.specs.Typed.{added_reply}

@@ -1,5 +1,5 @@
 use Rattle.std.proofs.Common.{sym, ◌∙◌}
-use Rattle.dag_store.specs.Names.{names_left}
+use Rattle.store_queries.specs.Names.{names_left}
 use Rattle.segdag_c.proofs.calls.join_found.Goals as goal
 
 pub returns-in-Ok-clause-names : goal.returns-in-Ok-clause-names

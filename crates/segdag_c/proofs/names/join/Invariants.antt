@@ -1,6 +1,6 @@
 use Rattle.std.proofs.Common.{◌≡◌, ◌++◌}
 use Rattle.std.specs.List.{concat}
-use Rattle.dag_store.specs.Names.{names_left}
+use Rattle.store_queries.specs.Names.{names_left}
 use Rattle.segdag_c.proofs.names.join.Given as goal
 
 abbrev pub invariant-loop-name : goal.invariant-loop-name

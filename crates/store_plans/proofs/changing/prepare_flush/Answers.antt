@@ -7,15 +7,15 @@ use Rattle.store_plans.proofs.changing.prepare_flush.Goals as goal
 
 pub returns-in_err-change-clause-step : goal.returns-in_err-change-clause-step
 returns-in_err-change-clause-step g c = λ began s added st v x o.
-    let old = map g.R.Remote.shown c.args.mirrors.now.items in
-    let new = map g.R.Remote.shown c.plan.new.mirrors.items in
-    prepares-refused c.args.limits st s old new c.args.cache.now c.plan.new.cache (Flush c.args.heads.now) (flush_of st s c.args.heads.now) c.from_residual.result c.in_err-change.field-0.0 c.from_residual.ensures.1 (c.in_err-change.ensures.step began s added st v x o)
+    let old = map g.R.Remote.shown c.args.sources.mirrors.now.items in
+    let new = map g.R.Remote.shown c.plan.new.sources.1.0.items in
+    prepares-refused c.args.limits st s old new c.args.sources.cache.now c.plan.new.sources.0 (Flush c.args.heads.now) (flush_of st s c.args.heads.now) c.from_residual.result c.in_err-change.field-0.0 c.from_residual.ensures.1 (c.in_err-change.ensures.step began s added st v x o)
 
 pub returns-in-Ok-clause-step : goal.returns-in-Ok-clause-step
 returns-in-Ok-clause-step g c = λ began s added st v x o.
-    let old = map g.R.Remote.shown c.args.mirrors.now.items in
-    let new = map g.R.Remote.shown c.plan.new.mirrors.items in
-    prepares-done c.args.limits st s old new c.args.cache.now c.plan.new.cache (Flush c.args.heads.now) (flush_of st s c.args.heads.now) c.in_ok-change.change (c.in_ok-change.ensures.step began s added st v x o) _ refl
+    let old = map g.R.Remote.shown c.args.sources.mirrors.now.items in
+    let new = map g.R.Remote.shown c.plan.new.sources.1.0.items in
+    prepares-done c.args.limits st s old new c.args.sources.cache.now c.plan.new.sources.0 (Flush c.args.heads.now) (flush_of st s c.args.heads.now) c.in_ok-change.change (c.in_ok-change.ensures.step began s added st v x o) _ refl
 
 pub returns-in-Ok-clause-ready : goal.returns-in-Ok-clause-ready
 returns-in-Ok-clause-ready g c = λ added v x.
@@ -25,6 +25,6 @@ returns-in-Ok-clause-ready g c = λ added v x.
 
 pub returns-in-Err-clause-step : goal.returns-in-Err-clause-step
 returns-in-Err-clause-step g c = λ began s added st v x o.
-    let old = map g.R.Remote.shown c.args.mirrors.now.items in
-    let new = map g.R.Remote.shown c.plan.new.mirrors.items in
-    prepares-memory c.args.limits st s old new c.args.cache.now c.plan.new.cache (Flush c.args.heads.now) (flush_of st s c.args.heads.now) c.in_ok-change.change (c.in_ok-change.ensures.step began s added st v x o)
+    let old = map g.R.Remote.shown c.args.sources.mirrors.now.items in
+    let new = map g.R.Remote.shown c.plan.new.sources.1.0.items in
+    prepares-memory c.args.limits st s old new c.args.sources.cache.now c.plan.new.sources.0 (Flush c.args.heads.now) (flush_of st s c.args.heads.now) c.in_ok-change.change (c.in_ok-change.ensures.step began s added st v x o)

@@ -11,10 +11,10 @@ use Rattle.store_plans.proofs.planning.plan.Goals as goal
 
 pub returns-in_err-found-clause-step : goal.returns-in_err-found-clause-step
 returns-in_err-found-clause-step g c = λ began s added st v x o.
-    let old = map g.R.Remote.shown c.args.mirrors.now.items in
+    let old = map g.R.Remote.shown c.args.sources.mirrors.now.items in
     let new = map g.R.Remote.shown c.heads_found.new.mirrors.items in
-    err-plans c.args.limits st s (Flush c.args.heads.now) (flush_of st s c.args.heads.now) old new c.args.cache.now c.heads_found.new.cache c.from_residual.result c.in_err-found.field-0.0 c.from_residual.ensures.1
-    (plans-unfound c.args.limits st s c.args.heads.now began added c.args.session.now o old new c.args.cache.now c.heads_found.new.cache c.in_err-found.field-0.0 (c.in_err-found.ensures.step began s added st v x o))
+    err-plans c.args.limits st s (Flush c.args.heads.now) (flush_of st s c.args.heads.now) old new c.args.sources.cache.now c.heads_found.new.cache c.from_residual.result c.in_err-found.field-0.0 c.from_residual.ensures.1
+    (plans-unfound c.args.limits st s c.args.heads.now began added c.args.session.now o old new c.args.sources.cache.now c.heads_found.new.cache c.in_err-found.field-0.0 (c.in_err-found.ensures.step began s added st v x o))
 
 pub plan_found-requires-clause-kept : goal.plan_found-requires-clause-kept
 plan_found-requires-clause-kept g c =
@@ -27,7 +27,7 @@ returns-clause-stored g c = λ added v x.
 
 pub returns-clause-step : goal.returns-clause-step
 returns-clause-step g c = λ began s added st v x o.
-    let old = map g.R.Remote.shown c.args.mirrors.now.items in
+    let old = map g.R.Remote.shown c.args.sources.mirrors.now.items in
     let mid = map g.R.Remote.shown c.heads_found.new.mirrors.items in
-    c.plan_found.ensures.step began s added st old c.args.cache.now v x o
-    (subst (λ l. FindsHeads added st.stored (pending_of st s) c.args.heads.now old mid c.args.cache.now c.heads_found.new.cache (Ok l)) (sym c.deref_mut.ensures.value) (c.in_ok-found.ensures.step began s added st v x o))
+    c.plan_found.ensures.step began s added st old c.args.sources.cache.now v x o
+    (subst (λ l. FindsHeads added st.stored (pending_of st s) c.args.heads.now old mid c.args.sources.cache.now c.heads_found.new.cache (Ok l)) (sym c.deref_mut.ensures.value) (c.in_ok-found.ensures.step began s added st v x o))

@@ -17,14 +17,14 @@ use Rattle.store_plans.proofs.planning.plan_found.Goals as goal
 pub rebased-requires-clause-heads : goal.rebased-requires-clause-heads
 rebased-requires-clause-heads g c =
     let r = c.requires.kept in
-    zip-length (IsFoundIn r.0) c.args.heads.now c.args.found.now r.3
+    zip-length (IsFoundIn r.0) c.args.sought.heads.now c.args.sought.found.now r.3
 
 pub returns-in_err-left-clause-step : goal.returns-in_err-left-clause-step
 returns-in_err-left-clause-step g c = λ began s added st first before v x o f.
-    let old = map g.R.Remote.shown c.args.mirrors.now.items in
-    let new = map g.R.Remote.shown c.rebased.new.mirrors.items in
-    err-plans c.args.limits st s (Flush c.args.heads.now) (flush_of st s c.args.heads.now) first new before c.rebased.new.cache c.from_residual.result c.in_err-left.field-0.0 c.from_residual.ensures.1
-    (plans-unmoved c.args.limits st s c.args.heads.now began added c.args.session.now o first old new before c.args.cache.now c.rebased.new.cache c.args.found.now c.rebased.new.found
+    let old = map g.R.Remote.shown c.args.sources.mirrors.now.items in
+    let new = map g.R.Remote.shown c.rebased.new.sources.1.0.items in
+    err-plans c.args.limits st s (Flush c.args.sought.heads.now) (flush_of st s c.args.sought.heads.now) first new before c.rebased.new.sources.0 c.from_residual.result c.in_err-left.field-0.0 c.from_residual.ensures.1
+    (plans-unmoved c.args.limits st s c.args.sought.heads.now began added c.args.session.now o first old new before c.args.sources.cache.now c.rebased.new.sources.0 c.args.sought.found.now c.rebased.new.found
     f
     c.in_err-left.field-0.0 (c.in_err-left.ensures.step began s added st c.args.limits v x o))
 
@@ -60,31 +60,31 @@ returns-in-Ok-clause-stored g c = λ added v x z.
 
 pub returns-in-Ok-clause-step : goal.returns-in-Ok-clause-step
 returns-in-Ok-clause-step g c = λ began s added st first before v x o f.
-    let old = map g.R.Remote.shown c.args.mirrors.now.items in
-    let new = map g.R.Remote.shown c.rebased.new.mirrors.items in
+    let old = map g.R.Remote.shown c.args.sources.mirrors.now.items in
+    let new = map g.R.Remote.shown c.rebased.new.sources.1.0.items in
     let bytes = c.bytes.result.now in
     let are = c.bytes.ensures.bytes in
     let size = log-size c.args.log.now c.args.tables.now added v c.args.session.now x bytes are began s st o c.bytes.ensures.size in
     let fits : length bytes ≤ c.args.limits.log = let a = c.bytes.ensures.log.0 in let b = c.requires.limit in omega (arith, a, b) in
-    plans-change c.args.limits st s c.args.heads.now began added c.args.session.now o first old new before c.args.cache.now c.rebased.new.cache c.args.found.now c.rebased.new.found
+    plans-change c.args.limits st s c.args.sought.heads.now began added c.args.session.now o first old new before c.args.sources.cache.now c.rebased.new.sources.0 c.args.sought.found.now c.rebased.new.found
     f
     c.in_ok-left.left (c.in_ok-left.ensures.step began s added st c.args.limits v x o) (length bytes) size fits c.in-Ok.change
-    (λ left later. c.in-Ok.ensures.worlds st.stored (left_of same_name st.stored (pending_of st s)) (payload_to st (flush_of st s c.args.heads.now))
-    (may-flush c.args.log.now c.args.tables.now added v c.args.session.now x bytes are began s st o c.in_ok-left.left left c.args.heads.now c.rebased.new.found later)
-    (change-to st (flush_of st s c.args.heads.now)))
+    (λ left later. c.in-Ok.ensures.worlds st.stored (left_of same_name st.stored (pending_of st s)) (payload_to st (flush_of st s c.args.sought.heads.now))
+    (may-flush c.args.log.now c.args.tables.now added v c.args.session.now x bytes are began s st o c.in_ok-left.left left c.args.sought.heads.now c.rebased.new.found later)
+    (change-to st (flush_of st s c.args.sought.heads.now)))
 
 pub returns-clause-step : goal.returns-clause-step
 returns-clause-step g c = λ began s added st first before v x o f.
-    let old = map g.R.Remote.shown c.args.mirrors.now.items in
-    let new = map g.R.Remote.shown c.rebased.new.mirrors.items in
+    let old = map g.R.Remote.shown c.args.sources.mirrors.now.items in
+    let new = map g.R.Remote.shown c.rebased.new.sources.1.0.items in
     let bytes = c.bytes.result.now in
     let are = c.bytes.ensures.bytes in
     let size = log-size c.args.log.now c.args.tables.now added v c.args.session.now x bytes are began s st o c.bytes.ensures.size in
     let fits : length bytes ≤ c.args.limits.log = let a = c.bytes.ensures.log.0 in let b = c.requires.limit in omega (arith, a, b) in
-    subst (λ r. PlansFlush c.args.limits st s c.args.heads.now first new before c.rebased.new.cache (Err r)) (sym c.refusal_of.ensures)
-    (plans-fault c.args.limits st s c.args.heads.now began added c.args.session.now o first old new before c.args.cache.now c.rebased.new.cache c.args.found.now c.rebased.new.found
+    subst (λ r. PlansFlush c.args.limits st s c.args.sought.heads.now first new before c.rebased.new.sources.0 (Err r)) (sym c.refusal_of.ensures)
+    (plans-fault c.args.limits st s c.args.sought.heads.now began added c.args.session.now o first old new before c.args.sources.cache.now c.rebased.new.sources.0 c.args.sought.found.now c.rebased.new.found
     f
     c.in_ok-left.left (c.in_ok-left.ensures.step began s added st c.args.limits v x o) (length bytes) size fits c.in-Err.fault
-    (λ left later. c.in-Err.ensures.worlds st.stored (left_of same_name st.stored (pending_of st s)) (payload_to st (flush_of st s c.args.heads.now))
-    (may-flush c.args.log.now c.args.tables.now added v c.args.session.now x bytes are began s st o c.in_ok-left.left left c.args.heads.now c.rebased.new.found later)
-    (change-to st (flush_of st s c.args.heads.now))))
+    (λ left later. c.in-Err.ensures.worlds st.stored (left_of same_name st.stored (pending_of st s)) (payload_to st (flush_of st s c.args.sought.heads.now))
+    (may-flush c.args.log.now c.args.tables.now added v c.args.session.now x bytes are began s st o c.in_ok-left.left left c.args.sought.heads.now c.rebased.new.found later)
+    (change-to st (flush_of st s c.args.sought.heads.now))))

@@ -16,17 +16,17 @@ pub returns-then-session-batch_count-clause-step : goal.returns-then-session-bat
 returns-then-session-batch_count-clause-step g c = λ began s added st limits v x o.
     let newest = c.if-session-batch_count.true ∙ c.batch_count.ensures in
     stays-newest began s added c.args.session.now st o (is-newest c.args.log.now c.args.tables.now added v c.args.session.now x _ refl began s st o newest)
-    limits c.args.heads.now _ c.args.cache.now c.args.found.now c.args.session.now.pending c.copied.result refl c.copied.ensures
+    limits c.args.heads.now _ c.args.sources.cache.now c.args.found.now c.args.session.now.pending c.copied.result refl c.copied.ensures
 
 pub returns-in_err-rows-clause-step : goal.returns-in_err-rows-clause-step
 returns-in_err-rows-clause-step g c = λ began s added st limits v x o.
-    let old = map g.R.Remote.shown c.args.mirrors.now.items in
+    let old = map g.R.Remote.shown c.args.sources.mirrors.now.items in
     let new = map g.R.Remote.shown c.rows_found.new.mirrors.items in
     let stand = subst (λ l. StandFor l st.stored) (sym o.payloads) o.hold.stand in
     let older = isnt-newest c.args.log.now c.args.tables.now added v c.args.session.now x _ refl began s st o
     (λ e. c.if-session-batch_count.false (e ∙ sym c.batch_count.ensures)) in
-    err-rebases limits st s c.args.heads.now old new c.args.cache.now c.rows_found.new.cache c.args.found.now c.args.found.now c.from_residual.result c.in_err-rows.field-0.0 c.from_residual.ensures.1
-    (rows-refused began s added c.args.session.now st o older limits c.args.heads.now old new c.args.cache.now c.rows_found.new.cache c.args.found.now c.args.found.now c.in_err-rows.field-0.0
+    err-rebases limits st s c.args.heads.now old new c.args.sources.cache.now c.rows_found.new.cache c.args.found.now c.args.found.now c.from_residual.result c.in_err-rows.field-0.0 c.from_residual.ensures.1
+    (rows-refused began s added c.args.session.now st o older limits c.args.heads.now old new c.args.sources.cache.now c.rows_found.new.cache c.args.found.now c.args.found.now c.in_err-rows.field-0.0
     (c.in_err-rows.ensures.finds added st.stored (names_of (pending_of st s)) v x stand o.hold.world (session-names began s added c.args.session.now st o)))
 
 pub rebased_anew-requires : goal.rebased_anew-requires
@@ -49,14 +49,14 @@ returns-clause-found g c = λ added v x z.
 
 pub returns-clause-step : goal.returns-clause-step
 returns-clause-step g c = λ began s added st limits v x o.
-    let old = map g.R.Remote.shown c.args.mirrors.now.items in
+    let old = map g.R.Remote.shown c.args.sources.mirrors.now.items in
     let new = map g.R.Remote.shown c.rows_found.new.mirrors.items in
     let names = names_of (pending_of st s) in
     let n = session-names began s added c.args.session.now st o in
     let stand = subst (λ l. StandFor l st.stored) (sym o.payloads) o.hold.stand in
     let older = isnt-newest c.args.log.now c.args.tables.now added v c.args.session.now x _ refl began s st o
     (λ e. c.if-session-batch_count.false (e ∙ sym c.batch_count.ensures)) in
-    rows-moved began s added c.args.session.now st o older limits c.args.heads.now old new c.args.cache.now c.rows_found.new.cache c.args.found.now c.in_ok-rows.rows.items
+    rows-moved began s added c.args.session.now st o older limits c.args.heads.now old new c.args.sources.cache.now c.rows_found.new.cache c.args.found.now c.in_ok-rows.rows.items
     (c.in_ok-rows.ensures.finds added st.stored names v x stand o.hold.world n)
     c.take_rows.new.found c.take_rows.ensures.len
     (λ i lt. subst (λ l. IsTaken names l (get_or c.args.heads.now i []) (get_or c.args.found.now i None) (get_or c.take_rows.new.found i None)) c.deref.ensures.value (c.take_rows.ensures.taken names n i lt))

@@ -50,10 +50,10 @@ returns-clause-step g c =
     let over = over-of i.log c.deref_mut.result.now items i.limits k in
     let of = subst (IsSessionOf k.added) (sym there) (k.each s small) in
     let told = g.D.Disk.told c.args.disk.now in let then = g.D.Disk.told c.finish.new.disk in
-    ask-answers i.log c.deref_mut.result.now items i.limits k s small i.cache c.prepare_ask-next.new.cache _ _ c.args.self c.self.view_is c.index.result.now there c.prepare_ask-next.new.log c.prepare_ask-next.ensures.room told then
+    ask-answers i.log c.deref_mut.result.now items i.limits k s small i.cache c.prepare_ask-next.new.sources.0 _ _ c.args.self c.self.view_is c.index.result.now there c.prepare_ask-next.new.log c.prepare_ask-next.ensures.room told then
     c.prepare_ask-next.ensures.sound c.prepare_ask-next.new.tables c.prepare_ask-next.result (made-of c.prepare_ask-next.result _ _ (c.prepare_ask-next.ensures.ready k.added over of) c.prepare_ask-next.ensures.refused)
     c.from-at.result c.from-at.ensures c.finish.result c.finish.ensures.ends
-    (leaves-room kept c.prepare_ask-next.new.log c.prepare_ask-next.ensures.room items c.prepare_ask-next.new.cache _ c.finish.result told then c.finish.ensures.leaves) c.args.ask c.requires.asked
+    (leaves-room kept c.prepare_ask-next.new.log c.prepare_ask-next.ensures.room items c.prepare_ask-next.new.sources.0 _ c.finish.result told then c.finish.ensures.leaves) c.args.ask c.requires.asked
     c.prepare_ask-next.ensures.named c.prepare_ask-next.ensures.keeps (λ began st o. c.prepare_ask-next.ensures.prepares began s k.added st over of o)
 
 pub returns-clause-leaves : goal.returns-clause-leaves
@@ -61,4 +61,4 @@ returns-clause-leaves g c =
     let i = c.self.inside in
     let kept : PlainStore = record { log = i.log; sessions = i.sessions.items; limits = i.limits; cache = i.cache } in
     subst (λ (q : PlainStore). LeavesStore q c.args.s c.finish.result) c.self.view_is
-    (leaves-ends kept c.prepare_ask-next.new.log c.prepare_ask-next.ensures.room c.prepare_ask-next.new.cache c.args.s c.from-at.result c.from-at.ensures c.prepare_ask-next.result c.finish.result c.finish.ensures.ends)
+    (leaves-ends kept c.prepare_ask-next.new.log c.prepare_ask-next.ensures.room c.prepare_ask-next.new.sources.0 c.args.s c.from-at.result c.from-at.ensures c.prepare_ask-next.result c.finish.result c.finish.ensures.ends)

@@ -2,11 +2,25 @@ use Rattle.std.proofs.Common.{◌<◌, ◌^◌, [], sym, subst}
 use Rattle.name_map.specs.Added.{AllStand}
 use Rattle.set_expr.specs.Whole.{tree_of}
 use Rattle.step_rules.specs.State.{base_of, pending_of}
+use Rattle.store_plans.specs.Sessions.{IsSessionOf, base_added}
+use Rattle.store_queries.proofs.QueryWorld.{some-seen}
 use Rattle.dag_store.specs.Kept.{IsKept}
-use Rattle.store_plans.specs.Sessions.{IsSessionOf}
 use Rattle.dag_store.proofs.Standing.{session-there}
 use Rattle.dag_store.proofs.Leading.{count-asks-at, count-leads-at, seen-at, serves-at}
 use Rattle.dag_store.proofs.store.Store.count.Goals as goal
+
+pub members-requires-clause-view : goal.members-requires-clause-view
+members-requires-clause-view g c =
+    let i = c.self.inside in
+    let items = i.sessions.items in
+    let tables = c.deref.result.now in
+    let k = subst (λ t. IsKept i.log t i.sessions.items i.limits) (sym c.deref.ensures) c.self.invariant in
+    let x = c.index-session.result.now in
+    let there = session-there items c.args.s c.from.result x _ c.requires k.count c.from.ensures c.index-session.ensures in
+    let of = subst (IsSessionOf k.added) (sym there) (k.each c.args.s c.requires) in
+    let stand = subst (λ b. AllStand b k.added) (sym c.bytes.ensures.bytes) k.stand in
+    let (w, rows, sees) = some-seen tables k.added x k.tables_of of in
+    (base_added k.added x, w, rows, c.seen-seen.ensures.shows k.added w rows of k.tables_of stand sees)
 
 pub invariant_of-mirrors : goal.invariant_of-mirrors
 invariant_of-mirrors g c = record { few = subst (λ n. n < 2 ^ 32) (sym c.members.ensures.len) c.args.mirrors.now.few }
@@ -17,11 +31,12 @@ returns-clause-step g c = λ began st h served.
     let items = i.sessions.items in
     let tables = c.deref.result.now in
     let k = subst (λ t. IsKept i.log t i.sessions.items i.limits) (sym c.deref.ensures) c.self.invariant in
-    let there = session-there items c.args.s c.from.result c.index-session.result.now _ c.requires k.count c.from.ensures c.index-session.ensures in
+    let x = c.index-session.result.now in
+    let there = session-there items c.args.s c.from.result x _ c.requires k.count c.from.ensures c.index-session.ensures in
     let of = subst (IsSessionOf k.added) (sym there) (k.each c.args.s c.requires) in
     let stand = subst (λ b. AllStand b k.added) (sym c.bytes.ensures.bytes) k.stand in
-    count-leads-at i.log tables items i.limits k c.args.s c.requires i.cache c.members.new.cache _ _ began (tree_of c.args.expr.now) c.members.result c.args.self.now c.self.view_is c.index-session.result.now there st h served c.members.ensures.sound
-    (λ w rows seen. c.members.ensures.answer k.added w rows k.tables_of stand of seen)
+    count-leads-at i.log tables items i.limits k c.args.s c.requires i.cache c.members.new.cache _ _ began (tree_of c.args.expr.now) c.members.result c.args.self.now c.self.view_is x there st h served c.members.ensures.sound
+    (λ w rows sees. c.members.ensures.answer (base_added k.added x) w rows (c.seen-seen.ensures.shows k.added w rows of k.tables_of stand sees))
 
 pub returns-clause-asks : goal.returns-clause-asks
 returns-clause-asks g c = λ began st h.
@@ -29,11 +44,12 @@ returns-clause-asks g c = λ began st h.
     let items = i.sessions.items in
     let tables = c.deref.result.now in
     let k = subst (λ t. IsKept i.log t i.sessions.items i.limits) (sym c.deref.ensures) c.self.invariant in
-    let there = session-there items c.args.s c.from.result c.index-session.result.now _ c.requires k.count c.from.ensures c.index-session.ensures in
+    let x = c.index-session.result.now in
+    let there = session-there items c.args.s c.from.result x _ c.requires k.count c.from.ensures c.index-session.ensures in
     let of = subst (IsSessionOf k.added) (sym there) (k.each c.args.s c.requires) in
     let stand = subst (λ b. AllStand b k.added) (sym c.bytes.ensures.bytes) k.stand in
-    count-asks-at i.log tables items i.limits k c.args.s c.requires i.cache c.members.new.cache _ _ began (tree_of c.args.expr.now) c.members.result c.args.self.now c.self.view_is c.index-session.result.now there st h
-    (λ w rows seen. c.members.ensures.answer k.added w rows k.tables_of stand of seen)
+    count-asks-at i.log tables items i.limits k c.args.s c.requires i.cache c.members.new.cache _ _ began (tree_of c.args.expr.now) c.members.result c.args.self.now c.self.view_is x there st h
+    (λ w rows sees. c.members.ensures.answer (base_added k.added x) w rows (c.seen-seen.ensures.shows k.added w rows of k.tables_of stand sees))
 
 pub returns-clause-few : goal.returns-clause-few
 returns-clause-few g c = λ began st name h tree.
@@ -41,11 +57,14 @@ returns-clause-few g c = λ began st name h tree.
     let items = i.sessions.items in
     let tables = c.deref.result.now in
     let k = subst (λ t. IsKept i.log t i.sessions.items i.limits) (sym c.deref.ensures) c.self.invariant in
-    let there = session-there items c.args.s c.from.result c.index-session.result.now _ c.requires k.count c.from.ensures c.index-session.ensures in
+    let x = c.index-session.result.now in
+    let there = session-there items c.args.s c.from.result x _ c.requires k.count c.from.ensures c.index-session.ensures in
     let of = subst (IsSessionOf k.added) (sym there) (k.each c.args.s c.requires) in
     let stand = subst (λ b. AllStand b k.added) (sym c.bytes.ensures.bytes) k.stand in
-    c.members.ensures.few k.added (base_of st c.args.s) (pending_of st c.args.s) name k.tables_of stand of
-    (seen-at i.log tables items i.limits k c.args.s c.requires i.cache c.members.new.cache [] [] began (tree_of c.args.expr.now) c.members.result c.args.self.now c.self.view_is c.index-session.result.now there st h) tree
+    let w = base_of st c.args.s in
+    let rows = pending_of st c.args.s in
+    let sees = seen-at i.log tables items i.limits k c.args.s c.requires i.cache c.members.new.cache [] [] began (tree_of c.args.expr.now) c.members.result c.args.self.now c.self.view_is x there st h in
+    c.members.ensures.few (base_added k.added x) w rows name (c.seen-seen.ensures.shows k.added w rows of k.tables_of stand sees) tree
 
 pub returns-clause-one : goal.returns-clause-one
 returns-clause-one g c = λ began st name h served tree ends.
@@ -53,9 +72,12 @@ returns-clause-one g c = λ began st name h served tree ends.
     let items = i.sessions.items in
     let tables = c.deref.result.now in
     let k = subst (λ t. IsKept i.log t i.sessions.items i.limits) (sym c.deref.ensures) c.self.invariant in
-    let there = session-there items c.args.s c.from.result c.index-session.result.now _ c.requires k.count c.from.ensures c.index-session.ensures in
+    let x = c.index-session.result.now in
+    let there = session-there items c.args.s c.from.result x _ c.requires k.count c.from.ensures c.index-session.ensures in
     let of = subst (IsSessionOf k.added) (sym there) (k.each c.args.s c.requires) in
     let stand = subst (λ b. AllStand b k.added) (sym c.bytes.ensures.bytes) k.stand in
-    c.members.ensures.one k.added (base_of st.store c.args.s) (pending_of st.store c.args.s) name k.tables_of stand of
-    (seen-at i.log tables items i.limits k c.args.s c.requires i.cache c.members.new.cache [] [] began (tree_of c.args.expr.now) c.members.result c.args.self.now c.self.view_is c.index-session.result.now there st.store h.stored) tree ends
-    (serves-at i.log tables items i.limits k c.args.s c.requires i.cache c.members.new.cache _ [] began (tree_of c.args.expr.now) c.members.result c.args.self.now c.self.view_is c.index-session.result.now there st h served)
+    let w = base_of st.store c.args.s in
+    let rows = pending_of st.store c.args.s in
+    let sees = seen-at i.log tables items i.limits k c.args.s c.requires i.cache c.members.new.cache [] [] began (tree_of c.args.expr.now) c.members.result c.args.self.now c.self.view_is x there st.store h.stored in
+    c.members.ensures.one (base_added k.added x) w rows name (c.seen-seen.ensures.shows k.added w rows of k.tables_of stand sees) tree ends
+    (serves-at i.log tables items i.limits k c.args.s c.requires i.cache c.members.new.cache _ [] began (tree_of c.args.expr.now) c.members.result c.args.self.now c.self.view_is x there st h served)

@@ -12,5 +12,4 @@ returns-clause-grown g c = λ h.
     grown c.self.inside.items.items c.self.inside.count c.in_ok-fresh.fresh.items c.in_ok-fresh.count c.in_ok-self-inside.field-0.items flats
     (subst (λ (z : PlainEdges). AreEdgesOf z.items z.count flats) (sym c.self.view_is) h.edges)
     c.in_ok-fresh.ensures.order c.in_ok-fresh.ensures.edges (c.in_ok-fresh.ensures.few few)
-    (subst (λ l. Merged l c.in_ok-fresh.fresh.items c.in_ok-self-inside.field-0.items) c.deref.ensures.value
-    (subst (λ l. Merged c.deref.result.now l c.in_ok-self-inside.field-0.items) c.deref-2.ensures.value c.in_ok-self-inside.ensures))
+    (subst (λ l. Merged l c.in_ok-fresh.fresh.items c.in_ok-self-inside.field-0.items) c.deref.ensures.value c.in_ok-self-inside.ensures)

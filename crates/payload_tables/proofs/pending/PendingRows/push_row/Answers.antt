@@ -7,8 +7,8 @@ use Rattle.payload_tables.proofs.Rows.{row-is-segment, count-rows, may-push, rec
 use Rattle.payload_tables.specs.contracts.pending.PendingRows.{the_view}
 use Rattle.payload_tables.proofs.pending.PendingRows.push_row.Goals as goal
 
-pub segment_of_row-segment-requires : goal.segment_of_row-segment-requires
-segment_of_row-segment-requires c =
+pub segment_of_row-requires : goal.segment_of_row-requires
+segment_of_row-requires c =
     let old = the_view c.self.inside in let v : c.args.self.now ≡ old = sym c.self.view_is in let row = subst (λ o. MayPushRow o.first (length o.places) c.args.parents.now) v c.requires.row in
     let h = subst (λ o. HoldsRows o c.requires.rows.0) v c.requires.rows.1 in
     let counted : c.len.result ≡ length old.places = (let l = c.len.ensures in let k = c.self.inside.places.ok.0 in omega (arith, l, k)) in
@@ -30,7 +30,7 @@ add_parts-added-requires-clause-segment c =
     let at : c.len-place.result ≡ length old.records = (let l = c.len-place.ensures in let k = c.self.inside.records.ok.0 in omega (arith, l, k)) in
     let number = c.other-id.ensures ∙ ap (λ n. other_id (old.first + n)) counted in
     let whole = row-is-segment c.other-id.result old.first (length old.places) c.args.parents.now number h.room row in
-    let same = c.segment_of_row-segment.ensures c.args.parents.now (record {
+    let same = c.segment_of_row.ensures c.args.parents.now (record {
       whole = whole;
       spelled = c.split_at.ensures.back ∙ record-behind old.records _ c.deref.result.now c.len-place.result at (c.deref.ensures.value ∙ c.in_ok-write_segment.ensures.ok);
     }) in
@@ -44,7 +44,7 @@ returns-else-is_err-clause-pushed c = λ rows g told.
     let at : c.len-place.result ≡ length old.records = (let l = c.len-place.ensures in let k = c.self.inside.records.ok.0 in omega (arith, l, k)) in
     let number = c.other-id.ensures ∙ ap (λ n. other_id (old.first + n)) counted in
     let whole = row-is-segment c.other-id.result old.first (length old.places) c.args.parents.now number h.room row in
-    let same = c.segment_of_row-segment.ensures c.args.parents.now (record {
+    let same = c.segment_of_row.ensures c.args.parents.now (record {
       whole = whole;
       spelled = c.split_at.ensures.back ∙ record-behind old.records _ c.deref.result.now c.len-place.result at (c.deref.ensures.value ∙ c.in_ok-write_segment.ensures.ok);
     }) in

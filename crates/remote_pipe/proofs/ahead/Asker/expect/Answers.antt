@@ -1,4 +1,4 @@
-use Rattle.std.proofs.Common.{◌≡◌, ◌++◌, ap, sym, subst, ◌∙◌, length, take, List, append_assoc, arith, ◌∷◌, []}
+use Rattle.std.proofs.Common.{◌++◌, ap, sym, subst, ◌∙◌, take, List, append_assoc, ◌∷◌, []}
 use Rattle.remote_trait.specs.Runs.{Run}
 use Rattle.remote_pipe.specs.Ahead.{AsksBehind}
 use Rattle.remote_pipe.proofs.Passing.{behind-more, turn-more, all-stopped}

@@ -1,4 +1,4 @@
-use Rattle.std.proofs.Common.{◌≡◌, inl, inr, ℕ, List, Ok, Err, refl, sym, ap, subst}
+use Rattle.std.proofs.Common.{inl, inr, ℕ, List, Ok, Err, refl, sym, ap, subst}
 use Rattle.remote_trait.specs.Runs.{Run}
 use Rattle.remote_serve.specs.Requests.{ToNames}
 use Rattle.remote_pipe.specs.Ahead.{Passes, PassesTo, Done}

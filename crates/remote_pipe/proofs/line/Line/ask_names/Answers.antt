@@ -1,4 +1,4 @@
-use Rattle.std.proofs.Common.{◌≡◌, ℕ, length, take, arith}
+use Rattle.std.proofs.Common.{ℕ, length, take, arith}
 use Rattle.remote_serve.specs.Requests.{ToNames}
 use Rattle.remote_serve.specs.Answers.{Named}
 use Rattle.remote_pipe.specs.Peer.{request_frame}

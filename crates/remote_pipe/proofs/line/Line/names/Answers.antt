@@ -1,4 +1,4 @@
-use Rattle.std.proofs.Common.{◌⊎◌, inl, inr, ⊎_elim, ◌≡◌, ◌≤◌, ◌+◌, ◌-◌, ℕ, length, take, drop, ap, sym, ◌∙◌, arith, length-drop, length-take}
+use Rattle.std.proofs.Common.{◌⊎◌, inl, inr, ⊎_elim, ◌≡◌, ◌-◌, length, take, drop, ◌∙◌, arith, length-drop, length-take}
 use Rattle.id_groups.specs.Name.{Name}
 use Rattle.remote_pipe.proofs.Taking.{mid-long, mid-front}
 use Rattle.remote_pipe.proofs.Blocks.{names-end, names-more}

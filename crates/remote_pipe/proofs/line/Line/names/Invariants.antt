@@ -1,4 +1,4 @@
-use Rattle.std.proofs.Common.{◌≡◌, ◌<◌, ◌-◌, ℕ, List, length, take}
+use Rattle.std.proofs.Common.{◌≡◌, ◌<◌, ◌-◌, List, length, take}
 use Rattle.std.specs.List.{flat_map}
 use Rattle.id_groups.specs.Name.{Name}
 use Rattle.remote_pipe.specs.Remote.{AsksBlocks}

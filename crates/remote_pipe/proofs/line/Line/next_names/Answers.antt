@@ -1,8 +1,8 @@
-use Rattle.std.proofs.Common.{◌≡◌, ◌≤◌, ◌+◌, ◌++◌, ℕ, min, List, length, take, drop, ap, ap₂, sym, subst, ◌∙◌, arith, length-take}
+use Rattle.std.proofs.Common.{◌≡◌, ◌≤◌, ◌+◌, ◌++◌, ℕ, List, length, take, drop, ap, ap₂, sym, subst, arith, length-take}
 use Rattle.std.proofs.lemmas.List.{take-append-le}
 use Rattle.std.proofs.lemmas.Result.{IfOk-weaker}
 use Rattle.id_groups.specs.Name.{Name}
-use Rattle.remote_serve.specs.Requests.{Request, ToNames, most_names}
+use Rattle.remote_serve.specs.Requests.{Request, ToNames}
 use Rattle.remote_serve.specs.Answers.{Answer, Named}
 use Rattle.remote_pipe.specs.Line.{Asks}
 use Rattle.remote_pipe.specs.Remote.{block_of}

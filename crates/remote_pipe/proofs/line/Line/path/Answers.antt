@@ -1,4 +1,4 @@
-use Rattle.std.proofs.Common.{◌≡◌, length, arith}
+use Rattle.std.proofs.Common.{arith}
 use Rattle.remote_serve.specs.Requests.{ToPath}
 use Rattle.remote_serve.specs.Answers.{Led}
 use Rattle.remote_pipe.specs.Peer.{request_frame}

@@ -1,8 +1,6 @@
-use Rattle.std.proofs.Common.{◌≡◌, List, ℕ, ap, sym, subst, arith}
 use Rattle.remote_serve.specs.Requests.{ToRefresh}
 use Rattle.remote_serve.specs.Answers.{Refreshed}
 use Rattle.remote_pipe.specs.Peer.{request_frame}
-use Rattle.remote_pipe.specs.Steps.{AreBytes, Reads}
 use Rattle.remote_pipe.proofs.Asking.{asks-fault, asks-body}
 use Rattle.remote_pipe.proofs.line.Line.refresh.Goals as goal
 

@@ -1,7 +1,6 @@
-use Rattle.std.proofs.Common.{◌≤◌, arith}
+use Rattle.std.proofs.Common.{arith}
 use Rattle.remote_pipe.specs.Line.{Keeps}
 use Rattle.remote_pipe.proofs.Asking.{keeps-left, keeps-more}
-use Rattle.remote_pipe.proofs.TakenAhead.{taken-stopped}
 use Rattle.remote_pipe.proofs.line.Line.taken.Goals as goal
 
 pub returns-then-is_some-clause-keeps : goal.returns-then-is_some-clause-keeps

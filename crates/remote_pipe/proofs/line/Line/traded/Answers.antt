@@ -1,8 +1,6 @@
-use Rattle.std.proofs.Common.{◌≡◌, ◌≤◌, Option, ap, ◌∙◌, arith, Ok, Err}
-use Rattle.std.specs.Prelude.{is_some}
+use Rattle.std.proofs.Common.{ap, ◌∙◌, arith, Err}
 use Rattle.outside.proofs.ToldLemmas.{WhereTold-map}
-use Rattle.remote_pipe.specs.Peer.{Peer}
-use Rattle.remote_pipe.specs.Line.{Keeps, served_by}
+use Rattle.remote_pipe.specs.Line.{Keeps}
 use Rattle.remote_pipe.proofs.Asking.{keeps-more, stopped-body, trade-cause}
 use Rattle.remote_pipe.proofs.line.Line.traded.Goals as goal
 

@@ -1,4 +1,3 @@
-use Rattle.std.proofs.Common.{◌≤◌, refl, arith}
 use Rattle.remote_serve.specs.Requests.{ToClone}
 use Rattle.remote_serve.specs.Answers.{Cloned}
 use Rattle.remote_pipe.specs.Line.{Asks}

@@ -1,4 +1,4 @@
-use Rattle.std.proofs.Common.{◌≤◌, refl, arith, length}
+use Rattle.std.proofs.Common.{◌≤◌, arith, length}
 use Rattle.remote_pipe.proofs.AheadCalls.{names-so, ahead-names-quiet, ahead-names-leaves, ahead-names-failed, ahead-names-honest}
 use Rattle.remote_pipe.proofs.remote.PipeRemoteRemote.names_of.Goals as goal
 

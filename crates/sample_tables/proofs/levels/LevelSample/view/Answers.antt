@@ -12,14 +12,14 @@ new-requires c =
     let end = ap (λ (v : Grown). v.table.end) c.self.view_is in
     let le = c.requires in
     let stand = subst (λ (z : List ℕ). Stand z g.records) (sym c.deref.ensures.value) g.stand in (
-      c.self.inside.table,
+      c.self.inside.tables.table,
       g.records,
       record {
         table_of = g.table_of;
         small = g.small;
         levels_of = g.levels_of;
-        flats = c.view-flat.ensures.master ∙ c.view-flat.ensures.flats g.records g.table_of stand ∙ ap (λ n. cut n (flats_of c.self.inside.table g.records)) (sym count);
+        flats = c.view-flat.ensures.master ∙ c.view-flat.ensures.flats g.records g.table_of stand ∙ ap (λ n. cut n (flats_of c.self.inside.tables.table g.records)) (sym count);
         below = omega (arith, count, end, le);
       },
-      c.none.ensures (flats_of c.self.inside.table g.records),
+      c.none.ensures (flats_of c.self.inside.tables.table g.records),
     )

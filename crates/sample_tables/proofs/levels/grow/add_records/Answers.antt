@@ -10,15 +10,15 @@ pub rehearse_if-requires : goal.rehearse_if-requires
 rehearse_if-requires c =
     let g = c.requires.grown in let a = c.if-not-are_records.ensures refl in
     let count = c.count.ensures in let le = c.if-count.false in
-    may-level c.args.log.now c.args.table.now c.args.probe.now c.args.levels.now c.args.most g c.requires.small c.split_at-2.result.0.now a.0 a.1 a.2 (c.in_ok-extend.ensures.lawful a.0 a.1) c.args.at c.extend.new.self
+    may-level c.args.log.now c.args.tables.now.table c.args.tables.now.probe c.args.tables.now.levels c.args.most g c.requires.small c.split_at-2.result.0.now a.0 a.1 a.2 (c.in_ok-extend.ensures.lawful a.0 a.1) c.args.at c.extend.new.self
     (c.in_ok-extend.ensures.table g.records a.0 g.probe_of a.1) (omega (arith, count, le))
 
 pub extend-requires-2 : goal.extend-requires-2
 extend-requires-2 c =
     let g = c.requires.grown in let a = c.if-not-are_records.ensures refl in
     let count = c.count.ensures in let le = c.if-count.false in
-    subst (λ (l : KeptLevels). MayExtendLevels l c.args.table.now c.args.log.now c.split_at-2.result.0.now) (sym c.rehearse_if.ensures)
-    (may-level c.args.log.now c.args.table.now c.args.probe.now c.args.levels.now c.args.most g c.requires.small c.split_at-2.result.0.now a.0 a.1 a.2 (c.in_ok-extend.ensures.lawful a.0 a.1) c.args.at c.extend.new.self
+    subst (λ (l : KeptLevels). MayExtendLevels l c.args.tables.now.table c.args.log.now c.split_at-2.result.0.now) (sym c.rehearse_if.ensures)
+    (may-level c.args.log.now c.args.tables.now.table c.args.tables.now.probe c.args.tables.now.levels c.args.most g c.requires.small c.split_at-2.result.0.now a.0 a.1 a.2 (c.in_ok-extend.ensures.lawful a.0 a.1) c.args.at c.extend.new.self
     (c.in_ok-extend.ensures.table g.records a.0 g.probe_of a.1) (omega (arith, count, le)))
 
 pub returns : goal.returns
@@ -26,10 +26,10 @@ returns c =
     let g = c.requires.grown in let a = c.if-not-are_records.ensures refl in
     let count = c.count.ensures in let le = c.if-count.false in
     let probe = c.in_ok-extend.ensures.table g.records a.0 g.probe_of a.1 in
-    let levels = subst (λ (l : KeptLevels). AreLevelsOf l (flats_of c.args.table.now g.records)) (sym c.rehearse_if.ensures) g.levels_of in
-    let f = follows c.args.log.now c.args.table.now c.args.probe.now c.args.levels.now c.args.most g c.requires.small c.split_at-2.result.0.now a.0 a.1 a.2 (c.in_ok-extend.ensures.lawful a.0 a.1) c.args.at c.extend.new.self
+    let levels = subst (λ (l : KeptLevels). AreLevelsOf l (flats_of c.args.tables.now.table g.records)) (sym c.rehearse_if.ensures) g.levels_of in
+    let f = follows c.args.log.now c.args.tables.now.table c.args.tables.now.probe c.args.tables.now.levels c.args.most g c.requires.small c.split_at-2.result.0.now a.0 a.1 a.2 (c.in_ok-extend.ensures.lawful a.0 a.1) c.args.at c.extend.new.self
     probe (omega (arith, count, le)) in
     on-ok c.extend-3.result
-    (λ t. grown-more c.args.log.now c.args.table.now c.args.probe.now c.args.levels.now c.args.most g c.requires.small c.split_at-2.result.0.now a.0 a.1 a.2 (c.in_ok-extend.ensures.lawful a.0 a.1) c.args.at c.args.len c.split_at.result.1.now
+    (λ t. grown-more c.args.log.now c.args.tables.now.table c.args.tables.now.probe c.args.tables.now.levels c.args.most g c.requires.small c.split_at-2.result.0.now a.0 a.1 a.2 (c.in_ok-extend.ensures.lawful a.0 a.1) c.args.at c.args.len c.split_at.result.1.now
     c.extend-3.new.self c.extend.new.self c.extend-2.new.self (omega (arith, count, le)) c.split_at.ensures.back c.split_at-2.ensures.front (t g.records a.0 g.table_of a.1) probe (c.in_ok-extend-2.ensures.levels g.records a.0 f levels))
     c.extend-3.ensures.table

@@ -1,0 +1,15 @@
+pub mod AddingIds
+pub mod QueryGraph
+pub mod QueryWorld
+pub mod Bounding
+pub mod QueryNames
+pub mod QueryAnswers
+pub mod Fetching
+pub mod Printing
+pub mod Lending
+pub mod ParentTests
+pub mod Parents
+pub mod Seeking
+pub mod AddingRows
+pub mod AddingWorlds
+pub mod AddingSession

@@ -1,0 +1,4 @@
+pub mod Adding
+pub mod Names
+pub mod Querying
+pub mod Bounds
