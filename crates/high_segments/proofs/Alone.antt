@@ -1,12 +1,15 @@
 -- Segments of which none groups with those behind it go up as they are.
-use Rattle.std.proofs.Common.{◌≡◌, ℕ, zero, suc, ◌+◌, ◌-◌, ◌<◌, ◌≤◌, inl, inr, Bool, true, false, cond, ◌||◌, List, [], ◌∷◌, ◌++◌, length, map, take, drop, refl, sym, subst, ap, ◌∙◌, arith, true≢false, ⊎_elim}
-use Rattle.std.specs.Prelude.{nat_eq, nat_lt}
+use Rattle.std.proofs.Common.{◌≡◌, ℕ, zero, suc, ◌+◌, ◌-◌, ◌<◌, ◌≤◌, inl, inr, Bool, true, false, cond, ◌||◌, List, [], ◌∷◌, ◌++◌, length, map, take, drop, Some, refl, sym, subst, ap, ◌∙◌, arith, true≢false, ⊎_elim}
+use Rattle.std.specs.Prelude.{nat_eq, nat_lt, slice_get, flat_map}
 use Rattle.std.specs.List.{list_any, list_all, AllByRecursion}
 use Rattle.std.proofs.lemmas.Bool.{lt-ltb, ltb-true, eqb-true, eq-eqb}
 use Rattle.std.proofs.lemmas.List.{length-map, length-take, take-append-drop, drop-append-le, append-nil}
 use Rattle.id_groups.specs.Lists.{IsIn, is_in}
 use Rattle.id_groups.proofs.Listing.{found, there, and_true, both_true}
-use Rattle.segment_codec.specs.Record.{Segment}
+use Rattle.segment_codec.specs.Record.{Segment, parents_bytes}
+use Rattle.segment_codec.specs.Number.{number_bytes}
+use Rattle.segment_codec.specs.Reading.{ascend_from}
+use Rattle.segment_codec.proofs.Numbers.{some_is}
 use Rattle.segment_codec.specs.Table.{Follow}
 use Rattle.segment_codec.proofs.Tables.{all-pass, follow-ends}
 use Rattle.flat_segments.specs.Entries.{PlainEntry}
@@ -15,11 +18,12 @@ use Rattle.flat_segments.specs.Runs.{is_read, low_of}
 use Rattle.segment_rules.specs.Levels.{heads, have_one_head, group_size, group_limit, merged, groups, count_grouped, parents_below, ascending}
 use Rattle.segment_levels.specs.Kept.{PlainLevel, PlainGroups, begun_in, segments_in, groups_in}
 use Rattle.segment_levels.specs.Sound.{IsSound, HasFront}
-use Rattle.segment_levels.proofs.Ascending.{Ascend, ascend-same, ascending-ascends, ascending-in, in-ascending, in-kept, kept-in, kept-passes, in-left, in-either}
+use Rattle.segment_levels.proofs.Ascending.{Ascend, ascend-means, ascend-same, ascending-ascends, ascending-in, in-ascending, in-kept, kept-in, kept-passes, in-left, in-either}
 use Rattle.segment_levels.proofs.Grouping.{first-group, groups-few, groups-many, count-few, count-many, few-or-many, size-append}
 use Rattle.segment_levels.proofs.Heading.{follow-take, in-take}
-use Rattle.high_segments.specs.Growing.{AddsGroups, AreBelow, KeepsRun, reached}
+use Rattle.high_segments.specs.Growing.{AddsGroup, AddsGroups, AreBelow, KeepsRun, reached, with_entry}
 use Rattle.high_segments.specs.Lone.{AreLone, raised}
+use Rattle.high_segments.proofs.Groups.{group-at, get-drop, in-drop, in-first}
 use Rattle.high_segments.proofs.Places.{segments-length}
 use Rattle.high_segments.proofs.Keeping.{rise-more}
 
@@ -380,3 +384,35 @@ grown-lone below old new sound adds none many =
     nothing : (xs : List Segment) → length xs ≡ 0 → xs ≡ []
     nothing [] e = refl
     nothing (x ∷ xs) e = absurd (omega (arith, e))
+
+-- ---- a segment that is added as it stands
+
+-- where its parents ascend, a single segment is its group
+pub add-lone : (below : PlainLevel) (at size : ℕ) (s : Segment) (old new : PlainLevel) → IsSound below → at + 16 ≤ length below.entries → size ≡ 1 → size ≡ group_size group_limit (drop at (segments_in below))
+    → slice_get (segments_in below) at ≡ Some s → ascend_from 0 s.parents ≡ true → new ≡ with_entry old old.end (parents_bytes s) (s.high + 1) (old.grouped + 1) → (parents : List ℕ) × AddsGroup below at old new size parents
+add-lone below at size s old new sound room one size-is get up is =
+    let g = group-at below at room in
+    let zero-at : at + 0 ≡ at = omega arith in
+    let here : g.first ≡ s =
+    some_is g.first s (ap (λ z. slice_get z 0) (sym g.are) ∙ get-drop at 0 (segments_in below) ∙ ap (slice_get (segments_in below)) zero-at ∙ get) in
+    let ascends = ascend-means 0 g.first.parents (subst (λ (q : Segment). ascend_from 0 q.parents ≡ true) (sym here) up) in
+    let below-first = first-below g.first (in-drop at (segments_in below) g.first (in-first (drop at (segments_in below)) g.first g.others g.are)) in
+    let alone = one-same old.level g.first ascends below-first in
+    let none : size - 1 ≡ 0 = omega (arith, one) in
+    let added = λ (ps : List ℕ) (high n : ℕ). with_entry old old.end (flat_map number_bytes ps) (high + 1) (old.grouped + n) in (
+      (merged old.level g.first (take (size - 1) g.others)).parents,
+      record {
+        first = g.first;
+        others = g.others;
+        are = g.are;
+        size_is = size-is ∙ ap (group_size group_limit) g.are;
+        parents_are = refl;
+        new_is = is ∙ ap (λ (q : Segment). added q.parents q.high 1) (sym here) ∙ ap (λ (q : Segment). added q.parents q.high 1) (sym alone)
+            ∙ ap (λ z. added (merged old.level g.first z).parents (merged old.level g.first z).high 1) (sym (take-zero g.others))
+            ∙ ap (λ n. added (merged old.level g.first (take n g.others)).parents (merged old.level g.first (take n g.others)).high 1) (sym none)
+            ∙ ap (added (merged old.level g.first (take (size - 1) g.others)).parents (merged old.level g.first (take (size - 1) g.others)).high) (sym one);
+      },
+    )
+  where
+    first-below : (t : Segment) → IsIn t (segments_in below) → HasBelow t
+    first-below t i p j = all-pass (λ q. q < t.low) t.parents (all-pass (λ u. AllByRecursion (λ q. q < u.low) u.parents) (segments_in below) sound.below t i) p j

@@ -337,3 +337,9 @@ pub adds-size : (below : PlainLevel) (at size : ℕ) (old new : PlainLevel) (par
 adds-size below at size old new parents g =
     let is = g.size_is in let suc-is = (first-group g.first g.others).size in let few = (first-group g.first g.others).few in
     (omega (arith, is, suc-is), omega (arith, is, suc-is, few))
+
+-- the bytes of the parents of a group that was added
+pub group-spelled : (below : PlainLevel) (at size : ℕ) (old new : PlainLevel) (parents : List ℕ) → AddsGroup below at old new size parents → drop (length old.bytes) new.bytes ≡ flat_map number_bytes parents
+group-spelled below at size old new parents g =
+    let m = merged old.level g.first (take (size - 1) g.others) in
+    ap (λ (l : PlainLevel). drop (length old.bytes) l.bytes) g.new_is ∙ drop_at old.bytes (flat_map number_bytes m.parents) (length old.bytes) refl ∙ ap (flat_map number_bytes) (sym g.parents_are)

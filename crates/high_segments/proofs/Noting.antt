@@ -1,8 +1,8 @@
 -- Which segments of a row have a child close behind.
-use Rattle.std.proofs.Common.{◌≡◌, ℕ, zero, suc, ◌+◌, ◌-◌, ◌<◌, ◌≤◌, Bool, true, false, ◌||◌, List, [], ◌∷◌, length, take, drop, get_or, Some, refl, sym, subst, ap, ◌∙◌, arith, le_of_suc-le-suc, ⊎_elim}
+use Rattle.std.proofs.Common.{◌≡◌, ℕ, zero, suc, ◌+◌, ◌-◌, ◌<◌, ◌≤◌, Bool, true, false, ◌||◌, List, [], ◌∷◌, length, take, drop, get_or, replicate, true≢false, Some, refl, sym, subst, ap, ◌∙◌, arith, le_of_suc-le-suc, ⊎_elim}
 use Rattle.std.specs.Prelude.{slice_get, nat_eq}
 use Rattle.std.specs.List.{list_any}
-use Rattle.std.proofs.lemmas.List.{get_or_default}
+use Rattle.std.proofs.lemmas.List.{get_or_default, length-replicate}
 use Rattle.id_groups.specs.Lists.{is_in, IsIn}
 use Rattle.segment_codec.specs.Record.{Segment}
 use Rattle.segment_codec.specs.Table.{Follow}
@@ -176,3 +176,17 @@ alone-noted below note from noted room none =
     let here : get_or note from true ≡ false = get_or_default note from true false (omega (arith, long, len, room)) ∙ none in
     let child = subst (λ (n : ℕ). HasNoChild xs n from) (sym len) (noted.others from here) in
     alone-at xs from s.0.high s.0 (omega (arith, len, room)) s.1 refl (none-behind xs from s.0 s.1 child (omega (arith, len, room)))
+
+-- ---- where each is noted
+
+all-true : (n at : ℕ) → get_or (replicate n true) at true ≡ true
+all-true zero at = refl
+all-true (suc n) zero = refl
+all-true (suc n) (suc at) = all-true n at
+
+-- no segment is noted to have none
+pub all-noted : (below : PlainLevel) (count : ℕ) (note : List Bool) → note ≡ replicate count true → count ≡ length below.entries → AreNoted (segments_in below) (length below.entries) note
+all-noted below count note is many =
+    let len = segments-length below in let n = length-replicate count true in
+    subst (AreNoted (segments_in below) (length below.entries)) (sym is)
+    (record { length_is = omega (arith, len, n, many); others = λ at e. absurd (true≢false (sym (all-true count at) ∙ e)) })

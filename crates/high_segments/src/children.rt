@@ -1,6 +1,6 @@
 //! Which segments of a row have a child close behind.
 
-ghost use Rattle.std.specs.Prelude.{◌≡◌, ◌≤◌, ◌<◌, ℕ, [], ◌∷◌, length, slice_get, Some, IfOk, IfSome};
+ghost use Rattle.std.specs.Prelude.{◌≡◌, ◌≤◌, ◌<◌, ℕ, [], ◌∷◌, length, replicate, slice_get, true, Some, IfOk, IfSome};
 ghost use Rattle.segment_codec.specs.Lent.{segment_of};
 ghost use Rattle.segment_codec.specs.Record.{Segment};
 ghost use Rattle.segment_levels.specs.Kept.{segments_in};
@@ -78,11 +78,39 @@ fn note_all(note: &mut [bool], below: &Level)
 
 /// A note of each segment of the row, whether one of the fifteen behind it may have it as a parent. Each segment's parents
 /// are read once.
-pub(crate) fn have_children(alloc: Global, below: &Level) -> Result<Vec<bool>, AllocError>
+fn have_children(alloc: Global, below: &Level) -> Result<Vec<bool>, AllocError>
     requires { IsSound below.now }
     ensures { IfOk result (λ note. AreNoted (segments_in below.now) (length below.now.entries) note.items) }
 {
     let mut note = Vec::from_elem(alloc, false, below.len())?;
     note_all(&mut note, below);
     Ok(note)
+}
+
+/// Where the groups of a level have so many segments or more on average, most of those below it have a child close behind.
+const MANY: usize = 4;
+
+/// A note of so many segments: each may have a child.
+fn all_noted(alloc: Global, count: usize) -> Result<Vec<bool>, AllocError>
+    ensures { IfOk result (λ note. note.items ≡ replicate count true) }
+{
+    let note = vec![in alloc; true; count]?;
+    Ok(note)
+}
+
+/// A note of each segment of the row, whether one of the fifteen behind it may have it as a parent. `count` groups of the level
+/// above have `grouped` segments: where that are many each, all may have one, and none is read.
+pub(crate) fn may_have_children(
+    alloc: Global,
+    below: &Level,
+    count: usize,
+    grouped: usize,
+) -> Result<Vec<bool>, AllocError>
+    requires { IsSound below.now }
+    ensures { IfOk result (λ note. AreNoted (segments_in below.now) (length below.now.entries) note.items) }
+{
+    if grouped / MANY >= count {
+        return all_noted(alloc, below.len());
+    }
+    have_children(alloc, below)
 }

@@ -3,6 +3,7 @@
 ghost use Rattle.std.specs.Prelude.{◌≡◌, ◌≤◌, ◌+◌, ◌++◌, ℕ, [], ◌∷◌, length, take, drop, filter, not, nat_eq, nat_lt, ◌<◌, ◌-◌, true, false, get_or, OnOk, IfOk};
 ghost use Rattle.id_groups.specs.Lists.{is_in};
 ghost use Rattle.segment_codec.specs.Lent.{segment_of};
+ghost use Rattle.segment_codec.specs.Reading.{ascend_from};
 ghost use Rattle.segment_rules.specs.Levels.{group_limit, group_size as size_of, parents_below as below_of, ascending};
 ghost use Rattle.segment_levels.specs.Kept.{segments_in};
 ghost use Rattle.segment_levels.specs.Sound.{IsSound};
@@ -93,6 +94,21 @@ pub(crate) fn group_size(
         return Ok(1);
     }
     scan_group(heads, below, children, from)
+}
+
+/// Whether the segment's parents ascend, each once.
+pub(crate) fn have_order(segment: SegmentRef<'_>) -> bool
+    ensures { result ≡ ascend_from 0 (segment_of segment.entry).parents }
+{
+    let mut rest = segment.parents();
+    let mut least = 0;
+    'parents: while let Some(parent) = rest.next() {
+        if parent.number() < least {
+            return false;
+        }
+        least = parent.number() + 1;
+    }
+    true
 }
 
 /// Adds the parents of the segment that lie below an id.

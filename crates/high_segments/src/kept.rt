@@ -1,9 +1,9 @@
 //! What is kept of one level.
 
 ghost use Rattle.std.specs.List.{AllWithin, AllByRecursion, list_all};
-ghost use Rattle.std.specs.Prelude.{◌↔◌, IsTrue, nat_le, false, None, MatchOption, ◌≡◌, ◌≤◌, ◌<◌, ◌+◌, ◌^◌, [], true, length, Some, OnOk, OnErr, IfOk};
+ghost use Rattle.std.specs.Prelude.{◌↔◌, IsTrue, nat_le, false, None, MatchOption, ◌≡◌, ◌≤◌, ◌<◌, ◌+◌, ◌^◌, [], true, ℕ, List, flat_map, length, Some, OnOk, OnErr, IfOk};
 ghost use Rattle.segment_codec.specs.Lent.{segment_of};
-ghost use Rattle.segment_codec.specs.Number.{numbers_in};
+ghost use Rattle.segment_codec.specs.Number.{number_bytes, numbers_in};
 ghost use Rattle.segment_codec.specs.Record.{Segment};
 ghost use Rattle.segment_codec.specs.Table.{segment_at};
 ghost use Rattle.flat_segments.specs.Runs.{slice_in, is_read};
@@ -12,7 +12,6 @@ ghost use Rattle.segment_levels.specs.Sound.{IsReadable, HasFront};
 ghost use Rattle.high_segments.specs.Growing.{DoRise, IsMarkOf, reached, with_next};
 
 use crate::entry::Group;
-use crate::level::append;
 use id_groups::Id;
 use segment_codec::SegmentRef;
 use std::alloc::{AllocError, Global};
@@ -95,15 +94,21 @@ fn count_before(groups: &[Group], id: u64, at: usize) -> usize
     count_by_halves(groups, id)
 }
 
-/// How many of the groups begin at the id or below it. The place `near` and some before it are tried first.
+/// How many of the groups begin at the id or below it. The place `near` and some before it are tried first, or the last one where
+/// `near` is behind it.
 fn count_up_to(groups: &[Group], id: u64, near: usize) -> usize
     requires { DoRise groups.now }
     ensures within { result ≤ length groups.now }
     ensures front { AllWithin (λ (g : PlainGroup). nat_le g.low id ≡ true) groups.now 0 result }
     ensures back { AllWithin (λ (g : PlainGroup). nat_le g.low id ≡ false) groups.now result (length groups.now) }
 {
-    if near < groups.len() && groups[near].low() > id {
-        return count_before(groups, id, near);
+    let len = groups.len();
+    if near < len {
+        if groups[near].low() > id {
+            return count_before(groups, id, near);
+        }
+    } else if len > 0 && groups[len - 1].low() <= id {
+        return len;
     }
     count_by_halves(groups, id)
 }
@@ -260,19 +265,18 @@ impl KeptLevel {
         self.count = mark.count;
     }
 
-    /// Adds a segment that begins where the level ended and ends before an id, with these parents, of so many segments of
-    /// the level below. A single one is kept on level 1 alone.
-    pub(crate) fn add(&mut self, end: u64, parents: &[u64], size: usize) -> Result<(), AllocError>
+    /// Adds a segment that begins where the level ended and ends before an id, whose parents are spelled so, of so many segments
+    /// of the level below. A single one is kept on level 1 alone.
+    pub(crate) fn add(&mut self, end: u64, spelled: &[u8], size: usize) -> Result<(), AllocError>
         requires some { 1 ≤ end }
         requires counted { self.old.grouped + size < 2 ^ 64 }
-        ensures added { OnOk result (self.new ≡ with_next self.old parents.now end size) }
+        ensures added { OnOk result ((parents : List ℕ) → spelled.now ≡ flat_map number_bytes parents → self.new ≡ with_next self.old parents end size) }
         ensures front { OnErr result (HasFront self.old self.new) }
     {
         if size > 1 || self.level == 1 {
             let place = self.bytes.len();
-            append(&mut self.bytes, parents)?;
-            let len = self.bytes.len() - place;
-            let group = Group::new(place as u64, len as u64, self.end, end - 1);
+            self.bytes.extend_from_slice(spelled)?;
+            let group = Group::new(place as u64, spelled.len() as u64, self.end, end - 1);
             self.groups.push(group)?;
         }
         self.end = end;

@@ -1,7 +1,7 @@
-use Rattle.std.proofs.Common.{◌-◌, ◌+◌, ◌<◌, ◌≤◌, ◌∙◌, ℕ, List, ap, arith}
+use Rattle.std.proofs.Common.{◌-◌, ◌+◌, ◌<◌, ◌≤◌, ◌∙◌, ℕ, List, drop, ap, arith}
 use Rattle.high_segments.specs.Growing.{with_next}
 use Rattle.high_segments.proofs.Places.{segments-length}
-use Rattle.high_segments.proofs.Groups.{adds-all, adds-size}
+use Rattle.high_segments.proofs.Groups.{adds-all, adds-size, group-spelled}
 use Rattle.high_segments.proofs.Keeping.{front-self, grows-none, grows-more}
 use Rattle.high_segments.proofs.grow.grow.Goals as goal
 
@@ -17,18 +17,18 @@ overflow_sub-len c =
 
 pub add-requires-clause-counted : goal.add-requires-clause-counted
 add-requires-clause-counted c =
-    let z = adds-size c.args.below.now c.groups.at c.in_ok-size.size c.groups.run c.add_group.new.level c.add_group.new.scratch.parents.items c.in_ok-size.ensures.ok in
+    let z = adds-size c.args.below.now c.groups.at c.in_ok-size.size c.groups.run c.add_group.new.level c.in_ok-size.ensures.ok.0 c.in_ok-size.ensures.ok.1 in
     let most = z.1 in let t = c.groups-test.true in let len = c.len-len.ensures in let counted = c.requires.counted in let g = c.groups.invariant.grouped in let a = c.groups.invariant.adds.grouped in
     omega (arith, most, t, len, counted, g, a)
 
 pub overflow_add-at : goal.overflow_add-at
 overflow_add-at c =
-    let z = adds-size c.args.below.now c.groups.at c.in_ok-size.size c.groups.run c.add_group.new.level c.add_group.new.scratch.parents.items c.in_ok-size.ensures.ok in
+    let z = adds-size c.args.below.now c.groups.at c.in_ok-size.size c.groups.run c.add_group.new.level c.in_ok-size.ensures.ok.0 c.in_ok-size.ensures.ok.1 in
     let most = z.1 in let t = c.groups-test.true in let small = c.len-len.type_inv in omega (arith, most, t, small)
 
 pub groups-smaller : goal.groups-smaller
 groups-smaller c =
-    let z = adds-size c.args.below.now c.groups.at c.in_ok-size.size c.groups.run c.add_group.new.level c.add_group.new.scratch.parents.items c.in_ok-size.ensures.ok in
+    let z = adds-size c.args.below.now c.groups.at c.in_ok-size.size c.groups.run c.add_group.new.level c.in_ok-size.ensures.ok.0 c.in_ok-size.ensures.ok.1 in
     let some = z.0 in let t = c.groups-test.true in falls c.len-len.result c.groups.at c.in_ok-size.size some t
   where
     falls : (len at size : ℕ) → 1 ≤ size → 16 ≤ len - at → len - (at + size) < len - at
@@ -37,10 +37,13 @@ groups-smaller c =
 pub groups-preserved : goal.groups-preserved
 groups-preserved c =
     let len = c.len-len.ensures in let t = c.groups-test.true in
-    grows-more c.args.below.now c.requires.sound c.groups.at c.in_ok-size.size c.args.run.now c.groups.run c.add_group.new.level c.args.kept.now c.groups.kept c.add.new.self c.add_group.new.scratch.parents.items
-    c.groups.invariant (omega (arith, t, len)) c.in_ok-size.ensures.ok
-    (c.in_ok-add.ensures.added ∙ ap (λ (ps : List ℕ). with_next c.groups.kept ps c.end.result c.in_ok-size.size) c.deref-in-groups.ensures.value
-    ∙ ap (λ (e : ℕ). with_next c.groups.kept c.add_group.new.scratch.parents.items e c.in_ok-size.size) c.end.ensures)
+    let g = c.in_ok-size.ensures.ok in
+    let spelled =
+    c.spelled_from.ensures ∙ ap (λ n. drop n c.add_group.new.level.bytes) c.spelled_len-place.ensures
+    ∙ group-spelled c.args.below.now c.groups.at c.in_ok-size.size c.groups.run c.add_group.new.level g.0 g.1 in
+    grows-more c.args.below.now c.requires.sound c.groups.at c.in_ok-size.size c.args.run.now c.groups.run c.add_group.new.level c.args.kept.now c.groups.kept c.add.new.self g.0
+    c.groups.invariant (omega (arith, t, len)) g.1
+    (c.in_ok-add.ensures.added g.0 spelled ∙ ap (λ (e : ℕ). with_next c.groups.kept g.0 e c.in_ok-size.size) c.end.ensures)
 
 pub returns-clause-groups : goal.returns-clause-groups
 returns-clause-groups c =
