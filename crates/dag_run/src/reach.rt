@@ -8,7 +8,10 @@ use remote_trait::Remote;
 /// are noted.
 #[derive(Drop)]
 pub struct Reach<'d, 'm, 'c, D: Disk, R: Remote> {
+    /// The disk of the log.
     pub disk: &'d mut D,
+    /// The mirrors, in the order in which they are asked.
     pub mirrors: &'m mut Mirrors<R>,
+    /// The moment of each change so far, in calls of the disk.
     pub changes: &'c mut Vec<u64>,
 }

@@ -15,7 +15,7 @@ use Rattle.high_segments.specs.Growing.{HasFrom}
 use Rattle.high_segments.specs.Storing.{CameSince}
 use Rattle.high_segments.specs.declared.kept.Mark.{Mark}
 use Rattle.high_segments.proofs.StoringLemmas.{new_up_to, up-to-next, all-new}
-use Rattle.high_segments.proofs.Gathering.{RowTo, NextOf, next, next-low, next-same, not-none, row-none, row-all, follow-next}
+use Rattle.high_segments.proofs.Gathering.{RowTo, next, next-low, next-same, not-none, row-none, row-all, follow-next}
 
 -- the records of the segments from one to another, which begins at the id, stand before the rest
 pub record StripsTo (levels : List PlainGroups) (top : PlainGroups) (segments : List Segment) (from : ℕ) (bytes : List ℕ) (id : ℕ) (rest : List ℕ) : Type 0 where

@@ -1,20 +1,20 @@
 -- Where a segment of a level ends, one of level 1 does: an id within a group of level 1 ends none.
-use Rattle.std.proofs.Common.{◌≡◌, ℕ, zero, suc, ◌+◌, ◌-◌, ◌<◌, ◌≤◌, Bool, true, false, cond, ◌&&◌, ◌||◌, not, List, [], ◌∷◌, length, map, get_or, take, Option, Some, None, inl, inr, refl, sym, subst, ap, ◌∙◌, arith, le_of_suc-le-suc}
+use Rattle.std.proofs.Common.{◌≡◌, ℕ, zero, suc, ◌<◌, ◌≤◌, Bool, true, false, cond, ◌&&◌, ◌||◌, not, List, [], ◌∷◌, length, map, get_or, take, Option, Some, None, inl, inr, refl, sym, subst, ap, ◌∙◌, arith, le_of_suc-le-suc}
 use Rattle.std.specs.Prelude.{nat_eq, nat_lt, nat_le, slice_index_or}
 use Rattle.std.specs.List.{list_all, range_with_len}
 use Rattle.std.proofs.lemmas.Bool.{ltb-true, leb-true, eq-eqb, eqb-true, lt-ltb}
 use Rattle.id_groups.specs.Lists.{IsIn}
 use Rattle.id_groups.proofs.Listing.{all-in, in-all-true}
 use Rattle.segment_codec.specs.Record.{Segment}
-use Rattle.segment_codec.specs.Table.{segment_at, IsInSegment}
+use Rattle.segment_codec.specs.Table.{segment_at}
 use Rattle.segment_codec.specs.Flat.{if_ends}
 use Rattle.segment_codec.proofs.Tables.{rising-at, follow-rising}
 use Rattle.segment_rules.specs.Levels.{level_segments, top_level}
-use Rattle.segment_levels.specs.Kept.{PlainGroup, PlainGroups, groups_in, made_in, AreLevelsAbove}
+use Rattle.segment_levels.specs.Kept.{PlainGroup, PlainGroups, groups_in, made_in}
 use Rattle.segment_levels.specs.Sound.{IsReadable}
 use Rattle.segment_levels.specs.Whole.{IsWholeTo}
 use Rattle.segment_levels.specs.Tests.{is_found}
-use Rattle.segment_levels.specs.Endings.{or_else, at_level, held_on, held_from, high_ending, level_ending, ending_in}
+use Rattle.segment_levels.specs.Endings.{or_else, at_level, held_from, high_ending, level_ending, ending_in}
 use Rattle.segment_levels.proofs.Deciding.{range-in}
 use Rattle.segment_levels.proofs.Leveled.{leveled, level-high}
 use Rattle.segment_levels.proofs.Reading.{levels-nest}

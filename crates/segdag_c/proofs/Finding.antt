@@ -1,5 +1,5 @@
 -- The answer of a query is one of the expression that the text spells.
-use Rattle.std.proofs.Common.{◌≡◌, ℕ, List, Option, None, Some, Ok, Err, IfOk, IfErr, IfSome, length, subst}
+use Rattle.std.proofs.Common.{◌≡◌, ℕ, List, Ok, Err, IfOk, IfErr, IfSome, length, subst}
 use Rattle.std.specs.List.{concat}
 use Rattle.std.specs.declared.result.Result.{Result}
 use Rattle.id_groups.specs.Name.{Name}
@@ -7,7 +7,6 @@ use Rattle.set_expr.specs.Expr.{Expr}
 use Rattle.set_expr.specs.Spelling.{SpellsExpr}
 use Rattle.step_rules.specs.Verb.{Query}
 use Rattle.step_rules.specs.Reply.{Listed, Refused as IsRefused}
-use Rattle.step_rules.specs.declared.Refusal.{Refusal}
 use Rattle.segdag_c.specs.declared.codes.Failure.{Failure}
 use Rattle.segdag_c.specs.declared.held.Held.{Held}
 use Rattle.segdag_c.specs.Calls.{HeldDoes, HeldDoesOf, HeldLists, HeldListsOf}

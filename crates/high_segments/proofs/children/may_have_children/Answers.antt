@@ -1,4 +1,4 @@
-use Rattle.std.proofs.Common.{List, Bool, Result, Ok, Err}
+use Rattle.std.proofs.Common.{Result, Ok, Err}
 use Rattle.std.specs.Prelude.{IfOk}
 use Rattle.high_segments.proofs.Noting.{all-noted}
 use Rattle.high_segments.proofs.children.may_have_children.Goals as goal

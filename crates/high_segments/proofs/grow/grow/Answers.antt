@@ -1,4 +1,4 @@
-use Rattle.std.proofs.Common.{◌-◌, ◌+◌, ◌<◌, ◌≤◌, ◌∙◌, ℕ, List, drop, ap, arith}
+use Rattle.std.proofs.Common.{◌-◌, ◌+◌, ◌<◌, ◌≤◌, ◌∙◌, ℕ, drop, ap, arith}
 use Rattle.high_segments.specs.Growing.{with_next}
 use Rattle.high_segments.proofs.Places.{segments-length}
 use Rattle.high_segments.proofs.Groups.{adds-all, adds-size, group-spelled}

@@ -1,4 +1,4 @@
-use Rattle.std.proofs.Common.{◌∙◌, ◌+◌, ◌-◌, List, ℕ, Result, Ok, Err, sym, arith, ap}
+use Rattle.std.proofs.Common.{◌∙◌, ◌+◌, ◌-◌, Result, Ok, Err, sym, arith, ap}
 use Rattle.std.specs.Prelude.{OnOk}
 use Rattle.segment_codec.specs.Lent.{segment_of}
 use Rattle.high_segments.specs.Growing.{with_group}

@@ -1,4 +1,4 @@
-use Rattle.std.proofs.Common.{refl, sym, subst}
+use Rattle.std.proofs.Common.{sym, subst}
 use Rattle.name_map.specs.Added.{AllStand}
 use Rattle.remote_store.proofs.Indexing.{read-indexed}
 use Rattle.remote_store.proofs.loaded.index_edges.Goals as goal

@@ -1,4 +1,4 @@
-use Rattle.std.proofs.Common.{◌++◌, ◌∷◌, [], length, map, take, string_bytes, refl, sym, subst, ap, ◌≤◌, arith}
+use Rattle.std.proofs.Common.{◌++◌, ◌∷◌, [], length, map, take, string_bytes, refl, sym, subst, ◌≤◌, arith}
 use Rattle.std.proofs.lemmas.Option.{slice_get_read}
 use Rattle.segdag.specs.Mirrors.{AreMadeOf}
 use Rattle.segdag.proofs.Mirrors.{mapped, whole}

@@ -1,4 +1,4 @@
-use Rattle.std.proofs.Common.{◌≡◌, ◌++◌, List, Some, IfSome, [], ap, subst, sym, ◌∙◌}
+use Rattle.std.proofs.Common.{◌≡◌, ◌++◌, List, IfSome, [], ap, subst, sym, ◌∙◌}
 use Rattle.remote_rules.specs.Mirror.{Mirror}
 use Rattle.line_io.specs.Memory.{MemoryOutput}
 use Rattle.call_disk.specs.Awaited.{awaited}

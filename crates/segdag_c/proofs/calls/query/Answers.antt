@@ -1,9 +1,8 @@
-use Rattle.std.proofs.Common.{◌≡◌, ℕ, List, Ok, Err, IfOk, IfErr, length, subst}
+use Rattle.std.proofs.Common.{◌≡◌, ℕ}
 use Rattle.set_expr.specs.Whole.{tree_of}
 use Rattle.step_rules.specs.Verb.{Query}
 use Rattle.step_rules.specs.Reply.{Refused}
-use Rattle.segdag_c.specs.Calls.{HeldDoes, HeldDoesOf}
-use Rattle.segdag_c.specs.Typed.{refusal_in}
+use Rattle.segdag_c.specs.Calls.{HeldDoesOf}
 use Rattle.segdag_c.proofs.Telling.{no-refusal}
 use Rattle.segdag_c.proofs.Finding.{found-listed, found-refused}
 use Rattle.segdag_c.proofs.calls.query.Goals as goal

@@ -1,4 +1,4 @@
-use Rattle.std.proofs.Common.{◌≡◌, ◌+◌, ◌*◌, ◌∙◌, ◌++◌, ◌∷◌, [], ap, sym, length, arith, length-append}
+use Rattle.std.proofs.Common.{◌≡◌, ◌+◌, ◌*◌, ◌∙◌, ◌++◌, ◌∷◌, [], ap, length, arith, length-append}
 use Rattle.segdag_c.proofs.Joining.{next-name, next-twenty}
 use Rattle.segdag_c.proofs.names.names_in.Goals as goal
 

@@ -1,6 +1,5 @@
-use Rattle.std.proofs.Common.{◌≡◌, ◌≤◌, ◌<◌, ◌-◌, ◌∙◌, ℕ, sym, subst, ap, arith, length, get_or, Some}
+use Rattle.std.proofs.Common.{◌≡◌, ◌-◌, sym, subst, ap, arith, get_or, Some}
 use Rattle.std.proofs.lemmas.Bool.{ltb-true}
-use Rattle.segment_codec.specs.Record.{Segment}
 use Rattle.segment_codec.specs.Table.{segment_at}
 use Rattle.segment_levels.specs.Kept.{PlainGroup, PlainGroups, groups_in, made_in}
 use Rattle.segment_levels.specs.Sound.{IsReadable}

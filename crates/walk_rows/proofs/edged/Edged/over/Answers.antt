@@ -1,5 +1,5 @@
 use Rattle.std.proofs.Common.{ℕ, List, sym, subst}
-use Rattle.std.specs.Prelude.{◌≡◌, true}
+use Rattle.std.specs.Prelude.{◌≡◌}
 use Rattle.segment_codec.specs.Edges.{AreEdgesOf}
 use Rattle.flat_segments.specs.Views.{view_flats}
 use Rattle.high_segments.proofs.Edging.{edged-decided}
