@@ -12,7 +12,7 @@ use call_disk::OwnedDisk;
 use mirror_set::Mirrors;
 use remote_bundle::BundleRemote;
 use remote_store::{Limits, StoreRemote};
-use std::alloc::Global;
+use std::alloc::{AllocFailed, Global};
 use std::mem::replace;
 
 /// The kind of a log.
@@ -50,15 +50,16 @@ fn missing(alloc: Global, number: u32, kind: u32) -> Option<Mirror> {
     }
 }
 
+/// That memory ran out for one mirror more, which is let go.
+fn no_memory(_left: AllocFailed<Mirror>) -> Failure {
+    Failure::Memory
+}
+
 /// Puts a mirror behind the others.
-fn push_mirror(mirrors: &mut Mirrors<Mirror>, mirror: Mirror) -> Result<(), Failure> {
-    if mirrors.len() >= MOST_MIRRORS {
-        return Err(Failure::Argument);
-    }
-    match mirrors.list.push(mirror) {
-        Ok(()) => Ok(()),
-        Err(_) => Err(Failure::Memory),
-    }
+fn push_mirror(mirrors: &mut Mirrors<Mirror>, mirror: Mirror) -> Result<(), Failure>
+    requires { length mirrors.old.list.items < 65536 }
+{
+    mirrors.list.push(mirror).map_err(no_memory)
 }
 
 /// Adds a mirror of this kind behind the others, to be spoken of by this number. It isn't there so far, and each call on it fails.
@@ -68,6 +69,9 @@ pub(crate) fn add_mirror(
     number: u32,
     kind: u32,
 ) -> Result<(), Failure> {
+    if held.mirrors.len() >= MOST_MIRRORS {
+        return Err(Failure::Argument);
+    }
     let Some(mirror) = missing(alloc, number, kind) else {
         return Err(Failure::Argument);
     };
