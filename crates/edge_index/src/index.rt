@@ -5,7 +5,7 @@ ghost use Rattle.segment_codec.specs.Record.{Segment};
 ghost use Rattle.edge_index.specs.Index.{IsEdgeIndexOf};
 
 use crate::finding::edges_between;
-use crate::merge::joined;
+use crate::merge::join;
 use segment_codec::{Edges, SegmentTable};
 use std::alloc::{AllocError, Global};
 use std::marker::Model;
@@ -67,7 +67,8 @@ impl EdgeIndex {
     }
 
     /// Takes in the edges of the table's flat segments up to a place. A parent that takes more than 32 bits ends it: no edge of its segment or of later
-    /// ones comes in. Where there are edges already the whole is written anew, so it is for many segments at once. Want of memory changes nothing.
+    /// ones comes in. Where there are edges already those above the lowest new one are written anew, so it is for many segments at once. Want of memory
+    /// changes nothing.
     pub fn grow<T: SegmentTable>(
         &mut self,
         alloc: Global,
@@ -82,7 +83,7 @@ impl EdgeIndex {
         if count == self.count {
             return Ok(());
         }
-        self.items = joined(alloc, &self.items, fresh)?;
+        join(alloc, &mut self.items, fresh)?;
         self.count = count;
         Ok(())
     }

@@ -11,9 +11,9 @@ use flat_segments::FlatTable;
 use segment_codec::SegmentTable;
 use std::alloc::Global;
 
-/// Fewer segments than so many are gone over when they are asked for: the index is written anew as a whole.
+/// Fewer segments than so many are gone over when they are asked for: what stands above the lowest of the new edges is written anew.
 const MANY: usize = 2048;
-/// And fewer than this share of those that are in it: what is written anew stays a fixed share of what came, however much is there.
+/// And fewer than this share of those that are in it: where edges go far back, what is written anew stays a fixed share of what came.
 const SHARE: usize = 128;
 
 /// Takes the segments of the table that aren't in the index into it, where they are many. For want of memory it stays as it is.
