@@ -232,8 +232,8 @@ class Process(Connection):
         return self.process.wait()
 
 
-def surroundings():
-    """The environment of the program. Its memory comes in large pages, where the system has some: a load takes an eighth less time."""
+def environment():
+    """The environment of the program. Its memory comes in large pages, where the system has some: a load takes a tenth less time."""
     return {"GLIBC_TUNABLES": "glibc.malloc.hugetlb=1", **os.environ}
 
 
@@ -242,7 +242,7 @@ class Program(Process):
 
     def __init__(self, words, name=None, held=(), session=0, errors=DEVNULL):
         first = "" if session is None else f"{session} "
-        super().__init__(words, name or "".join(words[1:2]), held, first, errors, surroundings())
+        super().__init__(words, name or "".join(words[1:2]), held, first, errors, environment())
 
     @staticmethod
     def sentence(status):

@@ -8,7 +8,7 @@ from functools import lru_cache
 from subprocess import PIPE, Popen
 from time import monotonic
 
-from segdag_lines import surroundings
+from segdag_lines import environment
 
 PIECE = 1 << 18  # bytes of one read of replies
 LAST = (b"ok", b"err")  # how the last line of a reply begins
@@ -59,7 +59,7 @@ class Run:
     def __init__(self, words, held):
         try:
             # In a session of its own: a key that ends the daemon from its terminal doesn't end the program.
-            self.process = Popen(words, stdin=PIPE, stdout=PIPE, pass_fds=held, env=surroundings(), bufsize=0, start_new_session=True)
+            self.process = Popen(words, stdin=PIPE, stdout=PIPE, pass_fds=held, env=environment(), bufsize=0, start_new_session=True)
         except OSError as error:
             raise Refused(f"{words[0]} can't be started: {error.strerror}") from error
         self.to, self.back = self.process.stdin.fileno(), self.process.stdout.fileno()

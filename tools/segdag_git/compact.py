@@ -3,7 +3,7 @@ import os
 import shutil
 from contextlib import suppress
 
-from segdag_lines import DEVNULL, PIPE, Popen, Refused, end_of
+from segdag_lines import DEVNULL, PIPE, Popen, Refused, end_of, environment
 
 from .place import patient, program
 from .shared import as_
@@ -31,7 +31,8 @@ def compact(place):
 def written(log, more, held):
     """The words of the program's reply, when the new log is whole."""
     with as_(log):
-        child = Popen([program(), log, "--", "compact", *more], stdin=DEVNULL, stdout=PIPE, stderr=DEVNULL, pass_fds=(held,))
+        words = [program(), log, "--", "compact", *more]
+        child = Popen(words, stdin=DEVNULL, stdout=PIPE, stderr=DEVNULL, pass_fds=(held,), env=environment())
     told = child.communicate()[0].split()
     if child.returncode == 0 and (told[:2] != [b"ok", b"compacted"] or len(told) != 6 or not b"".join(told[2:]).isdigit()):
         raise Refused(f"the program put {b' '.join(told)[:80]!r}, and was to tell of a new log")
