@@ -24,3 +24,4 @@ pub mod PullAgrees
 pub mod AskCases
 pub mod WholeLemmas
 pub mod Indexed
+pub mod Calling

@@ -10,3 +10,4 @@ pub mod Shown
 pub mod Pulls
 pub mod Whole
 pub mod Asks
+pub mod Calls

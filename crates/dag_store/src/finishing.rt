@@ -1,12 +1,11 @@
 //! What was prepared for a session, stored.
 
-ghost use Rattle.std.specs.Prelude.{◌≡◌, ◌<◌, ◌≤◌, List, true, false, Ok, IfSome};
+ghost use Rattle.std.specs.Prelude.{◌≡◌, ◌<◌, ◌≤◌, true, false, Ok, IfSome};
 ghost use Rattle.outside.specs.Counts.{Rose};
 ghost use Rattle.disk_trait.specs.Calls.{Goes};
 ghost use Rattle.gated_log.specs.Held.{Held, longer};
 ghost use Rattle.gated_log.specs.Holding.{IsOnDisk};
-ghost use Rattle.name_map.specs.Added.{Placed, AllStand};
-ghost use Rattle.payload_tables.specs.Kept.{PlainTables, AreTablesOf};
+ghost use Rattle.payload_tables.specs.Kept.{PlainTables};
 ghost use Rattle.dag_store.specs.Kept.{IsKept};
 ghost use Rattle.dag_store.specs.Changes.{ChangeLeaves, IsQuiet};
 ghost use Rattle.dag_store.specs.Finishes.{FinishesAs, Finishes, IsBehind, IsToFinish, payload_in};
@@ -22,16 +21,6 @@ use payload_tables::Tables;
 use std::alloc::Global;
 use step_rules::Refusal;
 use store_plans::{Next, Session};
-
-/// The tables, where many of their segments weren't in their index of edges with these in it.
-fn indexed(tables: Box<Tables>, bytes: &[u8]) -> Box<Tables>
-    requires { (added : List Placed) × AreTablesOf tables.value added × AllStand bytes.now added }
-    ensures { (added : List Placed) → AreTablesOf tables.value added → AllStand bytes.now added → AreTablesOf result.value added }
-{
-    let mut tables = tables;
-    tables.index(bytes);
-    tables
-}
 
 /// The parts of a store, of which a change is still to be stored.
 #[derive(Drop)]
@@ -88,7 +77,6 @@ fn commit<D: Disk>(disk: &mut D, alloc: Global, parts: Parts, change: Change) ->
     } = parts;
     match log.commit(disk, change.payload.bytes()) {
         Committed::Done(log, clock) => {
-            let tables = indexed(tables, log.bytes());
             let parts = Parts {
                 log,
                 tables,

@@ -8,6 +8,7 @@ mod changing;
 mod elsewhere;
 mod finishing;
 mod following;
+mod indexing;
 mod laws;
 mod loading;
 mod query;

@@ -77,8 +77,7 @@ pub(crate) fn boxed_tables(alloc: Global, log: &Log) -> Result<Box<Tables>, Load
         × AllByRecursion (EndsWithin log.now) added) }
     ensures err { IfErr result (λ fault. (fault ≡ LoadFault.Memory) ⊎ ((k : ℕ) × (fault ≡ LoadFault.Batch k) × IsFirstUnlawful [] log.now.payloads k)) }
 {
-    let mut tables = read_tables(alloc, log)?;
-    tables.index(log.bytes());
+    let tables = read_tables(alloc, log)?;
     let boxed = Box::new(alloc, tables)?;
     Ok(boxed)
 }

@@ -15,6 +15,7 @@ ghost use Rattle.store_queries.specs.Querying.{AsksQuery};
 ghost use Rattle.dag_store.specs.Stands.{IsAnswerable, Stands, StandsBeside};
 ghost use Rattle.dag_store.specs.Steps.{AreIdsOf, CountStep, KeepsAll, QueryStep};
 
+use crate::indexing::index_for;
 use crate::store::Store;
 use mirror_set::Mirrors;
 use remote_trait::Remote;
@@ -31,7 +32,7 @@ impl Store {
     ///
     /// For `ancestors` of one name the answer takes at most eight look-ups more than eight for each flat segment of the session's
     /// base and each pending row that it has, and at most eight where a segment of master without parents, of any level, ends at
-    /// the name's id.
+    /// the name's id. The first expression that asks for children makes an index of edges, later ones bring it on.
     pub fn query<R: Remote>(
         &mut self,
         s: u8,
@@ -51,6 +52,7 @@ impl Store {
             (began : ℕ) (st : State) (name : NameBytes) → StandsBeside began self.old first st → IsAnswerable st → tree_of expr.now ≡ ancestors_of name
             → EndsWithoutParents (base_of st.store s) (id_in same_name (view_of st.store s) name) → IfOk result (λ found. found.answer.steps ≤ 8) }
     {
+        index_for(&mut self.tables, self.log.bytes(), expr);
         let session = &self.sessions[usize::from(s)];
         let seen = session.seen(self.log.bytes(), &self.tables);
         let cache = &mut self.cache;
@@ -80,6 +82,7 @@ impl Store {
             (began : ℕ) (st : State) (name : NameBytes) → StandsBeside began self.old first st → IsAnswerable st → tree_of expr.now ≡ ancestors_of name
             → EndsWithoutParents (base_of st.store s) (id_in same_name (view_of st.store s) name) → IfOk result (λ answer. answer.steps ≤ 8) }
     {
+        index_for(&mut self.tables, self.log.bytes(), expr);
         let session = &self.sessions[usize::from(s)];
         let seen = session.seen(self.log.bytes(), &self.tables);
         let cache = &mut self.cache;

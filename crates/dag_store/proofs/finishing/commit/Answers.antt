@@ -1,5 +1,4 @@
 use Rattle.std.proofs.Common.{List, ℕ, [], ◌∷◌, ◌++◌, ◌+◌, length, refl, ap, sym, subst, ◌∙◌}
-use Rattle.name_map.specs.Added.{AllStand}
 use Rattle.disk_trait.specs.Calls.{Goes}
 use Rattle.gated_log.specs.Held.{log_bytes}
 use Rattle.gated_log.specs.Holding.{KeepsOldOrNew}
@@ -7,31 +6,17 @@ use Rattle.gated_log.specs.Log.{StandsFrom}
 use Rattle.dag_store.specs.Kept.{PlainStore}
 use Rattle.dag_store.specs.Changes.{HasStored}
 use Rattle.dag_store.proofs.FlushDisk.{leaves-stored}
-use Rattle.dag_store.proofs.Indexed.{kept-again}
 use Rattle.dag_store.proofs.finishing.commit.Goals as goal
-
-pub indexed-tables-requires : goal.indexed-tables-requires
-indexed-tables-requires g c =
-    let a = c.in-Done.ensures.answers in
-    let sent = c.bytes.ensures in
-    let kept = c.requires.stored c.in-Done.log c.if-change.false (record {
-      payloads = a.1 ∙ ap (λ (p : List ℕ). c.args.parts.log.payloads ++ p ∷ []) sent;
-      limit = a.3;
-      place = subst (λ (p : List ℕ). StandsFrom (length (log_bytes c.args.parts.log) + 8) p (log_bytes c.in-Done.log)) sent (c.in-Done.ensures.place c.in-Done.log c.in-Done.clock refl);
-    }) in
-    (kept.added, kept.tables_of, subst (λ b. AllStand b kept.added) (sym c.bytes-in-Done.ensures.bytes) kept.stand)
 
 pub store_of-requires-in-Done : goal.store_of-requires-in-Done
 store_of-requires-in-Done g c =
     let a = c.in-Done.ensures.answers in
     let sent = c.bytes.ensures in
-    let kept = c.requires.stored c.in-Done.log c.if-change.false (record {
+    c.requires.stored c.in-Done.log c.if-change.false (record {
       payloads = a.1 ∙ ap (λ (p : List ℕ). c.args.parts.log.payloads ++ p ∷ []) sent;
       limit = a.3;
       place = subst (λ (p : List ℕ). StandsFrom (length (log_bytes c.args.parts.log) + 8) p (log_bytes c.in-Done.log)) sent (c.in-Done.ensures.place c.in-Done.log c.in-Done.clock refl);
-    }) in
-    kept-again c.in-Done.log c.args.parts.tables.value c.indexed-tables.result.value c.args.parts.sessions.items c.args.parts.limits kept
-    (c.indexed-tables.ensures kept.added kept.tables_of (subst (λ b. AllStand b kept.added) (sym c.bytes-in-Done.ensures.bytes) kept.stand))
+    })
 
 pub returns-in-Done-clause-leaves : goal.returns-in-Done-clause-leaves
 returns-in-Done-clause-leaves g c =
