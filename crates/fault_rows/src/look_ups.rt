@@ -8,22 +8,23 @@ use mirror_set::Mirrors;
 use remote_trait::FixedRemote;
 use std::alloc::{AllocError, Global};
 
-/// The name of 38 zeros and the two digits of this number.
-fn put_name(text: &mut Vec<u8>, number: u8) -> Result<(), AllocError> {
-    text.extend_from_slice(&[b'0'; 38])?;
-    text.push(b'0' + number / 10 % 10)?;
-    text.push(b'0' + number % 10)?;
+/// The name of 36 zeros and the four digits of this number.
+fn put_name(text: &mut Vec<u8>, number: u16) -> Result<(), AllocError> {
+    text.extend_from_slice(&[b'0'; 36])?;
+    for power in [1000, 100, 10, 1] {
+        text.push(b'0' + (number / power % 10) as u8)?;
+    }
     Ok(())
 }
 
-fn put_parent(lines: &mut Vec<u8>, number: u8) -> Result<(), AllocError> {
+fn put_parent(lines: &mut Vec<u8>, number: u16) -> Result<(), AllocError> {
     lines.push(b' ')?;
     put_name(lines, number)
 }
 
 /// The line that adds the commit of this number. Its parents are the two before it where it is odd, and else the one before it;
 /// the first has none.
-fn put_add(lines: &mut Vec<u8>, number: u8) -> Result<(), AllocError> {
+fn put_add(lines: &mut Vec<u8>, number: u16) -> Result<(), AllocError> {
     lines.extend_from_slice(b"0 add ")?;
     put_name(lines, number)?;
     if number > 1 && number % 2 == 1 {
@@ -36,14 +37,14 @@ fn put_add(lines: &mut Vec<u8>, number: u8) -> Result<(), AllocError> {
     Ok(())
 }
 
-/// Lines that add the commits 1 to 35 and flush them into master.
-fn ladder(alloc: Global) -> Result<Vec<u8>, AllocError> {
+/// Lines that add the commits from 1 to the last and flush them into master.
+fn ladder(alloc: Global, last: u16) -> Result<Vec<u8>, AllocError> {
     let mut lines = Vec::new(alloc);
-    for number in 1..36u8 {
-        put_add(&mut lines, number)?;
+    for before in 0..last {
+        put_add(&mut lines, before + 1)?;
     }
     lines.extend_from_slice(b"0 flush")?;
-    put_parent(&mut lines, 35)?;
+    put_parent(&mut lines, last)?;
     lines.push(b'\n')?;
     Ok(lines)
 }
@@ -65,10 +66,11 @@ fn run(alloc: Global, lines: &[u8], disk: &mut MemoryDisk) -> Result<bool, Alloc
     Ok(report.status == 0)
 }
 
-/// `ancestors` of the commit of this number.
-fn ancestors_of(alloc: Global, number: u8) -> Result<Vec<u8>, AllocError> {
+/// The call of this word of the commit of this number.
+fn call_of(alloc: Global, word: &str, number: u16) -> Result<Vec<u8>, AllocError> {
     let mut text = Vec::new(alloc);
-    text.extend_from_slice(b"ancestors(")?;
+    text.extend_from_slice(word.as_bytes())?;
+    text.push(b'(')?;
     put_name(&mut text, number)?;
     text.push(b')')?;
     Ok(text)
@@ -87,52 +89,69 @@ fn counted(alloc: Global, store: &mut Store, text: &[u8]) -> Option<(u64, u64)> 
     Some((answer.count(), answer.steps()))
 }
 
-/// A commit, how many ancestors it has, and how many look-ups it takes to find them. The segment of the higher level has the
-/// commits 1 to 32, the first flat one 1 and 2; no other segment is without parents.
-type Counted = (u8, u64, u64);
+/// A call, the commit of which it is asked, how many members it has, and how many look-ups it takes to find them.
+type Counted = (&'static str, u16, u64, u64);
 
-const COUNTED: [Counted; 4] = [(2, 2, 8), (32, 32, 8), (35, 35, 24), (31, 31, 128)];
+/// Of 35 commits the segment of the higher level has the first 32, the first flat one two; no other segment is without parents.
+const ANCESTORS: [Counted; 4] = [
+    ("ancestors", 2, 2, 8),
+    ("ancestors", 32, 32, 8),
+    ("ancestors", 35, 35, 24),
+    ("ancestors", 31, 31, 128),
+];
+
+/// 4,200 commits have 2,100 flat segments, enough for an index of edges: without it those above a commit are gone over for its children.
+const CHILDREN: [Counted; 4] = [
+    ("children", 9, 2, 2),
+    ("children", 10, 1, 2),
+    ("children", 4_199, 1, 1),
+    ("children", 4_200, 0, 1),
+];
 
 fn is_counted(alloc: Global, store: &mut Store, row: &Counted) -> Result<bool, AllocError> {
-    let (number, members, look_ups) = row;
-    let text = ancestors_of(alloc, *number)?;
+    let (word, number, members, look_ups) = row;
+    let text = call_of(alloc, word, *number)?;
     Ok(counted(alloc, store, &text) == Some((*members, *look_ups)))
 }
 
-/// Whether the store of two levels finds the ancestors by so many look-ups.
-fn are_counted(alloc: Global, store: &mut Store) -> Result<bool, AllocError> {
-    for row in &COUNTED {
+/// Whether the store finds the members by so many look-ups.
+fn are_counted(alloc: Global, store: &mut Store, rows: &[Counted]) -> Result<bool, AllocError> {
+    for row in rows {
         if !is_counted(alloc, store, row)? {
             return Ok(false);
         }
     }
-    Ok(store.levels().len() == 2)
+    Ok(true)
 }
 
-/// Whether a store that is loaded from the disk does.
-fn are_counted_behind_load(alloc: Global, disk: &mut MemoryDisk) -> Result<bool, AllocError> {
+/// Whether a store that is loaded from the disk has so many levels and does.
+fn are_counted_behind_load(
+    alloc: Global,
+    disk: &mut MemoryDisk,
+    levels: u32,
+    rows: &[Counted],
+) -> Result<bool, AllocError> {
     match Store::load(alloc, disk, Limits::standard(), 1) {
         Ok(store) => {
             let mut store = store;
-            are_counted(alloc, &mut store)
+            Ok(are_counted(alloc, &mut store, rows)? && store.levels().len() == levels)
         }
         Err(_) => Ok(false),
     }
 }
 
-/// Writes the ladder's log to the disk. Whether its lines were all answered.
-fn put_ladder(alloc: Global, disk: &mut MemoryDisk) -> Result<bool, AllocError> {
-    let lines = ladder(alloc)?;
-    run(alloc, &lines, disk)
-}
-
-/// What goes wrong where the ladder's log is written to a disk and loaded again, if anything does.
-fn wrong(alloc: Global) -> Result<Option<&'static str>, AllocError> {
+/// What goes wrong where the log of a ladder of so many commits is written to a disk and loaded again, if anything does.
+fn wrong(
+    alloc: Global,
+    last: u16,
+    levels: u32,
+    rows: &[Counted],
+) -> Result<Option<&'static str>, AllocError> {
     let mut disk = MemoryDisk::new(alloc, &[], &[], None)?;
-    if !put_ladder(alloc, &mut disk)? {
+    if !run(alloc, &ladder(alloc, last)?, &mut disk)? {
         return Ok(Some("the lines"));
     }
-    if !are_counted_behind_load(alloc, &mut disk)? {
+    if !are_counted_behind_load(alloc, &mut disk, levels, rows)? {
         return Ok(Some("the look-ups"));
     }
     Ok(None)
@@ -140,6 +159,12 @@ fn wrong(alloc: Global) -> Result<Option<&'static str>, AllocError> {
 
 #[test]
 fn ancestors_take_few_look_ups(rt: HostRuntime) -> Result<(), AllocError> {
-    assert_eq!(rt; wrong(rt.alloc())?, None);
+    assert_eq!(rt; wrong(rt.alloc(), 35, 2, &ANCESTORS)?, None);
+    Ok(())
+}
+
+#[test]
+fn children_take_few_look_ups(rt: HostRuntime) -> Result<(), AllocError> {
+    assert_eq!(rt; wrong(rt.alloc(), 4_200, 3, &CHILDREN)?, None);
     Ok(())
 }
