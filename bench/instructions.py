@@ -71,8 +71,9 @@ def each(log, lines, made):
 
 
 def asked(names, drawn):
-    """The questions, each so many times, over drawn commits; those over all commits once."""
+    """The questions, each so many times, over drawn commits; those over all commits once. The first for children makes their index."""
     draw = random.Random(11)
+    yield "`count children(X)`, the first", f"0 count children({names[-1]})"
     for what, form in QUESTIONS.items():
         for _ in range(drawn if "{x}" in form else 1):
             at = draw.randrange(200, len(names))
