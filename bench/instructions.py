@@ -71,7 +71,7 @@ def each(log, lines, made):
 
 
 def asked(names, drawn):
-    """The questions, each so many times, over drawn commits; those over all commits once. The first for children makes their index."""
+    """The questions, each so many times, over drawn commits; those over all commits once. The first for children makes an index."""
     draw = random.Random(11)
     yield "`count children(X)`, the first", f"0 count children({names[-1]})"
     for what, form in QUESTIONS.items():
