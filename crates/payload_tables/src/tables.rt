@@ -35,7 +35,7 @@ use name_map::NameMap;
 use std::alloc::{AllocError, Global};
 use std::marker::Model;
 
-/// What is kept of the payloads of a log: the segments of all master ids with their levels, an index of edges of most of them, their names, and
+/// What is kept of the payloads of a log: the segments of all master ids with their levels, an index of edges as far as it was made, their names, and
 /// the other ids of the newest payload. Contracts see what is kept; of which payloads, `AreTablesOf` says.
 #[derive(Drop)]
 pub struct Tables {
