@@ -9,10 +9,11 @@ from collections import Counter
 from pathlib import Path
 
 import history
+import references
 from end_to_end import TOOLS, table
 
 sys.path.insert(0, str(TOOLS))
-from segdag_lines import Program  # noqa: E402: it stands in tools/
+from segdag_tools.lines import Program  # noqa: E402: it stands in tools/
 
 PROGRAM = os.path.abspath(sys.argv[1])
 EACH = 10_000  # commits between two flushes
@@ -219,12 +220,14 @@ def ends(git, names):
     progress("from process to process")
     draw = random.Random(2)
     table(git.folder, PROGRAM, pairs(draw, names, 2, True), pairs(draw, names, 2, False), stop)
+    progress("lists of references")
+    references.table(git.folder, PROGRAM, names, stop)
     return 0
 
 
 def main():
     if not os.access(PROGRAM, os.X_OK):
-        stop(f"{PROGRAM} isn't built; make run builds it")
+        stop(f"{PROGRAM} isn't built; make proved builds it")
     with tempfile.TemporaryDirectory() as folder:
         repository, log = os.path.join(folder, "repository"), os.path.join(folder, "log")
         if sys.argv[2].isdigit():
@@ -237,6 +240,8 @@ def main():
         graph_took = git.run("commit-graph", "write", "--reachable")[1]
         listed, listed_took = git.run("rev-list", "--all", "--topo-order", "--reverse", "--parents")
         rows = listed.stdout.splitlines()
+        if sys.argv[2].isdigit():
+            references.drawn(repository, [row[:40] for row in rows])
         if len(rows) < 2:
             stop("the repository has no two commits")
         if max(row.count(" ") for row in rows) > 8:

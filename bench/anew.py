@@ -1,6 +1,6 @@
 #!/usr/bin/env python3
 """Times the bundle of a log, clones of the log and of its bundle, and the log written anew, by the built program. Usage:
-bench/anew.py [COMMITS], behind `make run`; a million where none is given.
+bench/anew.py [COMMITS], behind `make proved`; a million where none is given.
 
 Each work is a run of the program of its own, so its time holds a load of what it reads. The least of three runs is told.
 """

@@ -12,9 +12,9 @@ static double now(void) {
     return (double)at.tv_sec + (double)at.tv_nsec / 1e9;
 }
 
-static void read_name(const char *text, segdag_name_bytes name) {
-    for (int i = 0; i < SEGDAG_NAME; i++)
-        sscanf(text + 2 * i, "%2hhx", &name[i]);
+static void read_id(const char *text, segdag_id *id) {
+    for (int i = 0; i < SEGDAG_ID_SIZE; i++)
+        sscanf(text + 2 * i, "%2hhx", &id->id[i]);
 }
 
 /* Asks for at least a fifth of a second, and prints what one question took, in microseconds. */
@@ -30,35 +30,36 @@ static void read_name(const char *text, segdag_name_bytes name) {
         printf("%-24s %.2f%s\n", what, (now() - began) / times * 1e6, failed ? " failed" : ""); \
     } while (0)
 
-static void ask(segdag *store, const char *first, const char *second) {
-    segdag_names bases = {0};
+static void ask(segdag_store *store, const char *first, const char *second) {
+    segdag_ids bases = {0};
     segdag_text reply = {0};
     segdag_pair pair;
     segdag_distance distance = {0};
     size_t done;
-    uint64_t id;
+    uint64_t number;
     bool is;
     char line[128];
     int size = snprintf(line, sizeof line, "0 id %s", first);
-    read_name(first, pair.left);
-    read_name(second, pair.right);
-    TOLD("is-ancestor", segdag_is_ancestor(store, 0, pair.left, pair.right, &is));
-    TOLD("merge bases", segdag_merge_bases(store, 0, pair.left, pair.right, &bases));
-    TOLD("ahead and behind", segdag_ahead_behind(store, 0, &pair, 1, &distance, &done));
+    read_id(first, &pair.left);
+    read_id(second, &pair.right);
+    TOLD("is-ancestor", segdag_commit_is_ancestor(store, 0, &pair.left, &pair.right, &is));
+    TOLD("merge bases", segdag_commit_merge_bases(store, 0, &pair.left, &pair.right, &bases));
+    TOLD("ahead and behind", segdag_commit_ahead_behind(store, 0, &pair, 1, &distance, &done));
     printf("%-24s %llu %llu\n", "they are", (unsigned long long)distance.ahead, (unsigned long long)distance.behind);
-    TOLD("id", segdag_id(store, 0, pair.left, &id));
-    TOLD("id, as a line", segdag_line(store, line, (size_t)size, &reply));
-    segdag_names_free(&bases);
+    TOLD("id", segdag_commit_number(store, 0, &pair.left, &number));
+    TOLD("id, as a line", segdag_store_line(store, line, (size_t)size, &reply));
+    segdag_ids_free(&bases);
     segdag_text_free(&reply);
 }
 
 int main(int count, char **words) {
-    segdag *store = NULL;
+    segdag_store *store = NULL;
     double began = now();
-    if (count < 4 || segdag_open(words[1], 4096, &store))
+    if (count < 4 || segdag_store_open(words[1], NULL, &store))
         return 1;
     printf("%-24s %.2f\n", "open", (now() - began) * 1e6);
     for (int i = 2; i + 1 < count; i += 2)
         ask(store, words[i], words[i + 1]);
-    return (int)segdag_close(&store);
+    segdag_store_close(store);
+    return 0;
 }

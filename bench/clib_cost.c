@@ -4,44 +4,44 @@
 #include <stdlib.h>
 #include <string.h>
 
-static void read_name(const char *text, segdag_name_bytes name) {
-    for (int i = 0; i < SEGDAG_NAME; i++)
-        sscanf(text + 2 * i, "%2hhx", &name[i]);
+static void read_id(const char *text, segdag_id *id) {
+    for (int i = 0; i < SEGDAG_ID_SIZE; i++)
+        sscanf(text + 2 * i, "%2hhx", &id->id[i]);
 }
 
-static segdag_status ask(segdag *store, const char *call, const segdag_pair *pair) {
-    static segdag_names names;
-    segdag_name_bytes name;
+static segdag_code ask(segdag_store *store, const char *call, const segdag_pair *pair) {
+    static segdag_ids names;
+    segdag_id id;
     segdag_distance distance;
-    segdag_sizes sizes;
+    segdag_sizes sizes = SEGDAG_SIZES_INIT;
     uint64_t number;
     size_t done;
     bool is;
-    if (!strcmp(call, "is_ancestor"))
-        return segdag_is_ancestor(store, 0, pair->left, pair->right, &is);
-    if (!strcmp(call, "merge_bases"))
-        return segdag_merge_bases(store, 0, pair->left, pair->right, &names);
-    if (!strcmp(call, "ahead_behind"))
-        return segdag_ahead_behind(store, 0, pair, 1, &distance, &done);
-    if (!strcmp(call, "id"))
-        return segdag_id(store, 0, pair->left, &number);
-    if (!strcmp(call, "name"))
-        return segdag_name(store, 0, 7, name);
-    if (!strcmp(call, "sizes_of"))
-        return segdag_sizes_of(store, 0, &sizes);
+    if (!strcmp(call, "commit_is_ancestor"))
+        return segdag_commit_is_ancestor(store, 0, &pair->left, &pair->right, &is);
+    if (!strcmp(call, "commit_merge_bases"))
+        return segdag_commit_merge_bases(store, 0, &pair->left, &pair->right, &names);
+    if (!strcmp(call, "commit_ahead_behind"))
+        return segdag_commit_ahead_behind(store, 0, pair, 1, &distance, &done);
+    if (!strcmp(call, "commit_number"))
+        return segdag_commit_number(store, 0, &pair->left, &number);
+    if (!strcmp(call, "commit_id"))
+        return segdag_commit_id(store, 0, 7, &id);
+    if (!strcmp(call, "session_sizes"))
+        return segdag_session_sizes(store, 0, &sizes);
     return SEGDAG_ARGUMENT;
 }
 
 int main(int count, char **words) {
-    segdag *store = NULL;
+    segdag_store *store = NULL;
     segdag_pair pair;
-    segdag_status status = count == 6 ? segdag_open(words[1], 4096, &store) : SEGDAG_ARGUMENT;
+    segdag_code status = count == 6 ? segdag_store_open(words[1], NULL, &store) : SEGDAG_ARGUMENT;
     if (status == SEGDAG_OK) {
-        read_name(words[4], pair.left);
-        read_name(words[5], pair.right);
+        read_id(words[4], &pair.left);
+        read_id(words[5], &pair.right);
     }
     for (int left = status ? 0 : atoi(words[3]); left > 0 && status == SEGDAG_OK; left--)
         status = ask(store, words[2], &pair);
-    segdag_close(&store);
+    segdag_store_close(store);
     return (int)status;
 }

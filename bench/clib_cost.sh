@@ -29,13 +29,13 @@ ask() {
         fi
     done
     awk -v call="$call" -v whole="$whole" -v within="${within:-0}" -v engine="$engine" -v times="$times" 'BEGIN {
-        printf "%-14s %9d of them %9d in %s: %.3f\n", call, whole / times, within / times, engine, within ? whole / within : 0
+        printf "%-20s %9d of them %9d in %s: %.3f\n", call, whole / times, within / times, engine, within ? whole / within : 0
     }'
 }
 
 echo "over $commits commits, instructions of a call:"
-ask is_ancestor dag_store::store::Store::count dag_store::query::members
-ask merge_bases dag_store::store::Store::query
-ask ahead_behind dag_store::store::Store::count dag_store::query::members
-ask id dag_store::store::Store::id
-ask name dag_store::store::Store::query
+ask commit_is_ancestor dag_store::store::Store::count dag_store::query::members
+ask commit_merge_bases dag_store::store::Store::query
+ask commit_ahead_behind dag_store::store::Store::count dag_store::query::members
+ask commit_number dag_store::store::Store::id
+ask commit_id dag_store::store::Store::query

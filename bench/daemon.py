@@ -1,7 +1,7 @@
 #!/usr/bin/env python3
 """Times tools/segdagd: lines a second of 1, 4 and 16 clients beside the program's own pipe, and how long a merge base takes.
 
-Usage: bench/daemon.py [COMMITS [LINES]], behind `make run`; SEGDAG may say where the program is. Each client is a
+Usage: bench/daemon.py [COMMITS [LINES]], behind `make proved`; SEGDAG may say where the program is. Each client is a
 process that sends as far ahead as its socket takes, and the same process measures the pipe. What a kind of line is
 answered through the pipe, and through the daemon by each number of clients, stands in one row; each is the better of two. The merge base is
 asked through the pipe too, in turn with the daemon, and an echo in Python tells what a line through a socket costs alone. Two minutes with 50,000 lines.

@@ -14,7 +14,8 @@ class Command:
 
     def __init__(self, folder, program):
         self.folder = folder
-        self.environment = {**os.environ, "PATH": f"{TOOLS}:{os.environ['PATH']}", "SEGDAG": program}
+        # As README has it: the quick way, where it was built, stands in front of the tools.
+        self.environment = {**os.environ, "PATH": f"{TOOLS.parent / 'out'}:{TOOLS}:{os.environ['PATH']}", "SEGDAG": program}
         # As for a user, what Python makes of the command's modules is kept.
         self.environment.pop("PYTHONDONTWRITEBYTECODE", None)
 

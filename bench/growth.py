@@ -139,7 +139,7 @@ def measured(kind, commits, folder):
 def main():
     sizes = sorted({int(word) for word in sys.argv[3:]})
     if not os.access(PROGRAM, os.X_OK):
-        stop(f"{PROGRAM} isn't built; make run builds it")
+        stop(f"{PROGRAM} isn't built; make proved builds it")
     found = {}
     print(f"| History | Commits | {' | '.join(MEASURES)} |\n|---|---|{'---|' * len(MEASURES)}", flush=True)
     with tempfile.TemporaryDirectory() as folder:

@@ -1,6 +1,6 @@
 #!/bin/sh
 # How the built program grows: stored, loaded, cloned, added to, flushed and asked at 10,000, 100,000 and 1,000,000 commits of three kinds of
-# history. Prints a table, and writes the picture bench/growth.svg. Behind `make run`, on a machine with nothing else to do: a minute or two.
+# history. Prints a table, and writes the picture bench/growth.svg. Behind `make proved`, on a machine with nothing else to do: a minute or two.
 #     bench/growth.sh [COMMITS]...
 set -eu
 cd "$(dirname "$0")/.."

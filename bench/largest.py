@@ -1,4 +1,4 @@
-"""The largest history that a log may have, beside a smaller one: largest.py [COMMITS]..., behind `make run`; a million and 16 millions where
+"""The largest history that a log may have, beside a smaller one: largest.py [COMMITS]..., behind `make proved`; a million and 16 millions where
 none is given. Each is imported by several runs, since a run reads 2^30 bytes, loaded, asked, bundled, cloned and written anew, once.
 
 Nothing is held of a history but a few numbers, so the program has the memory. Of three merges of ten (bench/history.py); what is asked is

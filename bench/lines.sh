@@ -1,6 +1,6 @@
 #!/usr/bin/env bash
 # Times the built program over a million comment lines, and over a history of commits.
-# Usage: bench/lines.sh [COMMITS], behind `make run`.
+# Usage: bench/lines.sh [COMMITS], behind `make proved`.
 set -eu
 cd "$(dirname "$0")/.."
 program=crates/segdag/out/segdag

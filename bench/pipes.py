@@ -1,6 +1,6 @@
 #!/usr/bin/env python3
 """Times mirrors behind pipes by the built program, in turn with the same ones at their paths. Usage: bench/pipes.py [COMMITS], behind
-`make run`; a million where none is given, a multiple of 1,000.
+`make proved`; a million where none is given, a multiple of 1,000.
 
 A clone is timed from the start of its processes to their end, all else from a line to its reply, behind one that lets the mirror read
 its log. Of three times in turn the least is told. Names are printed too where both ends have one processor. Then the same is asked behind

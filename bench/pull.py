@@ -1,6 +1,6 @@
 #!/usr/bin/env python3
 """Times a pull by the built program: of 1,000 new commits, onto a clone of a log beside it. Usage: bench/pull.py
-[COMMITS], behind `make run`; a million where none is given, a multiple of 1,000.
+[COMMITS], behind `make proved`; a million where none is given, a multiple of 1,000.
 
 Each line is given when the one before it was answered, and timed by itself. The mirror's log is read by the first line
 that asks it, and once more by each pull: what the first ask takes longer than the second is that reading, which is

@@ -1,5 +1,5 @@
 #!/usr/bin/env python3
-"""Times the built program over a drawn history in a log on disk. Usage: bench/store.py [COMMITS], behind `make run`.
+"""Times the built program over a drawn history in a log on disk. Usage: bench/store.py [COMMITS], behind `make proved`.
 
 Each work is a run of the program of its own, so its time holds a load of the log; the load alone is told too, to be taken off.
 Strips are timed line by line, each from the line to its reply, so no load is in their times.

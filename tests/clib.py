@@ -80,7 +80,7 @@ class Beside:
     def __init__(self, folder, seed):
         self.draw = random.Random(seed)
         self.logs = [Path(folder, word) for word in ("by_library", "by_program")]
-        self.there, self.other, self.bundle = (Path(folder, word) for word in ("there", "other", "bundle"))
+        self.there, self.other, self.bundle, self.damaged = (Path(folder, word) for word in ("there", "other", "bundle", "damaged"))
         for path in (*self.logs, self.there, self.other, self.bundle):
             path.unlink(missing_ok=True)
         self.rows = serve_client.draw_log(PROGRAM, self.draw, self.there, self.draw.choice([1, 8, 60, 300]))
@@ -89,7 +89,8 @@ class Beside:
     def mirrors(self):
         """Words of mirrors: the log or its bundle, and what isn't there yet, what is no log, or neither."""
         no_memory.bundled(PROGRAM, self.there, self.bundle)
-        words = [self.there, f"bundle:{self.bundle}", self.other, __file__, self.other.parent]
+        self.damaged.write_bytes(b"\1 no log")
+        words = [self.there, f"bundle:{self.bundle}", self.other, self.damaged, self.other.parent]
         return [self.there, *self.draw.sample(words, self.draw.randrange(4))][:: self.draw.choice([1, -1])]
 
     def say(self, children, lines):
@@ -124,18 +125,18 @@ def by_python():
     beside = Beside(FOLDER, 7)
     names = [name for name, _ in beside.rows]
     beside.other.write_bytes(b"\1 no log")
-    with segdag.open(beside.logs[0], cache=2, mirrors=[beside.other]) as store:
+    with segdag.open(beside.logs[0], create=True, cache=2, mirrors=[beside.other]) as store:
         try:
             store.clone()
             fail("a clone of what is no log")
         except segdag.Remote:
             store.add_mirror(beside.there)
-        if store.clone() != len(names) or sorted(store.query("all")) != sorted(names):
+        if store.clone() != (len(names), 0, 0) or sorted(store.query("all")) != sorted(names):
             fail("the module in Python finds other names in a clone")
         lines = grown(beside.draw, beside.rows)
         run([PROGRAM, beside.there, "--", "run"], lines)
         sizes = store.pull()
-        if sizes != (len(names) + len(lines) - 1, 0, 0) or store.id(bytes.fromhex(lines[-1].split()[2])) != sizes.master - 1:
+        if sizes != (len(names) + len(lines) - 1, 0, 0) or store.number(bytes.fromhex(lines[-1].split()[2])) != sizes.master - 1:
             fail(f"the module in Python pulled {sizes}")
 
 
@@ -182,7 +183,7 @@ def told(call):
     try:
         return call()
     except segdag.Refusal as refused:
-        return type(refused).__name__.lower()
+        return refused.name
 
 
 def questions(store, draw, session, names):
@@ -192,8 +193,8 @@ def questions(store, draw, session, names):
     yield f"count inter({x},ancestors({y}))", lambda: [int(store.is_ancestor(a, b, session))]
     yield f"count only({x},{y})", lambda: [store.ahead_behind([(a, b)], session)[0][0]]
     yield f"count only({y},{x})", lambda: [store.ahead_behind([(a, b)], session)[0][1]]
-    yield f"query gca(union({x},{y}))", lambda: [name.hex() for name in store.gca(a, b, session)] or [0]
-    yield f"query {x}", lambda: [store.name(store.id(a, session), session).hex()]
+    yield f"query gca(union({x},{y}))", lambda: [name.hex() for name in store.merge_bases(a, b, session)] or [0]
+    yield f"query {x}", lambda: [store.id(store.number(a, session), session).hex()]
     yield "status", lambda: [*store.sizes(session)]
     if draw.random() < 0.2:
         yield "reload", lambda: [store.reload(session)]
@@ -212,7 +213,7 @@ def beside():
         for log in logs:
             log.unlink(missing_ok=True)
         program = Asked(PROGRAM, logs[1], [], 4096)
-        with segdag.open(logs[0]) as store:
+        with segdag.open(logs[0], create=True) as store:
             for line in filter(lambda line: line and line[0] != "#", (lines.line() for _ in range(LINES))):
                 reply = program.reply(line)
                 if store.line(line) != reply:

@@ -1,5 +1,6 @@
 /* What tests/clib.sh runs over the library's core, each of its functions once and more: no file is reached, the log stands in memory. */
 #include "clib.h"
+#include "segdag_core.h"
 #include <inttypes.h>
 
 static const uint8_t first[20] = {1, 1, 1, 1, 1, 1, 1, 1, 1, 1, 1, 1, 1, 1, 1, 1, 1, 1, 1, 1};
@@ -106,9 +107,9 @@ static size_t perform(segdag_core *core, memory_log *log, uint32_t kinds[8]) {
     for (size_t count = 0; count < 8; count++) {
         uint64_t at = 0;
         size_t size = 0, copied = 0;
-        if (segdag_core_next(core, &kinds[count], &at, &size) || kinds[count] == SEGDAG_NOTHING)
+        if (segdag_core_next(core, &kinds[count], &at, &size) || kinds[count] == SEGDAG_CORE_NOTHING)
             return count;
-        if (kinds[count] == SEGDAG_WRITE && at + size <= sizeof log->bytes) {
+        if (kinds[count] == SEGDAG_CORE_WRITE && at + size <= sizeof log->bytes) {
             WANTS(segdag_core_piece(core, 0, log->bytes + at, size, &copied) == 0 && copied == size);
             log->size = at + size > log->size ? at + size : log->size;
         }
@@ -133,14 +134,29 @@ static void notes(void) {
     WANTS(segdag_core_close(&core) == 0);
 }
 
+/* What changes without a text note, performed over a log in memory: it is there when the log is loaded again. */
+static void kept_changes(void) {
+    segdag_core core = {0};
+    memory_log log = {{0}, 1};
+    uint64_t id = 0, master = 7, some = 7;
+    uint32_t kinds[8] = {9};
+    WANTS(segdag_core_load(&core, log.bytes, log.size, 1) == 0);
+    WANTS(segdag_core_add(&core, 0, second, nothing, 0, &id) == 0 && segdag_core_add(&core, 0, first, second, 20, &id) == 0);
+    WANTS(segdag_core_flush(&core, 0, second, 20, &master, &some) == 0 && master == 1 && some == 1);
+    WANTS(perform(&core, &log, kinds) == 7);
+    WANTS(segdag_core_strip(&core, 0, first, 20, &master, &some) == 0 && perform(&core, &log, kinds) == 4 && segdag_core_close(&core) == 0);
+    WANTS(segdag_core_load(&core, log.bytes, log.size, 1) == 0 && segdag_core_id(&core, 0, first, &id) == 33);
+    WANTS(segdag_core_id(&core, 0, second, &id) == 0 && id == 0 && segdag_core_close(&core) == 0);
+}
+
 static void mirrors(void) {
     segdag_core core = {0};
     uint64_t number = 7;
     size_t size = 0;
     WANTS(segdag_core_load(&core, nothing, 1, 1) == 0);
     WANTS(segdag_core_add_mirror(&core, 7, 2) == 19);
-    WANTS(segdag_core_add_mirror(&core, 7, SEGDAG_LOG) == 0);
-    WANTS(segdag_core_add_mirror(&core, 8, SEGDAG_BUNDLE) == 0);
+    WANTS(segdag_core_add_mirror(&core, 7, SEGDAG_CORE_LOG) == 0);
+    WANTS(segdag_core_add_mirror(&core, 8, SEGDAG_CORE_BUNDLE) == 0);
     WANTS(segdag_core_renew_mirror(&core, 9, true, mirrored, sizeof mirrored) == 19);
     WANTS(segdag_core_line(&core, (const uint8_t *)"0 clone", 7, &size) == 0 && size == 13);
     WANTS(segdag_core_renew_mirror(&core, 7, true, mirrored, sizeof mirrored) == 0);
@@ -167,11 +183,37 @@ static void follows(void) {
     WANTS(segdag_core_close(&core) == 0);
 }
 
+/* Changes without a text, and what they note. */
+static void changes(void) {
+    segdag_core core = {0}, clone = {0};
+    uint64_t number = 7, master = 7, others = 7;
+    uint32_t kind = 0;
+    size_t size = 0;
+    WANTS(segdag_core_flush(&core, 0, nothing, 0, &master, &others) == 17 && segdag_core_pull(&core, 0, &master, &others) == 17 && master == 7);
+    WANTS(segdag_core_load(&core, nothing, 0, 1) == 0);
+    while (!segdag_core_next(&core, &kind, &number, &size) && kind)
+        segdag_core_performed(&core);
+    WANTS(segdag_core_add(&core, 0, first, nothing, 0, &number) == 0 && segdag_core_add(&core, 0, second, first, 20, &number) == 0);
+    WANTS(segdag_core_flush(&core, 16, nothing, 0, &master, &others) == 19 && segdag_core_flush(&core, 0, (const uint8_t *)"short", 5, &master, &others) == 19);
+    WANTS(segdag_core_flush(&core, 0, mirrored, 20, &master, &others) == 33 && segdag_core_next(&core, &kind, &number, &size) == 0 && kind == 0);
+    WANTS(segdag_core_flush(&core, 0, first, 20, &master, &others) == 0 && master == 1 && others == 1);
+    WANTS(segdag_core_next(&core, &kind, &number, &size) == 0 && kind != 0);
+    WANTS(segdag_core_strip(&core, 0, nothing, 0, &master, &others) == 19 && segdag_core_strip(&core, 0, first, 20, &master, &others) == 38);
+    WANTS(segdag_core_strip(&core, 0, second, 20, &master, &others) == 0 && master == 1 && others == 0);
+    WANTS(segdag_core_clone(&core, 0, &master, &others) == 42 && segdag_core_pull(&core, 0, &master, &others) == 44);
+    WANTS(segdag_core_load(&clone, nothing, 0, 1) == 0 && segdag_core_add_mirror(&clone, 3, SEGDAG_CORE_LOG) == 0);
+    WANTS(segdag_core_clone(&clone, 0, &master, &others) == 45 && segdag_core_renew_mirror(&clone, 3, true, mirrored, sizeof mirrored) == 0);
+    WANTS(segdag_core_clone(&clone, 0, &master, &others) == 0 && master == 1 && others == 0 && segdag_core_pull(&clone, 0, &master, &others) == 0 && master == 1);
+    WANTS(segdag_core_close(&core) == 0 && segdag_core_close(&clone) == 0);
+}
+
 int main(void) {
     closed_ones();
     typed_calls();
+    changes();
     sessions();
     notes();
+    kept_changes();
     mirrors();
     follows();
     printf("core: %d wishes failed\n", failures);

@@ -12,12 +12,14 @@ import time
 from contextlib import suppress
 from pathlib import Path
 
+import daemon_losses
 from daemon_lends import lends, shares
 from daemon_lib import (
-    COUNT, FOLDER, HANGS, LINE, PART, PROGRAM, SEGDAGD, TOO_LONG, Served, at_once, compare, drawn_lines, drawn_text, fail, forked,
+    COUNT, FOLDER, HANGS, LINE, PART, PROGRAM, SEGDAGD, TOO_LONG, Served, at_once, compare, drawn_lines, drawn_text, exactly, fail, forked,
     judged, moments, name, raw, same_store, talk, talk_in_turn, told_whole, waited, whole,
 )
-from segdag_lines import Refused, Socket
+from segdag_tools.lines import Socket
+from segdag_tools.refused import Refused
 
 
 def drawn():
@@ -308,7 +310,9 @@ def idle():
 
 
 STAND_IN = """#!{python}
-import os, sys, time
+import fcntl, os, sys, time
+log = open(sys.argv[1], "ab")
+fcntl.flock(log, fcntl.LOCK_EX)
 for line in sys.stdin.buffer:
     word = line.split()[1]
     while word == b"pull" and not os.path.exists("{pulled}"):
@@ -436,13 +440,13 @@ def spilled():
             if time.monotonic() > until:
                 fail(f"{kept_file(served)} bytes are kept in a file")
             time.sleep(0.01)
-        for _ in moments("who has more to come than there is room for is there still") if options else ():
-            if sum(to.startswith("socket:") for to in served.links()) <= 2:
+        for _ in moments("who has more to come than there is room for has its session still") if options else ():
+            if b"discard" in served.order.read_bytes():
                 break
         kilobytes = max(kilobytes, served.status("VmHWM") - before)
         got = whole(late) if options else b"".join(exactly(late, 2 * len(reply)))
-        if options and len(got) >= len(reply) or not options and got != reply * 2:
-            fail(f"with {options} {len(got)} bytes came")
+        if options and (len(got) >= len(reply) or not got.endswith(b"\nerr ended 20\n")) or not options and got != reply * 2:
+            fail(f"with {options} {len(got)} bytes came, the last of them {got[-60:]}")
         if kept_file(served):
             fail("the file is still there")
         other.must("status")
@@ -450,16 +454,6 @@ def spilled():
     if kilobytes > 10_000:
         fail(f"a large reply takes {kilobytes} kB")
     return f"replies of {len(reply) >> 20} MB that are taken late take {kilobytes} kB and a file, and another one waits {1000 * worst:.0f} ms"
-
-
-def exactly(sock, count):
-    """Pieces of so many bytes together."""
-    while count:
-        piece = sock.recv(min(count, 1 << 16))
-        if not piece:
-            return
-        count -= len(piece)
-        yield piece
 
 
 def unread():
@@ -602,11 +596,12 @@ def many():
 
 
 PARTS = [wrong, seventeenth, two, rights, activated, idle, ends, unread, spilled, turns, drawn, alone, runs, settled, lends, shares, killed, crashed, many]
+LOSSES = [getattr(daemon_losses, part) for part in "closed foreign removed crowded starved cut stopped hurried numbers sized lines".split()]
 
 if __name__ == "__main__":
     FOLDER.mkdir()
     # Nothing is left behind, however this ends; the processes of clients don't come here.
     atexit.register(lambda: [served.process.kill() for served in Served.all])
     begun = time.monotonic()
-    told = next(part for part in PARTS if part.__name__ == PART)()
+    told = next(part for part in PARTS + LOSSES if part.__name__ == PART)()
     print(f"daemon: {told} ({time.monotonic() - begun:.1f} s)")

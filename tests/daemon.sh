@@ -10,7 +10,7 @@ if [ "${1:-}" = --lines ]; then
     lines=$2
     shift 2
 fi
-[ $# -gt 0 ] || set -- wrong seventeenth two rights activated idle ends unread spilled turns drawn alone runs settled lends shares killed crashed many
+[ $# -gt 0 ] || set -- wrong seventeenth two rights activated idle ends unread spilled turns drawn alone runs settled lends shares killed crashed many closed foreign removed crowded starved cut stopped hurried numbers sized lines
 wants_folder
 for part in "$@"; do
     python tests/daemon.py "$part" "$program" "$folder" "$lines"

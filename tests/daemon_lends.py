@@ -5,7 +5,8 @@ import time
 from contextlib import suppress
 
 from daemon_lib import COUNT, FOLDER, Served, drawn_lines, drawn_text, fail, forked, judged, moments, name, raw, waited
-from segdag_lines import Refused, Socket
+from segdag_tools.lines import Socket
+from segdag_tools.refused import Refused
 
 CHANGED = "connection was idle"  # what the client module makes of `err ended 17`
 

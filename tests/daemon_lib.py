@@ -19,7 +19,8 @@ from random_lines import Lines
 
 TOP = Path(__file__).resolve().parent.parent
 sys.path.insert(0, str(TOP / "tools"))
-from segdag_lines import Refused, Socket  # noqa: E402  (the folder is on the path now)
+from segdag_tools.lines import Socket  # noqa: E402  (the folder is on the path now)
+from segdag_tools.refused import Refused  # noqa: E402
 
 PART, PROGRAM, FOLDER = sys.argv[1], os.path.abspath(sys.argv[2]), Path(sys.argv[3]) / sys.argv[1]
 COUNT = int(sys.argv[4])
@@ -44,9 +45,9 @@ class Served:
 
     all = []
 
-    def __init__(self, *options, log="log", path="socket", program=PROGRAM, waits=True, launcher=(), **others):
+    def __init__(self, *options, log="log", path="socket", program=PROGRAM, waits=True, launcher=(), remotes=(), **others):
         self.path, self.log, self.order = str(FOLDER / path), str(FOLDER / log), FOLDER / f"{log}.order"
-        words = [sys.executable, SEGDAGD, self.log, "--order", str(self.order), *options]
+        words = [sys.executable, SEGDAGD, self.log, *map(str, remotes), "--order", str(self.order), *options]
         self.words = [*launcher, *words, *([] if launcher else ["--socket", self.path])]
         self.others = {"env": dict(os.environ, SEGDAG=str(program)), **others}
         self.said = FOLDER / f"said{len(Served.all)}"
@@ -142,6 +143,16 @@ def whole(sock):
                 break
             data += piece
     return data
+
+
+def exactly(sock, count):
+    """Pieces of so many bytes together."""
+    while count:
+        piece = sock.recv(min(count, 1 << 16))
+        if not piece:
+            return
+        count -= len(piece)
+        yield piece
 
 
 def talk(path, text, out, draw):

@@ -186,7 +186,7 @@ class Seen:
         """A drawn session is reloaded, and another one is where it was."""
         session, least = self.draw.randrange(16), max(1, self.writer.ended)
         if self.draw.random() < 0.3:
-            self.reader.more()
+            self.reader.refresh()
         if not self.reader.line(f"{session} reload").startswith("ok reloaded 0"):
             fail("a reload was refused")
         self.versions[session] = self.newest = self.version(self.reader, session, max(least, self.newest), self.writer.began)
@@ -281,9 +281,9 @@ class Halves:
         is_odd = session in map(str, range(1, 16, 2))
         if is_odd and command.split(" ")[0] in ("flush", "strip", "clone", "pull"):
             self.refused += 1
-            return raises(segdag.Follows, self.odd.line, line)
+            return raises(segdag.ReadOnly, self.odd.line, line)
         wanted = self.whole.ask([line])[0]
-        self.odd.more()
+        self.odd.refresh()
         self.sent += 1
         return wanted == (self.odd.line(line) if is_odd else self.even.ask([line])[0])
 
@@ -324,14 +324,14 @@ def anew():
     with segdag.follow(log) as reader:
         run(log, [*chain(51, 60), f"0 add {name(70)} {name(3)}", "0 flush"])
         subprocess.run([PROGRAM, log, "--", "compact"], check=True, stdout=subprocess.DEVNULL)
-        if reader.more() != 2 or reader.sizes() != (50, 0, 0) or reader.reload() != 0 or reader.sizes() != (60, 1, 0):
+        if reader.refresh() != 2 or reader.sizes() != (50, 0, 0) or reader.reload() != 0 or reader.sizes() != (60, 1, 0):
             fail("two changes aren't taken")
         names = list(reader.query("all"))
         os.replace(f"{log}.new", log)
-        if not (raises(segdag.Replaced, reader.more) and raises(segdag.Replaced, reader.reload) and list(reader.query("all")) == names):
+        if not (raises(segdag.Replaced, reader.refresh) and raises(segdag.Replaced, reader.reload) and list(reader.query("all")) == names):
             fail("a log that was written anew isn't told, or takes something away")
     with segdag.follow(log) as reader:
-        if list(reader.query("all")) != names or reader.more() != 0:
+        if list(reader.query("all")) != names or reader.refresh() != 0:
             fail("the log that was written anew answers something else")
     log.unlink()
     if not raises(segdag.NotOpened, segdag.follow, log):
@@ -350,7 +350,7 @@ def only_reads(log):
     data, changed = log.read_bytes(), os.stat(log).st_mtime_ns
     with segdag.follow(log) as reader:
         reader.add(named(99), [named(3)])
-        refused = all(raises(segdag.Follows, *change) for change in changes(reader))
+        refused = all(raises(segdag.ReadOnly, *change) for change in changes(reader))
         return refused and reader.sizes() == (50, 0, 1) and (log.read_bytes(), os.stat(log).st_mtime_ns) == (data, changed)
 
 
@@ -387,14 +387,14 @@ def lazy():
     log.write_bytes(b"")
     with segdag.follow(log, cache=2, mirrors=[str(there)]) as reader:
         run(log, ["0 clone"], there)
-        if reader.reload() != 0 or reader.sizes() != (300, 0, 0) or reader.id(named(21)) != 20:
+        if reader.reload() != 0 or reader.sizes() != (300, 0, 0) or reader.number(named(21)) != 20:
             fail("a follower takes another clone")
         run(there, chain(301, 320))
         run(log, ["0 pull"], there)
-        if reader.reload() != 0 or list(reader.query("all")) != [named(k) for k in range(320, 0, -1)] or reader.id(named(17)) != 16:
+        if reader.reload() != 0 or list(reader.query("all")) != [named(k) for k in range(320, 0, -1)] or reader.number(named(17)) != 16:
             fail("a follower of a clone's log finds other names")
     with segdag.follow(log) as reader:
-        if not raises(segdag.NoRemote, reader.id, named(17)):
+        if not raises(segdag.NoRemote, reader.number, named(17)):
             fail("a follower finds a name that is stored nowhere")
 
 

@@ -10,13 +10,22 @@ import sys
 
 from guide_answers import answers, octopuses, shapes
 from guide_daemon import daemons
+from guide_elsewhere import elsewhere
 from guide_enemies import enemies
+from guide_files import files
+from guide_graph import graphs
+from guide_hook import hooks
+from guide_kinds import kinds
 from guide_large import given, kernel, large
 from guide_lib import FOLDER, HANGS, PROGRAM, TOP, environment, fail
 from guide_log import killed, logs, published
+from guide_many import many
 from guide_quick import quick
 from guide_refusals import faults, refusals
 from guide_shared import shared
+from guide_told import told
+from guide_truth import truth
+from guide_typed import typed
 
 PAGES = ("docs/GUIDE.md", "docs/COMMANDS.md", "docs/MANY.md")
 SHELL = {"stdout": subprocess.PIPE, "stderr": subprocess.STDOUT, "text": True, "timeout": HANGS}
@@ -99,7 +108,10 @@ def page_played(page, writes):
     return count
 
 
-PARTS = (answers, octopuses, shapes, refusals, faults, logs, published, shared, killed, enemies, daemons, quick, transcripts, large, kernel, given)
+PARTS = (
+    answers, octopuses, shapes, kinds, typed, graphs, elsewhere, many, truth, files, told, refusals, faults, logs, published, shared, killed, enemies,
+    daemons, hooks, quick, transcripts, large, kernel, given,
+)
 PARTS = {it.__name__: it for it in PARTS}
 PARTS["write"] = lambda: transcripts(writes=True)
 PARTS[sys.argv[1]]()

@@ -5,7 +5,8 @@
 . "$(dirname "$0")/lib.sh"
 wants_program
 wants git python3
-[ $# -gt 0 ] || set -- answers octopuses shapes refusals faults logs published shared killed enemies daemons quick transcripts
+[ $# -gt 0 ] || set -- answers octopuses shapes kinds typed graphs elsewhere many truth files told refusals faults logs published shared killed enemies daemons \
+    hooks quick transcripts
 wants_folder
 for part in "$@"; do
     python tests/guide.py "$part" "$program" "$folder"

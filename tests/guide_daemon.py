@@ -21,7 +21,7 @@ def daemons():
     for branch, commit in (("main", repository.commits[-1]), ("topic", repository.commits[-3]), ("7", repository.commits[-9])):
         repository.point(branch, commit)
     refuse(repository, ["daemon", "walk"], 128, "start, stop or status")
-    if repository.git("segdag", "daemon", "status")[:2] != (1, "none runs\n") or repository.must("segdag", "daemon", "stop") != "none runs\n":
+    if repository.git("segdag", "daemon", "status")[:2] != (1, "no daemon runs\n") or repository.must("segdag", "daemon", "stop") != "no daemon runs\n":
         fail("daemon: one runs before it is started")
     repository.sync()
     repository.must("segdag", "daemon", "start", "600")
@@ -40,7 +40,7 @@ def daemons():
 def crowded(repository, draw):
     """Sixteen others have the sessions: where they are idle one is lent, and where all have rows pending a copy of the log is asked."""
     sys.path.insert(0, str(TOOL.parent))
-    from segdag_lines import Socket
+    from segdag_tools.lines import Socket
 
     held = [Socket(str(repository.common / "segdag/socket")) for _ in range(16)]
     for one in held:

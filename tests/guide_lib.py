@@ -22,6 +22,8 @@ def environment(**more):
         (commands / "segdag").symlink_to(PROGRAM)
         (commands / "git-segdag").symlink_to(TOOL)
         (commands / "segdag-ssh").symlink_to(TOP / "tools/segdag-ssh")
+        # The interpreter itself, since what chooses among several takes longer than a question.
+        (commands / "python3").symlink_to(os.path.realpath(sys.executable))
     kept["PATH"] = f"{commands}:{kept['PATH']}"
     # What Python makes of the command's modules is kept, as a user's is, and not in the checkout.
     kept.pop("PYTHONDONTWRITEBYTECODE", None)
@@ -152,7 +154,8 @@ def ask_all(repository, draw, times):
         ask_pair(repository, a, b)
         some = draw.sample(refs, min(len(refs), 3))
         told = repository.must("segdag", "ahead-behind", a, *some)
-        if [line.split() for line in told.splitlines()] != counts(repository, a, some):
+        # A name may have what Python takes for the end of a line, or for a space.
+        if [line.split(" ") for line in told.split("\n")[:-1]] != counts(repository, a, some):
             fail(f"{repository.path.name}: ahead-behind {a} {some}: {told}, and git has {counts(repository, a, some)}")
         for words in ([f"{a}..{b}"], [f"{a}...{b}"], [a, b, f"^{c}"], [f"{a}...{b}", f"^{c}"]):
             same(repository, ["segdag", "log", *words], ["rev-list", "--count", *words])
@@ -174,6 +177,7 @@ def ask_expressions(repository, a, b, c, steps):
         (f"minus(range({a},{b}),ancestors({a}))", ["--ancestry-path", given[b], f"^{given[a]}"]),
         (f"inter(set:all,up({a},{steps}))", ["--max-count=1", f"{given[a]}~{steps}"]),
         (f"parents({c})", ["--no-walk", f"{given[c]}^@"]),
+        (f"line({c})", ["--first-parent", given[c]]),
     ):
         if repository.git("rev-list", *words)[0] == 0:
             same(repository, ["segdag", "query", expression], ["rev-list", *words], sort=True)

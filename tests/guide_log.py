@@ -18,9 +18,9 @@ OLD = "objects/info/segdag"
 
 def limited(name, **limits):
     """The command with other limits, so that a small history comes to them: sync__EACH is EACH of the module sync."""
-    lines = [f"import sys\nsys.path.insert(0, '{TOOL.parent}')", "from segdag_git import command, sync, store, questions"]
+    lines = [f"import sys\nsys.path.insert(0, '{TOOL.parent}')", "from segdag_tools.git import command, sync, store, questions"]
     lines += [f"{key.replace('__', '.')} = {value}" for key, value in limits.items()]
-    return script(name, "\n".join(lines) + "\nif __name__ == '__main__': sys.exit(command.main('limited\\n\\n'))\n")
+    return script(name, "\n".join(lines) + "\nif __name__ == '__main__': sys.exit(command.main())\n")
 
 
 def run(command, repository, *words, **more):

@@ -3,7 +3,7 @@ import os
 import random
 import subprocess
 
-from guide_lib import FOLDER, PROGRAM, TOOL, Repository, ask_all, environment, fail, refuse, same, script
+from guide_lib import FOLDER, PROGRAM, TOOL, Repository, ask_all, environment, fail, refuse, script
 
 
 def refusals():
@@ -12,14 +12,13 @@ def refusals():
     repository.grow(12)
     refuse(repository, [], 129, "usage: git segdag")
     refuse(repository, ["merge-base", "main"], 129, "usage: git segdag")
-    refuse(repository, ["merge-base", "main", "main", "main"], 129, "usage: git segdag")
     refuse(repository, ["walk"], 129, "usage: git segdag")
     repository.point("main", repository.commits[-1])
     repository.point("topic", repository.commits[-2])
     refuse(repository, ["merge-base", "main", "main"], 128, "the log has no commits yet")
     refuse(repository, ["compact"], 128, "the log has no commits yet")
-    refuse(repository, ["sync"], 128, "isn't there", SEGDAG="/nowhere/segdag")
-    refuse(repository, ["sync"], 128, "isn't there", SEGDAG=FOLDER)
+    refuse(repository, ["sync"], 128, "isn't there, or can't be run", SEGDAG="/nowhere/segdag")
+    refuse(repository, ["sync"], 128, "isn't there, or can't be run", SEGDAG=FOLDER)
     refuse(repository, ["sync"], 128, "can't be started", SEGDAG=unreadable())
     repository.sync()
     for words in ("merge-base none main", "is-ancestor main none", "ahead-behind none main", "query union(all,none)"):
@@ -37,14 +36,9 @@ def refusals():
         ("heads(" * 40 + "main" + ")" * 40, "deep"), ("top(all,-1)", "where a number"), ("up(all,1)", "Not a valid object name all"),
     ):
         refuse(repository, ["query", expression], 128, sentence)
-    repository.must("replace", repository.commits[3], repository.commits[2])
-    refuse(repository, ["sync"], 128, "replaces commits")
-    repository.must("pack-refs", "--all")
-    refuse(repository, ["log", "main"], 128, "replaces commits")
-    repository.must("replace", "--delete", repository.commits[3])
-    same(repository, ["segdag", "log", "main"], ["rev-list", "--count", "main"])
     repository.log.write_bytes(bytes([1, 0, 0, 0, 0, 0, 0, 0, 5, 170]))
-    refuse(repository, ["merge-base", "main", "main"], 128, "it is damaged")
+    for words in (["merge-base", "main", "main"], ["sync"]):
+        refuse(repository, words, 128, "it is damaged, longer than a log may be, or no log: `git segdag reset` removes it, and `git segdag sync` makes it anew")
     repository.log.unlink()
     places_of_no_repository(repository)
     print("guide: what can't be held is refused as it must")
@@ -71,7 +65,6 @@ def places_of_no_repository(repository):
     subprocess.run(["git", "clone", "--quiet", "--depth=1", "--branch=main", source, shallow], env=environment(), check=True)
     refuse(repository.at(shallow), ["sync"], 128, "this repository is shallow")
     refuse(repository.at(FOLDER), ["sync"], 128, "not a git repository")
-    refuse(Repository("sha256", random.Random(1), kind="sha256"), ["sync"], 128, "SHA-256")
 
 
 REPLIES = """import os, signal, sys
@@ -91,7 +84,7 @@ def faults():
     repository.grow(1500, most=3)
     repository.point("main", repository.commits[-1])
     repository.sync()
-    mark = "import sys; sys.path.insert(0, 'tools'); from segdag_git import store; print(store.MARK)"
+    mark = "import sys; sys.path.insert(0, 'tools'); from segdag_tools.git import store; print(store.MARK)"
     mark = subprocess.run(["python3", "-c", mark], capture_output=True, text=True).stdout.strip()
     questions = (["log", "main"], ["merge-base", "main", "main"], ["is-ancestor", "main", "main"], ["query", "all"], ["ahead-behind", "main", "main"])
     for put, end, sentence in (
@@ -104,7 +97,7 @@ def faults():
             refuse(repository, words, 128, sentence, SEGDAG=program)
     for end, sentence in (("0", "it ended before it replied"), ("9", "it can't be opened"), ("2", "other words"), ("4", "damaged")):
         for words in (*questions, ["sync"]):
-            refuse(repository, words, 128, sentence, SEGDAG=script("ends", f"import sys; sys.stdin.close(); sys.exit({end})"))
+            refuse(repository, words, 128, sentence, SEGDAG=script("ending-program", f"import sys; sys.stdin.close(); sys.exit({end})"))
     wait = script("never", "import sys, os; os.close(0); os.close(1); import time; time.sleep(0.2); sys.exit(5)")
     refuse(repository, ["log", "main"], 128, "couldn't read", SEGDAG=wait)
     a_git_that_ends(repository)

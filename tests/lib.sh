@@ -10,7 +10,7 @@ script=$(basename "$0" .sh)
 wants_program() {
     program=${PROGRAM:-$PWD/crates/segdag/out/segdag}
     if [ ! -x "$program" ]; then
-        echo "$script: $program isn't built; make run builds it" >&2
+        echo "$script: $program isn't built; make proved builds it" >&2
         exit 1
     fi
 }

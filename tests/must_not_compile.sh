@@ -8,7 +8,17 @@ wants "$rt"
 wants_folder
 copy=$folder
 mkdir -p "$copy/crates/lent/src"
-grep -E '^[a-z_]+:' crates.txt | grep -vE '^(command_lines|dag_run|segdag|bench|remote_store|[a-z_]*_rows|run_rules):' > "$copy/crates.txt"
+roots='dag_store mirror_set remote_trait disk_trait gated_log'
+# The lines of crates.txt for these and for all that they stand on, and no others.
+awk -v roots="$roots" '
+    { split($0, sides, ":"); split(sides[1], head, " "); line[head[1]] = $0; below[head[1]] = sides[2] }
+    function take(name, parts, n, i) {
+        if (taken[name]++ || !(name in line)) return
+        n = split(below[name], parts, " ")
+        for (i = 1; i <= n; i++) take(parts[i])
+        print line[name]
+    }
+    END { n = split(roots, wanted, " "); for (i = 1; i <= n; i++) take(wanted[i]) }' crates.txt > "$copy/crates.txt"
 for crate in $(cut -d: -f1 "$copy/crates.txt"); do
     mkdir "$copy/crates/$crate"
     for part in src specs proofs; do
@@ -17,7 +27,7 @@ for crate in $(cut -d: -f1 "$copy/crates.txt"); do
         fi
     done
 done
-echo 'lent: dag_store mirror_set remote_trait disk_trait gated_log' >> "$copy/crates.txt"
+echo "lent: $roots" >> "$copy/crates.txt"
 
 # Writes a program that commits and flushes, with these lines in the functions, and prints what the compiler says of it.
 compile() {

@@ -3,7 +3,8 @@
 Runs lines over logs, alone and beside mirrors, and each other mode, as often as each asks for memory: each time another one of these
 calls finds none. Then either the status is 7, nothing was put, and no file has a change; or one reply is `err memory`, and all others
 and the log are what they are without that line; or all is as ever. A demonstration puts the last four of such replies alone, and of a
-served mirror one answer is ff04.
+served mirror one answer is ff04. Of a log that is written anew the status is 13, which is a fault of the new file's disk, where the C
+library finds no memory for the new file's folder.
 """
 import itertools
 import os
@@ -108,6 +109,16 @@ class Tried:
                 sys.stdout.buffer.write(output)
                 sys.exit(1)
             told[came] = told.get(came, 0) + 1
+
+
+class Anew(Tried):
+    """A log that is written anew. Where a call of the system that the new file is opened by finds no memory, the new file's disk has failed."""
+
+    def came(self, fails):
+        status, output, files, _ = self.runs.run(self.text, fails)
+        if status == 13 and output == b"" and self.runs.is_unchanged(files):
+            return "status 13"
+        return super().came(fails)
 
 
 class Lines(Tried):
@@ -217,7 +228,7 @@ def tried_alone(program, folder):
     for what, log in [("a ladder", ladder), ("a log with both groups", groups)]:
         yield Lines(what + ", loaded", Runs(program, folder, alone, log), LOADED)
         yield Tried(what + ", bundled", Runs(program, folder, ["LOG", "--", "bundle"], log), b"")
-        yield Tried(what + ", written anew", Runs(program, folder, ["LOG", "--", "compact"], log), b"")
+        yield Anew(what + ", written anew", Runs(program, folder, ["LOG", "--", "compact"], log), b"")
     demo = Runs(program, folder, ["LOG", "--", "demo", "--size", "40", "--start", "7"])
     yield Demonstration("a demonstration", demo, Runs(program, folder, alone), 40, 7)
 
@@ -232,7 +243,7 @@ def tried_beside(program, folder):
     for what, mirrors in [("a log", [there]), ("one that isn't there and a log", [missing, there]), ("a bundle", [f"bundle:{bundle}"])]:
         yield Lines("a clone beside " + what, Runs(program, folder, ["LOG", *mirrors, "--", "run", "--cache", "1"]), CLONED)
     yield Lines("a pull", Runs(program, folder, ["LOG", more, "--", "run"], cloned), PULLED)
-    yield Tried("a clone, written anew", Runs(program, folder, ["LOG", "--", "compact"], cloned), b"")
+    yield Anew("a clone, written anew", Runs(program, folder, ["LOG", "--", "compact"], cloned), b"")
     for what, mirror in [("log", there), ("bundle", f"bundle:{bundle}")]:
         yield Requests(f"a served {what}", Runs(program, folder, ["LOG", mirror, "--", "serve"]))
 

@@ -11,10 +11,11 @@ from pathlib import Path
 
 from pages_names import CRATES, TOP, Names, read
 
-PAGES = ["README.md", *sorted(str(path.relative_to(TOP)) for path in TOP.glob("docs/*.md")), "bench/README.md"]
+PAGES = ["README.md", "CHANGELOG.md", "CONTRIBUTING.md", "SECURITY.md", *sorted(str(path.relative_to(TOP)) for path in TOP.glob("docs/*.md")), "bench/README.md"]
+# The most that a page may have, so that it is cut before it is too long to be read; from nine tenths on that is told.
 KILOBYTES = {
-    "README.md": 12, "docs/DECISIONS.md": 28, "docs/PROVING.md": 28, "docs/CONTRACTS.md": 22, "docs/MAP.md": 14, "docs/REVIEW.md": 12,
-    "bench/README.md": 9,
+    "README.md": 16, "docs/DECISIONS.md": 32, "docs/PROVING.md": 32, "docs/CONTRACTS.md": 27, "docs/MAP.md": 18, "docs/REVIEW.md": 14,
+    "bench/README.md": 11,
 }
 PICTURES = ("sessions.svg", "log.svg", "segments.svg")
 WRONG = []
@@ -125,6 +126,8 @@ def check_sizes():
         size = (TOP / page).stat().st_size
         if size > most * 1024:
             wrong(page, f"it has {size} bytes, and {most} KB is the most")
+        elif size > most * 922:
+            print(f"pages: {page} has {size} bytes of the {most * 1024} that it may have: cut where you add")
 
 
 def check_figures():

@@ -18,14 +18,20 @@ ELSEWHERE = {
         return ensures.ok Prelude IfOk IfSome MatchOption OnOk IsPermutation IsPartitionPoint-from_clause Nat.Bits ArgAction::Set
         decimal yielded strip_prefix_is option_map_or err_from_is_err_and lt-ltb ne_eqb cases_lt cases_eq truncate overflow_cast""",
     "antt and its tactics": "cc omega rw search subst unfoldable unfolding ap refl open in yes no .antt",
-    "the kit: its programs, files, options": """rt rattle clap hex itoa arrayvec memchr lru rattle-kit-13f met-1 Kept.key Kept.give RT_JOBS out/rlib proofs/Lib.antt
+    "the kit: its programs, files, options": """rt rattle std_alloc std_heap liblibc_c.a clap hex itoa arrayvec memchr lru rattle-kit-13f met-1 Kept.key Kept.give RT_JOBS out/rlib proofs/Lib.antt
         ./proofs/ --allow-holes --incremental --statements --only --start --fix-imports""",
-    "git and what git segdag makes in a repository": """git segdag/log segdag/lock objects objects/info/segdag heads/master set:master main topic release HEAD cat-file
-        publish segdag.publish for-each-ref core.sharedRepository --branches --tags --remotes --glob=""",
-    "Linux and its programs": """make sh cc nc python3 strace valgrind perf flock fsync mv cp ssh curl socat renice nice sync sched_autogroup_enabled LISTEN_FDS TMPDIR
+    "git and what git segdag makes in a repository": """git segdag/log segdag/lock objects objects/info/segdag heads/master set:master main topic release HEAD cat-file core.hooksPath
+        publish segdag.publish for-each-ref core.sharedRepository --branches --tags --remotes --glob= --fork-point --candidates -n""",
+    "Linux and its programs": """make sh cc ld ar objcopy nc buildah debootstrap stunnel openssl SO_PEERCRED python3 strace valgrind perf flock fsync mv cp ssh curl socat renice nice sync sched_autogroup_enabled net.core.somaxconn LISTEN_FDS TMPDIR
         ExecStart ConnectTimeout ServerAliveInterval KillMode=mixed StreamLocalBindMask Accept=yes StandardInput=socket""",
-    "words of the program with a place to fill in": "bundle: pipe: ./bundle:.. ./pipe:.. TYPETRAIT .max(..) LOG REMOTE MODE TO FROM PATH",
-    "built, and in no checkout": "libsegdag.a libsegdag.so out/libsegdag.a out/libsegdag.so out/segdag.h out/segdag out/segdag.by-rattle crates/segdag/out/segdag out out/ log.new",
+    "PostgreSQL, and what is in a database of it": """psql pg_rewind pg_dump patroni repmgr synchronous_mode synchronous_standby_names lock_timeout listen_addresses libpq5
+        SIGXFSZ idle_in_transaction_session_timeout target_session_attrs=read-write connect_timeout=10 libsegdag_postgres.so libsegdag_postgres.a segdag-postgres store_engine
+        CONNINFO CHAIN copier schema.sql watch export import create follow localhost""",
+    "words of the program with a place to fill in": "bundle: pipe: socket:PATH ./bundle:.. ./pipe:.. TYPETRAIT .max(..) LOG REMOTE MODE TO FROM PATH",
+    "installed": """SEGDAG_0.1 segdag.pc libsegdag.so.0 bin/segdag lib/segdag share/doc/segdag NOTICES segdag/ segdag segdagd bin SEGDAG segdag_tools.lines
+        segdag-VERSION-linux-x86_64.tar.gz segdag_VERSION_amd64.deb segdag_0.1.0_amd64.deb segdag-postgres_0.1.0_amd64.deb segdag-postgres_VERSION_amd64.deb libsegdag_postgres.so.0 include/segdag_client.h share/segdag/segdag_client.c
+        /usr/share/segdag-postgres segdag-VERSION-py3-none-linux_x86_64.whl segdag-VERSION.txt""",
+    "built, and in no checkout": "out/dist out/gate out/gate.log out/proved out/libsegdag.proved libsegdag.a libsegdag.so out/libsegdag.a out/libsegdag.so out/segdag.h out/segdag_core.h segdag_core.h out/git-segdag out/segdag out/segdag.by-rattle crates/segdag/out/segdag out out/ log.new",
 }
 WORDS = {word for words in ELSEWHERE.values() for word in words.split()}
 
@@ -102,12 +108,12 @@ def commands():
     words |= set(re.findall(r'"([a-z][a-z-]*)"', read(CRATES / "set_expr/src/words.rt") + read(CRATES / "set_expr/src/parse.rt")))
     words |= set(re.findall(r'"([a-z][a-z-]*)"', "".join(read(path) for path in CRATES.glob("program_words/src/*.rt"))))
     words |= set(re.findall(r'b?"([a-z][a-z -]*?) ?"', "".join(read(path) for path in CRATES.glob("command_lines/src/*.rt"))))
-    words |= set(re.findall(r"^(\w+):", read(TOP / "Makefile"), re.MULTILINE))
-    text = "".join(read(path) for path in [*TOP.glob("tools/segdag_git/*.py"), TOP / "tools/segdagd"])
+    words |= set(re.findall(r"^([\w-]+):", read(TOP / "Makefile"), re.MULTILINE)) | {"--version"}
+    text = "".join(read(path) for path in [*TOP.glob("tools/segdag_tools/**/*.py"), *TOP.glob("tools/segdagd_many/*.c")])
     words |= set(re.findall(r'"(?:--)?([a-z][a-z-]*)"', text)) | set(re.findall(r"\b(segdag\.[a-z]+)\b", text))
     words |= set(re.findall(r"\b[a-z]+\b", read(TOP / "bench/run.sh") + read(CRATES / "bench/src/main.rt")))
-    words |= set(re.findall(r"\b(?:segdag|SEGDAG)_\w+", read(TOP / "bindings/c/segdag.h"))) | {"segdag_core_*"}
-    for path in [*TOP.glob("tests/*.py"), *TOP.glob("bench/*.py"), *TOP.glob("tools/*.py"), *TOP.glob("docs/pictures/*.py")]:
+    words |= set(re.findall(r"\b(?:segdag|SEGDAG)_\w+", "".join(map(read, TOP.glob("bindings/*/segdag*.h"))))) | {"segdag_core_*"}
+    for path in [*TOP.glob("tests/*.py"), *TOP.glob("bench/*.py"), *TOP.glob("tools/segdag_tools/**/*.py"), *TOP.glob("docs/pictures/*.py")]:
         words |= set(re.findall(r"^ *(?:class|def) (\w+)", read(path), re.MULTILINE))
     return words
 
@@ -115,7 +121,7 @@ def commands():
 def is_path(word):
     """Whether the path is there: from the top, or from crates/, docs/ or tools/, with or without its ending. `*` stands for any part."""
     word = re.sub(r"^\./|/$", "", word)
-    places = [TOP, CRATES, CRATES / "segdag", TOP / "docs", TOP / "tools", TOP / "tools/segdag_git", TOP / "tests", TOP / "bench"]
+    places = [TOP, CRATES, CRATES / "segdag", TOP / "docs", TOP / "tools", TOP / "tools/segdag_tools", TOP / "tools/segdag_tools/git", TOP / "tools/segdag_tools/daemon", TOP / "tests", TOP / "bench"]
     return any(next(place.glob(word + ending), None) for place in places for ending in ("", ".antt", ".rt", ".md"))
 
 

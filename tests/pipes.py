@@ -4,6 +4,7 @@ Each run draws a log, clones it by lines that ask for names, grows it, and pulls
 which `serve` answers. Between the two ends a relay may cut the bytes, be late, stop within a frame, change a byte or kill the server.
 """
 
+import itertools
 import os
 import random
 import signal
@@ -269,10 +270,12 @@ class Tool:
         self.env = {**os.environ, "SEGDAG": str(program), "SEGDAG_THERE": f"'{program}'", "TMPDIR": str(self.rooms), "PATH": path, "TOLD": str(self.told)}
         self.folder = folder
 
-    def begin(self, *words):
-        """What is begun may be interrupted, whatever this test inherited."""
+    def begin(self, *words, closes=()):
+        """What is begun may be interrupted, whatever this test inherited, and has these descriptors closed."""
 
         def plain():
+            for number in closes:
+                os.close(number)
             for number in (signal.SIGINT, signal.SIGHUP, signal.SIGTERM):
                 signal.signal(number, signal.SIG_DFL)
 
@@ -330,6 +333,8 @@ def killed_run(program, draw, folder):
             child.stdin.flush()
         begun[0].stdout.readline()
         begun[2].stdout.readline()
+        while len(list(tool.rooms.iterdir())) < len(begun):
+            time.sleep(0.01)
         time.sleep(draw.choice([0, 0.1, 0.3]))
         for child in begun:
             child.send_signal(number)
@@ -338,6 +343,53 @@ def killed_run(program, draw, folder):
                 fail(f"segdag-ssh ended by signal {number} with {child.returncode}: {child.stderr.read()}")
             for pipe in (child.stdin, child.stdout, child.stderr):
                 pipe.close()
+    tool.is_clean()
+
+
+def closed_ways(tool, serve, folder):
+    """Each of the eight ways to close three descriptors: what was acknowledged is there, and the log opens."""
+    for place, which in enumerate(which for count in range(4) for which in itertools.combinations(range(3), count)):
+        log = Path(folder, f"closed{place}")
+        for line, names in (("0 clone", 0), (f"0 add {'e' * 40}\n0 flush {'e' * 40}", 1)):
+            begun = tool.begin("--command", serve, log, "--", "run", closes=which)
+            out = begun.communicate(f"{line}\n0 status\n0 query top(all,5)\n")[0]
+            if begun.returncode != (6 if 1 in which and 0 not in which else 0) or (out == "") != bool({0, 1} & set(which)):
+                fail(f"with {which} closed segdag-ssh ended with {begun.returncode} and told {out!r}")
+        status, text = told(tool.env["SEGDAG"], log, [], ["0 count all"], 4096)
+        if status != 0 or text == "ok 0\n" and 0 not in which:
+            fail(f"with {which} closed segdag-ssh left a log that ends with {status}: {text}")
+
+
+def foreign_files(tool, serve, folder):
+    """A file that is no log is refused as LOCAL and as REMOTE, and stays as it is; --force goes on."""
+    for place, data in enumerate((b"# A page\n", b"SEGBNDL1" + bytes(40), b"\x7fELF" + bytes(90))):
+        path = Path(folder, f"file {place}")
+        path.write_bytes(data)
+        for words in ([path], ["fresh", path]):
+            tool.wants(tool.begin("--command", serve, *words, "--", "run"), [f"0 add {'e' * 40}", "0 flush"], (18, ""))
+        if path.read_bytes() != data or Path(folder, "fresh").exists():
+            fail(f"a file that begins with {data[:9]} was changed")
+        begun = tool.begin("--force", "--command", serve, path, "--", "run")
+        if not begun.communicate("0 clone\n")[0].startswith("ok cloned") or begun.returncode != 0:
+            fail("--force takes no file")
+
+
+def left_pipe(tool):
+    """A peer that ends and leaves a process with the pipe keeps nobody waiting."""
+    began = time.monotonic()
+    tool.wants(tool.begin("--command", "sleep 90 & exit 0", "left", "--", "run"), ["0 clone"], (0, "err remote 1\n"))
+    if time.monotonic() - began > 60:
+        fail(f"a peer that ended kept the run waiting for {time.monotonic() - began:.0f} s")
+
+
+def losses_run(program, draw, folder):
+    """tools/segdag-ssh with closed descriptors, with files that are no log, and beside peers that leave somebody behind."""
+    there = Path(folder, "there")
+    serve_client.draw_log(program, draw, there, 60)
+    tool, serve = Tool(program, folder), f"exec '{program}' none '{there}' -- serve"
+    closed_ways(tool, serve, folder)
+    foreign_files(tool, serve, folder)
+    left_pipe(tool)
     tool.is_clean()
 
 
@@ -368,7 +420,7 @@ def main():
     program, runs, seed = os.path.abspath(sys.argv[1]), int(sys.argv[2] if len(sys.argv) > 2 else 20), int(sys.argv[3] if len(sys.argv) > 3 else 1)
     for number in range(runs):
         draw = random.Random(f"{seed} {number}")
-        for run in (one_run, broken_run, closed_run, *((words_run, quiet_run, ahead_run, tool_run, killed_run) if number % 10 == 0 else ())):
+        for run in (one_run, broken_run, closed_run, *((words_run, quiet_run, ahead_run, tool_run, killed_run, losses_run) if number % 10 == 0 else ())):
             with tempfile.TemporaryDirectory() as folder:
                 run(program, draw, folder)
                 if left := left_behind(folder):

@@ -17,7 +17,7 @@ OTHER = 1 << 56
 LIMITS = {"pending": 65536, "others": 65536, "master": 16777216, "log": 1 << 30, "heads": 65535, "answer": 1048576}
 NAME = re.compile(r"[0-9a-fA-F]{40}")
 NUMBER = re.compile(r"0|[1-9][0-9]*")
-ONE = {"parents", "children", "ancestors", "descendants", "heads", "roots", "tips", "merges", "common", "gca"}
+ONE = {"parents", "children", "ancestors", "descendants", "heads", "roots", "tips", "merges", "common", "gca", "line"}
 TWO = {"range", "only", "union", "inter", "minus"}
 
 
@@ -49,6 +49,15 @@ class World:
             if name not in found:
                 found.add(name)
                 waiting.extend(self.parents[name])
+        return found
+
+    def line(self, names):
+        """What these names reach by first parents alone."""
+        found = set()
+        for name in names:
+            while name not in found:
+                found.add(name)
+                name = (self.parents[name] or [name])[0]
         return found
 
 
@@ -154,6 +163,8 @@ def members(world, tree):
         return children
     if head == "ancestors":
         return world.reached(some)
+    if head == "line":
+        return world.line(some)
     if head == "descendants":
         return {name for name in everything if world.reached([name]) & some}
     if head == "heads":

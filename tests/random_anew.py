@@ -3,26 +3,14 @@ against plain_store.py, and then the same lines over both logs, and clones of th
 """
 import shutil
 import subprocess
-import tempfile
 from pathlib import Path
 
 import plain_store
 from random_lines import Lines
 
 
-# Whether the program can write a log anew and bundle it: nothing is checked where it can't.
-is_known = False
-
-
 class Differs(Exception):
     """What was told in place of what was wanted."""
-
-
-def knows(program):
-    """Whether writing a log anew is a mode of the program."""
-    with tempfile.TemporaryDirectory() as folder:
-        words = [program, Path(folder, "log"), "--", "compact"]
-        return subprocess.run(words, capture_output=True, timeout=1800).returncode == 0
 
 
 def told(program, log, *words, lines=b"", mirrors=()):
@@ -105,8 +93,6 @@ def same_clones(program, folder, log, bundle, lines):
 
 def check(program, draw, folder, log, mirrors=(), served=()):
     """How many lines a log, which is left as it is, and it written anew are answered alike; mirrors serve these rows."""
-    if not is_known:
-        return 0
     mine = Path(folder, "mine")
     shutil.copy(log, mine)
     world = plain_store.read_log(mine.read_bytes(), served)[1]

@@ -7,8 +7,6 @@ SETS = sorted(plain_store.ONE) * 2 + sorted(plain_store.TWO) * 2 + ["up", "top"]
 class Lines:
     """Lines that are mostly commands, over a few names, so that many meet."""
 
-    # Whether pulls are drawn.
-    pulls = False
 
     def __init__(self, draw):
         self.draw = draw
@@ -57,7 +55,7 @@ class Lines:
             return f"id {self.name()}"
         if kind < 0.77:
             wrong = ["add", "flush ", "strip", "query", "id x", "level", "drop 01", "count all all", "up(all,1)"]
-            return draw.choice(wrong + ["clone", "clone 1"] + ["pull", "pull 1", f"pull {self.name()}"] * self.pulls)
+            return draw.choice(wrong + ["clone", "clone 1"] + ["pull", "pull 1", f"pull {self.name()}"])
         return f"{draw.choice(['query', 'count'])} {self.expr()}"
 
     def line(self):

@@ -26,14 +26,6 @@ class Differs(Exception):
     """What was told in place of what was wanted."""
 
 
-def knows(program):
-    """Whether a pull is a command of the program."""
-    with tempfile.TemporaryDirectory() as folder:
-        words = [program, Path(folder, "log"), "--", "run"]
-        done = subprocess.run(words, input=b"0 pull\n", capture_output=True, timeout=1800)
-    return done.stdout != b"err syntax\n"
-
-
 class Run:
     """A run of the program beside a plain store, some of its mirrors behind pipes. A line is given when the one before it
     was answered, so that other logs may grow between two."""
@@ -194,7 +186,7 @@ class Scene:
 
     def bundle_of(self, remote):
         """Now and then a bundle of what a remote has, in its place."""
-        if not random_anew.is_known or not remote.exists() or self.draw.random() > 0.15:
+        if not remote.exists() or self.draw.random() > 0.15:
             return None
         return f"bundle:{random_anew.bundled(self.program, remote, ())}"
 

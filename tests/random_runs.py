@@ -6,8 +6,8 @@ opened again. Between two of them some first payloads become those of version 1,
 them come runs over clones: a drawn log is cloned by a second one, whose lines go beside the first, or its bundle, as a
 mirror, at their paths or behind pipes, among files that aren't there and pipes that break off, with room for few names. Replies are those
 of a plain store that has all names.
-The last are runs that pull, drawn by random_pulls.py, where the program knows how. What each run leaves is written anew
-and bundled by random_anew.py, where the program knows how.
+The last are runs that pull, drawn by random_pulls.py. What each run leaves is written anew
+and bundled by random_anew.py.
 """
 import random
 import subprocess
@@ -69,7 +69,7 @@ def clone_run(program, draw, folder):
     later.known = [name for name, _ in world.master]
     later.names = drawn.names + later.names
     lines = ["0 clone", *commands(later, draw.choice([60, 200]))]
-    bundle = random_anew.bundled(program, there, ()) if random_anew.is_known and draw.random() < 0.4 else None
+    bundle = random_anew.bundled(program, there, ()) if draw.random() < 0.4 else None
     mirrors = [f"bundle:{bundle}" if bundle else str(there)] + [str(Path(folder, "missing"))] * draw.choice([0, 0, 1, 2])
     draw.shuffle(mirrors)
     cache, broken = str(draw.choice([1, 2, 5, 1000])), draw.random() < 0.3
@@ -121,8 +121,6 @@ def main():
     runs = int(sys.argv[2]) if len(sys.argv) > 2 else 60
     seed = int(sys.argv[3]) if len(sys.argv) > 3 else 1
     count = anew = 0
-    Lines.pulls = random_pulls.knows(program)
-    random_anew.is_known = random_anew.knows(program)
     with tempfile.TemporaryDirectory() as folder:
         for run in range(runs):
             draw = random.Random(seed * 1_000_003 + run)
@@ -142,7 +140,7 @@ def main():
                 count += text.count(b"\n")
                 try:
                     anew += random_anew.check(program, draw, folder, log)
-                    if random_anew.is_known and draw.random() < 0.2:
+                    if draw.random() < 0.2:
                         begin_anew(program, (log, plain))
                 except random_anew.Differs as differs:
                     print(f"random_runs: run {run} of seed {seed}: {differs}")
@@ -153,13 +151,7 @@ def main():
     if cloned is None:
         return 1
     print(f"random_runs: {cloned} lines over clones are answered as by stores with all names")
-    if random_anew.is_known:
-        print(f"random_runs: {anew} lines over logs, over the same logs written again, and over clones of their bundles are answered alike")
-    else:
-        print(f"random_runs: {program} doesn't know compact, so logs written again and bundles are left out")
-    if not Lines.pulls:
-        print(f"random_runs: {program} doesn't know pull, so pulls are left out")
-        return 0
+    print(f"random_runs: {anew} lines over logs, over the same logs written again, and over clones of their bundles are answered alike")
     return 0 if random_pulls.pulls(program, runs, seed) else 1
 
 

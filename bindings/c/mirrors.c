@@ -5,11 +5,7 @@
 #include <fcntl.h>
 #include <stdlib.h>
 #include <string.h>
-#include <sys/stat.h>
 #include <unistd.h>
-
-/* A log or a bundle has at most so many bytes. */
-#define FILE_LIMIT ((off_t)1 << 30)
 
 /* How many times a file that has grown meanwhile is read on. */
 #define TURNS 1000
@@ -20,120 +16,118 @@
 static const uint8_t nothing = 0;
 
 /* The size of the regular file; SEGDAG_NO_LOG where it is none, or too long. */
-static segdag_status size_of(int fd, size_t *size) {
-    struct stat own;
-    if (fstat(fd, &own) || !S_ISREG(own.st_mode) || own.st_size > FILE_LIMIT)
+static segdag_code size_of(int fd, size_t *size) {
+    uint64_t whole = 0;
+    if (file_size(fd, &whole) || whole > SEGDAG_LOG_BYTES)
         return SEGDAG_NO_LOG;
-    *size = (size_t)own.st_size;
-    return SEGDAG_OK;
-}
-
-/* Reads the bytes from one place of the file up to another; SEGDAG_NO_LOG where it ends before. */
-static segdag_status read_on(int fd, uint8_t *bytes, size_t from, size_t end) {
-    while (from < end) {
-        ssize_t count = pread(fd, bytes + from, end - from, (off_t)from);
-        if (count < 0 && errno == EINTR)
-            continue;
-        if (count <= 0)
-            return SEGDAG_NO_LOG;
-        from += (size_t)count;
-    }
+    *size = (size_t)whole;
     return SEGDAG_OK;
 }
 
 /* Reads the regular file, and makes *bytes its bytes. SEGDAG_NO_LOG where there are none to be had, as in a file that is too long.
+   SEGDAG_CANCELLED where it isn't to go on.
    A process that has the log open may extend it meanwhile. A payload, and the closed gate behind it, are on the disk before the gate in
    front of it is opened: where a gate was read open, its payload stands within the size that is asked then. So it is read on behind
    what was read, for as long as it grows; no byte is read before one in front of it, and none twice. */
-static segdag_status read_open(int fd, uint8_t **bytes, size_t *size) {
+static segdag_code read_open(int fd, uint8_t **bytes, size_t *size, const watcher *asked) {
     size_t room = 0, end = 0;
     *size = 0;
-    segdag_status status = size_of(fd, &end);
-    for (int turn = 0; status == SEGDAG_OK && turn < TURNS && (turn == 0 || end > *size); turn++) {
+    segdag_code code = size_of(fd, &end);
+    for (int turn = 0; code == SEGDAG_OK && turn < TURNS && (turn == 0 || end > *size); turn++) {
         void *grown = *bytes;
         bool has_room = store_grow(&grown, &room, end ? end : 1, 1);
         *bytes = grown;
-        status = has_room ? read_on(fd, *bytes, *size, end) : SEGDAG_MEMORY;
+        if (!has_room)
+            return SEGDAG_MEMORY;
+        size_t count = end - *size;
+        code = file_read(fd, *bytes + *size, &count, *size, asked);
+        if (code == SEGDAG_DISK || (code == SEGDAG_OK && count < end - *size))
+            code = SEGDAG_NO_LOG;
         *size = end;
-        if (status == SEGDAG_OK)
-            status = size_of(fd, &end);
+        if (code == SEGDAG_OK)
+            code = size_of(fd, &end);
     }
-    return status;
+    return code;
 }
 
-static segdag_status read_file(const char *path, uint8_t **bytes, size_t *size) {
-    int fd = open(path, O_RDONLY | O_CLOEXEC | O_NONBLOCK);
+static segdag_code read_file(const char *path, uint8_t **bytes, size_t *size, const watcher *asked) {
+    int fd = file_open(path, O_RDONLY);
     if (fd < 0)
         return errno == ENOMEM ? SEGDAG_MEMORY : SEGDAG_NO_LOG;
-    segdag_status status = read_open(fd, bytes, size);
+    segdag_code code = read_open(fd, bytes, size, asked);
     close(fd);
-    return status;
+    return code;
 }
 
 /* Gives the core what the mirror's file has now, or that it isn't there. One that the core has dropped is let go. */
-static segdag_status read_mirror(segdag *store, size_t number) {
+static segdag_code read_mirror(segdag_store *store, size_t number, const watcher *asked) {
     store_mirror *mirror = &store->mirrors[number];
     uint8_t *bytes = NULL;
     size_t size = 0;
-    segdag_status status = read_file(mirror->path, &bytes, &size);
-    bool is_there = status == SEGDAG_OK;
-    if (status != SEGDAG_MEMORY)
-        status = segdag_core_renew_mirror(&store->core, (uint32_t)number, is_there, is_there ? bytes : &nothing, is_there ? size : 0);
+    segdag_code code = read_file(mirror->path, &bytes, &size, asked);
+    bool is_there = code == SEGDAG_OK && (mirror->kind == SEGDAG_CORE_BUNDLE || !file_is_foreign(bytes, size));
+    if (code != SEGDAG_MEMORY && code != SEGDAG_CANCELLED)
+        code = segdag_core_code(segdag_core_renew_mirror(&store->core, (uint32_t)number, is_there, is_there ? bytes : &nothing, is_there ? size : 0));
     free(bytes);
-    if (status != SEGDAG_ARGUMENT)
-        return status;
+    if (code != SEGDAG_ARGUMENT)
+        return code;
     free(mirror->path);
     mirror->path = NULL;
     return SEGDAG_OK;
 }
 
-segdag_status store_read_mirrors(segdag *store) {
+segdag_code store_read_mirrors(segdag_store *store) {
     for (size_t number = 0; number < store->count; number++) {
-        segdag_status status = store->mirrors[number].path ? read_mirror(store, number) : SEGDAG_OK;
-        if (status)
-            return status;
+        segdag_code code = store->mirrors[number].path ? read_mirror(store, number, &store->asked) : SEGDAG_OK;
+        if (code)
+            return code;
     }
     return SEGDAG_OK;
 }
 
-bool store_asks_again(segdag *store, segdag_status status) {
-    return status == SEGDAG_REMOTE && store_read_mirrors(store) == SEGDAG_OK;
+bool store_asks_again(segdag_store *store, segdag_code code) {
+    return code == SEGDAG_REMOTE && store_read_mirrors(store) == SEGDAG_OK;
 }
 
-void store_free_mirrors(segdag *store) {
+void store_free_mirrors(segdag_store *store) {
     for (size_t number = 0; number < store->count; number++)
         free(store->mirrors[number].path);
     free(store->mirrors);
 }
 
 /* Puts a mirror behind the others, whose file isn't read so far. */
-static segdag_status put_mirror(segdag *store, char *path, segdag_mirror kind) {
+static segdag_code put_mirror(segdag_store *store, char *path, segdag_core_mirror kind) {
     void *mirrors = store->mirrors;
     bool has_room = store_grow(&mirrors, &store->room, store->count + 1, sizeof *store->mirrors);
     store->mirrors = mirrors;
     if (!has_room)
         return SEGDAG_MEMORY;
-    segdag_status status = segdag_core_add_mirror(&store->core, (uint32_t)store->count, kind);
-    if (status == SEGDAG_OK)
-        store->mirrors[store->count++].path = path;
-    return status;
+    segdag_code code = segdag_core_code(segdag_core_add_mirror(&store->core, (uint32_t)store->count, kind));
+    if (code == SEGDAG_OK)
+        store->mirrors[store->count++] = (store_mirror){path, kind};
+    return code;
 }
 
-segdag_status segdag_add_mirror(segdag *store, const char *word) {
-    segdag_status status = store_is_usable(store);
-    if (status)
-        return status;
-    if (!word || !strncmp(word, "pipe:", 5))
-        return SEGDAG_ARGUMENT;
-    bool is_bundle = !strncmp(word, BUNDLE, strlen(BUNDLE));
-    char *path = strdup(is_bundle ? word + strlen(BUNDLE) : word);
-    if (!path)
+segdag_code store_add_mirror(segdag_store *store, const char *path, segdag_core_mirror kind) {
+    char *kept = strdup(path);
+    if (!kept)
         return SEGDAG_MEMORY;
-    status = put_mirror(store, path, is_bundle ? SEGDAG_BUNDLE : SEGDAG_LOG);
-    if (status) {
-        free(path);
-        return status;
+    segdag_code code = put_mirror(store, kept, kind);
+    if (code) {
+        free(kept);
+        return code;
     }
-    read_mirror(store, store->count - 1);
+    /* It is there by now, and can't be taken back: so nobody is asked. */
+    read_mirror(store, store->count - 1, &(watcher){NULL, NULL});
     return SEGDAG_OK;
+}
+
+segdag_code segdag_mirror_add(segdag_store *store, const char *word) {
+    if (store && (!word || !strncmp(word, "pipe:", 5)))
+        return error_refuse(SEGDAG_ARGUMENT);
+    segdag_code code = store_enter(store);
+    if (code)
+        return code;
+    bool is_bundle = !strncmp(word, BUNDLE, strlen(BUNDLE));
+    return store_leave(store, store_add_mirror(store, is_bundle ? word + strlen(BUNDLE) : word, is_bundle ? SEGDAG_CORE_BUNDLE : SEGDAG_CORE_LOG));
 }

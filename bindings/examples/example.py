@@ -7,19 +7,19 @@ first, second, third = (bytes([byte] * 20) for byte in (1, 2, 3))
 
 
 def main(path: str) -> None:
-    with segdag.open(path) as store:
+    with segdag.open(path, create=True) as store:
         store.add(first)
         store.add(second, [first])
         store.add(third, [first])
         print(store.flush(second))
         print("the first is an ancestor of the third:", store.is_ancestor(first, third))
-        print("merge bases:", [name.hex() for name in store.gca(second, third)])
+        print("merge bases:", [id.hex() for id in store.merge_bases(second, third)])
         print("ahead and behind:", store.ahead_behind([(second, third), (first, third)]))
-        print("ids:", [store.id(name) for name in store.query("all")])
+        print("numbers:", [store.number(id) for id in store.query("all")])
         with segdag.follow(path) as reader:
             store.add(bytes([4] * 20), [third])
             store.flush()
-            print("taken by a follower:", reader.more(), "of", reader.sizes(), "and", reader.reload(), "pending, now", reader.sizes())
+            print("taken by a follower:", reader.refresh(), "of", reader.sizes(), "and", reader.reload(), "pending, now", reader.sizes())
         try:
             store.add(bytes(20), [bytes(19) + b"x"])
         except segdag.Unknown as refusal:

@@ -2,3 +2,4 @@ pub mod Idle
 pub mod Replaying
 pub mod Stopping
 pub mod Lending
+pub mod Atomic

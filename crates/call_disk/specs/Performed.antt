@@ -1,7 +1,8 @@
 -- What performing calls makes of a disk.
 use Rattle.std.specs.Prelude.{◌≡◌, ◌≤◌, ◌⊎◌, ⊤, ℕ, zero, suc, List, [], ◌∷◌, length}
-use Rattle.disk_trait.specs.Images.{Told, IsSound, LeftAt, moment_of, surely}
+use Rattle.disk_trait.specs.Images.{Told, IsImage, IsSound, LeftAt, moment_of, surely}
 use Rattle.disk_trait.specs.Calls.{after_call, overwritten, with_range, Passes, Writes, FailsToWrite, Syncs, Succeeds, OrRefuses}
+use Rattle.disk_trait.specs.Since.{SureSince}
 use Rattle.call_disk.specs.Noted.{Call, Write, Sync, Step}
 
 -- a disk of disk_trait that tells
@@ -69,3 +70,17 @@ begun t = record { bytes = t.bytes; past = []; now = t.now }
 -- some moment up to now might have left these bytes
 abbrev pub WasLeft : Told → List ℕ → Type 0
 WasLeft t image = (moment : ℕ) × (moment ≤ moment_of t) × LeftAt t moment image
+
+-- ---- a disk that performs them together
+
+-- a read gives the same of both, and so does a crash
+abbrev pub IsAs : Told → Told → Type 0
+IsAs a b = (a.now ≡ b.now) × (a.bytes ≡ b.bytes)
+
+-- The disk went on from old to new by one transaction, where performing the calls one by one would have made the whole one of it. At
+-- each moment since, a crash leaves what it might have left before, or what it might leave of the whole one, and nothing between; and
+-- at the end the disk is as before, or as the whole one.
+pub record AllOrNone (calls : List Call) (old whole new : Told) : Type 0 where
+  pub performs : Performs calls old whole
+  pub since : SureSince (λ moment image. IsImage old.now image ⊎ IsImage whole.now image) old new
+  pub ends : IsAs new old ⊎ IsAs new whole

@@ -17,3 +17,5 @@ pub mod Served
 pub mod Anew
 pub mod Bundled
 pub mod ModeStatuses
+pub mod Headline
+pub mod Clauses

@@ -13,7 +13,7 @@ use Rattle.dag_run.specs.Stops.{IsStatus, IsOneOf}
 use Rattle.dag_run.proofs.Usages.{only-memory, one-mode}
 
 -- whether the number is one of these
-abbrev is_one_of : List ℕ → ℕ → Bool
+abbrev pub is_one_of : List ℕ → ℕ → Bool
 is_one_of xs s = list_any (λ known. known == s) xs
 
 -- what is one of some is one of more
@@ -26,7 +26,7 @@ among (x ∷ xs) ys all s h = go (x == s) refl h (among xs ys all.1 s)
     go false e h rest = rest (rw e at h)
 
 -- what is one of some is none of others
-apart : (xs ys : List ℕ) → AllByRecursion (λ y. is_one_of xs y ≡ false) ys → (s : ℕ) → IsTrue (is_one_of xs s) → IsOneOf ys s → ⊥
+pub apart : (xs ys : List ℕ) → AllByRecursion (λ y. is_one_of xs y ≡ false) ys → (s : ℕ) → IsTrue (is_one_of xs s) → IsOneOf ys s → ⊥
 apart xs [] all s h o = o
 apart xs (y ∷ ys) all s h (inl e) = (let never : false ≡ true = sym all.0 ∙ subst (λ n. IsTrue (is_one_of xs n)) e h in cc never)
 apart xs (y ∷ ys) all s h (inr o) = apart xs ys all.1 s h o
@@ -78,35 +78,12 @@ mode-refuses words usage status is h = (λ two. absurd (mode-usage usage.mode st
 pub mode-untouched : (mode : Mode) (status : ℕ) (Same : Type 0) → IsModeStatus mode status → status ≡ 2 → Same
 mode-untouched mode status Same h two = absurd (mode-usage mode status h two)
 
--- what the statuses say with which nothing was read and nothing put, by those of each mode
-pub mode-quiet : (mode : Mode) (status : ℕ) (Input Output Mirrors : Type 0) → IsModeStatus mode status
-    → ((status ≡ 7) ⊎ (status ≡ 11) → Input × Output × Mirrors)
-    → ((mode ≡ Demo) ⊎ ((mode ≡ Bundle) ⊎ (mode ≡ Compact)) → Mirrors × Input)
-    → ((mode ≡ Bundle) ⊎ (mode ≡ Compact) → (status ≡ 0) ⊎ ((status ≡ 6) ⊎ Output))
-    → IsOneOf (2 ∷ 7 ∷ 10 ∷ 11 ∷ 13 ∷ 14 ∷ 15 ∷ []) status → Input × Output × Mirrors
-mode-quiet mode status Input Output Mirrors h quiet aside nothing o = go o
-  where
-    put : IsOneOf (10 ∷ 13 ∷ 14 ∷ 15 ∷ []) status → (status ≡ 0) ⊎ ((status ≡ 6) ⊎ Output) → Output
-    put p (inl zero) = absurd (apart (0 ∷ []) (10 ∷ 13 ∷ 14 ∷ 15 ∷ []) (refl, (refl, (refl, (refl, tt)))) status (subst (λ n. IsTrue (is_one_of (0 ∷ []) n)) (sym zero) refl) p)
-    put p (inr (inl six)) = absurd (apart (6 ∷ []) (10 ∷ 13 ∷ 14 ∷ 15 ∷ []) (refl, (refl, (refl, (refl, tt)))) status (subst (λ n. IsTrue (is_one_of (6 ∷ []) n)) (sym six) refl) p)
-    put p (inr (inr same)) = same
-
-    made : IsOneOf (10 ∷ 13 ∷ 14 ∷ 15 ∷ []) status → (mode ≡ Bundle) ⊎ (mode ≡ Compact) → Input × Output × Mirrors
-    made p is = let beside = aside (inr is) in (beside.1, put p (nothing is), beside.0)
-
-    go : IsOneOf (2 ∷ 7 ∷ 10 ∷ 11 ∷ 13 ∷ 14 ∷ 15 ∷ []) status → Input × Output × Mirrors
-    go (inl e) = absurd (mode-usage mode status h e)
-    go (inr (inl e)) = quiet (inl e)
-    go (inr (inr (inl e))) = made (inl e) (inl (mode-bundle mode status h e))
-    go (inr (inr (inr (inl e)))) = quiet (inr e)
-    go (inr (inr (inr (inr o)))) = made (inr o) (inr (mode-compact mode status h o))
-
 -- ---- where the program ends at once
 once-known : (status : ℕ) → (status ≡ 2) ⊎ (status ≡ 7) → IsStatus status
 once-known status (inl e) = subst IsStatus (sym e) refl
 once-known status (inr e) = subst IsStatus (sym e) refl
 
-two-or-seven : (words : List (List ℕ)) (status : ℕ) → EndsAtOnce words status → (status ≡ 2) ⊎ (status ≡ 7)
+pub two-or-seven : (words : List (List ℕ)) (status : ℕ) → EndsAtOnce words status → (status ≡ 2) ⊎ (status ≡ 7)
 two-or-seven words status (inl none) = inl none.0
 two-or-seven words status (inr seven) = inr seven
 
@@ -120,7 +97,7 @@ memory-status Serve = refl
 memory-status Bundle = refl
 memory-status Compact = refl
 
-none-else : (status : ℕ) (others : List ℕ) → AllByRecursion (λ y. is_one_of (2 ∷ 7 ∷ []) y ≡ false) others → (status ≡ 2) ⊎ (status ≡ 7) → IsOneOf others status → ⊥
+pub none-else : (status : ℕ) (others : List ℕ) → AllByRecursion (λ y. is_one_of (2 ∷ 7 ∷ []) y ≡ false) others → (status ≡ 2) ⊎ (status ≡ 7) → IsOneOf others status → ⊥
 none-else status others all (inl e) o = apart (2 ∷ 7 ∷ []) others all status (subst (λ n. IsTrue (is_one_of (2 ∷ 7 ∷ []) n)) (sym e) refl) o
 none-else status others all (inr e) o = apart (2 ∷ 7 ∷ []) others all status (subst (λ n. IsTrue (is_one_of (2 ∷ 7 ∷ []) n)) (sym e) refl) o
 

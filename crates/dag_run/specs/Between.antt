@@ -1,5 +1,7 @@
 -- What holds from line to line of a run.
 use Rattle.std.specs.Prelude.{ℕ, ◌≡◌, ◌≤◌, ◌+◌, false, List, ◌++◌, length, map, nat_lt, Option, Some, None, Result, Ok, Err}
+use Rattle.outside.specs.Counts.{Rose}
+use Rattle.outside.specs.Told.{WhereTold}
 use Rattle.id_groups.specs.Name.{Name}
 use Rattle.commit_graph.specs.World.{World}
 use Rattle.disk_trait.specs.Images.{Told, moment_of}
@@ -9,6 +11,7 @@ use Rattle.line_io.specs.Reading.{Reading, is_over, lines_left, whole_left}
 use Rattle.line_io.specs.Next.{IsReadOut}
 use Rattle.batch_codec.specs.Payload.{Payload}
 use Rattle.change_rules.specs.declared.Limits.{Limits}
+use Rattle.change_rules.specs.Standard.{AreLimits}
 use Rattle.change_rules.specs.Change.{text_of}
 use Rattle.remote_rules.specs.Mirror.{Mirror}
 use Rattle.step_rules.specs.State.{State, Stored, at_start}
@@ -20,6 +23,8 @@ use Rattle.run_rules.specs.Means.{AreCommits, Means, last_of, loaded_at}
 use Rattle.dag_store.specs.Kept.{PlainStore}
 use Rattle.dag_store.specs.Stands.{StandsBeside}
 use Rattle.dag_run.specs.Seen.{Seen, streams}
+use Rattle.dag_run.specs.Ends.{Begins}
+use Rattle.dag_run.specs.Does.{DiskSides, MirrorSides, PortSides, seen_before, seen_after}
 use Rattle.dag_run.specs.Stops.{end_of}
 use Rattle.dag_run.specs.Enough.{HasEnough}
 use Rattle.dag_run.specs.declared.stops.Stop.{Stop}
@@ -57,6 +62,16 @@ pub record Going (limits : Limits) (w : World Name) (payloads : List Payload) (r
   pub stands : StandsBeside (length payloads) store left last
   pub enough : HasEnough last
   pub stays : Stays limits w payloads changes last.store before.disk after.disk
+
+-- What holds where a run that began so, and goes on over this store, was answered on: the answer over what the disk, the source and the
+-- sink tell, from those moments on at which the counts of faults were first read.
+abbrev pub FromGoing : {D M I O : Type 0} → DiskSides D → MirrorSides M → PortSides I → PortSides O → PlainStore → List ℕ → Reading
+    → (Limits → World Name → List Payload → ℕ → List Mirror → Type 0 → Seen → Seen → Type 0) → Type 0
+FromGoing log mirrors input output store changes reading Answered =
+    (limits : Limits) (w : World Name) (payloads : List Payload) (room : ℕ) (first : List Mirror) (faults : ℕ) → AreLimits limits → store.limits ≡ limits → faults ≤ output.faults
+    → WhereTold (seen_before log input output) (seen_after log input output) (λ now after. (before : Seen) → Begins limits w payloads room first before
+    → Going limits w payloads room first mirrors.first store changes reading before now
+    → Answered limits w payloads room first (Rose faults output.faults_then) before after)
 
 -- what a turn over one line means: behind it a run goes on, or has ended so
 abbrev pub TurnMeans : Limits → World Name → List Payload → ℕ → List Mirror → List Mirror → List ℕ → Reading → Type 0 → Result (Option PlainStore) Stop → Seen → Seen → Type 0

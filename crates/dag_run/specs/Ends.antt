@@ -1,5 +1,6 @@
 -- What a run over a disk, a source and a sink says of its status, where they tell.
-use Rattle.std.specs.Prelude.{ℕ, ◌≡◌, ◌⊎◌, List, [], length, Result, Ok, Err, ⊤}
+use Rattle.std.specs.Prelude.{ℕ, ◌≡◌, ◌⊎◌, ◌≤◌, List, length, Result, Ok, Err, ⊤}
+use Rattle.outside.specs.Counts.{Rose}
 use Rattle.id_groups.specs.Name.{Name}
 use Rattle.commit_graph.specs.World.{World}
 use Rattle.line_io.specs.Lines.{lines_of}
@@ -17,7 +18,7 @@ use Rattle.dag_run.specs.Seen.{Seen, streams}
 use Rattle.dag_run.specs.Lines.{PutsFault}
 use Rattle.dag_run.specs.Enough.{AreEnough}
 use Rattle.dag_run.specs.declared.stops.Stop.{Stop}
-use Rattle.dag_run.specs.declared.stops.Stop.TheVariants.{Memory, NoLog, NotLoaded}
+use Rattle.dag_run.specs.declared.stops.Stop.TheVariants.{Memory, NoLog, NotLoaded, NotStored, Sink, Source}
 
 -- The disk holds the world, by these payloads, and a run over it with room for so many names may have these mirrors. Wherever its
 -- lines come to a pull, the masters of those that are left begin with the cloned commits.
@@ -64,3 +65,12 @@ OpensRun payloads w (Err _) = ⊤
 abbrev pub LoadPuts : Type 0 → Result PlainStore Stop → List ℕ → List ℕ → Type 0
 LoadPuts SinkFailed (Err NotLoaded) before now = PutsFault SinkFailed before now
 LoadPuts SinkFailed _ before now = now ≡ before
+
+-- Who failed where lines were answered to such an end, by the counts of faults before and after; none of them falls.
+pub record HasCauses {T : Type 0} (disk disk_then source source_then sink sink_then : ℕ) (result : Result T Stop) : Type 0 where
+  pub disk_failed : (result ≡ Err NotLoaded) ⊎ (result ≡ Err NotStored) → Rose disk disk_then
+  pub source_failed : result ≡ Err Source → Rose source source_then
+  pub sink_failed : result ≡ Err Sink → Rose sink sink_then
+  pub disk_later : disk ≤ disk_then
+  pub source_later : source ≤ source_then
+  pub sink_later : sink ≤ sink_then

@@ -11,3 +11,4 @@ pub mod Modes
 pub mod Serving
 pub mod Bundling
 pub mod Compacting
+pub mod Does

@@ -1,9 +1,13 @@
 -- What one line does: to a store, to the state that it stands for, to the disk and to the sink.
-use Rattle.std.specs.Prelude.{◌≡◌, ◌⊎◌, ℕ, true, false, List, [], ◌∷◌, ◌++◌, Option, Some, None, Result, Ok, Err, take, length, nat_lt, ⊤}
+use Rattle.std.specs.Prelude.{◌≡◌, ◌⊎◌, ◌≤◌, ℕ, true, false, List, [], ◌∷◌, ◌++◌, Option, Some, None, Result, Ok, Err, IfOk, IfErr, take, length, map, nat_lt, ⊤}
 use Rattle.std.specs.Bool.{MatchBool}
-use Rattle.outside.specs.Told.{TookFront}
+use Rattle.outside.specs.Counts.{HasCause, Rose}
+use Rattle.outside.specs.Told.{TookFront, WhereTold}
 use Rattle.disk_trait.specs.Images.{Told}
+use Rattle.disk_trait.specs.Calls.{Goes}
 use Rattle.line_io.specs.Lines.{is_silent}
+use Rattle.line_io.specs.Next.{IsLine}
+use Rattle.line_io.specs.declared.lines.Line.{Line}
 use Rattle.batch_codec.specs.Payload.{Payload}
 use Rattle.change_rules.specs.Change.{text_of}
 use Rattle.remote_rules.specs.Mirror.{Mirror}
@@ -19,6 +23,7 @@ use Rattle.dag_store.specs.Stands.{StandsBeside}
 use Rattle.store_plans.specs.Changes.{HasRoom}
 use Rattle.dag_store.specs.Changes.{HasStored, CutShort}
 use Rattle.dag_run.specs.Enough.{HasEnough, IsEnoughFor, IsEnoughOn}
+use Rattle.dag_run.specs.Stops.{IsLineStop}
 use Rattle.dag_run.specs.declared.stops.Stop.{Stop}
 use Rattle.dag_run.specs.declared.stops.Stop.TheVariants.{Sink, NotStored}
 
@@ -48,6 +53,13 @@ abbrev pub PutsReply : PlainStore → Reply → Result PlainStore Stop → List 
 PutsReply kept reply (Ok store) before now = (store ≡ kept) × (now ≡ before ++ reply_text reply)
 PutsReply kept reply (Err Sink) before now = TookFront (reply_text reply) before now
 PutsReply kept reply (Err _) before now = ⊥
+
+-- of a sink that tells so: nothing but a fault of it stops the putting
+pub record PutsLine (kept : PlainStore) (reply : Reply) (taken taken_then : Option (List ℕ)) (faults faults_then : ℕ) (result : Result PlainStore Stop) : Type 0 where
+  pub bytes : WhereTold taken taken_then (PutsReply kept reply result)
+  pub same : IfOk result (λ next. next ≡ kept)
+  pub stop : IfErr result (λ stop. stop ≡ Sink)
+  pub cause : HasCause faults faults_then result
 
 -- How a line that gets a reply ends, of a store that stands for a state, where these replies come with these states: the reply is
 -- put, and the store stands for the state, beside the mirrors that are left; or the sink fails in it; or the disk fails, and nothing is
@@ -124,3 +136,64 @@ LineLeaves kept payload (Some clock) (Ok store) a b = IsLimited kept × HasStore
 LineLeaves kept payload clock (Err Sink) a b = StoresOn kept payload clock a b
 LineLeaves kept payload clock (Err NotStored) a b = IsLimited kept × CutShort kept payload a b
 LineLeaves kept payload clock (Err _) a b = ⊥
+
+-- ---- a line's step
+-- all that it reaches, before and after: the log's disk, the mirrors, the sink, and the moments of changes
+pub record LineSides : Type 0 where
+  pub disk : Option Told
+  pub disk_then : Option Told
+  pub disk_faults : ℕ
+  pub disk_faults_then : ℕ
+  pub first : List Mirror
+  pub left : List Mirror
+  pub taken : Option (List ℕ)
+  pub taken_then : Option (List ℕ)
+  pub sink_faults : ℕ
+  pub sink_faults_then : ℕ
+  pub changes : List ℕ
+  pub changes_then : List ℕ
+
+abbrev pub line_sides : {D M O : Type 0} → (D → Option Told) → (D → ℕ) → (M → Mirror) → (O → Option (List ℕ)) → (O → ℕ) → D → D → List M → List M → O → O → List ℕ → List ℕ → LineSides
+line_sides told disk_faults shown taken sink_faults disk disk_then mirrors mirrors_then sink sink_then changes changes_then = record {
+  disk = told disk;
+  disk_then = told disk_then;
+  disk_faults = disk_faults disk;
+  disk_faults_then = disk_faults disk_then;
+  first = map shown mirrors;
+  left = map shown mirrors_then;
+  taken = taken sink;
+  taken_then = taken sink_then;
+  sink_faults = sink_faults sink;
+  sink_faults_then = sink_faults sink_then;
+  changes = changes;
+  changes_then = changes_then;
+}
+
+-- The limits stay. It stops for a fault of the disk in a change or one of the sink alone, and no count falls.
+pub record EndsLine (kept : PlainStore) (x : LineSides) (result : Result PlainStore Stop) : Type 0 where
+  pub limits : IfOk result (λ next. next.limits ≡ kept.limits)
+  pub stop : IfErr result IsLineStop
+  pub disk_failed : result ≡ Err NotStored → Rose x.disk_faults x.disk_faults_then
+  pub sink_failed : result ≡ Err Sink → Rose x.sink_faults x.sink_faults_then
+  pub disk_later : x.disk_faults ≤ x.disk_faults_then
+  pub sink_later : x.sink_faults ≤ x.sink_faults_then
+
+-- What a step does that ends so: one payload is stored and its moment noted, or nothing is; and what is told says this of it.
+pub record DoesLine (kept : PlainStore) (x : LineSides) (Tells : LineSides → List ℕ → Option ℕ → Result PlainStore Stop → List ℕ → List ℕ → Type 0) (result : Result PlainStore Stop) : Type 0 where
+  pub payload : List ℕ
+  pub clock : Option ℕ
+  pub noted : x.changes_then ≡ changes_with x.changes clock
+  pub leaves : Goes (LineLeaves kept payload clock result) x.disk x.disk_then
+  pub tells : WhereTold x.taken x.taken_then (Tells x payload clock result)
+  pub ends : EndsLine kept x result
+
+-- what is told of a session's command, and of a line
+abbrev pub TellsCommand : PlainStore → ℕ → Verb → LineSides → List ℕ → Option ℕ → Result PlainStore Stop → List ℕ → List ℕ → Type 0
+TellsCommand kept s verb x payload clock result before now = CommandReplies x.first x.left (Rose x.sink_faults x.sink_faults_then) kept s verb payload clock result before now
+
+abbrev pub TellsLine : PlainStore → List ℕ → LineSides → List ℕ → Option ℕ → Result PlainStore Stop → List ℕ → List ℕ → Type 0
+TellsLine kept line x payload clock result before now = LineReplies x.first x.left (Rose x.sink_faults x.sink_faults_then) kept line payload clock result before now
+
+-- of what was read, in this buffer
+abbrev pub TellsRead : PlainStore → Line → List ℕ → LineSides → List ℕ → Option ℕ → Result PlainStore Stop → List ℕ → List ℕ → Type 0
+TellsRead kept kind text x payload clock result before now = (line : List ℕ) → IsLine kind text line → TellsLine kept line x payload clock result before now

@@ -1,20 +1,16 @@
 //! What one line does.
 
-ghost use Rattle.std.specs.Prelude.{◌≡◌, ◌≢◌, ◌<◌, ◌≤◌, [], ℕ, List, None, Option, Err, length, IfErr, IfOk, IfSome, MatchResult, false, map, vec_capacity};
+ghost use Rattle.std.specs.Prelude.{◌≡◌, ◌<◌, [], None, Option, Err, length, IfErr, IfOk, IfSome, false, map, vec_capacity};
 ghost use Rattle.outside.specs.Counts.{HasCause, Rose};
 ghost use Rattle.outside.specs.Told.{WhereTold};
-ghost use Rattle.disk_trait.specs.Calls.{Goes};
 ghost use Rattle.gated_log.specs.Holding.{IsOnDisk};
-ghost use Rattle.line_io.specs.Next.{IsLine};
 ghost use Rattle.line_io.specs.Lines.{is_empty_or_comment};
-ghost use Rattle.run_rules.specs.Grammar.{SpellsCommand};
 ghost use Rattle.store_plans.specs.Changes.{HasRoom};
 ghost use Rattle.dag_store.specs.Asks.{MayBeAsked, verb_of};
 ghost use Rattle.command_lines.specs.Meant.{meant, HasRightCount};
-ghost use Rattle.dag_run.specs.Stops.{IsLineStop};
 ghost use Rattle.command_lines.specs.Told.{told};
-ghost use Rattle.dag_run.specs.Replies.{IsUnreadFor};
-ghost use Rattle.dag_run.specs.Lines.{changes_with, CommandReplies, DoesBeside, DropsAt, IsBrief, LineReplies, LineLeaves, MayStore};
+ghost use Rattle.dag_run.specs.Lines.{changes_with, CommandReplies, DoesBeside, DropsAt, IsBrief, MayStore, DoesLine, line_sides, TellsCommand, TellsRead};
+ghost use Rattle.dag_run.specs.Replies.{TellsParsed, TellsShort};
 
 use crate::reach::Reach;
 use crate::replies::{
@@ -138,16 +134,8 @@ fn change_and_tell<D: Disk, O: Sink, R: Remote>(
     requires asked { MayBeAsked (verb_of ask) }
     requires room { length reach.changes.now.items < vec_capacity reach.changes.now }
     requires begins { IfSome (D.told reach.disk.now) (IsOnDisk store.log) }
-    ensures step { let first = map R.shown reach.entry.mirrors.now.list.items in let left = map R.shown reach.exit.1.0.now.list.items in
-        (payload : List ℕ) × (clock : Option ℕ) × (reach.exit.1.1.0.now.items ≡ changes_with reach.entry.changes.now.items clock)
-        × Goes (LineLeaves store payload clock result) (D.told reach.entry.disk.now) (D.told reach.exit.0.now)
-        × WhereTold (O.taken output.old) (O.taken output.new) (CommandReplies first left (Rose (O.faults output.old) (O.faults output.new)) store s (verb_of ask.entry) payload clock result) }
-    ensures limits { IfOk result (λ next. next.limits ≡ store.limits) }
-    ensures stop { IfErr result IsLineStop }
-    ensures disk { result ≡ Err Stop.NotStored → Rose (D.faults reach.entry.disk.now) (D.faults reach.exit.0.now) }
-    ensures disk_later { D.faults reach.entry.disk.now ≤ D.faults reach.exit.0.now }
-    ensures sink { result ≡ Err Stop.Sink → Rose (O.faults output.old) (O.faults output.new) }
-    ensures sink_later { O.faults output.old ≤ O.faults output.new }
+    ensures { DoesLine store (line_sides D.told D.faults R.shown O.taken O.faults reach.entry.disk.now reach.exit.0.now reach.entry.mirrors.now.list.items reach.exit.1.0.now.list.items
+        output.old output.new reach.entry.changes.now.items reach.exit.1.1.0.now.items) (TellsCommand store s (verb_of ask.entry)) result }
 {
     let Reach {
         disk,
@@ -178,16 +166,8 @@ fn tell_change<D: Disk, O: Sink, R: Remote>(
     requires session { s < 16 }
     requires asked { MayBeAsked (verb_of ask) }
     requires begins { IfSome (D.told reach.disk.now) (IsOnDisk store.log) }
-    ensures step { let first = map R.shown reach.entry.mirrors.now.list.items in let left = map R.shown reach.exit.1.0.now.list.items in
-        (payload : List ℕ) × (clock : Option ℕ) × (reach.exit.1.1.0.now.items ≡ changes_with reach.entry.changes.now.items clock)
-        × Goes (LineLeaves store payload clock result) (D.told reach.entry.disk.now) (D.told reach.exit.0.now)
-        × WhereTold (O.taken output.old) (O.taken output.new) (CommandReplies first left (Rose (O.faults output.old) (O.faults output.new)) store s (verb_of ask.entry) payload clock result) }
-    ensures limits { IfOk result (λ next. next.limits ≡ store.limits) }
-    ensures stop { IfErr result IsLineStop }
-    ensures disk { result ≡ Err Stop.NotStored → Rose (D.faults reach.entry.disk.now) (D.faults reach.exit.0.now) }
-    ensures disk_later { D.faults reach.entry.disk.now ≤ D.faults reach.exit.0.now }
-    ensures sink { result ≡ Err Stop.Sink → Rose (O.faults output.old) (O.faults output.new) }
-    ensures sink_later { O.faults output.old ≤ O.faults output.new }
+    ensures { DoesLine store (line_sides D.told D.faults R.shown O.taken O.faults reach.entry.disk.now reach.exit.0.now reach.entry.mirrors.now.list.items reach.exit.1.0.now.list.items
+        output.old output.new reach.entry.changes.now.items reach.exit.1.1.0.now.items) (TellsCommand store s (verb_of ask.entry)) result }
 {
     if reach.changes.try_reserve(1).is_err() {
         return tell_refused(store, Refusal::Memory, output);
@@ -205,16 +185,8 @@ fn execute_command<D: Disk, O: Sink, R: Remote>(
     requires session { command.now.session < 16 }
     requires counted { HasRightCount (meant command.now.verb) }
     requires begins { IfSome (D.told reach.disk.now) (IsOnDisk store.log) }
-    ensures step { let first = map R.shown reach.entry.mirrors.now.list.items in let left = map R.shown reach.exit.1.0.now.list.items in
-        (payload : List ℕ) × (clock : Option ℕ) × (reach.exit.1.1.0.now.items ≡ changes_with reach.entry.changes.now.items clock)
-        × Goes (LineLeaves store payload clock result) (D.told reach.entry.disk.now) (D.told reach.exit.0.now)
-        × WhereTold (O.taken output.old) (O.taken output.new) (CommandReplies first left (Rose (O.faults output.old) (O.faults output.new)) store command.now.session (meant command.now.verb) payload clock result) }
-    ensures limits { IfOk result (λ next. next.limits ≡ store.limits) }
-    ensures stop { IfErr result IsLineStop }
-    ensures disk { result ≡ Err Stop.NotStored → Rose (D.faults reach.entry.disk.now) (D.faults reach.exit.0.now) }
-    ensures disk_later { D.faults reach.entry.disk.now ≤ D.faults reach.exit.0.now }
-    ensures sink { result ≡ Err Stop.Sink → Rose (O.faults output.old) (O.faults output.new) }
-    ensures sink_later { O.faults output.old ≤ O.faults output.new }
+    ensures { DoesLine store (line_sides D.told D.faults R.shown O.taken O.faults reach.entry.disk.now reach.exit.0.now reach.entry.mirrors.now.list.items reach.exit.1.0.now.list.items
+        output.old output.new reach.entry.changes.now.items reach.exit.1.1.0.now.items) (TellsCommand store command.now.session (meant command.now.verb)) result }
 {
     let s = command.session;
     match &command.verb {
@@ -237,18 +209,8 @@ fn execute_parsed<D: Disk, O: Sink, R: Remote>(
     requires session { IfOk parsed.now (λ command. command.session < 16) }
     requires counted { IfOk parsed.now (λ command. HasRightCount (meant command.verb)) }
     requires begins { IfSome (D.told reach.disk.now) (IsOnDisk store.log) }
-    ensures step { let first = map R.shown reach.entry.mirrors.now.list.items in let left = map R.shown reach.exit.1.0.now.list.items in
-        (payload : List ℕ) × (clock : Option ℕ) × (reach.exit.1.1.0.now.items ≡ changes_with reach.entry.changes.now.items clock)
-        × Goes (LineLeaves store payload clock result) (D.told reach.entry.disk.now) (D.told reach.exit.0.now)
-        × WhereTold (O.taken output.old) (O.taken output.new) (λ before now. (text : List ℕ) → is_empty_or_comment text ≡ false → length text ≤ 16384
-        → MatchResult parsed.now (λ command. SpellsCommand text command.session (meant command.verb)) (IsUnreadFor text)
-        → LineReplies first left (Rose (O.faults output.old) (O.faults output.new)) store text payload clock result before now) }
-    ensures limits { IfOk result (λ next. next.limits ≡ store.limits) }
-    ensures stop { IfErr result IsLineStop }
-    ensures disk { result ≡ Err Stop.NotStored → Rose (D.faults reach.entry.disk.now) (D.faults reach.exit.0.now) }
-    ensures disk_later { D.faults reach.entry.disk.now ≤ D.faults reach.exit.0.now }
-    ensures sink { result ≡ Err Stop.Sink → Rose (O.faults output.old) (O.faults output.new) }
-    ensures sink_later { O.faults output.old ≤ O.faults output.new }
+    ensures { DoesLine store (line_sides D.told D.faults R.shown O.taken O.faults reach.entry.disk.now reach.exit.0.now reach.entry.mirrors.now.list.items reach.exit.1.0.now.list.items
+        output.old output.new reach.entry.changes.now.items reach.exit.1.1.0.now.items) (TellsParsed store parsed.now) result }
 {
     match parsed {
         Ok(command) => execute_command(store, reach, command, output),
@@ -269,17 +231,8 @@ fn execute_text<D: Disk, O: Sink, R: Remote>(
 ) -> Result<Store, Stop>
     requires begins { IfSome (D.told reach.disk.now) (IsOnDisk store.log) }
     requires heard { is_empty_or_comment text.now ≡ false }
-    ensures step { let first = map R.shown reach.entry.mirrors.now.list.items in let left = map R.shown reach.exit.1.0.now.list.items in
-        (payload : List ℕ) × (clock : Option ℕ) × (reach.exit.1.1.0.now.items ≡ changes_with reach.entry.changes.now.items clock)
-        × Goes (LineLeaves store payload clock result) (D.told reach.entry.disk.now) (D.told reach.exit.0.now)
-        × WhereTold (O.taken output.old) (O.taken output.new) (λ before now. length text.now ≤ 16384
-        → LineReplies first left (Rose (O.faults output.old) (O.faults output.new)) store text.now payload clock result before now) }
-    ensures limits { IfOk result (λ next. next.limits ≡ store.limits) }
-    ensures stop { IfErr result IsLineStop }
-    ensures disk { result ≡ Err Stop.NotStored → Rose (D.faults reach.entry.disk.now) (D.faults reach.exit.0.now) }
-    ensures disk_later { D.faults reach.entry.disk.now ≤ D.faults reach.exit.0.now }
-    ensures sink { result ≡ Err Stop.Sink → Rose (O.faults output.old) (O.faults output.new) }
-    ensures sink_later { O.faults output.old ≤ O.faults output.new }
+    ensures { DoesLine store (line_sides D.told D.faults R.shown O.taken O.faults reach.entry.disk.now reach.exit.0.now reach.entry.mirrors.now.list.items reach.exit.1.0.now.list.items
+        output.old output.new reach.entry.changes.now.items reach.exit.1.1.0.now.items) (TellsShort store text.now) result }
 {
     let parsed = Command::parse(alloc, text);
     let next = execute_parsed(store, reach, &parsed, output);
@@ -297,17 +250,8 @@ pub fn execute<D: Disk, O: Sink, R: Remote>(
     output: &mut O,
 ) -> Result<Store, Stop>
     requires { IfSome (D.told reach.disk.now) (IsOnDisk store.log) }
-    ensures step { let first = map R.shown reach.entry.mirrors.now.list.items in let left = map R.shown reach.exit.1.0.now.list.items in
-        (payload : List ℕ) × (clock : Option ℕ) × (reach.exit.1.1.0.now.items ≡ changes_with reach.entry.changes.now.items clock)
-        × Goes (LineLeaves store payload clock result) (D.told reach.entry.disk.now) (D.told reach.exit.0.now)
-        × WhereTold (O.taken output.old) (O.taken output.new) (λ before now. (line : List ℕ) → IsLine kind text.now line
-        → LineReplies first left (Rose (O.faults output.old) (O.faults output.new)) store line payload clock result before now) }
-    ensures limits { IfOk result (λ next. next.limits ≡ store.limits) }
-    ensures stop { IfErr result IsLineStop }
-    ensures disk { result ≡ Err Stop.NotStored → Rose (D.faults reach.entry.disk.now) (D.faults reach.exit.0.now) }
-    ensures disk_later { D.faults reach.entry.disk.now ≤ D.faults reach.exit.0.now }
-    ensures sink { result ≡ Err Stop.Sink → Rose (O.faults output.old) (O.faults output.new) }
-    ensures sink_later { O.faults output.old ≤ O.faults output.new }
+    ensures { DoesLine store (line_sides D.told D.faults R.shown O.taken O.faults reach.entry.disk.now reach.exit.0.now reach.entry.mirrors.now.list.items reach.exit.1.0.now.list.items
+        output.old output.new reach.entry.changes.now.items reach.exit.1.1.0.now.items) (TellsRead store kind text.now) result }
 {
     match kind {
         Line::TooLong => tell(store, &Reply::LongLine, output),

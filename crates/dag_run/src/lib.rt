@@ -18,7 +18,7 @@ mod words;
 pub use dag_store::Limits;
 pub use execute::execute as execute_line;
 pub use laws::{new_disks_begin, runs_that_pull_begin, words_spelled_out};
-pub use program::{run_lines, top};
+pub use program::{run_lines, run_mode, top, usage_of};
 pub use reach::Reach;
 pub use report::{Moments, Report};
 pub use stops::Stop;

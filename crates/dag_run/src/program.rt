@@ -1,6 +1,6 @@
 //! The run: from the log, the source and the sink to the status.
 
-ghost use Rattle.std.specs.Prelude.{◌≡◌, ◌⊎◌, ◌<◌, ◌≤◌, ℕ, List, [], ◌∷◌, None, Ok, Err, IfErr, IfOk, IfSome, MatchResult, OnOk, length, map, string_bytes};
+ghost use Rattle.std.specs.Prelude.{◌≡◌, ◌<◌, ◌≤◌, ℕ, List, [], None, Ok, Err, IfErr, IfOk, IfSome, MatchResult, map, string_bytes};
 ghost use Rattle.disk_trait.specs.Since.{IsUntouched};
 ghost use Rattle.outside.specs.Counts.{Rose};
 ghost use Rattle.outside.specs.Told.{WhereTold};
@@ -8,28 +8,21 @@ ghost use Rattle.line_io.specs.Reading.{budget, is_over, new_reading};
 ghost use Rattle.id_groups.specs.Name.{Name};
 ghost use Rattle.commit_graph.specs.World.{World};
 ghost use Rattle.disk_trait.specs.Calls.{Goes};
-ghost use Rattle.gated_log.specs.Load.{IsSureOf, IsSureBehind, LeavesOldOrFresh, LoadCalls};
+ghost use Rattle.gated_log.specs.Load.{IsSureOf, IsSureBehind, LoadCalls};
 ghost use Rattle.gated_log.specs.Holding.{IsOnDisk};
 ghost use Rattle.batch_codec.specs.Payload.{Payload};
 ghost use Rattle.change_rules.specs.Holding.{HoldAs, KeepsHolding};
-ghost use Rattle.change_rules.specs.Standard.{AreLimits, standard};
-ghost use Rattle.change_rules.specs.declared.Limits.{Limits as OfRun};
-ghost use Rattle.remote_rules.specs.Mirror.{Mirror};
+ghost use Rattle.change_rules.specs.Standard.{AreLimits};
 ghost use Rattle.run_rules.specs.Ends.{status_of as end_status};
 ghost use Rattle.run_rules.specs.Means.{Means};
 ghost use Rattle.dag_store.specs.Loading.{IsLoadedStore};
 ghost use Rattle.program_words.specs.Usage.{IsUsage};
-ghost use Rattle.dag_run.specs.Modes.{EndsAtOnce, HasModeStatus, IsDemoOf, IsModeStatus, IsRunOf, IsUsageOf, RefusesWords};
-ghost use Rattle.dag_run.specs.Seen.{Seen, seen, streams};
-ghost use Rattle.dag_run.specs.Stops.{end_of, GoesOver, IsAnswerStop, IsDemoStatus, IsLoadStop, IsOneOf, IsOverAt, IsOverBy, IsRunStatus, IsStatus, stop_of};
-ghost use Rattle.dag_run.specs.Lines.{PutsFault};
-ghost use Rattle.dag_run.specs.Demo.{DemoMeans};
-ghost use Rattle.dag_run.specs.Ends.{Begins, OpensRun, LoadPuts, LoadRefuses, RunRefuses, EndRefuses, StatusMeans, StatusRefuses};
-ghost use Rattle.dag_run.specs.Between.{Going, TurnMeans};
-ghost use Rattle.dag_run.specs.Bundling.{BundleMeans};
-ghost use Rattle.dag_run.specs.Compacting.{CompactMeans};
-ghost use Rattle.dag_run.specs.Serving.{IsServeStatus, ServeMeans, WantsOne};
-ghost use Rattle.remote_serve.specs.Steps.{ports, served_streams};
+ghost use Rattle.dag_run.specs.Modes.{EndsAtOnce};
+ghost use Rattle.dag_run.specs.Seen.{streams};
+ghost use Rattle.dag_run.specs.Stops.{end_of, GoesOver, IsAnswerStop, IsLoadStop, IsOverAt, IsRunStatus, stop_of};
+ghost use Rattle.dag_run.specs.Ends.{HasCauses, OpensRun, LoadPuts, LoadRefuses};
+ghost use Rattle.dag_run.specs.Does.{Does, DoesRun, DoesWords, EndsRun, disk_sides, port_sides};
+ghost use Rattle.dag_run.specs.Between.{FromGoing, TurnMeans};
 
 use crate::bundling::put_bundle;
 use crate::compacting::compact_log;
@@ -112,23 +105,16 @@ fn answer_next<D: Disk, I: Source, O: Sink, R: Remote>(
     output: &mut O,
 ) -> Result<Option<Store>, Stop>
     requires ready { IfSome (D.told reach.disk.now) (IsOnDisk store.log) }
-    ensures means { let here = map R.shown reach.entry.mirrors.now.list.items in let left = map R.shown reach.exit.1.0.now.list.items in
-        (limits : OfRun) (w : World Name) (payloads : List Payload) (room : ℕ) (first : List Mirror) (faults : ℕ) → AreLimits limits → store.limits ≡ limits → faults ≤ O.faults output.old
-        → WhereTold (seen (D.told reach.entry.disk.now) (I.left input.old) (O.taken output.old)) (seen (D.told reach.exit.0.now) (I.left input.new) (O.taken output.new))
-        (λ now after. (before : Seen) → Begins limits w payloads room first before
-        → Going limits w payloads room first here store reach.entry.changes.now.items lines.old before now
-        → TurnMeans limits w payloads room first left reach.exit.1.1.0.now.items lines.new (Rose faults (O.faults output.new)) result before after) }
+    ensures means { FromGoing (disk_sides D.told D.bytes D.faults reach.entry.disk.now reach.exit.0.now)
+        (record { was = reach.entry.mirrors.now; is = reach.exit.1.0.now; first = map R.shown reach.entry.mirrors.now.list.items; left = map R.shown reach.exit.1.0.now.list.items })
+        (port_sides I.left I.faults input.old input.new) (port_sides O.taken O.faults output.old output.new) store reach.entry.changes.now.items lines.old
+        (λ limits w payloads room first Failed before after. TurnMeans limits w payloads room first (map R.shown reach.exit.1.0.now.list.items) reach.exit.1.1.0.now.items lines.new Failed result before after) }
     ensures over { WhereTold (I.left input.old) (I.left input.new) (λ before after. GoesOver result (is_over lines.old before) (is_over lines.new after)) }
     ensures limits { IfOk result (λ next. IfSome next (λ kept. kept.limits ≡ store.limits)) }
     ensures ready { IfOk result (λ next. IfSome next (λ kept. IfSome (D.told reach.exit.0.now) (IsOnDisk kept.log))) }
     ensures less { IfOk result (λ next. IfSome next (λ kept. budget lines.new < budget lines.old)) }
     ensures stop { IfErr result IsAnswerStop }
-    ensures disk { result ≡ Err Stop.NotStored → Rose (D.faults reach.entry.disk.now) (D.faults reach.exit.0.now) }
-    ensures source { result ≡ Err Stop.Source → Rose (I.faults input.old) (I.faults input.new) }
-    ensures sink { result ≡ Err Stop.Sink → Rose (O.faults output.old) (O.faults output.new) }
-    ensures disk_later { D.faults reach.entry.disk.now ≤ D.faults reach.exit.0.now }
-    ensures source_later { I.faults input.old ≤ I.faults input.new }
-    ensures sink_later { O.faults output.old ≤ O.faults output.new }
+    ensures causes { HasCauses (D.faults reach.entry.disk.now) (D.faults reach.exit.0.now) (I.faults input.old) (I.faults input.new) (O.faults output.old) (O.faults output.new) result }
 {
     match lines.next(input) {
         Ok(Some(kind)) => {
@@ -152,20 +138,13 @@ fn answer_lines<D: Disk, I: Source, O: Sink, R: Remote>(
     output: &mut O,
 ) -> Result<(), Stop>
     requires ready { IfSome (D.told reach.disk.now) (IsOnDisk store.log) }
-    ensures means { let here = map R.shown reach.entry.mirrors.now.list.items in let left = map R.shown reach.exit.1.0.now.list.items in
-        (limits : OfRun) (w : World Name) (payloads : List Payload) (room : ℕ) (first : List Mirror) (faults : ℕ) → AreLimits limits → store.limits ≡ limits → faults ≤ O.faults output.old
-        → WhereTold (seen (D.told reach.entry.disk.now) (I.left input.old) (O.taken output.old)) (seen (D.told reach.exit.0.now) (I.left input.new) (O.taken output.new))
-        (λ now after. (before : Seen) → Begins limits w payloads room first before
-        → Going limits w payloads room first here store reach.entry.changes.now.items lines.old before now
-        → Means limits w payloads room first left (streams before after) (Rose faults (O.faults output.new)) before.disk after.disk (end_of result) reach.exit.1.1.0.now.items) }
+    ensures means { FromGoing (disk_sides D.told D.bytes D.faults reach.entry.disk.now reach.exit.0.now)
+        (record { was = reach.entry.mirrors.now; is = reach.exit.1.0.now; first = map R.shown reach.entry.mirrors.now.list.items; left = map R.shown reach.exit.1.0.now.list.items })
+        (port_sides I.left I.faults input.old input.new) (port_sides O.taken O.faults output.old output.new) store reach.entry.changes.now.items lines.old
+        (λ limits w payloads room first Failed before after. Means limits w payloads room first (map R.shown reach.exit.1.0.now.list.items) (streams before after) Failed before.disk after.disk (end_of result) reach.exit.1.1.0.now.items) }
     ensures over { WhereTold (I.left input.old) (I.left input.new) (λ before after. IsOverAt result (is_over lines.old before)) }
     ensures stop { IfErr result IsAnswerStop }
-    ensures disk { result ≡ Err Stop.NotStored → Rose (D.faults reach.entry.disk.now) (D.faults reach.exit.0.now) }
-    ensures source { result ≡ Err Stop.Source → Rose (I.faults input.old) (I.faults input.new) }
-    ensures sink { result ≡ Err Stop.Sink → Rose (O.faults output.old) (O.faults output.new) }
-    ensures disk_later { D.faults reach.entry.disk.now ≤ D.faults reach.exit.0.now }
-    ensures source_later { I.faults input.old ≤ I.faults input.new }
-    ensures sink_later { O.faults output.old ≤ O.faults output.new }
+    ensures causes { HasCauses (D.faults reach.entry.disk.now) (D.faults reach.exit.0.now) (I.faults input.old) (I.faults input.new) (O.faults output.old) (O.faults output.new) result }
 {
     let Reach {
         disk,
@@ -204,20 +183,9 @@ fn answer_all<D: Disk, I: Source, O: Sink, R: Remote>(
     requires cache { 0 < cache }
     requires none { reach.changes.now.items ≡ [] }
     requires new { lines.old ≡ new_reading limits.input }
-    ensures means { let first = map R.shown reach.entry.mirrors.now.list.items in let left = map R.shown reach.exit.1.0.now.list.items in
-        (w : World Name) (payloads : List Payload) → WhereTold (seen (D.told reach.entry.disk.now) (I.left input.old) (O.taken output.old)) (seen (D.told reach.exit.0.now) (I.left input.new) (O.taken output.new))
-        (λ before after. Begins limits w payloads cache first before
-        → Means limits w payloads cache first left (streams before after) (Rose (O.faults output.old) (O.faults output.new)) before.disk after.disk (end_of result) reach.exit.1.1.0.now.items) }
-    ensures over { WhereTold (I.left input.old) (I.left input.new) (λ before after. IsOverAt result (is_over lines.old before)) }
-    ensures refuses { IfSome (D.bytes reach.entry.disk.now) (λ bytes. RunRefuses limits.log bytes result) }
-    ensures unwritten { result ≡ Err Stop.NoLog → Goes IsUntouched (D.told reach.entry.disk.now) (D.told reach.exit.0.now) × (input.new ≡ input.old) × (output.new ≡ output.old) × (reach.exit.1.0.now ≡ reach.entry.mirrors.now) }
-    ensures quiet { result ≡ Err Stop.Memory → (input.new ≡ input.old) × (output.new ≡ output.old) × (reach.exit.1.0.now ≡ reach.entry.mirrors.now) }
-    ensures disk { (result ≡ Err Stop.NotLoaded) ⊎ (result ≡ Err Stop.NotStored) → Rose (D.faults reach.entry.disk.now) (D.faults reach.exit.0.now) }
-    ensures source { result ≡ Err Stop.Source → Rose (I.faults input.old) (I.faults input.new) }
-    ensures sink { result ≡ Err Stop.Sink → Rose (O.faults output.old) (O.faults output.new) }
-    ensures disk_later { D.faults reach.entry.disk.now ≤ D.faults reach.exit.0.now }
-    ensures source_later { I.faults input.old ≤ I.faults input.new }
-    ensures sink_later { O.faults output.old ≤ O.faults output.new }
+    ensures { EndsRun limits cache (disk_sides D.told D.bytes D.faults reach.entry.disk.now reach.exit.0.now)
+        (record { was = reach.entry.mirrors.now; is = reach.exit.1.0.now; first = map R.shown reach.entry.mirrors.now.list.items; left = map R.shown reach.exit.1.0.now.list.items })
+        (port_sides I.left I.faults input.old input.new) (port_sides O.taken O.faults output.old output.new) result reach.exit.1.1.0.now.items }
 {
     let store = load(alloc, limits, cache, reach.disk, output)?;
     answer_lines(alloc, store, reach, lines, input, output)
@@ -235,20 +203,9 @@ fn run<D: Disk, I: Source, O: Sink, R: Remote>(
     requires limits { AreLimits limits }
     requires cache { 0 < cache }
     requires none { reach.changes.now.items ≡ [] }
-    ensures means { let first = map R.shown reach.entry.mirrors.now.list.items in let left = map R.shown reach.exit.1.0.now.list.items in
-        (w : World Name) (payloads : List Payload) → WhereTold (seen (D.told reach.entry.disk.now) (I.left input.old) (O.taken output.old)) (seen (D.told reach.exit.0.now) (I.left input.new) (O.taken output.new))
-        (λ before after. Begins limits w payloads cache first before
-        → Means limits w payloads cache first left (streams before after) (Rose (O.faults output.old) (O.faults output.new)) before.disk after.disk (end_of result) reach.exit.1.1.0.now.items) }
-    ensures over { WhereTold (I.left input.old) (I.left input.new) (λ before after. IsOverAt result (is_over (new_reading limits.input) before)) }
-    ensures refuses { IfSome (D.bytes reach.entry.disk.now) (λ bytes. RunRefuses limits.log bytes result) }
-    ensures unwritten { result ≡ Err Stop.NoLog → Goes IsUntouched (D.told reach.entry.disk.now) (D.told reach.exit.0.now) × (input.new ≡ input.old) × (output.new ≡ output.old) × (reach.exit.1.0.now ≡ reach.entry.mirrors.now) }
-    ensures quiet { result ≡ Err Stop.Memory → (input.new ≡ input.old) × (output.new ≡ output.old) × (reach.exit.1.0.now ≡ reach.entry.mirrors.now) }
-    ensures disk { (result ≡ Err Stop.NotLoaded) ⊎ (result ≡ Err Stop.NotStored) → Rose (D.faults reach.entry.disk.now) (D.faults reach.exit.0.now) }
-    ensures source { result ≡ Err Stop.Source → Rose (I.faults input.old) (I.faults input.new) }
-    ensures sink { result ≡ Err Stop.Sink → Rose (O.faults output.old) (O.faults output.new) }
-    ensures disk_later { D.faults reach.entry.disk.now ≤ D.faults reach.exit.0.now }
-    ensures source_later { I.faults input.old ≤ I.faults input.new }
-    ensures sink_later { O.faults output.old ≤ O.faults output.new }
+    ensures { EndsRun limits cache (disk_sides D.told D.bytes D.faults reach.entry.disk.now reach.exit.0.now)
+        (record { was = reach.entry.mirrors.now; is = reach.exit.1.0.now; first = map R.shown reach.entry.mirrors.now.list.items; left = map R.shown reach.exit.1.0.now.list.items })
+        (port_sides I.left I.faults input.old input.new) (port_sides O.taken O.faults output.old output.new) result reach.exit.1.1.0.now.items }
 {
     let mut lines = Lines::new(alloc, limits.input)?;
     answer_all(alloc, limits, cache, reach, &mut lines, input, output)
@@ -284,13 +241,9 @@ pub fn run_lines<D: Disk, I: Source, O: Sink, R: Remote>(
     requires limits { AreLimits limits }
     requires cache { 0 < cache }
     ensures known { IsRunStatus result.status }
-    ensures means { let first = map R.shown mirrors.old.list.items in let left = map R.shown mirrors.new.list.items in
-        (w : World Name) (payloads : List Payload) → WhereTold (seen (D.told log.old) (I.left input.old) (O.taken output.old)) (seen (D.told log.new) (I.left input.new) (O.taken output.new))
-        (λ before after. Begins limits w payloads cache first before → StatusMeans limits w payloads cache first left
-        (Rose (D.faults log.old) (D.faults log.new)) (Rose (I.faults input.old) (I.faults input.new)) (Rose (O.faults output.old) (O.faults output.new)) result.status result.changes before after) }
-    ensures over { WhereTold (I.left input.old) (I.left input.new) (λ before after. IsOverBy limits.input result.status (length before)) }
-    ensures refuses { IfSome (D.bytes log.old) (λ bytes. StatusRefuses limits.log bytes result.status) }
-    ensures no_log { WhereTold (seen (D.told log.old) (I.left input.old) (O.taken output.old)) (seen (D.told log.new) (I.left input.new) (O.taken output.new)) (EndRefuses limits result.status) }
+    ensures does { DoesRun limits cache (disk_sides D.told D.bytes D.faults log.old log.new)
+        (record { was = mirrors.old; is = mirrors.new; first = map R.shown mirrors.old.list.items; left = map R.shown mirrors.new.list.items })
+        (port_sides I.left I.faults input.old input.new) (port_sides O.taken O.faults output.old output.new) result.status result.changes }
     ensures unwritten { result.status ≡ 4 → Goes IsUntouched (D.told log.old) (D.told log.new) × (input.new ≡ input.old) × (output.new ≡ output.old) × (mirrors.new ≡ mirrors.old) }
     ensures quiet { result.status ≡ 7 → (input.new ≡ input.old) × (output.new ≡ output.old) × (mirrors.new ≡ mirrors.old) }
     ensures disk { result.status ≡ 3 → Rose (D.faults log.old) (D.faults log.new) }
@@ -311,7 +264,7 @@ pub fn run_lines<D: Disk, I: Source, O: Sink, R: Remote>(
 }
 
 /// The usage that the words are; or the status of a program that ends at once.
-fn usage_of(alloc: Global, words: &[String]) -> Result<Usage, u8>
+pub fn usage_of(alloc: Global, words: &[String]) -> Result<Usage, u8>
     ensures { MatchResult result (IsUsage (map string_bytes words.now)) (EndsAtOnce (map string_bytes words.now)) }
 {
     match read_words(alloc, words) {
@@ -322,7 +275,7 @@ fn usage_of(alloc: Global, words: &[String]) -> Result<Usage, u8>
 }
 
 /// Does what the usage's mode says, within the program's limits.
-fn run_mode<D: Disk, I: Source, O: Sink, R: Remote>(
+pub fn run_mode<D: Disk, I: Source, O: Sink, R: Remote>(
     alloc: Global,
     usage: Usage,
     log: &mut D,
@@ -333,36 +286,13 @@ fn run_mode<D: Disk, I: Source, O: Sink, R: Remote>(
 ) -> Report
     requires cache { 0 < usage.cache }
     requires size { 1 ≤ usage.size }
-    ensures known { IsModeStatus usage.mode result.status }
-    ensures means { let first = map R.shown mirrors.old.list.items in let left = map R.shown mirrors.new.list.items in
-        (w : World Name) (payloads : List Payload) → usage.mode ≡ Mode.Run → WhereTold (seen (D.told log.old) (I.left input.old) (O.taken output.old)) (seen (D.told log.new) (I.left input.new) (O.taken output.new))
-        (λ before after. Begins standard w payloads usage.cache first before → StatusMeans standard w payloads usage.cache first left
-        (Rose (D.faults log.old) (D.faults log.new)) (Rose (I.faults input.old) (I.faults input.new)) (Rose (O.faults output.old) (O.faults output.new)) result.status result.changes before after) }
-    ensures over { usage.mode ≡ Mode.Run → WhereTold (I.left input.old) (I.left input.new) (λ before after. IsOverBy standard.input result.status (length before)) }
-    ensures refuses { (usage.mode ≡ Mode.Run) ⊎ (usage.mode ≡ Mode.Bundle) → IfSome (D.bytes log.old) (λ bytes. StatusRefuses standard.log bytes result.status) }
-    ensures no_log { usage.mode ≡ Mode.Run → WhereTold (seen (D.told log.old) (I.left input.old) (O.taken output.old)) (seen (D.told log.new) (I.left input.new) (O.taken output.new)) (EndRefuses standard result.status) }
-    ensures demo { usage.mode ≡ Mode.Demo → WhereTold (O.taken output.old) (O.taken output.new) (DemoMeans usage.size usage.start result.status) }
-    ensures serves { let first = map R.shown mirrors.old.list.items in let left = map R.shown mirrors.new.list.items in
-        usage.mode ≡ Mode.Serve → length mirrors.old.list.items ≡ 1 → WhereTold (ports (I.left input.old) (O.taken output.old)) (ports (I.left input.new) (O.taken output.new))
-        (λ before after. ServeMeans standard.input result.status (served_streams before after) first left) }
-    ensures one { usage.mode ≡ Mode.Serve → WantsOne (length mirrors.old.list.items) result.status }
-    ensures bundles { (payloads : List Payload) (w : World Name) → usage.mode ≡ Mode.Bundle → IfSome (D.bytes log.old) (λ bytes. HoldAs standard.log bytes payloads w
-        → WhereTold (O.taken output.old) (O.taken output.new) (BundleMeans payloads w result.status)) }
-    ensures compacts { usage.mode ≡ Mode.Compact
-        → CompactMeans standard.log (D.bytes log.old) (D.bytes spare.old) (D.told spare.old) (D.told spare.new) (O.taken output.old) (O.taken output.new) result.status }
-    ensures holds { (w : World Name) → (usage.mode ≡ Mode.Bundle) ⊎ (usage.mode ≡ Mode.Compact) → Goes (KeepsHolding standard.log w) (D.told log.old) (D.told log.new) }
-    ensures loaded { (usage.mode ≡ Mode.Bundle) ⊎ (usage.mode ≡ Mode.Compact) → Goes LeavesOldOrFresh (D.told log.old) (D.told log.new) }
-    ensures log { (usage.mode ≡ Mode.Demo) ⊎ (usage.mode ≡ Mode.Serve) → log.new ≡ log.old }
-    ensures changes { (usage.mode ≡ Mode.Run → ⊥) → result.changes ≡ [] }
-    ensures aside { (usage.mode ≡ Mode.Demo) ⊎ ((usage.mode ≡ Mode.Bundle) ⊎ (usage.mode ≡ Mode.Compact)) → (mirrors.new ≡ mirrors.old) × (input.new ≡ input.old) }
-    ensures nothing { (usage.mode ≡ Mode.Bundle) ⊎ (usage.mode ≡ Mode.Compact) → (result.status ≡ 0) ⊎ ((result.status ≡ 6) ⊎ (output.new ≡ output.old)) }
-    ensures spare { (usage.mode ≡ Mode.Compact → ⊥) ⊎ ((result.status ≡ 3) ⊎ (result.status ≡ 4)) → spare.new ≡ spare.old }
-    ensures unwritten { result.status ≡ 4 → Goes IsUntouched (D.told log.old) (D.told log.new) × (input.new ≡ input.old) × (output.new ≡ output.old) × (mirrors.new ≡ mirrors.old) }
-    ensures quiet { (result.status ≡ 7) ⊎ (result.status ≡ 11) → (input.new ≡ input.old) × (output.new ≡ output.old) × (mirrors.new ≡ mirrors.old) }
-    ensures disk { result.status ≡ 3 → Rose (D.faults log.old) (D.faults log.new) }
-    ensures spare_disk { result.status ≡ 13 → Rose (D.faults spare.old) (D.faults spare.new) }
-    ensures source { result.status ≡ 5 → Rose (I.faults input.old) (I.faults input.new) }
-    ensures sink { result.status ≡ 6 → Rose (O.faults output.old) (O.faults output.new) }
+    ensures { Does usage (record {
+      log = disk_sides D.told D.bytes D.faults log.old log.new;
+      spare = disk_sides D.told D.bytes D.faults spare.old spare.new;
+      mirrors = record { was = mirrors.old; is = mirrors.new; first = map R.shown mirrors.old.list.items; left = map R.shown mirrors.new.list.items };
+      input = port_sides I.left I.faults input.old input.new;
+      output = port_sides O.taken O.faults output.old output.new;
+    }) result.status result.changes }
 {
     let limits = Limits::standard();
     match usage.mode {
@@ -394,48 +324,13 @@ pub fn top<D: Disk, I: Source, O: Sink, R: Remote>(
     input: &mut I,
     output: &mut O,
 ) -> Report
-    ensures known { IsStatus result.status }
-    ensures modes { HasModeStatus (map string_bytes words.now) result.status }
-    ensures usage { RefusesWords (map string_bytes words.now) result.status }
-    ensures means { let first = map R.shown mirrors.old.list.items in let left = map R.shown mirrors.new.list.items in
-        (cache : ℕ) (w : World Name) (payloads : List Payload) → IsRunOf cache (map string_bytes words.now)
-        → WhereTold (seen (D.told log.old) (I.left input.old) (O.taken output.old)) (seen (D.told log.new) (I.left input.new) (O.taken output.new))
-        (λ before after. Begins standard w payloads cache first before → StatusMeans standard w payloads cache first left
-        (Rose (D.faults log.old) (D.faults log.new)) (Rose (I.faults input.old) (I.faults input.new)) (Rose (O.faults output.old) (O.faults output.new)) result.status result.changes before after) }
-    ensures over { IsUsageOf Mode.Run (map string_bytes words.now) → WhereTold (I.left input.old) (I.left input.new) (λ before after. IsOverBy standard.input result.status (length before)) }
-    ensures refuses { IsUsageOf Mode.Run (map string_bytes words.now) → IfSome (D.bytes log.old) (λ bytes. StatusRefuses standard.log bytes result.status) }
-    ensures no_log { IsUsageOf Mode.Run (map string_bytes words.now)
-        → WhereTold (seen (D.told log.old) (I.left input.old) (O.taken output.old)) (seen (D.told log.new) (I.left input.new) (O.taken output.new)) (EndRefuses standard result.status) }
-    ensures demo { (size start : ℕ) → IsDemoOf size start (map string_bytes words.now)
-        → WhereTold (O.taken output.old) (O.taken output.new) (DemoMeans size start result.status) }
-    ensures aside { IsUsageOf Mode.Demo (map string_bytes words.now)
-        → IsDemoStatus result.status × (log.new ≡ log.old) × (mirrors.new ≡ mirrors.old) × (input.new ≡ input.old) × (result.changes ≡ []) }
-    ensures serves { let first = map R.shown mirrors.old.list.items in let left = map R.shown mirrors.new.list.items in
-        IsUsageOf Mode.Serve (map string_bytes words.now) → length mirrors.old.list.items ≡ 1 → WhereTold (ports (I.left input.old) (O.taken output.old)) (ports (I.left input.new) (O.taken output.new))
-        (λ before after. ServeMeans standard.input result.status (served_streams before after) first left) }
-    ensures one { IsUsageOf Mode.Serve (map string_bytes words.now) → WantsOne (length mirrors.old.list.items) result.status }
-    ensures beside { IsUsageOf Mode.Serve (map string_bytes words.now) → IsServeStatus result.status × (log.new ≡ log.old) × (result.changes ≡ []) }
-    ensures bundles { (payloads : List Payload) (w : World Name) → IsUsageOf Mode.Bundle (map string_bytes words.now)
-        → IfSome (D.bytes log.old) (λ bytes. HoldAs standard.log bytes payloads w → WhereTold (O.taken output.old) (O.taken output.new) (BundleMeans payloads w result.status)) }
-    ensures unbundled { IsUsageOf Mode.Bundle (map string_bytes words.now) → IfSome (D.bytes log.old) (λ bytes. StatusRefuses standard.log bytes result.status) }
-    ensures held { (w : World Name) → IsUsageOf Mode.Bundle (map string_bytes words.now) → Goes (KeepsHolding standard.log w) (D.told log.old) (D.told log.new) }
-    ensures apart { IsUsageOf Mode.Bundle (map string_bytes words.now)
-        → (mirrors.new ≡ mirrors.old) × (input.new ≡ input.old) × (result.changes ≡ []) × ((result.status ≡ 0) ⊎ ((result.status ≡ 6) ⊎ (output.new ≡ output.old))) }
-    ensures compacts { IsUsageOf Mode.Compact (map string_bytes words.now)
-        → CompactMeans standard.log (D.bytes log.old) (D.bytes spare.old) (D.told spare.old) (D.told spare.new) (O.taken output.old) (O.taken output.new) result.status }
-    ensures kept { (w : World Name) → IsUsageOf Mode.Compact (map string_bytes words.now) → Goes (KeepsHolding standard.log w) (D.told log.old) (D.told log.new) }
-    ensures anew { IsUsageOf Mode.Compact (map string_bytes words.now)
-        → (mirrors.new ≡ mirrors.old) × (input.new ≡ input.old) × (result.changes ≡ []) × ((result.status ≡ 0) ⊎ ((result.status ≡ 6) ⊎ (output.new ≡ output.old))) }
-    ensures loaded { IsUsageOf Mode.Bundle (map string_bytes words.now) ⊎ IsUsageOf Mode.Compact (map string_bytes words.now) → Goes LeavesOldOrFresh (D.told log.old) (D.told log.new) }
-    ensures unwritten { result.status ≡ 4 → Goes IsUntouched (D.told log.old) (D.told log.new) × (input.new ≡ input.old) × (output.new ≡ output.old) × (mirrors.new ≡ mirrors.old) }
-    ensures quiet { IsOneOf (2 ∷ 7 ∷ 10 ∷ 11 ∷ 13 ∷ 14 ∷ 15 ∷ []) result.status → (input.new ≡ input.old) × (output.new ≡ output.old) × (mirrors.new ≡ mirrors.old) }
-    ensures untouched { result.status ≡ 2 → log.new ≡ log.old }
-    ensures changes { (IsUsageOf Mode.Run (map string_bytes words.now) → ⊥) → result.changes ≡ [] }
-    ensures disk { result.status ≡ 3 → Rose (D.faults log.old) (D.faults log.new) }
-    ensures spare_disk { result.status ≡ 13 → Rose (D.faults spare.old) (D.faults spare.new) }
-    ensures source { result.status ≡ 5 → Rose (I.faults input.old) (I.faults input.new) }
-    ensures sink { result.status ≡ 6 → Rose (O.faults output.old) (O.faults output.new) }
-    ensures spare { (IsUsageOf Mode.Compact (map string_bytes words.now) → ⊥) ⊎ ((result.status ≡ 3) ⊎ (result.status ≡ 4)) → spare.new ≡ spare.old }
+    ensures { DoesWords (map string_bytes words.now) (record {
+      log = disk_sides D.told D.bytes D.faults log.old log.new;
+      spare = disk_sides D.told D.bytes D.faults spare.old spare.new;
+      mirrors = record { was = mirrors.old; is = mirrors.new; first = map R.shown mirrors.old.list.items; left = map R.shown mirrors.new.list.items };
+      input = port_sides I.left I.faults input.old input.new;
+      output = port_sides O.taken O.faults output.old output.new;
+    }) result.status result.changes }
 {
     match usage_of(alloc, words) {
         Ok(usage) => run_mode(alloc, usage, log, spare, mirrors, input, output),

@@ -13,7 +13,7 @@ ghost use Rattle.dag_store.specs.Stands.{Stands};
 ghost use Rattle.dag_store.specs.Steps.{AreIdsOf, KeepsAll, add_reply, id_reply, reload_reply};
 ghost use Rattle.store_queries.specs.Names.{known_name};
 ghost use Rattle.command_lines.specs.Told.{told};
-ghost use Rattle.dag_run.specs.Lines.{CommandReplies, PutsReply, PutsFault};
+ghost use Rattle.dag_run.specs.Lines.{CommandReplies, PutsLine, PutsReply, PutsFault};
 ghost use Rattle.dag_run.specs.Replies.{reply_of_change, reply_of_count, reply_of_fault};
 
 use crate::stops::Stop;
@@ -98,10 +98,7 @@ fn reply_of_fault(fault: CommandFault) -> Reply
 
 /// Puts the reply of a line, and hands the store back.
 pub(crate) fn tell<O: Sink>(store: Store, reply: &Reply, output: &mut O) -> Result<Store, Stop>
-    ensures bytes { WhereTold (O.taken output.old) (O.taken output.new) (PutsReply store (told reply.now) result) }
-    ensures same { IfOk result (λ next. next ≡ store) }
-    ensures stop { IfErr result (λ stop. stop ≡ Stop.Sink) }
-    ensures cause { HasCause (O.faults output.old) (O.faults output.new) result }
+    ensures { PutsLine store (told reply.now) (O.taken output.old) (O.taken output.new) (O.faults output.old) (O.faults output.new) result }
 {
     put_reply(reply, output)?;
     Ok(store)
@@ -113,10 +110,7 @@ pub(crate) fn tell_refused<O: Sink>(
     refusal: Refusal,
     output: &mut O,
 ) -> Result<Store, Stop>
-    ensures bytes { WhereTold (O.taken output.old) (O.taken output.new) (PutsReply store (Refused refusal) result) }
-    ensures same { IfOk result (λ next. next ≡ store) }
-    ensures stop { IfErr result (λ stop. stop ≡ Stop.Sink) }
-    ensures cause { HasCause (O.faults output.old) (O.faults output.new) result }
+    ensures { PutsLine store (Refused refusal) (O.taken output.old) (O.taken output.new) (O.faults output.old) (O.faults output.new) result }
 {
     tell(store, &Reply::Refused(refusal), output)
 }
@@ -128,10 +122,7 @@ pub(crate) fn tell_done<O: Sink>(
     counts: Counts,
     output: &mut O,
 ) -> Result<Store, Stop>
-    ensures bytes { WhereTold (O.taken output.old) (O.taken output.new) (PutsReply store (reply_of_change ask.entry counts) result) }
-    ensures same { IfOk result (λ next. next ≡ store) }
-    ensures stop { IfErr result (λ stop. stop ≡ Stop.Sink) }
-    ensures cause { HasCause (O.faults output.old) (O.faults output.new) result }
+    ensures { PutsLine store (reply_of_change ask.entry counts) (O.taken output.old) (O.taken output.new) (O.faults output.old) (O.faults output.new) result }
 {
     tell(store, &reply_of_change(ask, counts), output)
 }
@@ -142,10 +133,7 @@ pub(crate) fn tell_unread<O: Sink>(
     fault: CommandFault,
     output: &mut O,
 ) -> Result<Store, Stop>
-    ensures bytes { WhereTold (O.taken output.old) (O.taken output.new) (PutsReply store (reply_of_fault fault) result) }
-    ensures same { IfOk result (λ next. next ≡ store) }
-    ensures stop { IfErr result (λ stop. stop ≡ Stop.Sink) }
-    ensures cause { HasCause (O.faults output.old) (O.faults output.new) result }
+    ensures { PutsLine store (reply_of_fault fault) (O.taken output.old) (O.taken output.new) (O.faults output.old) (O.faults output.new) result }
 {
     tell(store, &reply_of_fault(fault), output)
 }

@@ -23,7 +23,7 @@ use Rattle.store_plans.specs.Changes.{HasRoom}
 use Rattle.store_plans.proofs.LawfulParts.{known-above, lawful-behind}
 use Rattle.dag_store.specs.declared.following.FollowFault.{FollowFault}
 use Rattle.dag_store.specs.declared.following.FollowFault.TheVariants.{Unlawful, Full, Memory}
-use Rattle.dag_store.specs.Following.{GoOn, HasTaken, IsWhyNot, MayGoOn, Written, all_on, goes_on, texts_of}
+use Rattle.dag_store.specs.Following.{GoOn, HasTaken, IsWhyNot, MayGoOn, Written, all_on, gate_behind, goes_on, texts_of}
 use Rattle.dag_store.specs.Kept.{PlainStore, IsKept, no_cache}
 use Rattle.dag_store.specs.Stands.{Stands, StandsBeside}
 use Rattle.dag_store.proofs.Sees.{added-are, none-below, stored-holds}
@@ -130,10 +130,16 @@ pub record FollowsSoFar (old : PlainStore) (texts : List (List ℕ)) (k : ℕ) (
   pub taken : HasTaken old (take k texts) store
   pub stands : (began : ℕ) (mirrors : List Mirror) (st : State) (changes : List Written) → StandsBeside began old mirrors st → texts ≡ texts_of changes → GoOn st changes → StandsBeside began store mirrors (all_on st (take k changes))
 
+-- behind one more the gate is a new one
+gate-more : (log : Held) (texts : List (List ℕ)) (text : List ℕ) → gate_behind log (texts ++ text ∷ []) ≡ 0
+gate-more log [] text = refl
+gate-more log (t ∷ ts) text = refl
+
 has-more : (old store next : PlainStore) (texts : List (List ℕ)) (k : ℕ) (text : List ℕ) → k < length texts → text ≡ get_or texts k [] → HasTaken old (take k texts) store → HasTaken store (text ∷ []) next → HasTaken old (take (k + 1) texts) next
 has-more old store next texts k text lt is h g = (
   g.0 ∙ ap (λ (q : PlainStore). record q { log = next.log }) h.0,
   g.1 ∙ ap (λ l. l ++ text ∷ []) h.1 ∙ append_assoc old.log.payloads (take k texts) (text ∷ []) ∙ ap (λ t. old.log.payloads ++ (take k texts ++ t ∷ [])) is ∙ ap (λ l. old.log.payloads ++ l) (sym (take_more texts k [] lt)),
+  g.2 ∙ sym (gate-more old.log (take k texts) (get_or texts k [])) ∙ ap (gate_behind old.log) (sym (take_more texts k [] lt)),
 )
 
 module _ (texts : List (List ℕ)) (k : ℕ) (text : List ℕ) (lt : k < length texts) (is : text ≡ get_or texts k []) where
@@ -177,7 +183,9 @@ module _ (texts : List (List ℕ)) (k : ℕ) (text : List ℕ) (lt : k < length 
 
 -- all were taken
 pub follow-end : (old store : PlainStore) (texts : List (List ℕ)) (k : ℕ) → FollowsSoFar old texts k store → length texts ≤ k → HasTaken old texts store
-follow-end old store texts k f le = (f.taken.0, f.taken.1 ∙ ap (λ l. old.log.payloads ++ l) (take_all k texts le))
+follow-end old store texts k f le =
+    let all = take_all k texts le in
+    (f.taken.0, f.taken.1 ∙ ap (λ l. old.log.payloads ++ l) all, f.taken.2 ∙ ap (gate_behind old.log) all)
 
 pub follow-end-stands : (old store : PlainStore) (texts : List (List ℕ)) (k : ℕ) → FollowsSoFar old texts k store → length texts ≤ k
     → (began : ℕ) (mirrors : List Mirror) (st : State) (changes : List Written) → StandsBeside began old mirrors st → texts ≡ texts_of changes → GoOn st changes → StandsBeside began store mirrors (all_on st changes)

@@ -2,7 +2,7 @@
 use Rattle.std.specs.Prelude.{◌≡◌, ◌<◌, ℕ, List, [], ◌∷◌, ◌++◌, ⊤, length, map, take, slice_index_or}
 use Rattle.id_groups.specs.Name.{Name}
 use Rattle.commit_graph.specs.World.{World, GrowsMaster}
-use Rattle.gated_log.specs.Held.{longer}
+use Rattle.gated_log.specs.Held.{Held, longer}
 use Rattle.gated_log.specs.declared.ReserveFault.{ReserveFault}
 use Rattle.gated_log.specs.declared.ReserveFault.TheVariants as rooms
 use Rattle.batch_codec.specs.Payload.{Payload}
@@ -60,9 +60,14 @@ GoOn st (c ∷ more) = MayGoOn st.store c × GoOn (goes_on st c) more
 abbrev pub texts_of : List Written → List (List ℕ)
 texts_of changes = map (λ c. text_of c.payload) changes
 
--- the log of a store with these payloads behind the others, and all else as it was
+-- the closed gate of a log with so many payloads more: its own, or a new one, which is 0
+abbrev pub gate_behind : Held → List (List ℕ) → ℕ
+gate_behind log [] = log.gate
+gate_behind log (text ∷ texts) = 0
+
+-- the log of a store with these payloads behind the others and a closed gate behind them, and all else as it was
 abbrev pub HasTaken : PlainStore → List (List ℕ) → PlainStore → Type 0
-HasTaken old texts new = (new ≡ record old { log = new.log }) × (new.log.payloads ≡ old.log.payloads ++ texts)
+HasTaken old texts new = (new ≡ record old { log = new.log }) × (new.log.payloads ≡ old.log.payloads ++ texts) × (new.log.gate ≡ gate_behind old.log texts)
 
 -- one payload: it is behind the others; or the store is as it was, but for the log's room
 abbrev pub TakesOne : PlainStore → List ℕ → Taken → Type 0

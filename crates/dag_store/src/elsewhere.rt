@@ -52,6 +52,7 @@ pub(crate) fn append(log: Log, payload: &[u8]) -> Log
     requires { (longer log payload.now ≤ log.limit) × (longer log payload.now ≤ log.room) }
     ensures payloads { result.payloads ≡ log.payloads ++ payload.now ∷ [] }
     ensures limit { result.limit ≡ log.limit }
+    ensures gate { result.gate ≡ 0 }
     ensures place { StandsFrom (length (log_bytes log) + 8) payload.now (log_bytes result) }
 {
     match log.commit(&mut Elsewhere, payload) {

@@ -120,6 +120,7 @@ fn with_payload(
     requires kept { (new : Held) → IsBehind log payload.now new → IsKept new tables.value sessions.items limits }
     ensures store { result ≡ record { log = result.log; sessions = sessions.items; limits = limits; cache = names } }
     ensures payloads { result.log.payloads ≡ log.payloads ++ payload.now ∷ [] }
+    ensures gate { result.log.gate ≡ 0 }
 {
     let log = append(log, payload);
     Store {

@@ -7,6 +7,7 @@ ghost use Rattle.disk_trait.specs.Images.{last_moment};
 use crate::access::Access;
 use crate::{file, lock};
 use disk_trait::{Disk, DiskFault};
+use std::alloc::Alloc;
 use std::fs::{File, Files, OpenFile};
 use std::io;
 use std::io::ErrorKind;
@@ -14,9 +15,10 @@ use std::io::ErrorKind;
 /// How many calls may be made: as many as fit the clock, on which each counts twice.
 const CALL_LIMIT: u64 = 1 << 61;
 
-/// A file as a disk. It is opened at the first call; each error is a counted fault.
+/// A file as a disk. It is opened at the first call; each error is a counted fault. A write is refused where another file, or none, stands
+/// at the path by now: what it wrote would be lost with a file that nobody finds.
 #[derive(Drop)]
-pub struct FileDisk<R: Files<File = File> + Drop> {
+pub struct FileDisk<R: Files<File = File> + Alloc + Drop> {
     rt: R,
     path: String,
     access: Access,
@@ -27,7 +29,7 @@ pub struct FileDisk<R: Files<File = File> + Drop> {
     ghost few: { calls ≤ 2 ^ 61 },
 }
 
-impl<R: Files<File = File> + Drop> FileDisk<R> {
+impl<R: Files<File = File> + Alloc + Drop> FileDisk<R> {
     /// The file at this path, not opened yet. One that may be written is made where there is none, and its folder's entry
     /// made sure of.
     pub fn new(rt: R, path: String, access: Access) -> FileDisk<R>
@@ -123,11 +125,20 @@ impl<R: Files<File = File> + Drop> FileDisk<R> {
         }
     }
 
+    /// Refuses a file that doesn't stand at the path any more.
+    fn check_place(&self) -> io::Result<()> {
+        match &self.file {
+            Some(file) => lock::check_place(&self.rt, file, self.path.as_str()),
+            None => Ok(()),
+        }
+    }
+
     fn try_write(&mut self, at: u64, piece: &[u8]) -> io::Result<()>
         ensures calls { self.new.calls ≡ min (self.old.calls + 1) (2 ^ 61) }
         ensures faults { self.new.faults ≡ self.old.faults }
     {
         self.begin()?;
+        self.check_place()?;
         match &mut self.file {
             Some(file) => file::write_at(file, at, piece),
             None => Err(ErrorKind::NotFound.into()),
@@ -161,7 +172,7 @@ impl<R: Files<File = File> + Drop> FileDisk<R> {
     }
 }
 
-impl<R: Files<File = File> + Drop> FileDisk<R> {
+impl<R: Files<File = File> + Alloc + Drop> FileDisk<R> {
     /// How many calls were begun and have returned, together.
     fn moment(&self) -> u64
         ensures { result ≡ 2 * self.now.calls }
@@ -170,7 +181,7 @@ impl<R: Files<File = File> + Drop> FileDisk<R> {
     }
 }
 
-impl<R: Files<File = File> + Drop> Disk for FileDisk<R> {
+impl<R: Files<File = File> + Alloc + Drop> Disk for FileDisk<R> {
     ghost use Rattle.std.specs.Prelude.{None, ⊤};
 
     ghost bytes = { λ d. None };

@@ -2,6 +2,7 @@
 
 ghost use Rattle.std.specs.Prelude.{◌≤◌, length, IfOk};
 
+use std::alloc::Alloc;
 use std::fs::{Files, OpenFile, OpenOptions};
 use std::io::{ErrorKind, Read, Seek, SeekFrom, Write};
 use std::{fs, io};
@@ -22,10 +23,17 @@ pub fn open_to_write<R: Files>(rt: &R, path: &str) -> io::Result<R::File> {
         .open(rt, path)
 }
 
-/// Makes sure of the entry of a file that is new.
-pub fn keep_entry<R: Files, F: OpenFile>(rt: &R, file: &F, path: &str) -> io::Result<()> {
+/// Makes sure of the entry of a file that is new: in the folder in which it lies, wherever a link at the path leads. Where the whole
+/// path of that folder is no UTF-8, which no call can be given, it is the folder of the path.
+pub fn keep_entry<R: Files + Alloc, F: OpenFile>(rt: &R, file: &F, path: &str) -> io::Result<()> {
     if is_empty(file)? {
-        sync_folder(rt, folder_of(path))?;
+        match fs::canonicalize(rt, path) {
+            Ok(own) => sync_folder(rt, folder_of(own.as_os_str()))?,
+            Err(error) if error.kind() == ErrorKind::InvalidFilename => {
+                sync_folder(rt, folder_of(path))?
+            }
+            Err(error) => return Err(error),
+        }
     }
     Ok(())
 }

@@ -2,6 +2,7 @@
 
 use crate::access::Access;
 use crate::file;
+use std::alloc::Alloc;
 use std::fs::{File, Files};
 use std::io::ErrorKind;
 use std::os::unix::fs::MetadataExt;
@@ -12,7 +13,7 @@ const TRIES: u32 = 100;
 
 /// The file at this path, opened as the access says. The error is `WouldBlock` where another one has its lock. Once this
 /// returns, the folder has the entry of a file that may be written for sure.
-pub fn open<R: Files<File = File>>(rt: &R, path: &str, access: Access) -> io::Result<File> {
+pub fn open<R: Files<File = File> + Alloc>(rt: &R, path: &str, access: Access) -> io::Result<File> {
     let file = match access {
         Access::Read => return file::open_to_read(rt, path),
         Access::Write => file::open_to_write(rt, path)?,
@@ -53,6 +54,14 @@ fn take_lock(file: &File, waits: bool) -> io::Result<()> {
     }
     file.try_lock()?;
     Ok(())
+}
+
+/// Refuses a file that isn't the one that stands at the path.
+pub fn check_place<R: Files>(rt: &R, file: &File, path: &str) -> io::Result<()> {
+    if is_at(rt, file, path)? {
+        return Ok(());
+    }
+    Err(ErrorKind::NotFound.into())
 }
 
 /// Whether the file is the one that stands at the path.

@@ -6,7 +6,7 @@ use std::alloc::{AllocError, Global};
 use std::test::Fail;
 
 /// Texts of expressions, and the last bytes of the names that stand in them, from left to right.
-const EXPRESSIONS: [(&[u8], &[u8]); 14] = [
+const EXPRESSIONS: [(&[u8], &[u8]); 15] = [
     (b"all", &[]),
     (b"master", &[]),
     (b"others", &[]),
@@ -14,6 +14,7 @@ const EXPRESSIONS: [(&[u8], &[u8]); 14] = [
     (b"00000000000000000000000000000000000000A1", &[0xa1]),
     (b"parents(children(heads(roots(all))))", &[]),
     (b"tips(merges(common(gca(master))))", &[]),
+    (b"line(line(all))", &[]),
     (
         b"ancestors(descendants(00000000000000000000000000000000000000A1))",
         &[0xa1],

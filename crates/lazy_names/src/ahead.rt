@@ -1,8 +1,12 @@
 //! Telling a mirror which names it is asked for next.
 
-ghost use Rattle.std.specs.Prelude.{◌≡◌, ◌<◌, ◌≤◌, ◌^◌, ℕ, length, map, IfSome};
+ghost use Rattle.std.specs.Prelude.{◌≡◌, ◌⊎◌, ◌<◌, ◌≤◌, ◌+◌, ◌^◌, ℕ, List, length, map, MatchOption, IfSome};
 ghost use Rattle.id_groups.specs.Lists.{IsIn};
 ghost use Rattle.segment_codec.specs.Table.{IsHeld};
+ghost use Rattle.name_map.specs.Added.{Placed, AllStand, known_of};
+ghost use Rattle.name_map.specs.Map.{IsMapOf};
+ghost use Rattle.remote_trait.specs.Runs.{Run as PlainRun};
+ghost use Rattle.lazy_names.specs.Ahead.{AreAhead, AddsTurn, AreTold, most_told};
 
 use crate::anchor::anchor_of;
 use crate::lazy::LazyNames;
@@ -37,21 +41,51 @@ impl LazyNames {
     ) -> usize
         requires few { length ids.now < 2 ^ 32 }
         requires held { (id : ℕ) → IsIn id ids.now → IsHeld (T.flats stored.table.now) id }
+        requires ahead { (added : List Placed) → IsMapOf stored.known.now added → AllStand stored.bytes.now added → AreTold (T.flats stored.table.now) (known_of added) self.now.entries ids.now told }
         ensures shown { map R.shown mirrors.new.items ≡ map R.shown mirrors.old.items }
         ensures len { length mirrors.new.items ≡ length mirrors.old.items }
+        ensures ahead { (added : List Placed) → IsMapOf stored.entry.known.now added → AllStand stored.entry.bytes.now added
+            → AreTold (T.flats stored.entry.table.now) (known_of added) self.now.entries ids.now result }
+        ensures next { (result ≡ told) ⊎ ((told ≡ 0) × (runs : List PlainRun) × (length runs ≤ most_told)
+            × ((added : List Placed) → IsMapOf stored.entry.known.now added → AllStand stored.entry.bytes.now added
+            → AreAhead (T.flats stored.entry.table.now) (known_of added) self.now.entries ids.now runs result)) }
     {
         if 0 < told || !may_expect(mirrors) {
             return told;
         }
         let ahead = self.runs_ahead(alloc, stored, ids);
-        expect_names(alloc, mirrors, &ahead.runs);
-        ahead.ids
+        self.tell(alloc, stored, mirrors, ids, &ahead.runs, ahead.ids)
+    }
+
+    /// Tells the first mirror these runs, which are what is asked for the first ids, so many, and answers how many these are.
+    fn tell<T: SegmentTable, R: Remote>(
+        &self,
+        alloc: Global,
+        _stored: Stored<'_, T>,
+        mirrors: &mut Vec<R>,
+        _ids: &[Id],
+        runs: &[Run],
+        count: usize,
+    ) -> usize
+        requires few { length runs.now ≤ most_told }
+        requires next { (added : List Placed) → IsMapOf _stored.known.now added → AllStand _stored.bytes.now added
+            → AreAhead (T.flats _stored.table.now) (known_of added) self.now.entries _ids.now runs.now count }
+        ensures shown { map R.shown mirrors.new.items ≡ map R.shown mirrors.old.items }
+        ensures len { length mirrors.new.items ≡ length mirrors.old.items }
+        ensures count { result ≡ count }
+    {
+        expect_names(alloc, mirrors, runs);
+        count
     }
 
     /// The runs of the first ids, as they are asked for one after another.
     fn runs_ahead<T: SegmentTable>(&self, alloc: Global, stored: Stored<'_, T>, ids: &[Id]) -> Ahead
         requires few { length ids.now < 2 ^ 32 }
         requires held { (id : ℕ) → IsIn id ids.now → IsHeld (T.flats stored.table.now) id }
+        ensures within { result.ids ≤ length ids.now }
+        ensures few { length result.runs.items ≤ most_told }
+        ensures ahead { (added : List Placed) → IsMapOf stored.entry.known.now added → AllStand stored.entry.bytes.now added
+            → AreAhead (T.flats stored.entry.table.now) (known_of added) self.now.entries ids.now result.runs.items result.ids }
     {
         let mut runs = Vec::new(alloc);
         let mut at = 0;
@@ -76,7 +110,11 @@ impl LazyNames {
         requires some { 0 < length ids.now }
         requires few { length ids.now < 2 ^ 32 }
         requires held { (id : ℕ) → IsIn id ids.now → IsHeld (T.flats stored.table.now) id }
-        ensures { IfSome result (λ count. (0 < count) × (count ≤ length ids.now)) }
+        ensures some { IfSome result (λ count. (0 < count) × (count ≤ length ids.now)) }
+        ensures one { length runs.new.items ≤ length runs.old.items + 1 }
+        ensures turn { MatchOption result (runs.new.items ≡ runs.old.items)
+            (λ count. (added : List Placed) → IsMapOf stored.entry.known.now added → AllStand stored.entry.bytes.now added
+            → AddsTurn (T.flats stored.entry.table.now) (known_of added) self.now.entries ids.now count runs.old.items runs.new.items) }
     {
         if self.cached(ids[0]).is_some() {
             return Some(1);
@@ -88,7 +126,9 @@ impl LazyNames {
             back: anchor.back,
             count: count as u32,
         };
-        runs.push(run).ok()?;
-        Some(count)
+        match runs.push(run) {
+            Ok(()) => Some(count),
+            Err(_) => None,
+        }
     }
 }

@@ -58,6 +58,7 @@ module _ {N : Type 0} where
   call-to g calls.Common S T f x h = common-to g S T f x h
   call-to g calls.Gca S T f x h =
       heads-to g (sets.common g S) (sets.common g T) (λ y. (common-to g S T f y, common-to g T S (turned S T f) y)) x h
+  call-to g calls.Line S T f x h = (h.0, (f h.0).0 h.1, h.2)
 
   pub same-call : (g : Graph N) (call : Call) (S T : Commits N) → AreSame S T → AreSame (made_of g call S) (made_of g call T)
   same-call g call S T f x = (call-to g call S T f x, call-to g call T S (turned S T f) x)

@@ -12,6 +12,7 @@ use Rattle.commit_graph.proofs.Down.{in-left, in-right}
 use Rattle.commit_graph.proofs.Walks.{reaches-self, reaches-trans}
 use Rattle.commit_graph.proofs.Places.{same-row, name-at, at-name}
 use Rattle.commit_graph.proofs.Leading.{known-before, parents-at}
+use Rattle.set_expr.proofs.Deciding.{take-in}
 use Rattle.plain_query.specs.Members.{AreMembers, among}
 
 -- what is not below a number is that number, or above it
@@ -20,6 +21,22 @@ from-here zero zero le = inl refl
 from-here zero (suc k) le = inr (omega arith)
 from-here (suc i) zero le = absurd (omega (arith, le))
 from-here (suc i) (suc k) le = ⊎_elim (λ e. inl (ap suc e)) (λ lt. inr (omega (arith, lt))) (from-here i k (omega (arith, le)))
+
+-- some of the parents of each commit, by which a walk goes on
+pub record Picks (N : Type 0) : Type 0 where
+  pub pick : List N → List N
+  pub own : (p : N) (parents : List N) → IsIn p (pick parents) → IsIn p parents
+
+-- the graph in which each commit has these alone
+abbrev pub picked : {N : Type 0} → Picks N → Graph N → Graph N
+picked by g = record { down = g.down; parents = λ x. by.pick (g.parents x); is_master = g.is_master }
+
+-- all of them, and the first
+abbrev pub each : {N : Type 0} → Picks N
+each = record { pick = λ parents. parents; own = λ p parents i. i }
+
+abbrev pub first : {N : Type 0} → Picks N
+first = record { pick = λ parents. take 1 parents; own = λ p parents i. take-in p 1 parents i }
 
 module _ {N : Type 0} where
   -- the second list has what the first has, and the third
@@ -113,31 +130,32 @@ module _ {N : Type 0} where
     pub sound : (x : N) → IsIn x found → parents g (among set) x
     pub whole : (k : ℕ) (row : Row N) → k < i → slice_get rows k ≡ Some row → IsIn row.name set → (p : N) → IsIn p row.parents → IsIn p found
 
-  -- what the set reaches, gathered: the rows from a place on have led on to their parents
-  pub record AreReached (g : Graph N) (rows : List (Row N)) (set : List N) (i : ℕ) (found : List N) : Type 0 where
-    pub sound : (x : N) → IsIn x found → ancestors g (among set) x
+  -- what the set reaches by these, gathered: the rows from a place on have led on to their parents
+  pub record AreReached (by : Picks N) (g : Graph N) (rows : List (Row N)) (set : List N) (i : ℕ) (found : List N) : Type 0 where
+    pub sound : (x : N) → IsIn x found → ancestors (picked by g) (among set) x
     pub base : (x : N) → IsIn x set → IsIn x found
-    pub whole : (k : ℕ) (row : Row N) → i ≤ k → slice_get rows k ≡ Some row → IsIn row.name found → (p : N) → IsIn p row.parents → IsIn p found
+    pub whole : (k : ℕ) (row : Row N) → i ≤ k → slice_get rows k ≡ Some row → IsIn row.name found → (p : N) → IsIn p (by.pick row.parents) → IsIn p found
 
   -- no row gone over yet
-  pub reached-none : (g : Graph N) (rows : List (Row N)) (set : List N) (i : ℕ) → length rows ≤ i → (found : List N) → ((x : N) → IsIn x found ↔ IsIn x set) → AreReached g rows set i found
-  reached-none g rows set i le found e = record {
-    sound = λ x j. (x, (e x).0 j, reaches-self g x);
+  pub reached-none : (by : Picks N) (g : Graph N) (rows : List (Row N)) (set : List N) (i : ℕ) → length rows ≤ i → (found : List N) → ((x : N) → IsIn x found ↔ IsIn x set) → AreReached by g rows set i found
+  reached-none by g rows set i le found e = record {
+    sound = λ x j. (x, (e x).0 j, reaches-self (picked by g) x);
     base = λ x s. (e x).1 s;
     whole = λ k row from at s p j. let lt = slice_get_within rows k row at in absurd (omega (arith, lt, le, from));
   }
 
 module _ {N : Type 0} (same : N → N → Bool) (exact : (x y : N) → same x y ≡ true → x ≡ y) (self : (x : N) → same x x ≡ true) where
   -- a commit with a parent has a row that has it
-  pub row-with : (rows : List (Row N)) (c p : N) → IsIn p (parents_of (row_named same rows c)) → (k : ℕ) × (row : Row N) × (slice_get rows k ≡ Some row) × (row.name ≡ c) × IsIn p row.parents
+  pub row-with : (rows : List (Row N)) (c p : N) → IsIn p (parents_of (row_named same rows c)) → (k : ℕ) × (row : Row N) × (slice_get rows k ≡ Some row) × (row.name ≡ c) × IsIn p row.parents × (parents_of (row_named same rows c) ≡ row.parents)
   row-with [] c p i = absurd i
   row-with (r ∷ rows) c p i = by_test r rows c p (same r.name c) refl i (row-with rows c p)
     where
       by_test : (r : Row N) (rows : List (Row N)) (c p : N) (b : Bool) → same r.name c ≡ b → IsIn p (parents_of (if b then Some r else row_named same rows c))
-          → (IsIn p (parents_of (row_named same rows c)) → (k : ℕ) × (row : Row N) × (slice_get rows k ≡ Some row) × (row.name ≡ c) × IsIn p row.parents)
+          → (IsIn p (parents_of (row_named same rows c)) → (k : ℕ) × (row : Row N) × (slice_get rows k ≡ Some row) × (row.name ≡ c) × IsIn p row.parents × (parents_of (row_named same rows c) ≡ row.parents))
           → (k : ℕ) × (row : Row N) × (slice_get (r ∷ rows) k ≡ Some row) × (row.name ≡ c) × IsIn p row.parents
-      by_test r rows c p true t i rec = (0, r, refl, exact r.name c t, i)
-      by_test r rows c p false t i rec = let q = rec i in (suc q.0, q.1, q.2, q.3, q.4)
+          × (parents_of (if b then Some r else row_named same rows c) ≡ row.parents)
+      by_test r rows c p true t i rec = (0, r, refl, exact r.name c t, i, refl)
+      by_test r rows c p false t i rec = let q = rec i in (suc q.0, q.1, q.2, q.3, q.4, q.5)
 
   module _ (w : World N) (h : IsWorld w) where
     -- a row of the set puts its parents in
@@ -186,26 +204,26 @@ module _ {N : Type 0} (same : N → N → Bool) (exact : (x y : N) → same x y 
     )
 
     -- a row leads on to its parents, which stand before it, and so are no rows that were gone over
-    reached-more : (i : ℕ) (r : Row N) → slice_get (rows_of w) i ≡ Some r → (set found : List N) → AreReached (graph_of same w) (rows_of w) set (i + 1) found
-        → IsIn r.name found → (new : List N) → Adds found r.parents new → AreReached (graph_of same w) (rows_of w) set i new
-    reached-more i r e set found a s new iff = record {
+    reached-more : (by : Picks N) → (i : ℕ) (r : Row N) → slice_get (rows_of w) i ≡ Some r → (set found : List N) → AreReached by (graph_of same w) (rows_of w) set (i + 1) found
+        → IsIn r.name found → (new : List N) → Adds found (by.pick r.parents) new → AreReached by (graph_of same w) (rows_of w) set i new
+    reached-more by i r e set found a s new iff = record {
       sound = λ x j. ⊎_elim (λ k. a.sound x k)
           (λ k. let t = a.sound r.name s in
-          (t.0, t.1, reaches-trans (graph_of same w) t.0 r.name x t.2 (x ∷ [], (subst (IsIn x) (sym (parents-at same exact self w h i r e)) k, refl)))) ((iff x).0 j);
+          (t.0, t.1, reaches-trans (picked by (graph_of same w)) t.0 r.name x t.2 (x ∷ [], (subst (λ (l : List N). IsIn x (by.pick l)) (sym (parents-at same exact self w h i r e)) k, refl)))) ((iff x).0 j);
       base = λ x in_set. (iff x).1 (inl (a.base x in_set));
       whole = λ k row from at in_new p j. ⊎_elim
           (λ in_found. ⊎_elim
-          (λ here. (iff p).1 (inr (subst (λ (z : Row N). IsIn p z.parents) (same-row row r (sym at ∙ ap (slice_get (rows_of w)) here ∙ e)) j)))
+          (λ here. (iff p).1 (inr (subst (λ (z : Row N). IsIn p (by.pick z.parents)) (same-row row r (sym at ∙ ap (slice_get (rows_of w)) here ∙ e)) j)))
           (λ later. (iff p).1 (inl (a.whole k row later at in_found p j))) (from-here i k from))
           (λ in_row. absurd ((known-before w h k row at).fresh
-          (names-below row.name (rows_of w) i k from (in-all row.name r.parents (names_of (take i (rows_of w))) in_row (known-before w h i r e).known))))
+          (names-below row.name (rows_of w) i k from (in-all row.name r.parents (names_of (take i (rows_of w))) (by.own row.name r.parents in_row) (known-before w h i r e).known))))
           ((iff row.name).0 in_new);
     }
 
     -- a row that isn't reached leads nowhere
-    reached-same : (i : ℕ) (r : Row N) → slice_get (rows_of w) i ≡ Some r → (set found : List N) → AreReached (graph_of same w) (rows_of w) set (i + 1) found
-        → (IsIn r.name found → ⊥) → AreReached (graph_of same w) (rows_of w) set i found
-    reached-same i r e set found a off = record {
+    reached-same : (by : Picks N) → (i : ℕ) (r : Row N) → slice_get (rows_of w) i ≡ Some r → (set found : List N) → AreReached by (graph_of same w) (rows_of w) set (i + 1) found
+        → (IsIn r.name found → ⊥) → AreReached by (graph_of same w) (rows_of w) set i found
+    reached-same by i r e set found a off = record {
       sound = a.sound;
       base = a.base;
       whole = λ k row from at in_found p j. ⊎_elim
@@ -214,26 +232,26 @@ module _ {N : Type 0} (same : N → N → Bool) (exact : (x y : N) → same x y 
     }
 
     -- one row less, as the program comes to it
-    pub reached-put : (n i : ℕ) → n ≡ i + 1 → (r : Row N) → slice_get (rows_of w) i ≡ Some r → (set found : List N) → AreReached (graph_of same w) (rows_of w) set n found
-        → (name : N) → name ≡ r.name → IsIn name found → (put : List N) → put ≡ r.parents → (new : List N) → Adds found put new → AreReached (graph_of same w) (rows_of w) set i new
-    reached-put n i next r e set found a name is_name s put is_put new iff =
-        reached-more i r e set found (subst (λ (m : ℕ). AreReached (graph_of same w) (rows_of w) set m found) next a)
+    pub reached-put : (by : Picks N) → (n i : ℕ) → n ≡ i + 1 → (r : Row N) → slice_get (rows_of w) i ≡ Some r → (set found : List N) → AreReached by (graph_of same w) (rows_of w) set n found
+        → (name : N) → name ≡ r.name → IsIn name found → (put : List N) → put ≡ by.pick r.parents → (new : List N) → Adds found put new → AreReached by (graph_of same w) (rows_of w) set i new
+    reached-put by n i next r e set found a name is_name s put is_put new iff =
+        reached-more by i r e set found (subst (λ (m : ℕ). AreReached by (graph_of same w) (rows_of w) set m found) next a)
         (subst (λ (z : N). IsIn z found) is_name s) new (subst (λ (l : List N). Adds found l new) is_put iff)
 
-    pub reached-left : (n i : ℕ) → n ≡ i + 1 → (r : Row N) → slice_get (rows_of w) i ≡ Some r → (set found : List N) → AreReached (graph_of same w) (rows_of w) set n found
-        → (name : N) → name ≡ r.name → (IsIn name found → ⊥) → AreReached (graph_of same w) (rows_of w) set i found
-    reached-left n i next r e set found a name is_name off =
-        reached-same i r e set found (subst (λ (m : ℕ). AreReached (graph_of same w) (rows_of w) set m found) next a)
+    pub reached-left : (by : Picks N) → (n i : ℕ) → n ≡ i + 1 → (r : Row N) → slice_get (rows_of w) i ≡ Some r → (set found : List N) → AreReached by (graph_of same w) (rows_of w) set n found
+        → (name : N) → name ≡ r.name → (IsIn name found → ⊥) → AreReached by (graph_of same w) (rows_of w) set i found
+    reached-left by n i next r e set found a name is_name off =
+        reached-same by i r e set found (subst (λ (m : ℕ). AreReached by (graph_of same w) (rows_of w) set m found) next a)
         (λ s. off (subst (λ (z : N). IsIn z found) (sym is_name) s))
 
     -- at the first row each walk from the set has been followed
-    along : (set found : List N) → AreReached (graph_of same w) (rows_of w) set 0 found → (m : N) (walk : List N) (x : N) → IsIn m found → IsWalk (graph_of same w) m walk x → IsIn x found
-    along set found a m [] x i walked = subst (λ (z : N). IsIn z found) walked i
-    along set found a m (p ∷ more) x i walked =
-        let q = row-with (rows_of w) m p walked.0 in
-        along set found a p more x (a.whole q.0 q.1 zero-le q.2 (subst (λ (z : N). IsIn z found) (sym q.3) i) p q.4) walked.1
+    along : (by : Picks N) → (set found : List N) → AreReached by (graph_of same w) (rows_of w) set 0 found → (m : N) (walk : List N) (x : N) → IsIn m found → IsWalk (picked by (graph_of same w)) m walk x → IsIn x found
+    along by set found a m [] x i walked = subst (λ (z : N). IsIn z found) walked i
+    along by set found a m (p ∷ more) x i walked =
+        let q = row-with (rows_of w) m p (by.own p (parents_of (row_named same (rows_of w) m)) walked.0) in
+        along by set found a p more x (a.whole q.0 q.1 zero-le q.2 (subst (λ (z : N). IsIn z found) (sym q.3) i) p (subst (λ (l : List N). IsIn p (by.pick l)) q.5 walked.0)) walked.1
 
-    pub reached-all : (i : ℕ) → i ≡ 0 → (set found : List N) → AreReached (graph_of same w) (rows_of w) set i found → AreMembers (ancestors (graph_of same w) (among set)) found
-    reached-all i start set found a =
-        let all : AreReached (graph_of same w) (rows_of w) set 0 found = subst (λ (n : ℕ). AreReached (graph_of same w) (rows_of w) set n found) start a in
-        λ x. (a.sound x, λ t. along set found all t.0 t.2.0 x (a.base t.0 t.1) t.2.1)
+    pub reached-all : (by : Picks N) → (i : ℕ) → i ≡ 0 → (set found : List N) → AreReached by (graph_of same w) (rows_of w) set i found → AreMembers (ancestors (picked by (graph_of same w)) (among set)) found
+    reached-all by i start set found a =
+        let all : AreReached by (graph_of same w) (rows_of w) set 0 found = subst (λ (n : ℕ). AreReached by (graph_of same w) (rows_of w) set n found) start a in
+        λ x. (a.sound x, λ t. along by set found all t.0 t.2.0 x (a.base t.0 t.1) t.2.1)

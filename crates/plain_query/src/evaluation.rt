@@ -11,7 +11,7 @@ ghost use Rattle.set_expr.specs.Whole.{tree_of};
 ghost use Rattle.plain_query.specs.Members.{AreMembers, among};
 
 use crate::forms::{made_of, made_of_two};
-use crate::members::Members;
+use crate::members::{Members, first_names};
 use crate::places::{row_at_place, row_count};
 use crate::words::{named, one, up};
 use commit_graph::World;
@@ -60,17 +60,6 @@ fn top(alloc: Global, world: &World, set: &Members, n: u64) -> Result<Members, A
     let mut members = Members::none(alloc);
     members.add_all(first_names(names.as_slice(), n))?;
     Ok(members)
-}
-
-/// The first n of the names, or all where there are fewer.
-fn first_names(names: &[Name], n: u64) -> &[Name]
-    ensures { result.now ≡ take n names.now }
-{
-    if n < names.len() as u64 {
-        names.split_at(n as usize).0
-    } else {
-        names
-    }
 }
 
 /// The names of those of the world's commits that are in the set, the last row first. `AllocError` only for want of memory.

@@ -8,7 +8,9 @@ ghost use Rattle.plain_query.specs.Members.{AreMembers, among};
 
 use crate::members::Members;
 use crate::places::row_count;
-use crate::walks::{all_merges, ancestors_of, children_of, common_of, descendants_of, parents_of};
+use crate::walks::{
+    all_merges, ancestors_of, children_of, common_of, descendants_of, line_of, parents_of,
+};
 use commit_graph::World;
 use set_expr::{Call, PairCall};
 use std::alloc::{AllocError, Global};
@@ -33,6 +35,7 @@ pub(crate) fn made_of(
         Call::Merges => merges_of(alloc, world, set),
         Call::Common => common_of(alloc, world, set),
         Call::Gca => gca_of(alloc, world, set),
+        Call::Line => line_of(alloc, world, set),
     }
 }
 

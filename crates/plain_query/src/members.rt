@@ -1,6 +1,6 @@
 //! Sets of commits, as lists of their names.
 
-ghost use Rattle.std.specs.Prelude.{◌≡◌, ◌⊎◌, ◌↔◌, [], IsTrue, IfOk, OnOk};
+ghost use Rattle.std.specs.Prelude.{◌≡◌, ◌⊎◌, ◌↔◌, [], IsTrue, IfOk, OnOk, take};
 ghost use Rattle.id_groups.specs.Lists.{IsIn};
 ghost use Rattle.id_groups.specs.Name.{Name as NameBytes};
 
@@ -130,5 +130,16 @@ impl Members {
             }
         }
         Ok(members)
+    }
+}
+
+/// The first n of the names, or all where there are fewer.
+pub(crate) fn first_names(names: &[Name], n: u64) -> &[Name]
+    ensures { result.now ≡ take n names.now }
+{
+    if n < names.len() as u64 {
+        names.split_at(n as usize).0
+    } else {
+        names
     }
 }

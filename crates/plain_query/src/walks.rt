@@ -4,9 +4,10 @@ ghost use Rattle.std.specs.Prelude.{◌≤◌, ◌↔◌, IsTrue, IfOk, length};
 ghost use Rattle.id_groups.specs.Name.{same_name};
 ghost use Rattle.commit_graph.specs.Graph.{graph_of};
 ghost use Rattle.commit_graph.specs.Sets as sets;
+ghost use Rattle.set_expr.specs.Line.{line};
 ghost use Rattle.plain_query.specs.Members.{AreMembers, among};
 
-use crate::members::Members;
+use crate::members::{Members, first_names};
 use crate::places::{row_at_place, row_count};
 use crate::words::one;
 use commit_graph::{Row, World};
@@ -79,6 +80,21 @@ pub(crate) fn ancestors_of(
         let row = row_at_place(world, place);
         if members.has(row.name()) {
             members.add_all(row.parents())?;
+        }
+    }
+    Ok(members)
+}
+
+/// The commits that those of the set reach by first parents alone, by one pass as that of [`ancestors_of`]. `AllocError` only for want
+/// of memory.
+pub(crate) fn line_of(alloc: Global, world: &World, set: &Members) -> Result<Members, AllocError>
+    ensures { IfOk result (λ members. AreMembers (line (graph_of same_name world.now) (among set.now)) members) }
+{
+    let mut members = set.copy(alloc)?;
+    for place in (0..row_count(world)).rev() {
+        let row = row_at_place(world, place);
+        if members.has(row.name()) {
+            members.add_all(first_names(row.parents(), 1))?;
         }
     }
     Ok(members)

@@ -18,7 +18,7 @@ pub struct Graph {
 /// The commit 2 on 1, 3 and 4 on 2, 5 on 4, and 6 a merge of 3 and 5.
 const DAY: [&[u8]; 6] = [&[], &[1], &[2], &[2], &[4], &[3, 5]];
 
-const DAY_CASES: [(&str, &[u8]); 62] = [
+const DAY_CASES: [(&str, &[u8]); 65] = [
     ("all", &[6, 5, 4, 3, 2, 1]),
     ("master", &[6, 5, 4, 3, 2, 1]),
     ("others", &[]),
@@ -28,6 +28,9 @@ const DAY_CASES: [(&str, &[u8]); 62] = [
     ("children(@02)", &[4, 3]),
     ("ancestors(@04)", &[4, 2, 1]),
     ("descendants(@03)", &[6, 3]),
+    ("line(@06)", &[6, 3, 2, 1]),
+    ("line(union(@05,@03))", &[5, 4, 3, 2, 1]),
+    ("line(minus(all,all))", &[]),
     ("ancestors(union(@03,@04))", &[4, 3, 2, 1]),
     ("descendants(union(@05,@03))", &[6, 5, 3]),
     ("heads(all)", &[6]),
@@ -109,7 +112,7 @@ pub const TOO_LARGE: [&str; 2] = [
 /// Two merges of the same two commits, in both orders.
 const CROSSED: [&[u8]; 5] = [&[], &[1], &[1], &[2, 3], &[3, 2]];
 
-const CROSSED_CASES: [(&str, &[u8]); 16] = [
+const CROSSED_CASES: [(&str, &[u8]); 19] = [
     ("gca(union(@04,@05))", &[3, 2]),
     ("common(union(@04,@05))", &[3, 2, 1]),
     ("common(union(union(@02,@03),@04))", &[1]),
@@ -118,6 +121,9 @@ const CROSSED_CASES: [(&str, &[u8]); 16] = [
     ("heads(all)", &[5, 4]),
     ("up(@04,1)", &[2]),
     ("up(@05,1)", &[3]),
+    ("line(@04)", &[4, 2, 1]),
+    ("line(@05)", &[5, 3, 1]),
+    ("minus(ancestors(@05),line(@05))", &[2]),
     ("merges(all)", &[5, 4]),
     ("only(@04,@05)", &[4]),
     ("range(@02,union(@04,@05))", &[5, 4, 2]),
@@ -131,7 +137,7 @@ const CROSSED_CASES: [(&str, &[u8]); 16] = [
 /// Two histories without a common commit, of which the second stands among the others: 5 without parents, 6 on it, 7 a merge of 6 with 4, and 8 on 6.
 const SPLIT: [&[u8]; 8] = [&[], &[1], &[2], &[2], &[], &[5], &[6, 4], &[6]];
 
-const SPLIT_CASES: [(&str, &[u8]); 37] = [
+const SPLIT_CASES: [(&str, &[u8]); 39] = [
     ("all", &[8, 7, 6, 5, 4, 3, 2, 1]),
     ("master", &[4, 3, 2, 1]),
     ("others", &[8, 7, 6, 5]),
@@ -139,6 +145,8 @@ const SPLIT_CASES: [(&str, &[u8]); 37] = [
     ("children(master)", &[7, 4, 3, 2]),
     ("ancestors(others)", &[8, 7, 6, 5, 4, 2, 1]),
     ("descendants(master)", &[7, 4, 3, 2, 1]),
+    ("line(@07)", &[7, 6, 5]),
+    ("line(others)", &[8, 7, 6, 5]),
     ("heads(master)", &[4, 3]),
     ("heads(all)", &[8, 7, 3]),
     ("tips(all)", &[8, 7, 3]),

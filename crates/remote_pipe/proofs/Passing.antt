@@ -40,7 +40,7 @@ all-stopped runs queue mine later before mid now i run lt e asks same one = reco
   parts = parted i runs;
   mid = mid;
   asks = asks;
-  end = ⊎_elim (λ a. inl (a.0, a.1 ∙ same)) (λ b. inr (run, drop (i + 1) runs, turn-rest runs i run lt e, b)) one;
+  end = ⊎_elim (λ a. inl (a.0, a.1 ∙ same)) (λ b. inr (run, drop (i + 1) runs, turn-rest runs i run lt e, b.0, b.1 ∙ ap (λ (l : List Run). l ++ run ∷ []) same)) one;
 }
 
 -- the first of what was asked ahead

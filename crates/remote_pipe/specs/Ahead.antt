@@ -50,14 +50,14 @@ AsksBehind [] before now = now ≡ before
 AsksBehind (run ∷ more) before now = (mid : PlainLine) × AsksAhead run before mid × AsksBehind more mid now
 
 -- Of the runs that are told the first are asked ahead, as far as there is room, and memory, and one is a request: their frames are put in order,
--- and they wait behind those that wait already. Or the frame behind these isn't put whole, and no more is asked.
+-- and they wait behind those that wait already. Or the frame behind these isn't put whole, and no more is asked; its run waits too.
 pub record PutsAll (runs queue : List Run) (before : PlainLine) (later : List Run) (now : PlainLine) : Type 0 where
   pub put : List Run
   pub rest : List Run
   pub parts : runs ≡ put ++ rest
   pub mid : PlainLine
   pub asks : AsksBehind put before mid
-  pub end : ((now ≡ mid) × (later ≡ queue ++ put)) ⊎ ((run : Run) × (more : List Run) × (rest ≡ run ∷ more) × BreaksAt run mid now)
+  pub end : ((now ≡ mid) × (later ≡ queue ++ put)) ⊎ ((run : Run) × (more : List Run) × (rest ≡ run ∷ more) × BreaksAt run mid now × (later ≡ (queue ++ put) ++ run ∷ []))
 
 -- ---- an answer that is taken to what was asked ahead
 

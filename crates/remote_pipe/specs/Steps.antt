@@ -166,4 +166,4 @@ ReadsPath body result = (heads : List Name) (name : Name) → Reads (ToPath head
 -- one run is asked ahead, or nothing was done, or its frame wasn't put whole
 abbrev pub PutsOne : Run → List Run → PlainLine → List Run → PlainLine → Bool → Type 0
 PutsOne run queue before later now true = AsksAhead run before now × (later ≡ queue ++ run ∷ [])
-PutsOne run queue before later now false = ((now ≡ before) × (later ≡ queue)) ⊎ BreaksAt run before now
+PutsOne run queue before later now false = ((now ≡ before) × (later ≡ queue)) ⊎ (BreaksAt run before now × (later ≡ queue ++ run ∷ []))

@@ -1,6 +1,6 @@
 //! What is asked ahead: requests for names that were put before their answers are taken.
 
-ghost use Rattle.std.specs.Prelude.{◌≡◌, ◌≤◌, ◌<◌, ◌^◌, ◌++◌, ◌∷◌, [], ℕ, false, IsTrue, None, length, drop, IfOk, OnOk, OnErr};
+ghost use Rattle.std.specs.Prelude.{◌≡◌, ◌≤◌, ◌<◌, ◌↔◌, ◌^◌, ◌++◌, ◌∷◌, [], ℕ, false, IsTrue, None, length, drop, IfOk, OnOk, OnErr};
 ghost use Rattle.id_groups.specs.Name.{Name as NameBytes};
 ghost use Rattle.remote_serve.specs.Requests.{ToRefresh, ToClone, ToNames, ToPath, IsRequest, most_names};
 ghost use Rattle.remote_serve.specs.Answers.{Refreshed, Cloned, Led};
@@ -47,6 +47,17 @@ impl<L: Link + Drop> Asker<L> {
         ensures { result ≡ self.now.line.stopped }
     {
         self.line.stopped()
+    }
+
+    /// Whether runs may be told: something is asked still, and none that was told before waits. One that waits is passed by the next call,
+    /// and those behind it would be put twice.
+    pub(crate) fn is_free(&self) -> bool
+        ensures { IsTrue result ↔ ((self.now.line.stopped ≡ None) × (self.now.queue.items ≡ [])) }
+    {
+        if !self.queue.is_empty() {
+            return false;
+        }
+        self.line.stopped().is_none()
     }
 
     /// Whether a run may be asked ahead.

@@ -103,9 +103,9 @@ impl<L: Link + Drop> Remote for PipeRemote<L> {
     }
 
     fn may_expect(&self) -> bool
-        ensures { IsTrue result ↔ (self.now.line.stopped ≡ None) }
+        ensures { IsTrue result ↔ ((self.now.line.stopped ≡ None) × (self.now.queue ≡ [])) }
     {
-        self.asker.stopped().is_none()
+        self.asker.is_free()
     }
 
     fn expect(&mut self, alloc: Global, runs: &[Run])

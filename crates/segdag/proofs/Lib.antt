@@ -1,2 +1,4 @@
 pub mod PipeWords
 pub mod Mirrors
+pub mod Called
+pub mod Locked

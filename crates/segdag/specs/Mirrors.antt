@@ -1,5 +1,5 @@
 -- The mirrors that the words of remotes make.
-use Rattle.std.specs.Prelude.{ℕ, Bool, ◌≡◌, ◌^◌, List, [], ◌∷◌, ◌++◌, Option, Some, None, ⊤}
+use Rattle.std.specs.Prelude.{ℕ, Bool, ◌≡◌, ◌^◌, List, [], ◌∷◌, Option, Some, None, ⊤}
 use Rattle.remote_rules.specs.Mirror.{Mirror as Shown}
 use Rattle.remote_store.specs.Remote.{mirror_of as log_shown}
 use Rattle.remote_bundle.specs.Remote.{mirror_of as bundle_shown}

@@ -1,20 +1,17 @@
 //! The files of the log.
 
-ghost use Rattle.std.specs.Prelude.{◌≡◌, ◌++◌, map, string_bytes, is_some, codes, IfOk, MatchResult, if◌then◌else◌};
-ghost use Rattle.segdag.specs.Files.{HasAccess, access_by, own_status_of};
+ghost use Rattle.std.specs.Prelude.{◌≡◌, ◌++◌, string_bytes, is_some, codes, IfOk, if◌then◌else◌};
+ghost use Rattle.segdag.specs.Files.{access_by, own_status_of};
 
 use file_disk::{Access, FileDisk};
-use program_words::{Mode, WordsFault, read_words};
-use std::alloc::{AllocError, Global};
+use program_words::Mode;
+use std::alloc::AllocError;
 
 /// The status where the disk failed.
 const DISK_FAILED: u8 = 3;
 
-/// The status where the words want memory.
-const NO_MEMORY: u8 = 7;
-
 /// The status where the log was never opened.
-const NOT_OPENED: u8 = 9;
+pub const NOT_OPENED: u8 = 9;
 
 /// The files of a log: its own, and the one to which it is written anew. Neither is opened yet.
 #[derive(Drop)]
@@ -23,8 +20,8 @@ pub struct LogFiles {
     pub spare: FileDisk<HostRuntime>,
 }
 
-/// What a mode does to the log.
-fn access_in(mode: Mode, wait: bool) -> Access
+/// How a mode uses the log, which may be waited for.
+pub fn access_in(mode: Mode, wait: bool) -> Access
     ensures { result ≡ access_by mode wait }
 {
     match mode {
@@ -42,17 +39,6 @@ fn keeping(wait: bool) -> Access
         return Access::Await;
     }
     Access::Own
-}
-
-/// How the program uses the log, by the words behind the `--`; or the status where memory is wanting to read them.
-pub fn access_of(alloc: Global, words: &[String]) -> Result<Access, u8>
-    ensures { MatchResult result (HasAccess (map string_bytes words.now)) (λ status. status ≡ 7) }
-{
-    match read_words(alloc, words) {
-        Ok(usage) => Ok(access_in(usage.mode, usage.wait)),
-        Err(WordsFault::Usage) => Ok(Access::Read),
-        Err(WordsFault::Memory) => Err(NO_MEMORY),
-    }
 }
 
 /// The file at this path, used so.

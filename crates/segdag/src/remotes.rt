@@ -4,10 +4,9 @@ ghost use Rattle.std.specs.Prelude.{◌≡◌, ◌<◌, ◌≤◌, ◌+◌, ◌-
 ghost use Rattle.change_rules.specs.Standard.{standard};
 ghost use Rattle.outside.specs.Parts.{HasNone};
 ghost use Rattle.segdag.specs.Mirrors.{IsMadeOf, AreMadeOf};
-ghost use Rattle.segdag.specs.Remotes.{remote_words, IsBundleWord, IsPipeWord, NamesSo};
+ghost use Rattle.segdag.specs.Remotes.{IsBundleWord, IsPipeWord, NamesSo};
 
 use crate::mirror::Mirror;
-use dag_run::split_words;
 use file_disk::{Access, FileDisk};
 use pipe_files::{PipeSink, PipeSource};
 use remote_bundle::BundleRemote;
@@ -52,9 +51,17 @@ fn pipe_at(
     to: &str,
     from: &str,
 ) -> Result<PipeRemote<Ends<PipeSource, PipeSink>>, AllocError> {
+    Ok(PipeRemote::new(rt.alloc(), ends_at(rt, to, from)?))
+}
+
+/// The two ends of the pipe of which the first path is written and the second read.
+fn ends_at(rt: &HostRuntime, to: &str, from: &str) -> Result<Ends<PipeSource, PipeSink>, AllocError>
+    ensures read { IfOk result (λ ends. string_bytes ends.input.path ≡ from.now) }
+    ensures written { IfOk result (λ ends. string_bytes ends.output.path ≡ to.now) }
+{
     let input = source_at(rt, from)?;
     let output = sink_at(rt, to)?;
-    Ok(PipeRemote::new(rt.alloc(), Ends::new(input, output)))
+    Ok(Ends::new(input, output))
 }
 
 /// The mirror of which the word speaks; none where it is a pipe that isn't asked.
@@ -191,23 +198,8 @@ fn bundle_path<'a>(word: &'a str) -> Option<&'a str>
     word.strip_prefix("bundle:")
 }
 
-/// The words of the remotes, of words with the program's own name in front: what stands between the log's path and the first `--`.
-pub fn remotes_of<'a>(words: &'a [String]) -> &'a [String]
-    requires { length words.now < 2 ^ 32 }
-    ensures words { map string_bytes result.now ≡ remote_words (map string_bytes words.now) }
-    ensures few { length result.now ≤ length words.now }
-{
-    let Some((_name, rest)) = words.split_first() else {
-        return &words[..0];
-    };
-    let Some(split) = split_words(rest) else {
-        return &words[..0];
-    };
-    between(rest, split.remotes as usize, split.rest as usize)
-}
-
 /// The words from one place on up to the one before the last of the first, so many; none where there are no such.
-fn between<'a>(words: &'a [String], from: usize, end: usize) -> &'a [String]
+pub fn between<'a>(words: &'a [String], from: usize, end: usize) -> &'a [String]
     requires { end ≤ length words.now }
     ensures words { result.now ≡ drop from (take (end - 1) words.now) }
     ensures few { length result.now ≤ length words.now }

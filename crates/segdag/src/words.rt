@@ -1,42 +1,70 @@
-//! The words of the command line.
+//! How the words of the command line call the program.
 
-ghost use Rattle.std.specs.Prelude.{◌≡◌, ◌<◌, ◌^◌, ◌↔◌, length, map, string_bytes, slice_get, true, IfOk, MatchOption, Some, None};
-ghost use Rattle.segdag.specs.Usage.{IsUsage, mode_words};
+ghost use Rattle.std.specs.Prelude.{◌≡◌, ◌<◌, ◌≤◌, ◌^◌, length, map, string_bytes, IfOk, IfSome, MatchOption, MatchResult, None};
+ghost use Rattle.segdag.specs.Usage.{ArePartsOf, EndsUncalled, IsCalledBy, mode_words};
 
-use dag_run::split_words;
-use program_words::{Mode, WordsFault, read_words};
-use std::alloc::{AllocError, Global};
+use crate::remotes::between;
+use dag_run::{split_words, usage_of};
+use program_words::Usage;
+use std::alloc::Global;
 
-/// The words behind the first `--`, of words with the program's own name in front. `None` where it is missing or where the log's
-/// path is.
-pub fn mode_of<'a>(words: &'a [String]) -> Option<&'a [String]>
-    requires { length words.now < 2 ^ 32 }
-    ensures { MatchOption result (mode_words (map string_bytes words.now) ≡ None)
-        (λ mode. mode_words (map string_bytes words.now) ≡ Some (map string_bytes mode.now)) }
-{
-    let (_name, words) = words.split_first()?;
-    let split = split_words(words)?;
-    Some(&words[split.rest as usize..])
+/// The status of words that aren't a usage.
+const NO_USAGE: u8 = 2;
+
+/// The parts of the words.
+#[derive(Clone, Copy)]
+pub struct Parts<'a> {
+    /// The log's path.
+    pub path: &'a String,
+    /// The words of the remotes.
+    pub remotes: &'a [String],
+    /// The words behind the `--`.
+    pub mode: &'a [String],
 }
 
-/// The log's path, of words with the program's own name in front.
-pub fn log_of<'a>(words: &'a [String]) -> Option<&'a String>
-    ensures { MatchOption result (length words.now < 2) (λ path. slice_get words.now 1 ≡ Some path.now) }
-{
-    words.get(1)
+/// How the program is called.
+#[derive(Clone, Copy)]
+pub struct Called<'a> {
+    /// The log's path.
+    pub path: &'a String,
+    /// The words of the remotes.
+    pub remotes: &'a [String],
+    /// What the words behind the `--` are.
+    pub usage: Usage,
 }
 
-/// Whether the words, with the program's own name in front, are those of a run, which alone asks who is behind a pipe.
-pub fn is_run(alloc: Global, words: &[String]) -> Result<bool, AllocError>
+/// The parts of the words, the program's own name in front, at the first `--`. `None` where it is missing or where the log's path is.
+fn parts_of<'a>(words: &'a [String]) -> Option<Parts<'a>>
     requires { length words.now < 2 ^ 32 }
-    ensures { IfOk result (λ is. (is ≡ true) ↔ IsUsage Mode.Run (map string_bytes words.now)) }
+    ensures parts { MatchOption result (mode_words (map string_bytes words.now) ≡ None) (ArePartsOf (map string_bytes words.now)) }
+    ensures few { IfSome result (λ parts. length parts.remotes.now ≤ length words.now) }
 {
-    let Some(mode) = mode_of(words) else {
-        return Ok(false);
+    let (_name, rest) = words.split_first()?;
+    let split = split_words(rest)?;
+    let path = rest.first()?;
+    Some(Parts {
+        path,
+        remotes: between(rest, split.remotes as usize, split.rest as usize),
+        mode: &rest[split.rest as usize..],
+    })
+}
+
+/// How the words, the program's own name in front, call the program; or the status of a program that ends at once.
+pub fn called_by<'a>(alloc: Global, words: &'a [String]) -> Result<Called<'a>, u8>
+    requires { length words.now < 2 ^ 32 }
+    ensures called { MatchResult result (IsCalledBy (map string_bytes words.now)) (EndsUncalled (map string_bytes words.now)) }
+    ensures few { IfOk result (λ called. length called.remotes.now < 2 ^ 32) }
+    ensures able { IfOk result (λ called. (0 < called.usage.cache) × (1 ≤ called.usage.size)) }
+{
+    let Some(parts) = parts_of(words) else {
+        return Err(NO_USAGE);
     };
-    match read_words(alloc, mode) {
-        Ok(usage) => Ok(usage.mode == Mode::Run),
-        Err(WordsFault::Usage) => Ok(false),
-        Err(WordsFault::Memory) => Err(AllocError),
+    match usage_of(alloc, parts.mode) {
+        Ok(usage) => Ok(Called {
+            path: parts.path,
+            remotes: parts.remotes,
+            usage,
+        }),
+        Err(status) => Err(status),
     }
 }

@@ -1,6 +1,7 @@
 -- The calls that a line notes, over a disk that has the store's log.
-use Rattle.std.proofs.Common.{◌≡◌, ◌⊎◌, inl, inr, ℕ, List, [], ◌∷◌, ◌++◌, Option, Some, None, Ok, Err, IfOk, IfSome, refl, sym, ap, subst, arith}
-use Rattle.std.specs.Prelude.{OnOk}
+use Rattle.std.proofs.Common.{◌≡◌, ◌⊎◌, inl, inr, ℕ, List, [], ◌∷◌, ◌++◌, Option, Some, None, Ok, Err, IfErr, IfOk, IfSome, refl, sym, ap, subst, arith, ◌∙◌, true≢false, true, false, Bool}
+use Rattle.std.specs.Prelude.{MatchBool, OnErr, OnOk, is_some, not, option_copied}
+use denote.Bor.{Bor}
 use Rattle.std.specs.declared.result.Result.{Result}
 use Rattle.outside.specs.Counts.{Rose}
 use Rattle.disk_trait.specs.Images.{Unsynced, Told, IsImage, LeftAt, moment_of}
@@ -10,9 +11,8 @@ use Rattle.disk_trait.proofs.Moments.{left-now, weakened}
 use Rattle.line_io.specs.Memory.{MemoryOutput}
 use Rattle.gated_log.specs.Held.{Held}
 use Rattle.gated_log.specs.Holding.{IsLogWithin, IsOnDisk}
-use Rattle.call_disk.specs.Awaited.{awaited}
-use Rattle.call_disk.specs.Noted.{Call, Step, calls_in}
-use Rattle.call_disk.specs.declared.noted.NotedCalls.{NotedCalls}
+use Rattle.call_disk.specs.Noted.{Call, Step, call_of, calls_in, first_call, said_of}
+use Rattle.call_disk.specs.declared.noted.NotedCall.{NotedCall}
 use Rattle.call_disk.specs.Tape.{Tape}
 use Rattle.call_disk.specs.Performed.{HonestDisk, WasLeft, begun, replayed}
 use Rattle.call_disk.specs.Sound.{moment_replayed}
@@ -24,6 +24,7 @@ use Rattle.dag_store.specs.Changes.{HasStored}
 use Rattle.dag_store.specs.Kept.{PlainStore}
 use Rattle.dag_run.specs.Lines.{LineLeaves, LineReplies}
 use Rattle.dag_run.specs.declared.stops.Stop.{Stop}
+use Rattle.dag_run.specs.declared.stops.Stop.TheVariants.{NotStored}
 use Rattle.segdag_c.specs.Answers.{LineNotes}
 use Rattle.segdag_c.specs.Line.{LineDoes, LineDoesOn}
 use Rattle.segdag_c.specs.Stores.{IsOldOrNew, Leaves, Stores}
@@ -49,7 +50,7 @@ pub picked-if : {P : Type 0} (disk : HonestDisk) (has : P ⊎ (P → ⊥)) (F : 
 picked-if disk (inl has) F f p = f
 picked-if disk (inr has_not) F f p = absurd (has_not p)
 
-chosen-if : (log : Held) (disk : HonestDisk) (F : Told → Type 0) → IfSome (chosen log disk) (λ (d : HonestDisk). F d.told) → IsOnDisk log disk.told → F disk.told
+pub chosen-if : (log : Held) (disk : HonestDisk) (F : Told → Type 0) → IfSome (chosen log disk) (λ (d : HonestDisk). F d.told) → IsOnDisk log disk.told → F disk.told
 chosen-if log disk F = picked-if disk (on-disk log disk.told) F
 
 -- ---- what is left now
@@ -98,7 +99,7 @@ leaves : (d : HonestDisk) (kept next : PlainStore) (payload : List ℕ) (clock :
 leaves d kept next payload None steps idle fit on left = (no-calls steps idle (begun d.told) left.0, room-on kept.log next.log d.told left.1 on)
 leaves d kept next payload (Some clock) steps idle fit on left = stores kept next payload clock d steps idle left.0 left.1 fit
 
-leaves-on : (disk : Option HonestDisk) (kept next : PlainStore) (payload : List ℕ) (clock : Option ℕ) (start last : Tape) → start ≡ empty_tape → FitOver disk last.steps
+pub leaves-on : (disk : Option HonestDisk) (kept next : PlainStore) (payload : List ℕ) (clock : Option ℕ) (start last : Tape) → start ≡ empty_tape → FitOver disk last.steps
     → IfSome disk (λ (d : HonestDisk). IsOnDisk kept.log d.told) → Goes (LineLeaves kept payload clock (Ok next)) (told_over disk start) (told_over disk last)
     → IfSome disk (λ (d : HonestDisk). Leaves kept payload clock next (calls_in last.steps) d.told)
 leaves-on None kept next payload clock start last is fit on goes = tt
@@ -109,21 +110,37 @@ leaves-on (Some d) kept next payload clock start last is fit on goes =
 pub line-does-on : (first left : List Mirror) (old : ℕ) (store : PlainStore) (line payload : List ℕ) (clock : Option ℕ) (r : Result PlainStore Stop) (before : List ℕ) (sink : MemoryOutput) (disk : Option HonestDisk)
     (start last : Tape) (calls : List Call) → LineReplies first left (Rose old sink.faults) store line payload clock r before sink.taken
     → Goes (LineLeaves store payload clock r) (told_over disk start) (told_over disk last) → start ≡ empty_tape → FitOver disk last.steps → IfSome disk (λ (d : HonestDisk). IsOnDisk store.log d.told)
-    → calls_in last.steps ≡ calls → IfOk r (λ next. LineDoesOn first store line next left old before sink calls disk)
+    → calls_in last.steps ≡ calls → LineDoesOn first store line left old before sink calls disk r
 line-does-on first left old store line payload clock (Ok next) before sink disk start last calls told goes is fit on are =
     (payload, clock, told, subst (λ cs. IfSome disk (λ (d : HonestDisk). Leaves store payload clock next cs d.told)) are (leaves-on disk store next payload clock start last is fit on goes))
-line-does-on first left old store line payload clock (Err stop) before sink disk start last calls told goes is fit on are = tt
+line-does-on first left old store line payload clock (Err stop) before sink disk start last calls told goes is fit on are = (payload, clock, told, tt)
 
 -- over any disk
-pub line-does : (first left : List Mirror) (old : ℕ) (store : PlainStore) (line : List ℕ) (next : PlainStore) (before : List ℕ) (sink : MemoryOutput) (calls : List Call) (disk : HonestDisk)
-    → LineDoesOn first store line next left old before sink calls (chosen store.log disk) → LineDoes first store line next left old before sink calls disk.told
-line-does first left old store line next before sink calls disk does =
+pub line-does : (first left : List Mirror) (old : ℕ) (store : PlainStore) (line : List ℕ) (before : List ℕ) (sink : MemoryOutput) (calls : List Call) (disk : HonestDisk) (r : Result PlainStore Stop)
+    → LineDoesOn first store line left old before sink calls (chosen store.log disk) r → LineDoes first store line left old before sink calls disk.told r
+line-does first left old store line before sink calls disk (Ok next) does =
     (does.0, does.1, does.2, λ on. chosen-if store.log disk (λ t. Leaves store does.0 does.1 next calls t) does.3 on)
+line-does first left old store line before sink calls disk (Err stop) does = (does.0, does.1, does.2, tt)
 
--- and noted behind what was noted before
-pub line-notes : (first left : List Mirror) (old : ℕ) (store : PlainStore) (line : List ℕ) (next : PlainStore) (r : Result PlainStore Stop) (before : List ℕ) (sink : MemoryOutput) (noted log more : NotedCalls) (disk : HonestDisk)
-    → IfOk r (λ same. same ≡ next) → OnOk r (awaited log ≡ awaited noted ++ awaited more) → LineDoesOn first store line next left old before sink (awaited more) (chosen store.log disk)
-    → IfOk r (λ same. LineNotes first store noted line same left log old before sink disk.told)
-line-notes first left old store line next (Ok same) before sink noted log more disk is behind does =
-    (awaited more, behind, subst (λ (s : PlainStore). LineDoes first store line s left old before sink (awaited more) disk.told) (sym is) (line-does first left old store line next before sink (awaited more) disk does))
-line-notes first left old store line next (Err stop) before sink noted log more disk is behind does = tt
+-- and noted behind what was noted before, or not at all
+pub line-notes : (first left : List Mirror) (old : ℕ) (store : PlainStore) (line : List ℕ) (next : PlainStore) (r : Result PlainStore Stop) (before : List ℕ) (sink : MemoryOutput) (noted log more : List Call) (disk : HonestDisk)
+    → IfOk r (λ same. same ≡ next) → IfErr r (λ stop. stop ≡ NotStored) → OnOk r (log ≡ noted ++ more) → OnErr r (log ≡ noted) → OnErr r (more ≡ [] → ⊥) → LineDoesOn first store line left old before sink more (chosen store.log disk) (Ok next)
+    → LineNotes first store noted line left log old before sink disk.told r
+line-notes first left old store line next (Ok same) before sink noted log more disk is why behind none some does =
+    (more, behind, subst (λ (s : PlainStore). LineDoes first store line left old before sink more disk.told (Ok s)) (sym is) (line-does first left old store line before sink more disk (Ok next) does))
+line-notes first left old store line next (Err stop) before sink noted log more disk is why behind none some does =
+    (none, more, Ok next, (why, some), line-does first left old store line before sink more disk (Ok next) does)
+
+-- where there is no first call there is none
+pub none-first : (calls : List Call) → None ≡ first_call calls → calls ≡ []
+none-first [] e = refl
+none-first (call ∷ calls) e = absurd (let f : None ≡ Some call = e in cc)
+
+pub some-first : (calls : List Call) (call : Call) → Some call ≡ first_call calls → calls ≡ [] → ⊥
+some-first calls call e none = absurd (let f : Some call ≡ None = e ∙ ap first_call none in cc)
+
+pub none-told : (o : Option (Bor NotedCall)) (b : Bool) (calls : List Call) → is_some o ≡ not b → said_of (option_copied o) ≡ first_call calls → MatchBool b (calls ≡ []) (calls ≡ [] → ⊥)
+none-told None true calls e told = none-first calls told
+none-told None false calls e told = absurd (true≢false (sym e))
+none-told (Some call) true calls e told = absurd (true≢false e)
+none-told (Some call) false calls e told = some-first calls (call_of call.now) told

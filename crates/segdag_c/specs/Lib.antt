@@ -1,5 +1,6 @@
 pub mod Owned
 pub mod Codes
+pub mod Handles
 pub mod Mirrors
 pub mod Renewed
 pub mod Awaits
@@ -13,3 +14,5 @@ pub mod Calls
 pub mod Answers
 pub mod Loads
 pub mod Following
+pub mod Client
+pub mod Changing

@@ -1,5 +1,5 @@
 -- What loading lent bytes is told to C.
-use Rattle.std.specs.Prelude.{◌≡◌, ⊤, ℕ, List, [], length, Option, Some, None, IfSome}
+use Rattle.std.specs.Prelude.{◌≡◌, ⊤, ℕ, List, [], length, Option, Some, None, Result, Ok, Err, MatchOption}
 use Rattle.id_groups.specs.Name.{Name}
 use Rattle.commit_graph.specs.World.{World}
 use Rattle.disk_trait.specs.Images.{Told}
@@ -18,8 +18,9 @@ use Rattle.dag_store.specs.Stands.{Stands}
 use Rattle.dag_store.specs.declared.replies.LoadFault.{LoadFault}
 use Rattle.dag_store.specs.declared.replies.LoadFault.TheVariants as faults
 use Rattle.segdag_c.specs.declared.codes.Failure.{Failure}
-use Rattle.segdag_c.specs.declared.codes.Failure.TheVariants.{Disk, NoLog, Memory}
+use Rattle.segdag_c.specs.declared.codes.Failure.TheVariants.{Argument, Disk, NoLog, Memory}
 use Rattle.segdag_c.specs.declared.held.Held.{Held}
+use Rattle.segdag_c.specs.Handles.{code_of}
 
 -- why a log isn't loaded, as C is told it
 abbrev pub load_failure : LoadFault → Failure
@@ -49,27 +50,25 @@ pub record Settles (store : PlainStore) (calls : List Call) (disk : Told) : Type
 abbrev pub LoadNotes : List ℕ → PlainStore → List Call → Told → Type 0
 LoadNotes bytes store calls disk = disk.bytes ≡ bytes → Settles store calls disk
 
--- where it isn't loaded since the bytes are no log, they are none, and hold no world
+-- why it isn't loaded: where it is said that the bytes are no log, they are none, and hold no world
 abbrev pub IsRightly : List ℕ → Failure → Type 0
 IsRightly bytes NoLog = IsNoLog standard.log bytes × ((payloads : List Payload) (w : World Name) → ¬ (HoldAs standard.log bytes payloads w))
-IsRightly bytes failure = ⊤
+IsRightly bytes Disk = ⊤
+IsRightly bytes Memory = ⊤
+IsRightly bytes failure = ⊥
 
--- such a store is held, beside no mirrors
-abbrev pub HoldsOpened : List ℕ → ℕ → Held → Type 0
-HoldsOpened bytes cache held = IsOpenedIn held.store × (held.mirrors.list.items ≡ [])
-  where
-    IsOpenedIn : Option PlainStore → Type 0
-    IsOpenedIn None = ⊥
-    IsOpenedIn (Some store) = IsOpened bytes cache store
+-- such a store is held, beside no mirrors, and this is noted for a disk that has the bytes
+abbrev pub HoldsOpened : List ℕ → ℕ → Told → Held → Type 0
+HoldsOpened bytes cache disk held =
+    MatchOption held.store ⊥ (λ store. IsOpened bytes cache store × LoadNotes bytes store (awaited held.log) disk) × (held.mirrors.list.items ≡ [])
 
--- behind a handle
-abbrev pub SlotOpened : List ℕ → ℕ → Option Held → Type 0
-SlotOpened bytes cache None = ⊥
-SlotOpened bytes cache (Some held) = HoldsOpened bytes cache held
+-- What comes of a load where nothing is held: such a log is open; or none is, for its cause.
+abbrev pub LoadCame : List ℕ → ℕ → Told → Option Held → Result (Unit {0}) Failure → Type 0
+LoadCame bytes cache disk new (Ok done) = MatchOption new ⊥ (λ held. HoldsOpened bytes cache disk held)
+LoadCame bytes cache disk new (Err Argument) = (cache ≡ 0) × (new ≡ None)
+LoadCame bytes cache disk new (Err failure) = IsRightly bytes failure × (new ≡ None)
 
--- what is noted there for a disk that has the bytes
-abbrev pub HeldNotes : List ℕ → Held → Told → Type 0
-HeldNotes bytes held disk = IfSome held.store (λ store. LoadNotes bytes store (awaited held.log) disk)
-
-abbrev pub SlotNotes : List ℕ → Option Held → Told → Type 0
-SlotNotes bytes slot disk = IfSome slot (λ held. HeldNotes bytes held disk)
+-- where a log is open, it stays as it was
+abbrev pub SlotLoads : Option Held → List ℕ → ℕ → Told → Option Held → ℕ → Type 0
+SlotLoads old bytes cache disk new code =
+    MatchOption old ((answer : Result (Unit {0}) Failure) × (code ≡ code_of answer) × LoadCame bytes cache disk new answer) (λ held. (code ≡ 18) × (new ≡ Some held))

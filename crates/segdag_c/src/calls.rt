@@ -1,6 +1,6 @@
 //! The typed calls of an open log.
 
-ghost use Rattle.std.specs.Prelude.{◌≡◌, ◌<◌, ◌≤◌, ℕ, List, length, map, Ok, IfOk, IfErr, IfSome};
+ghost use Rattle.std.specs.Prelude.{◌≡◌, ◌<◌, ◌≤◌, ℕ, List, length, map, IfOk, IfErr, MatchOption, MatchResult};
 ghost use Rattle.std.specs.List.{concat};
 ghost use Rattle.id_groups.specs.Name.{Name as NameBytes};
 ghost use Rattle.set_expr.specs.Whole.{tree_of};
@@ -8,21 +8,22 @@ ghost use Rattle.set_expr.specs.Spelling.{SpellsExpr};
 ghost use Rattle.span_set.specs.Members.{ids_of};
 ghost use Rattle.step_rules.specs.State.{Stored};
 ghost use Rattle.step_rules.specs.Reply.{Listed, Refused as IsRefused};
+ghost use Rattle.step_rules.specs.declared.Refusal.TheVariants as why;
 ghost use Rattle.dag_store.specs.Stands.{Stands};
 ghost use Rattle.dag_store.specs.Steps.{AreIdsOf};
 ghost use Rattle.store_queries.specs.Names.{known_name};
 ghost use Rattle.step_rules.specs.Verb.{Add as ToAdd, Count as ToCount, IdOf, Query as ToQuery};
-ghost use Rattle.segdag_c.specs.Calls.{HeldDoes, HeldDoesOf, HeldAdds, HeldLists};
+ghost use Rattle.segdag_c.specs.Calls.{AddCame, AddStepCame, AreNoParents, CountCame, IdCame, IsNoExpr, IsUntried, QueryCame, TextCountCame, TextQueryCame};
 ghost use Rattle.segdag_c.specs.Does.{Does};
 ghost use Rattle.segdag_c.specs.Mirrors.{shown_all};
 ghost use Rattle.segdag_c.specs.Names.{AreJoined};
-ghost use Rattle.segdag_c.specs.Typed.{added_reply, counted_reply, id_reply, refusal_in, IsNoRefusal};
+ghost use Rattle.segdag_c.specs.Typed.{added_reply, counted_reply, id_reply, refusal_in};
 
 use crate::codes::Failure;
 use crate::held::Held;
 use crate::mirror::Mirror;
 use crate::names::{NAME_SIZE, join, names_in};
-use dag_store::{Added, Expr, Found, Store};
+use dag_store::{Added, Expr, Found, Refusal, Store};
 use id_groups::{Id, Name};
 use mirror_set::Mirrors;
 use set_expr::ExprFault;
@@ -44,7 +45,7 @@ fn add_to(
 ) -> Result<Added, Failure>
     requires session { session < 16 }
     requires few { length parents.now ≤ 8 }
-    ensures does { IfSome (added_reply result) (λ reply. Does (shown_all mirrors.old.list.items) store.old session (ToAdd name.now parents.now) reply store.new (shown_all mirrors.new.list.items)) }
+    ensures does { MatchOption (added_reply result) ⊥ (λ reply. Does (shown_all mirrors.old.list.items) store.old session (ToAdd name.now parents.now) reply store.new (shown_all mirrors.new.list.items)) }
     ensures limits { store.new.limits ≡ store.old.limits }
 {
     match store.add(session, mirrors, name, parents) {
@@ -57,7 +58,7 @@ fn add_to(
 fn add_held(held: &mut Held, session: u8, name: &Name, parents: &[Name]) -> Result<Added, Failure>
     requires session { session < 16 }
     requires few { length parents.now ≤ 8 }
-    ensures { IfSome (added_reply result) (λ reply. HeldDoes held.old held.new session (ToAdd name.now parents.now) reply) }
+    ensures { AddStepCame session name.now parents.now held.old held.new result }
 {
     let Some(store) = &mut held.store else {
         return Err(Failure::Disk);
@@ -69,7 +70,7 @@ fn add_held(held: &mut Held, session: u8, name: &Name, parents: &[Name]) -> Resu
 fn parents_in(alloc: Global, bytes: &[u8]) -> Result<Vec<Name>, Failure>
     ensures few { IfOk result (λ parents. length parents.items ≤ 8) }
     ensures joined { IfOk result (λ parents. AreJoined parents.items bytes.now) }
-    ensures fault { IfErr result (λ failure. IsNoRefusal failure) }
+    ensures fault { IfErr result (IsUntried (AreNoParents bytes.now) ⊥) }
 {
     if bytes.len() > MOST_PARENTS * NAME_SIZE {
         return Err(Failure::Argument);
@@ -91,7 +92,7 @@ pub(crate) fn add(
     name: &Name,
     parents: &[u8],
 ) -> Result<Added, Failure>
-    ensures { IfSome (added_reply result) (λ reply. HeldAdds held.old held.new session name.now parents.now reply) }
+    ensures { AddCame session name.now parents.now held.old held.new result }
 {
     if session >= SESSIONS {
         return Err(Failure::Argument);
@@ -110,7 +111,7 @@ fn id_in(
     name: &Name,
 ) -> Result<Id, Failure>
     requires { session < 16 }
-    ensures does { IfSome (id_reply result) (λ reply. Does (shown_all mirrors.old.list.items) store.old session (IdOf name.now) reply store.new (shown_all mirrors.new.list.items)) }
+    ensures does { MatchOption (id_reply result) ⊥ (λ reply. Does (shown_all mirrors.old.list.items) store.old session (IdOf name.now) reply store.new (shown_all mirrors.new.list.items)) }
     ensures limits { store.new.limits ≡ store.old.limits }
 {
     match store.id(session, mirrors, name) {
@@ -121,7 +122,7 @@ fn id_in(
 
 /// The id of a commit that a session sees.
 pub(crate) fn id(held: &mut Held, session: u8, name: &Name) -> Result<Id, Failure>
-    ensures { IfSome (id_reply result) (λ reply. HeldDoes held.old held.new session (IdOf name.now) reply) }
+    ensures { IdCame session name.now held.old held.new result }
 {
     if session >= SESSIONS {
         return Err(Failure::Argument);
@@ -135,7 +136,7 @@ pub(crate) fn id(held: &mut Held, session: u8, name: &Name) -> Result<Id, Failur
 /// The expression that a text spells.
 fn expr_of(alloc: Global, text: &[u8]) -> Result<Expr, Failure>
     ensures spells { IfOk result (λ e. SpellsExpr text.now (tree_of e)) }
-    ensures fault { IfErr result (λ failure. IsNoRefusal failure) }
+    ensures fault { IfErr result (IsUntried ⊥ (IsNoExpr text.now)) }
 {
     match Expr::parse(alloc, text) {
         Ok(expr) => Ok(expr),
@@ -152,7 +153,7 @@ fn count_in(
     expr: &Expr,
 ) -> Result<u64, Failure>
     requires { session < 16 }
-    ensures does { IfSome (counted_reply result) (λ reply. Does (shown_all mirrors.old.list.items) store.old session (ToCount (tree_of expr.now)) reply store.new (shown_all mirrors.new.list.items)) }
+    ensures does { MatchOption (counted_reply result) ⊥ (λ reply. Does (shown_all mirrors.old.list.items) store.old session (ToCount (tree_of expr.now)) reply store.new (shown_all mirrors.new.list.items)) }
     ensures limits { store.new.limits ≡ store.old.limits }
 {
     match store.count(session, mirrors, expr) {
@@ -164,7 +165,7 @@ fn count_in(
 /// How many members an expression has in a session.
 pub(crate) fn count_held(held: &mut Held, session: u8, expr: &Expr) -> Result<u64, Failure>
     requires { session < 16 }
-    ensures { IfSome (counted_reply result) (λ reply. HeldDoes held.old held.new session (ToCount (tree_of expr.now)) reply) }
+    ensures { CountCame session (tree_of expr.now) held.old held.new result }
 {
     let Some(store) = &mut held.store else {
         return Err(Failure::Disk);
@@ -179,7 +180,7 @@ pub(crate) fn count(
     session: u8,
     text: &[u8],
 ) -> Result<u64, Failure>
-    ensures { IfSome (counted_reply result) (λ reply. HeldDoesOf held.old held.new session text.now ToCount reply) }
+    ensures { TextCountCame session text.now held.old held.new result }
 {
     if session >= SESSIONS {
         return Err(Failure::Argument);
@@ -195,11 +196,11 @@ fn join_found(alloc: Global, store: &Store, session: u8, found: &Found) -> Resul
     requires { session < 16 }
     ensures names { IfOk result (λ bytes. (listed : List NameBytes) × (concat listed ≡ bytes.items) × ((began : ℕ) (st : Stored) (names : List NameBytes) → Stands began store.now st
         → AreIdsOf st session (ids_of found.now.answer.set) (map known_name found.now.fetched) names → listed ≡ names)) }
-    ensures fault { IfErr result (λ failure. IsNoRefusal failure) }
+    ensures fault { IfErr result (λ failure. failure ≡ Failure.Refused why.Memory) }
 {
     match join(alloc, store.names(session, found)) {
         Ok(names) => Ok(names),
-        Err(_) => Err(Failure::Memory),
+        Err(_) => Err(Failure::Refused(Refusal::Memory)),
     }
 }
 
@@ -212,9 +213,10 @@ fn query_in(
     expr: &Expr,
 ) -> Result<Vec<u8>, Failure>
     requires { session < 16 }
-    ensures listed { IfOk result (λ bytes. (listed : List NameBytes) × (concat listed ≡ bytes.items)
-        × Does (shown_all mirrors.old.list.items) store.old session (ToQuery (tree_of expr.now)) (Listed listed) store.new (shown_all mirrors.new.list.items)) }
-    ensures refused { IfErr result (λ failure. IfSome (refusal_in failure) (λ refusal.
+    ensures does { MatchResult result
+        (λ bytes. (listed : List NameBytes) × (concat listed ≡ bytes.items)
+        × Does (shown_all mirrors.old.list.items) store.old session (ToQuery (tree_of expr.now)) (Listed listed) store.new (shown_all mirrors.new.list.items))
+        (λ failure. MatchOption (refusal_in failure) ⊥ (λ refusal.
         Does (shown_all mirrors.old.list.items) store.old session (ToQuery (tree_of expr.now)) (IsRefused refusal) store.new (shown_all mirrors.new.list.items))) }
     ensures limits { store.new.limits ≡ store.old.limits }
 {
@@ -232,9 +234,7 @@ pub(crate) fn query_held(
     expr: &Expr,
 ) -> Result<usize, Failure>
     requires { session < 16 }
-    ensures size { IfOk result (λ size. size ≡ length held.new.names.items) }
-    ensures listed { IfOk result (λ size. (listed : List NameBytes) × (concat listed ≡ held.new.names.items) × HeldDoes held.old held.new session (ToQuery (tree_of expr.now)) (Listed listed)) }
-    ensures refused { IfErr result (λ failure. IfSome (refusal_in failure) (λ refusal. HeldDoes held.old held.new session (ToQuery (tree_of expr.now)) (IsRefused refusal))) }
+    ensures { QueryCame session (tree_of expr.now) held.old held.new result }
 {
     let Some(store) = &mut held.store else {
         return Err(Failure::Disk);
@@ -255,8 +255,7 @@ pub(crate) fn query(
     session: u8,
     text: &[u8],
 ) -> Result<usize, Failure>
-    ensures listed { IfOk result (λ size. (size ≡ length held.new.names.items) × HeldLists held.old held.new session text.now) }
-    ensures refused { IfErr result (λ failure. IfSome (refusal_in failure) (λ refusal. HeldDoesOf held.old held.new session text.now ToQuery (IsRefused refusal))) }
+    ensures { TextQueryCame session text.now held.old held.new result }
 {
     if session >= SESSIONS {
         return Err(Failure::Argument);

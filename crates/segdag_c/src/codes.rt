@@ -1,9 +1,8 @@
 //! The codes that C is told.
 
-ghost use Rattle.std.specs.Prelude.{◌≡◌, ◌<◌};
+ghost use Rattle.std.specs.Prelude.{◌≡◌};
 ghost use Rattle.segdag_c.specs.Codes.{failure_code, refusal_code};
 
-use dag_run::Stop;
 use step_rules::Refusal;
 
 /// What C is told of a call that did what it is for.
@@ -72,18 +71,5 @@ pub(crate) fn code_of(failure: Failure) -> u32
         Failure::Argument => 19,
         Failure::Syntax => 32,
         Failure::Refused(refusal) => code_of_refusal(refusal),
-    }
-}
-
-/// The code of why a line wasn't answered.
-pub(crate) fn code_of_stop(stop: Stop) -> u32
-    ensures { 0 < result }
-{
-    match stop {
-        Stop::NotStored | Stop::NotLoaded => 3,
-        Stop::NoLog => 4,
-        Stop::Sink => 6,
-        Stop::Memory => 7,
-        Stop::Source | Stop::Limit => 19,
     }
 }

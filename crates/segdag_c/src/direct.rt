@@ -1,10 +1,9 @@
 //! The functions that C calls with names and numbers alone: no text is read for them, and none is made.
 
-ghost use Rattle.std.specs.Prelude.{◌≡◌, ◌≤◌, MatchResult};
-ghost use Rattle.step_rules.specs.Verb.{Count as ToCount, Discard as ToDiscard, Query as ToQuery, Reload as ToReload, Status};
-ghost use Rattle.step_rules.specs.Reply.{Counted, Discarded, Reloaded, Sizes};
-ghost use Rattle.segdag_c.specs.Calls.{IsRefusedBy, SlotDoes, SlotListsOf, Tells};
-ghost use Rattle.segdag_c.specs.Codes.{failure_code};
+ghost use Rattle.std.specs.Prelude.{◌≡◌, ℕ};
+ghost use Rattle.dag_store.specs.declared.replies.Counts.{Counts as Told};
+ghost use Rattle.segdag_c.specs.Calls.{CountCame, DiscardCame, PlaceCame, QueryCame, ReloadCame, SizesCame};
+ghost use Rattle.segdag_c.specs.Handles.{Gives, SlotAnswers, code_of as told_code};
 ghost use Rattle.segdag_c.specs.Pairs.{ancestor_form, bases_form, only_form, place_form};
 
 use crate::codes::{DONE, Failure, code_of};
@@ -26,8 +25,7 @@ pub extern "C" fn segdag_core_is_ancestor(
     b: &[u8; 20],
     count: &mut u64,
 ) -> u32
-    ensures does { result ≡ 0 → SlotDoes slot.old.handle.held slot.new.handle.held session (ToCount (ancestor_form a.now b.now)) (Counted count.new) }
-    ensures refused { 33 ≤ result → IsRefusedBy result slot.old.handle.held slot.new.handle.held session (ToCount (ancestor_form a.now b.now)) }
+    ensures { SlotAnswers slot.old.handle.held slot.new.handle.held result (CountCame session (ancestor_form a.now b.now)) (Gives (λ (n : ℕ). n) count.old count.new) }
 {
     match take(alloc, slot) {
         Some(taken) => {
@@ -51,8 +49,7 @@ pub extern "C" fn segdag_core_only(
     b: &[u8; 20],
     count: &mut u64,
 ) -> u32
-    ensures does { result ≡ 0 → SlotDoes slot.old.handle.held slot.new.handle.held session (ToCount (only_form a.now b.now)) (Counted count.new) }
-    ensures refused { 33 ≤ result → IsRefusedBy result slot.old.handle.held slot.new.handle.held session (ToCount (only_form a.now b.now)) }
+    ensures { SlotAnswers slot.old.handle.held slot.new.handle.held result (CountCame session (only_form a.now b.now)) (Gives (λ (n : ℕ). n) count.old count.new) }
 {
     match take(alloc, slot) {
         Some(taken) => {
@@ -76,8 +73,7 @@ pub extern "C" fn segdag_core_merge_bases(
     b: &[u8; 20],
     size: &mut usize,
 ) -> u32
-    ensures does { result ≡ 0 → SlotListsOf slot.old.handle.held slot.new.handle.held session (bases_form a.now b.now) size.new }
-    ensures refused { 33 ≤ result → IsRefusedBy result slot.old.handle.held slot.new.handle.held session (ToQuery (bases_form a.now b.now)) }
+    ensures { SlotAnswers slot.old.handle.held slot.new.handle.held result (QueryCame session (bases_form a.now b.now)) (Gives (λ (n : ℕ). n) size.old size.new) }
 {
     match take(alloc, slot) {
         Some(taken) => {
@@ -101,8 +97,7 @@ pub extern "C" fn segdag_core_at_place(
     place: u64,
     size: &mut usize,
 ) -> u32
-    ensures does { result ≡ 0 → SlotListsOf slot.old.handle.held slot.new.handle.held session (place_form place) size.new }
-    ensures refused { 33 ≤ result → IsRefusedBy result slot.old.handle.held slot.new.handle.held session (ToQuery (place_form place)) }
+    ensures { SlotAnswers slot.old.handle.held slot.new.handle.held result (PlaceCame session place (place_form place)) (Gives (λ (n : ℕ). n) size.old size.new) }
 {
     match take(alloc, slot) {
         Some(taken) => {
@@ -122,8 +117,8 @@ fn tell_sizes(
     others: &mut u64,
     pending: &mut u64,
 ) -> u32
-    ensures { MatchResult answer (λ counts. (result ≡ 0) × (master.new ≡ counts.master) × (others.new ≡ counts.others) × (pending.new ≡ counts.pending))
-        (λ failure. result ≡ failure_code failure) }
+    ensures code { result ≡ told_code answer }
+    ensures sizes { (Gives (λ (c : Told). c.master) master.old master.new answer) × (Gives (λ (c : Told). c.others) others.old others.new answer) × (Gives (λ (c : Told). c.pending) pending.old pending.new answer) }
 {
     match answer {
         Ok(counts) => {
@@ -146,7 +141,7 @@ pub extern "C" fn segdag_core_sizes(
     others: &mut u64,
     pending: &mut u64,
 ) -> u32
-    ensures { result ≡ 0 → SlotDoes slot.old.handle.held slot.new.handle.held session Status (Sizes master.new others.new pending.new) }
+    ensures { SlotAnswers slot.old.handle.held slot.new.handle.held result (SizesCame session) (λ answer. (Gives (λ (c : Told). c.master) master.old master.new answer) × (Gives (λ (c : Told). c.others) others.old others.new answer) × (Gives (λ (c : Told). c.pending) pending.old pending.new answer)) }
 {
     match take(alloc, slot) {
         Some(held) => {
@@ -160,7 +155,8 @@ pub extern "C" fn segdag_core_sizes(
 
 /// Tells a number of rows, where there is one.
 fn tell_rows(answer: Result<u32, Failure>, rows: &mut u64) -> u32
-    ensures { Tells answer rows.new result }
+    ensures code { result ≡ told_code answer }
+    ensures number { Gives (λ (n : ℕ). n) rows.old rows.new answer }
 {
     match answer {
         Ok(count) => {
@@ -179,8 +175,7 @@ pub extern "C" fn segdag_core_reload(
     session: u8,
     pending: &mut u64,
 ) -> u32
-    ensures does { result ≡ 0 → SlotDoes slot.old.handle.held slot.new.handle.held session ToReload (Reloaded pending.new) }
-    ensures refused { 33 ≤ result → IsRefusedBy result slot.old.handle.held slot.new.handle.held session ToReload }
+    ensures { SlotAnswers slot.old.handle.held slot.new.handle.held result (ReloadCame session) (Gives (λ (n : ℕ). n) pending.old pending.new) }
 {
     match take(alloc, slot) {
         Some(taken) => {
@@ -201,7 +196,7 @@ pub extern "C" fn segdag_core_discard(
     session: u8,
     pending: &mut u64,
 ) -> u32
-    ensures { result ≡ 0 → SlotDoes slot.old.handle.held slot.new.handle.held session ToDiscard (Discarded pending.new) }
+    ensures { SlotAnswers slot.old.handle.held slot.new.handle.held result (DiscardCame session) (Gives (λ (n : ℕ). n) pending.old pending.new) }
 {
     match take(alloc, slot) {
         Some(taken) => {

@@ -1,24 +1,22 @@
 //! The functions that C calls.
 
-ghost use Rattle.std.specs.Prelude.{◌≡◌, ◌≤◌, ◌-◌, ◌++◌, ◌⊎◌, IfOk, IfSome, MatchResult, false, length, min, take, drop, option_copied};
-ghost use Rattle.step_rules.specs.Verb.{IdOf, Count as ToCount, Query as ToQuery};
-ghost use Rattle.step_rules.specs.Reply.{Identified, Counted, Added as IsAdded, Old as IsOld};
-ghost use Rattle.change_rules.specs.Standard.{standard};
-ghost use Rattle.change_rules.specs.Unlawful.{IsNoLog};
+ghost use Rattle.std.specs.Prelude.{◌≡◌, ◌-◌, ◌++◌, ⊤, ℕ, length, min, take, drop, option_copied};
 ghost use Rattle.call_disk.specs.Noted.{said_of, first_call};
 ghost use Rattle.call_disk.specs.Awaited.{awaited};
 ghost use Rattle.call_disk.specs.Performed.{HonestDisk};
 ghost use Rattle.segdag_c.specs.Awaits.{IsPerformed, IsSaid, piece_of};
-ghost use Rattle.segdag_c.specs.Calls.{Tells, TellsAdded, HeldRenews, SlotDoes, SlotDoesOf, SlotAdds, SlotLists, SlotRenews, IsRefusal, IsRefusedBy, IsCopied};
-ghost use Rattle.segdag_c.specs.Loads.{IsRightly, SlotNotes, SlotOpened};
-ghost use Rattle.segdag_c.specs.Typed.{id_told};
-ghost use Rattle.segdag_c.specs.Answers.{HeldAnswers, SlotAnswers};
-ghost use Rattle.segdag_c.specs.Following.{EndsAt, SlotFollows};
+ghost use Rattle.segdag_c.specs.Answers.{LineCame};
+ghost use Rattle.segdag_c.specs.Calls.{AddCame, IdCame, IsCopied, TextCountCame, TextQueryCame};
 ghost use Rattle.segdag_c.specs.Codes.{failure_code};
+ghost use Rattle.segdag_c.specs.Following.{EndCame, MoreCame};
+ghost use Rattle.segdag_c.specs.Handles.{Gives, LeavesClosed, SlotAnswers, SlotCalls, SlotCloses, SlotSays, code_of as told_code};
+ghost use Rattle.segdag_c.specs.Loads.{SlotLoads};
+ghost use Rattle.segdag_c.specs.Renewed.{AddMirrorCame, RenewCame};
+ghost use Rattle.segdag_c.specs.Typed.{id_told};
 
 use crate::answering::answer_line;
 use crate::calls::{add, count, id, query};
-use crate::codes::{DONE, Failure, code_of, code_of_stop};
+use crate::codes::{DONE, Failure, code_of};
 use crate::following::{end_of, take_more};
 use crate::held::Held;
 use crate::loading::load_log;
@@ -41,10 +39,7 @@ pub(crate) fn closed() -> u32
 #[unsafe(no_mangle)]
 pub extern "C" fn segdag_core_load(alloc: Global, slot: &mut Slot, bytes: &[u8], cache: u32) -> u32
     ghost disk: { HonestDisk }
-    ensures opened { result ≡ 0 → SlotOpened bytes.now cache slot.new.handle.held }
-    ensures notes { result ≡ 0 → SlotNotes bytes.now slot.new.handle.held disk.told }
-    ensures rightly { result ≡ 4 → IsRightly bytes.now Failure.NoLog }
-    ensures lawful { IsNoLog standard.log bytes.now → result ≡ 0 → ⊥ }
+    ensures { SlotLoads slot.old.handle.held bytes.now cache disk.told slot.new.handle.held result }
 {
     if slot.is_open {
         return code_of(Failure::AlreadyOpen);
@@ -67,7 +62,7 @@ pub extern "C" fn segdag_core_load(alloc: Global, slot: &mut Slot, bytes: &[u8],
 /// Closes the log. What wasn't flushed is gone.
 #[unsafe(no_mangle)]
 pub extern "C" fn segdag_core_close(alloc: Global, slot: &mut Slot) -> u32
-    ensures { slot.new.is_open ≡ false }
+    ensures { SlotCloses slot.old.handle.held slot.new.handle.held result }
 {
     match take(alloc, slot) {
         Some(held) => {
@@ -107,8 +102,7 @@ pub extern "C" fn segdag_core_next(
     at: &mut u64,
     size: &mut usize,
 ) -> u32
-    ensures said { result ≡ 0 → IfSome slot.old.handle.held (λ held. IsSaid (first_call (awaited held.log)) kind.new at.new size.new) }
-    ensures kept { result ≡ 0 → slot.new.handle.held ≡ slot.old.handle.held }
+    ensures { SlotSays slot.old.handle.held slot.new.handle.held result ((kind.new ≡ kind.old) × (at.new ≡ at.old) × (size.new ≡ size.old)) (λ held. IsSaid (first_call (awaited held.log)) kind.new at.new size.new) }
 {
     match take(alloc, slot) {
         Some(held) => {
@@ -156,8 +150,7 @@ pub extern "C" fn segdag_core_piece(
     out: &mut [u8],
     copied: &mut usize,
 ) -> u32
-    ensures copies { result ≡ 0 → IfSome slot.old.handle.held (λ held. IsCopied (piece_of (first_call (awaited held.log))) from copied.new out.old out.new) }
-    ensures kept { result ≡ 0 → slot.new.handle.held ≡ slot.old.handle.held }
+    ensures { SlotSays slot.old.handle.held slot.new.handle.held result ((copied.new ≡ copied.old) × (out.new ≡ out.old)) (λ held. IsCopied (piece_of (first_call (awaited held.log))) from copied.new out.old out.new) }
 {
     match take(alloc, slot) {
         Some(held) => {
@@ -172,7 +165,7 @@ pub extern "C" fn segdag_core_piece(
 /// Lets the next call of the disk go, which was performed.
 #[unsafe(no_mangle)]
 pub extern "C" fn segdag_core_performed(alloc: Global, slot: &mut Slot) -> u32
-    ensures { result ≡ 0 → IfSome slot.old.handle.held (λ before. IfSome slot.new.handle.held (IsPerformed before)) }
+    ensures { SlotCalls slot.old.handle.held slot.new.handle.held result ⊤ (λ before after. (result ≡ 0) × IsPerformed before after) }
 {
     match take(alloc, slot) {
         Some(taken) => {
@@ -185,17 +178,20 @@ pub extern "C" fn segdag_core_performed(alloc: Global, slot: &mut Slot) -> u32
     }
 }
 
-/// Answers a command line of an open log, says how many bytes the reply has, and gives the code.
-fn tell_line(alloc: Global, held: &mut Held, line: &[u8], reply_size: &mut usize) -> u32
+/// Answers a command line of an open log, and says how many bytes the reply has.
+fn tell_line(
+    alloc: Global,
+    held: &mut Held,
+    line: &[u8],
+    reply_size: &mut usize,
+) -> Result<(), Failure>
     ghost disk: { HonestDisk }
-    ensures { result ≡ 0 → HeldAnswers held.old line.now held.new disk.told }
+    ensures came { LineCame line.now disk.told held.old held.new result }
+    ensures size { reply_size.new ≡ length held.new.reply.taken }
 {
     let answered = answer_line(alloc, held, line);
     *reply_size = held.reply.bytes().len();
-    match answered {
-        Ok(()) => DONE,
-        Err(stop) => code_of_stop(stop),
-    }
+    answered
 }
 
 /// Answers a command line, and says how many bytes the reply has. A line with no reply has an empty one. What is said of the disk holds of
@@ -208,14 +204,14 @@ pub extern "C" fn segdag_core_line(
     reply_size: &mut usize,
 ) -> u32
     ghost disk: { HonestDisk }
-    ensures { result ≡ 0 → SlotAnswers slot.old.handle.held line.now slot.new.handle.held disk.told }
+    ensures { SlotAnswers slot.old.handle.held slot.new.handle.held result (λ before after answer. (reply_size.new ≡ length after.reply.taken) × LineCame line.now disk.told before after answer) (λ answer. LeavesClosed slot.old.handle.held reply_size.old reply_size.new) }
 {
     match take(alloc, slot) {
         Some(taken) => {
             let mut held = taken;
-            let code = tell_line(alloc, &mut *held, line, reply_size);
+            let answered = tell_line(alloc, &mut *held, line, reply_size);
             put(slot, held);
-            code
+            code_of_done(answered)
         }
         None => closed(),
     }
@@ -230,8 +226,7 @@ pub extern "C" fn segdag_core_reply(
     out: &mut [u8],
     copied: &mut usize,
 ) -> u32
-    ensures copies { result ≡ 0 → IfSome slot.old.handle.held (λ held. IsCopied held.reply.taken from copied.new out.old out.new) }
-    ensures kept { result ≡ 0 → slot.new.handle.held ≡ slot.old.handle.held }
+    ensures { SlotSays slot.old.handle.held slot.new.handle.held result ((copied.new ≡ copied.old) × (out.new ≡ out.old)) (λ held. IsCopied held.reply.taken from copied.new out.old out.new) }
 {
     match take(alloc, slot) {
         Some(held) => {
@@ -255,7 +250,8 @@ fn id_of(added: Added) -> Id
 
 /// Tells what came of an add: its id, where there is one.
 fn tell_added(answer: Result<Added, Failure>, number: &mut u64) -> u32
-    ensures { TellsAdded answer number.new result }
+    ensures code { result ≡ told_code answer }
+    ensures number { Gives id_told number.old number.new answer }
 {
     match answer {
         Ok(added) => {
@@ -276,9 +272,7 @@ pub extern "C" fn segdag_core_add(
     parents: &[u8],
     number: &mut u64,
 ) -> u32
-    ensures does { result ≡ 0 → SlotAdds slot.old.handle.held slot.new.handle.held session name.now parents.now (IsAdded number.new)
-        ⊎ SlotAdds slot.old.handle.held slot.new.handle.held session name.now parents.now (IsOld number.new) }
-    ensures refused { 33 ≤ result → IsRefusal result (SlotAdds slot.old.handle.held slot.new.handle.held session name.now parents.now) }
+    ensures { SlotAnswers slot.old.handle.held slot.new.handle.held result (AddCame session name.now parents.now) (Gives id_told number.old number.new) }
 {
     match take(alloc, slot) {
         Some(taken) => {
@@ -299,7 +293,8 @@ pub extern "C" fn segdag_core_add(
 
 /// Tells an id, where there is one.
 fn tell_id(answer: Result<Id, Failure>, number: &mut u64) -> u32
-    ensures { Tells answer number.new result }
+    ensures code { result ≡ told_code answer }
+    ensures number { Gives (λ (n : ℕ). n) number.old number.new answer }
 {
     match answer {
         Ok(id) => {
@@ -319,8 +314,7 @@ pub extern "C" fn segdag_core_id(
     name: &[u8; 20],
     number: &mut u64,
 ) -> u32
-    ensures does { result ≡ 0 → SlotDoes slot.old.handle.held slot.new.handle.held session (IdOf name.now) (Identified number.new) }
-    ensures refused { 33 ≤ result → IsRefusedBy result slot.old.handle.held slot.new.handle.held session (IdOf name.now) }
+    ensures { SlotAnswers slot.old.handle.held slot.new.handle.held result (IdCame session name.now) (Gives (λ (n : ℕ). n) number.old number.new) }
 {
     match take(alloc, slot) {
         Some(taken) => {
@@ -335,7 +329,8 @@ pub extern "C" fn segdag_core_id(
 
 /// Tells a count, where there is one.
 pub(crate) fn tell_count(answer: Result<u64, Failure>, total: &mut u64) -> u32
-    ensures { Tells answer total.new result }
+    ensures code { result ≡ told_code answer }
+    ensures number { Gives (λ (n : ℕ). n) total.old total.new answer }
 {
     match answer {
         Ok(count) => {
@@ -355,8 +350,7 @@ pub extern "C" fn segdag_core_count(
     text: &[u8],
     total: &mut u64,
 ) -> u32
-    ensures does { result ≡ 0 → SlotDoesOf slot.old.handle.held slot.new.handle.held session text.now ToCount (Counted total.new) }
-    ensures refused { 33 ≤ result → IsRefusal result (SlotDoesOf slot.old.handle.held slot.new.handle.held session text.now ToCount) }
+    ensures { SlotAnswers slot.old.handle.held slot.new.handle.held result (TextCountCame session text.now) (Gives (λ (n : ℕ). n) total.old total.new) }
 {
     match take(alloc, slot) {
         Some(taken) => {
@@ -371,7 +365,8 @@ pub extern "C" fn segdag_core_count(
 
 /// Tells how many bytes names have, where there are some.
 pub(crate) fn tell_size(answer: Result<usize, Failure>, size: &mut usize) -> u32
-    ensures { Tells answer size.new result }
+    ensures code { result ≡ told_code answer }
+    ensures number { Gives (λ (n : ℕ). n) size.old size.new answer }
 {
     match answer {
         Ok(bytes) => {
@@ -392,8 +387,7 @@ pub extern "C" fn segdag_core_query(
     text: &[u8],
     size: &mut usize,
 ) -> u32
-    ensures does { result ≡ 0 → SlotLists slot.old.handle.held slot.new.handle.held session text.now size.new }
-    ensures refused { 33 ≤ result → IsRefusal result (SlotDoesOf slot.old.handle.held slot.new.handle.held session text.now ToQuery) }
+    ensures { SlotAnswers slot.old.handle.held slot.new.handle.held result (TextQueryCame session text.now) (Gives (λ (n : ℕ). n) size.old size.new) }
 {
     match take(alloc, slot) {
         Some(taken) => {
@@ -415,8 +409,7 @@ pub extern "C" fn segdag_core_names(
     out: &mut [u8],
     copied: &mut usize,
 ) -> u32
-    ensures copies { result ≡ 0 → IfSome slot.old.handle.held (λ held. IsCopied held.names.items from copied.new out.old out.new) }
-    ensures kept { result ≡ 0 → slot.new.handle.held ≡ slot.old.handle.held }
+    ensures { SlotSays slot.old.handle.held slot.new.handle.held result ((copied.new ≡ copied.old) × (out.new ≡ out.old)) (λ held. IsCopied held.names.items from copied.new out.old out.new) }
 {
     match take(alloc, slot) {
         Some(held) => {
@@ -430,7 +423,7 @@ pub extern "C" fn segdag_core_names(
 
 /// The code of a call that gives nothing.
 fn code_of_done(done: Result<(), Failure>) -> u32
-    ensures { MatchResult done (λ _. result ≡ 0) (λ failure. result ≡ failure_code failure) }
+    ensures { result ≡ told_code done }
 {
     match done {
         Ok(()) => DONE,
@@ -446,7 +439,9 @@ pub extern "C" fn segdag_core_add_mirror(
     slot: &mut Slot,
     number: u32,
     kind: u32,
-) -> u32 {
+) -> u32
+    ensures { SlotAnswers slot.old.handle.held slot.new.handle.held result (AddMirrorCame number kind) (λ answer. ⊤) }
+{
     match take(alloc, slot) {
         Some(taken) => {
             let mut held = taken;
@@ -458,14 +453,6 @@ pub extern "C" fn segdag_core_add_mirror(
     }
 }
 
-/// Gives a mirror of an open log other bytes, and gives the code.
-fn tell_renewed(alloc: Global, held: &mut Held, number: u32, is_there: bool, bytes: &[u8]) -> u32
-    ensures { result ≡ 0 → HeldRenews held.old held.new number is_there bytes.now }
-{
-    let done = renew_mirror(alloc, held, number, is_there, bytes);
-    code_of_done(done)
-}
-
 /// Gives the mirror with this number a copy of these bytes, the whole of its file, or says that it isn't there.
 #[unsafe(no_mangle)]
 pub extern "C" fn segdag_core_renew_mirror(
@@ -475,14 +462,14 @@ pub extern "C" fn segdag_core_renew_mirror(
     is_there: bool,
     bytes: &[u8],
 ) -> u32
-    ensures { result ≡ 0 → SlotRenews slot.old.handle.held slot.new.handle.held number is_there bytes.now }
+    ensures { SlotAnswers slot.old.handle.held slot.new.handle.held result (RenewCame number is_there bytes.now) (λ answer. ⊤) }
 {
     match take(alloc, slot) {
         Some(taken) => {
             let mut held = taken;
-            let code = tell_renewed(alloc, &mut *held, number, is_there, bytes);
+            let done = renew_mirror(alloc, &mut *held, number, is_there, bytes);
             put(slot, held);
-            code
+            code_of_done(done)
         }
         None => closed(),
     }
@@ -490,7 +477,8 @@ pub extern "C" fn segdag_core_renew_mirror(
 
 /// Tells where the log goes on, where there is one.
 fn tell_end(answer: Result<u64, Failure>, at: &mut u64) -> u32
-    ensures { Tells answer at.new result }
+    ensures code { result ≡ told_code answer }
+    ensures number { Gives (λ (n : ℕ). n) at.old at.new answer }
 {
     match answer {
         Ok(end) => {
@@ -504,8 +492,7 @@ fn tell_end(answer: Result<u64, Failure>, at: &mut u64) -> u32
 /// Says where in its file the log goes on: the place of its closed gate, from which on `segdag_core_more` takes bytes.
 #[unsafe(no_mangle)]
 pub extern "C" fn segdag_core_end(alloc: Global, slot: &mut Slot, at: &mut u64) -> u32
-    ensures end { result ≡ 0 → EndsAt slot.old.handle.held at.new }
-    ensures kept { result ≡ 0 → slot.new.handle.held ≡ slot.old.handle.held }
+    ensures { SlotAnswers slot.old.handle.held slot.new.handle.held result EndCame (Gives (λ (n : ℕ). n) at.old at.new) }
 {
     match take(alloc, slot) {
         Some(held) => {
@@ -526,7 +513,7 @@ pub extern "C" fn segdag_core_more(
     bytes: &[u8],
     count: &mut u32,
 ) -> u32
-    ensures { result ≡ 0 → SlotFollows slot.old.handle.held bytes.now slot.new.handle.held }
+    ensures { SlotAnswers slot.old.handle.held slot.new.handle.held result (MoreCame bytes.now count.new) (λ answer. LeavesClosed slot.old.handle.held count.old count.new) }
 {
     match take(alloc, slot) {
         Some(taken) => {

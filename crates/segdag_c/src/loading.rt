@@ -5,7 +5,7 @@ ghost use Rattle.call_disk.specs.Awaited.{awaited};
 ghost use Rattle.call_disk.specs.Lent.{HasBytes};
 ghost use Rattle.call_disk.specs.Performed.{HonestDisk};
 ghost use Rattle.change_rules.specs.Standard.{standard};
-ghost use Rattle.segdag_c.specs.Loads.{load_failure, HeldNotes, HoldsOpened, IsOpened, IsRightly, LoadNotes, Settles};
+ghost use Rattle.segdag_c.specs.Loads.{load_failure, HoldsOpened, IsOpened, IsRightly, LoadNotes, Settles};
 
 use crate::codes::Failure;
 use crate::held::Held;
@@ -80,8 +80,7 @@ fn held_of(alloc: Global, store: Store, log: NotedCalls, reply: MemorySink) -> H
 pub(crate) fn load_log(alloc: Global, bytes: &[u8], cache: u32) -> Result<Held, Failure>
     ghost disk: { HonestDisk }
     requires { 0 < cache }
-    ensures opened { IfOk result (HoldsOpened bytes.now cache) }
-    ensures notes { IfOk result (λ held. HeldNotes bytes.now held disk.told) }
+    ensures opened { IfOk result (HoldsOpened bytes.now cache disk.told) }
     ensures rightly { IfErr result (IsRightly bytes.now) }
 {
     let Ok(reply) = MemorySink::new(alloc, &[]) else {

@@ -1,9 +1,9 @@
 //! The calls that add mirrors to an open log, and give them their bytes.
 
-ghost use Rattle.std.specs.Prelude.{◌≡◌, ◌<◌, length, Some, None, IfOk, IfErr, IfSome, slice_get, if◌then◌else◌};
+ghost use Rattle.std.specs.Prelude.{◌≡◌, ◌<◌, ◌++◌, ◌∷◌, [], ℕ, length, Some, None, IfOk, IfErr, IfSome, MatchOption, MatchResult, slice_get, if◌then◌else◌};
 ghost use Rattle.disk_trait.specs.Images.{fresh_disk};
 ghost use Rattle.call_disk.specs.Tells.{tells};
-ghost use Rattle.segdag_c.specs.Renewed.{bundle_over, log_over, number_of, renewed, AreOver, AreRenewed, HasNumber};
+ghost use Rattle.segdag_c.specs.Renewed.{bundle_over, log_over, number_of, renewed, AddMirrorCame, AreOver, HasNumber, IsMissing, IsOverAt, IsNoKind, RenewCame};
 
 use crate::codes::Failure;
 use crate::held::Held;
@@ -42,7 +42,9 @@ fn bundle_on(disk: OwnedDisk) -> BundleRemote<OwnedDisk>
 }
 
 /// A mirror of this kind, if it is one, that isn't there.
-fn missing(alloc: Global, number: u32, kind: u32) -> Option<Mirror> {
+fn missing(alloc: Global, number: u32, kind: u32) -> Option<Mirror>
+    ensures { MatchOption result (IsNoKind kind) (IsMissing number kind) }
+{
     match kind {
         LOG => Some(Mirror::Log(number, log_on(OwnedDisk::missing(alloc)))),
         BUNDLE => Some(Mirror::Bundle(number, bundle_on(OwnedDisk::missing(alloc)))),
@@ -51,13 +53,17 @@ fn missing(alloc: Global, number: u32, kind: u32) -> Option<Mirror> {
 }
 
 /// That memory ran out for one mirror more, which is let go.
-fn no_memory(_left: AllocFailed<Mirror>) -> Failure {
+fn no_memory(_left: AllocFailed<Mirror>) -> Failure
+    ensures { result ≡ Failure.Memory }
+{
     Failure::Memory
 }
 
 /// Puts a mirror behind the others.
 fn push_mirror(mirrors: &mut Mirrors<Mirror>, mirror: Mirror) -> Result<(), Failure>
     requires { length mirrors.old.list.items < 65536 }
+    ensures { MatchResult result (λ _. mirrors.new.list.items ≡ mirrors.old.list.items ++ mirror ∷ [])
+        (λ failure. (failure ≡ Failure.Memory) × (mirrors.new.list.items ≡ mirrors.old.list.items)) }
 {
     mirrors.list.push(mirror).map_err(no_memory)
 }
@@ -68,7 +74,9 @@ pub(crate) fn add_mirror(
     held: &mut Held,
     number: u32,
     kind: u32,
-) -> Result<(), Failure> {
+) -> Result<(), Failure>
+    ensures { AddMirrorCame number kind held.old held.new result }
+{
     if held.mirrors.len() >= MOST_MIRRORS {
         return Err(Failure::Argument);
     }
@@ -103,6 +111,7 @@ impl Mirror {
 fn place_of(list: &[Mirror], number: u32) -> Option<usize>
     ensures bound { IfSome result (λ k. k < length list.now) }
     ensures number { IfSome result (HasNumber list.now number) }
+    ensures none { result ≡ None → (k : ℕ) → HasNumber list.now number k → ⊥ }
 {
     'mirrors: for k in 0..list.len() {
         let mirror = &list[k];
@@ -115,7 +124,8 @@ fn place_of(list: &[Mirror], number: u32) -> Option<usize>
 
 /// The disk with a copy of these bytes, or one that isn't there.
 fn disk_of(alloc: Global, is_there: bool, bytes: &[u8]) -> Result<OwnedDisk, Failure>
-    ensures { IfOk result (λ disk. tells disk ≡ (if is_there then Some (fresh_disk bytes.now) else None)) }
+    ensures disk { IfOk result (λ disk. tells disk ≡ (if is_there then Some (fresh_disk bytes.now) else None)) }
+    ensures fault { IfErr result (λ failure. failure ≡ Failure.Memory) }
 {
     if !is_there {
         return Ok(OwnedDisk::missing(alloc));
@@ -126,15 +136,24 @@ fn disk_of(alloc: Global, is_there: bool, bytes: &[u8]) -> Result<OwnedDisk, Fai
     }
 }
 
+/// Gives the mirror at this place another disk.
+fn renew_at(mirrors: &mut Mirrors<Mirror>, place: usize, disk: OwnedDisk)
+    requires { place < length mirrors.old.list.items }
+    ensures { IsOverAt mirrors.old.list.items mirrors.new.list.items place disk }
+{
+    let mirror = &mut mirrors.list[place];
+    mirror.renew(disk);
+}
+
 /// Gives the mirror with this number another disk, if there is one.
 fn renew_in(mirrors: &mut Mirrors<Mirror>, number: u32, disk: OwnedDisk) -> Result<(), Failure>
-    ensures { IfOk result (λ _. AreOver mirrors.old.list.items mirrors.new.list.items number disk) }
+    ensures { MatchResult result (λ _. AreOver mirrors.old.list.items mirrors.new.list.items number disk)
+        (λ failure. (failure ≡ Failure.Argument) × ((k : ℕ) → HasNumber mirrors.old.list.items number k → ⊥) × (mirrors.new ≡ mirrors.old)) }
 {
     let Some(place) = place_of(&mirrors.list, number) else {
         return Err(Failure::Argument);
     };
-    let mirror = &mut mirrors.list[place];
-    mirror.renew(disk);
+    renew_at(mirrors, place, disk);
     Ok(())
 }
 
@@ -146,7 +165,7 @@ pub(crate) fn renew_mirror(
     is_there: bool,
     bytes: &[u8],
 ) -> Result<(), Failure>
-    ensures { IfOk result (λ _. AreRenewed held.old.mirrors.list.items held.new.mirrors.list.items number is_there bytes.now) }
+    ensures { RenewCame number is_there bytes.now held.old held.new result }
 {
     match disk_of(alloc, is_there, bytes) {
         Ok(disk) => renew_in(&mut held.mirrors, number, disk),

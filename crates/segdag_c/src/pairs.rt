@@ -1,11 +1,7 @@
 //! Typed calls over two commits, or over a place: each expression is made of the names or the number, and no text is.
 
-ghost use Rattle.std.specs.Prelude.{◌≡◌, length, IfOk, IfErr, IfSome};
-ghost use Rattle.step_rules.specs.Verb.{Count as ToCount, Query as ToQuery};
-ghost use Rattle.step_rules.specs.Reply.{Refused as IsRefused};
-ghost use Rattle.segdag_c.specs.Calls.{HeldDoes, HeldListsOf};
+ghost use Rattle.segdag_c.specs.Calls.{CountCame, PlaceCame, QueryCame};
 ghost use Rattle.segdag_c.specs.Pairs.{ancestor_form, bases_form, only_form, place_form};
-ghost use Rattle.segdag_c.specs.Typed.{counted_reply, refusal_in};
 
 use crate::calls::{SESSIONS, count_held, query_held};
 use crate::codes::Failure;
@@ -22,7 +18,7 @@ pub(crate) fn count_ancestor(
     a: &Name,
     b: &Name,
 ) -> Result<u64, Failure>
-    ensures { IfSome (counted_reply result) (λ reply. HeldDoes held.old held.new session (ToCount (ancestor_form a.now b.now)) reply) }
+    ensures { CountCame session (ancestor_form a.now b.now) held.old held.new result }
 {
     if session >= SESSIONS {
         return Err(Failure::Argument);
@@ -41,7 +37,7 @@ pub(crate) fn count_only(
     a: &Name,
     b: &Name,
 ) -> Result<u64, Failure>
-    ensures { IfSome (counted_reply result) (λ reply. HeldDoes held.old held.new session (ToCount (only_form a.now b.now)) reply) }
+    ensures { CountCame session (only_form a.now b.now) held.old held.new result }
 {
     if session >= SESSIONS {
         return Err(Failure::Argument);
@@ -60,8 +56,7 @@ pub(crate) fn find_bases(
     a: &Name,
     b: &Name,
 ) -> Result<usize, Failure>
-    ensures listed { IfOk result (λ size. (size ≡ length held.new.names.items) × HeldListsOf held.old held.new session (bases_form a.now b.now)) }
-    ensures refused { IfErr result (λ failure. IfSome (refusal_in failure) (λ refusal. HeldDoes held.old held.new session (ToQuery (bases_form a.now b.now)) (IsRefused refusal))) }
+    ensures { QueryCame session (bases_form a.now b.now) held.old held.new result }
 {
     if session >= SESSIONS {
         return Err(Failure::Argument);
@@ -79,8 +74,7 @@ pub(crate) fn find_at_place(
     session: u8,
     place: u64,
 ) -> Result<usize, Failure>
-    ensures listed { IfOk result (λ size. (size ≡ length held.new.names.items) × HeldListsOf held.old held.new session (place_form place)) }
-    ensures refused { IfErr result (λ failure. IfSome (refusal_in failure) (λ refusal. HeldDoes held.old held.new session (ToQuery (place_form place)) (IsRefused refusal))) }
+    ensures { PlaceCame session place (place_form place) held.old held.new result }
 {
     if session >= SESSIONS || place == 0 {
         return Err(Failure::Argument);

@@ -1,10 +1,10 @@
 //! Typed calls of a session as a whole: its sizes, and its pending rows.
 
-ghost use Rattle.std.specs.Prelude.{◌≡◌, ◌<◌, List, IfSome, IfOk};
+ghost use Rattle.std.specs.Prelude.{◌≡◌, ◌<◌, List, MatchOption};
 ghost use Rattle.remote_rules.specs.Mirror.{Mirror as Shown};
 ghost use Rattle.step_rules.specs.Verb.{Discard as ToDiscard, Reload as ToReload, Status};
 ghost use Rattle.step_rules.specs.Reply.{Discarded, Sizes};
-ghost use Rattle.segdag_c.specs.Calls.{HeldDoes};
+ghost use Rattle.segdag_c.specs.Calls.{DiscardCame, ReloadCame, SizesCame};
 ghost use Rattle.segdag_c.specs.Does.{Does};
 ghost use Rattle.segdag_c.specs.Mirrors.{shown_all};
 ghost use Rattle.segdag_c.specs.Typed.{reloaded_reply};
@@ -26,7 +26,7 @@ fn sizes_in(store: &Store, session: u8) -> Counts
 
 /// How many rows a session works on.
 pub(crate) fn sizes(held: &Held, session: u8) -> Result<Counts, Failure>
-    ensures { IfOk result (λ counts. HeldDoes held.now held.now session Status (Sizes counts.master counts.others counts.pending)) }
+    ensures { SizesCame session held.now held.now result }
 {
     if session >= SESSIONS {
         return Err(Failure::Argument);
@@ -40,7 +40,7 @@ pub(crate) fn sizes(held: &Held, session: u8) -> Result<Counts, Failure>
 /// Takes a session of the store to the newest version, and tells how many pending rows it keeps.
 fn reload_in(store: &mut Store, mirrors: &mut Mirrors<Mirror>, session: u8) -> Result<u32, Failure>
     requires { session < 16 }
-    ensures does { IfSome (reloaded_reply result) (λ reply. Does (shown_all mirrors.old.list.items) store.old session ToReload reply store.new (shown_all mirrors.new.list.items)) }
+    ensures does { MatchOption (reloaded_reply result) ⊥ (λ reply. Does (shown_all mirrors.old.list.items) store.old session ToReload reply store.new (shown_all mirrors.new.list.items)) }
     ensures limits { store.new.limits ≡ store.old.limits }
 {
     match store.reload(session, mirrors) {
@@ -51,7 +51,7 @@ fn reload_in(store: &mut Store, mirrors: &mut Mirrors<Mirror>, session: u8) -> R
 
 /// Takes a session to the newest version, and tells how many pending rows it keeps.
 pub(crate) fn reload(held: &mut Held, session: u8) -> Result<u32, Failure>
-    ensures { IfSome (reloaded_reply result) (λ reply. HeldDoes held.old held.new session ToReload reply) }
+    ensures { ReloadCame session held.old held.new result }
 {
     if session >= SESSIONS {
         return Err(Failure::Argument);
@@ -73,7 +73,7 @@ fn discard_in(store: &mut Store, session: u8) -> u32
 
 /// Lets the pending rows of a session go, and tells how many they were.
 pub(crate) fn discard(held: &mut Held, session: u8) -> Result<u32, Failure>
-    ensures { IfOk result (λ count. HeldDoes held.old held.new session ToDiscard (Discarded count)) }
+    ensures { DiscardCame session held.old held.new result }
 {
     if session >= SESSIONS {
         return Err(Failure::Argument);

@@ -15,6 +15,7 @@ use Rattle.set_expr.specs.declared.words.Call.TheVariants as calls
 use Rattle.set_expr.specs.declared.words.PairCall.{PairCall}
 use Rattle.set_expr.specs.declared.words.PairCall.TheVariants as pairs
 use Rattle.set_expr.specs.Expr.{Expr, One, Named, Of, OfTwo, Up, Top, commits_in}
+use Rattle.set_expr.specs.Line.{by_first, line}
 use Rattle.set_expr.specs.Meaning.{IsMember, IsAnswer, named, made_of, made_of_two}
 use Rattle.set_expr.specs.Computed as test
 use Rattle.set_expr.specs.Computed.{is_member, answer_of}
@@ -24,6 +25,7 @@ pub record IsBounded {N : Type 0} (same : N → N → Bool) (g : Graph N) (bound
   pub exact : (x y : N) → same x y ≡ true → x ≡ y
   pub self : (x : N) → same x x ≡ true
   pub walks : (x y : N) → Reaches g x y → reaches_in same g bound x y ≡ true
+  pub firsts : (x y : N) → Reaches (by_first g) x y → reaches_in same (by_first g) bound x y ≡ true
   pub parents : (x p : N) → IsIn p (g.parents x) → IsIn p g.down
   pub children : (x p : N) → IsIn p (g.parents x) → IsIn x g.down
 
@@ -76,6 +78,10 @@ module _ {N : Type 0} (same : N → N → Bool) (g : Graph N) (bound : ℕ) (b :
   walk-within : (x : N) (walk : List N) (y : N) → IsIn x g.down → IsWalk g x walk y → IsIn y g.down
   walk-within x [] y i h = subst (λ z. IsIn z g.down) h i
   walk-within x (p ∷ more) y i h = walk-within p more y (b.parents x p h.0) h.1
+
+  first-within : (x : N) (walk : List N) (y : N) → IsIn x g.down → IsWalk (by_first g) x walk y → IsIn y g.down
+  first-within x [] y i h = subst (λ z. IsIn z g.down) h i
+  first-within x (p ∷ more) y i h = first-within p more y (b.parents x p (take-in p 1 (g.parents x) h.0)) h.1
 
   walk-from-within : (x : N) (walk : List N) (y : N) → IsIn y g.down → IsWalk g x walk y → IsIn x g.down
   walk-from-within x [] y i h = subst (λ z. IsIn z g.down) (sym h) i
@@ -158,6 +164,15 @@ module _ {N : Type 0} (same : N → N → Bool) (g : Graph N) (bound : ℕ) (b :
       within = λ x h. d.within x h.0;
     }
 
+    line-decided : IsDecided g (line g S) (test.line_test same g bound s)
+    line-decided = record {
+      sound = λ x h. let r = any-in (λ m. s m && reaches_in same (by_first g) bound m x) g.down h in
+          let e = and_true (s r.0) (reaches_in same (by_first g) bound r.0 x) r.2 in (r.0, d.sound r.0 e.0, reaches-found same b.exact b.self (by_first g) bound r.0 x e.1);
+      whole = λ x h. in-any (λ m. s m && reaches_in same (by_first g) bound m x) g.down h.0 (d.within h.0 h.1)
+          (both_true (s h.0) (reaches_in same (by_first g) bound h.0 x) (d.whole h.0 h.1) (b.firsts h.0 x h.2));
+      within = λ x h. first-within h.0 h.2.0 x (d.within h.0 h.1) h.2.1;
+    }
+
   minus-decided : (S T : Commits N) (s t : N → Bool) → IsDecided g S s → IsDecided g T t → IsDecided g (sets.minus S T) (λ x. s x && not (t x))
   minus-decided S T s t d e = record {
     sound = λ x h. let f = and_true (s x) (not (t x)) h in (d.sound x f.0, λ k. not_true (t x) f.1 (e.whole x k));
@@ -193,6 +208,7 @@ module _ {N : Type 0} (same : N → N → Bool) (g : Graph N) (bound : ℕ) (b :
   call-decided calls.Merges S s d = merges-decided S s d
   call-decided calls.Common S s d = common-decided S s d
   call-decided calls.Gca S s d = heads-decided (sets.common g S) (test.common_test same g bound s) (common-decided S s d)
+  call-decided calls.Line S s d = line-decided S s d
 
   pair-decided : (call : PairCall) (S T : Commits N) (s t : N → Bool) → IsDecided g S s → IsDecided g T t → IsDecided g (made_of_two g call S T) (test.pair_test same g bound call s t)
   pair-decided pairs.Range S T s t d e = inter-decided (sets.descendants g S) (sets.ancestors g T) (test.descendants_test same g bound s) (test.ancestors_test same g bound t) (descendants-decided S s d) (ancestors-decided T t e)

@@ -1,4 +1,5 @@
 pub mod Deciding
+pub mod Lines
 pub mod Worlds
 pub mod Renamings
 pub mod Marks

@@ -52,6 +52,7 @@ unmarked-call calls.Roots = unmarked-text (codes "roots") refl refl refl
 unmarked-call calls.Tips = unmarked-text (codes "tips") refl refl refl
 unmarked-call calls.Merges = unmarked-text (codes "merges") refl refl refl
 unmarked-call calls.Common = unmarked-text (codes "common") refl refl refl
+unmarked-call calls.Line = unmarked-text (codes "line") refl refl refl
 unmarked-call calls.Gca = unmarked-text (codes "gca") refl refl refl
 
 pub unmarked-pair : (call : PairCall) → Unmarked (pair_text call)

@@ -38,6 +38,7 @@ form_of text =
     else if bytes_eq text (codes "tips") then Some (ACall (heads.Of calls.Tips))
     else if bytes_eq text (codes "merges") then Some (ACall (heads.Of calls.Merges))
     else if bytes_eq text (codes "common") then Some (ACall (heads.Of calls.Common))
+    else if bytes_eq text (codes "line") then Some (ACall (heads.Of calls.Line))
     else if bytes_eq text (codes "gca") then Some (ACall (heads.Of calls.Gca))
     else if bytes_eq text (codes "range") then Some (ACall (heads.OfTwo pairs.Range))
     else if bytes_eq text (codes "only") then Some (ACall (heads.OfTwo pairs.Only))
@@ -63,6 +64,7 @@ form-head (heads.Of calls.Roots) = refl
 form-head (heads.Of calls.Tips) = refl
 form-head (heads.Of calls.Merges) = refl
 form-head (heads.Of calls.Common) = refl
+form-head (heads.Of calls.Line) = refl
 form-head (heads.Of calls.Gca) = refl
 form-head (heads.OfTwo pairs.Range) = refl
 form-head (heads.OfTwo pairs.Only) = refl

@@ -12,6 +12,7 @@ use Rattle.set_expr.specs.declared.words.Call.TheVariants as calls
 use Rattle.set_expr.specs.declared.words.PairCall.{PairCall}
 use Rattle.set_expr.specs.declared.words.PairCall.TheVariants as pairs
 use Rattle.set_expr.specs.Expr.{Expr, One, Named, Of, OfTwo, Up, Top, commits_in, renamed}
+use Rattle.set_expr.specs.Line.{by_first, line}
 use Rattle.set_expr.specs.Meaning.{IsMember, IsAnswer, named, made_of, made_of_two}
 use Rattle.set_expr.proofs.Deciding.{filtered-in, take-in, all-in-front, all-in-rest, first-in, some-same, none-some}
 
@@ -205,35 +206,55 @@ module _ {M N : Type 0} (f : M → N) (g : Graph M) (h : Graph N) (r : IsRenamin
   heads-agree : (S : Commits M) (T : Commits N) → Agrees f g S T → Agrees f g (sets.heads g S) (sets.heads h T)
   heads-agree S T a = minus-agree S (sets.parents g S) T (sets.parents h T) a (parents-agree S T a)
 
+-- a line is what is reached by first parents, so it agrees as ancestors do
+module _ {M N : Type 0} (f : M → N) (g : Graph M) (h : Graph N) (r : IsRenaming f g h) (cg : IsClosed g) (ch : IsClosed h) where
+  by-first : IsRenaming f (by_first g) (by_first h)
+  by-first = record {
+    down = r.down;
+    parents = λ x i. ap (take 1) (r.parents x i) ∙ map-take f 1 (g.parents x);
+    master = r.master;
+    apart = r.apart;
+  }
+
+  line-agree : (S : Commits M) (T : Commits N) → Agrees f g S T → Agrees f g (line g S) (line h T)
+  line-agree S T a =
+      let c = ancestors-agree f (by_first g) (by_first h) by-first
+      (record { parents = λ x p i. cg.parents x p (take-in p 1 (g.parents x) i); children = λ x p i. cg.children x p (take-in p 1 (g.parents x) i) })
+      (record { parents = λ x p i. ch.parents x p (take-in p 1 (h.parents x) i); children = λ x p i. ch.children x p (take-in p 1 (h.parents x) i) })
+      S T (record { to = a.to; from = a.from; within = a.within }) in
+      record { to = c.to; from = c.from; within = c.within }
+
+module _ {M N : Type 0} (f : M → N) (g : Graph M) (h : Graph N) (r : IsRenaming f g h) (cg : IsClosed g) (ch : IsClosed h) where
   pub call-agree : (call : Call) (S : Commits M) (T : Commits N) → Agrees f g S T → Agrees f g (made_of g call S) (made_of h call T)
-  call-agree calls.Parents S T a = parents-agree S T a
-  call-agree calls.Children S T a = children-agree S T a
-  call-agree calls.Ancestors S T a = ancestors-agree S T a
-  call-agree calls.Descendants S T a = descendants-agree S T a
-  call-agree calls.Heads S T a = heads-agree S T a
-  call-agree calls.Roots S T a = minus-agree S (sets.children g S) T (sets.children h T) a (children-agree S T a)
-  call-agree calls.Tips S T a = tips-agree S T a
-  call-agree calls.Merges S T a = merges-agree S T a
-  call-agree calls.Common S T a = common-agree S T a
-  call-agree calls.Gca S T a = heads-agree (sets.common g S) (sets.common h T) (common-agree S T a)
+  call-agree calls.Parents S T a = parents-agree f g h r cg ch S T a
+  call-agree calls.Children S T a = children-agree f g h r cg ch S T a
+  call-agree calls.Ancestors S T a = ancestors-agree f g h r cg ch S T a
+  call-agree calls.Descendants S T a = descendants-agree f g h r cg ch S T a
+  call-agree calls.Heads S T a = heads-agree f g h r cg ch S T a
+  call-agree calls.Roots S T a = minus-agree f g h r cg ch S (sets.children g S) T (sets.children h T) a (children-agree f g h r cg ch S T a)
+  call-agree calls.Tips S T a = tips-agree f g h r cg ch S T a
+  call-agree calls.Merges S T a = merges-agree f g h r cg ch S T a
+  call-agree calls.Common S T a = common-agree f g h r cg ch S T a
+  call-agree calls.Line S T a = line-agree f g h r cg ch S T a
+  call-agree calls.Gca S T a = heads-agree f g h r cg ch (sets.common g S) (sets.common h T) (common-agree f g h r cg ch S T a)
 
   pub pair-agree : (call : PairCall) (S A : Commits M) (T B : Commits N) → Agrees f g S T → Agrees f g A B → Agrees f g (made_of_two g call S A) (made_of_two h call T B)
-  pair-agree pairs.Range S A T B a b = inter-agree (sets.descendants g S) (sets.ancestors g A) (sets.descendants h T) (sets.ancestors h B) (descendants-agree S T a) (ancestors-agree A B b)
-  pair-agree pairs.Only S A T B a b = minus-agree (sets.ancestors g S) (sets.ancestors g A) (sets.ancestors h T) (sets.ancestors h B) (ancestors-agree S T a) (ancestors-agree A B b)
-  pair-agree pairs.Union S A T B a b = union-agree S A T B a b
-  pair-agree pairs.Inter S A T B a b = inter-agree S A T B a b
-  pair-agree pairs.Minus S A T B a b = minus-agree S A T B a b
+  pair-agree pairs.Range S A T B a b = inter-agree f g h r cg ch (sets.descendants g S) (sets.ancestors g A) (sets.descendants h T) (sets.ancestors h B) (descendants-agree f g h r cg ch S T a) (ancestors-agree f g h r cg ch A B b)
+  pair-agree pairs.Only S A T B a b = minus-agree f g h r cg ch (sets.ancestors g S) (sets.ancestors g A) (sets.ancestors h T) (sets.ancestors h B) (ancestors-agree f g h r cg ch S T a) (ancestors-agree f g h r cg ch A B b)
+  pair-agree pairs.Union S A T B a b = union-agree f g h r cg ch S A T B a b
+  pair-agree pairs.Inter S A T B a b = inter-agree f g h r cg ch S A T B a b
+  pair-agree pairs.Minus S A T B a b = minus-agree f g h r cg ch S A T B a b
 
   named-agree : (word : Word) → Agrees f g (named g word) (named h word)
-  named-agree words.All = record { to = place-in-h; from = λ y i. origin y i; within = λ x i. i }
+  named-agree words.All = record { to = place-in-h f g h r cg ch; from = λ y i. origin f g h r cg ch y i; within = λ x i. i }
   named-agree words.Master = record {
-    to = λ x s. (place-in-h x s.0, r.master x s.0 ∙ s.1);
-    from = λ y t. let o = origin y t.0 in (o.0, (o.1, sym (r.master o.0 o.1) ∙ ap h.is_master o.2 ∙ t.1), o.2);
+    to = λ x s. (place-in-h f g h r cg ch x s.0, r.master x s.0 ∙ s.1);
+    from = λ y t. let o = origin f g h r cg ch y t.0 in (o.0, (o.1, sym (r.master o.0 o.1) ∙ ap h.is_master o.2 ∙ t.1), o.2);
     within = λ x s. s.0;
   }
   named-agree words.Others = record {
-    to = λ x s. (place-in-h x s.0, r.master x s.0 ∙ s.1);
-    from = λ y t. let o = origin y t.0 in (o.0, (o.1, sym (r.master o.0 o.1) ∙ ap h.is_master o.2 ∙ t.1), o.2);
+    to = λ x s. (place-in-h f g h r cg ch x s.0, r.master x s.0 ∙ s.1);
+    from = λ y t. let o = origin f g h r cg ch y t.0 in (o.0, (o.1, sym (r.master o.0 o.1) ∙ ap h.is_master o.2 ∙ t.1), o.2);
     within = λ x s. s.0;
   }
 
@@ -282,10 +303,10 @@ module _ {M N : Type 0} (f : M → N) (g : Graph M) (h : Graph N) (r : IsRenamin
       pair-agree call (IsMember g s) (IsMember g t) (IsMember h (renamed f s)) (IsMember h (renamed f t))
       (members-agree s (all-in-front (commits_in s) (commits_in t) g.down k)) (members-agree t (all-in-rest (commits_in s) (commits_in t) g.down k))
   members-agree (Up y n) k = up-agree y n k.0
-  members-agree (Top s n) k = top-agree (IsMember g s) (IsMember h (renamed f s)) (members-agree s k) n
+  members-agree (Top s n) k = top-agree f g h r cg ch (IsMember g s) (IsMember h (renamed f s)) (members-agree s k) n
 
   -- and the same answer
   pub answer-agree : (e : Expr M) (xs : List M) → AreAllIn (commits_in e) g.down → IsAnswer g e xs → IsAnswer h (renamed f e) (map f xs)
   answer-agree e xs k a =
       subst (λ l. IsFiltered (IsMember h (renamed f e)) l (map f xs)) (sym r.down)
-      (filtered-to (IsMember g e) (IsMember h (renamed f e)) (members-agree e k) g.down xs (λ x i. i) a)
+      (filtered-to f g h r cg ch (IsMember g e) (IsMember h (renamed f e)) (members-agree e k) g.down xs (λ x i. i) a)

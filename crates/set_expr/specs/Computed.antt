@@ -4,6 +4,7 @@ use Rattle.std.specs.List.{list_any, list_all}
 use Rattle.id_groups.specs.Lists.{is_in}
 use Rattle.commit_graph.specs.Graph.{Graph, first_ancestor}
 use Rattle.commit_graph.specs.Search.{reaches_in}
+use Rattle.set_expr.specs.Line.{by_first}
 use Rattle.set_expr.specs.declared.words.Word.{Word}
 use Rattle.set_expr.specs.declared.words.Word.TheVariants as words
 use Rattle.set_expr.specs.declared.words.Call.{Call}
@@ -37,6 +38,10 @@ module _ {N : Type 0} (same : N → N → Bool) (g : Graph N) (bound : ℕ) wher
   abbrev pub heads_test : (N → Bool) → N → Bool
   heads_test s x = s x && not (parents_test s x)
 
+  -- whether some member reaches x by first parents alone
+  abbrev pub line_test : (N → Bool) → N → Bool
+  line_test s x = list_any (λ m. s m && reaches_in same (by_first g) bound m x) g.down
+
   -- whether x is in the set that the word names
   abbrev pub named_test : Word → N → Bool
   named_test words.All x = is_in same x g.down
@@ -55,6 +60,7 @@ module _ {N : Type 0} (same : N → N → Bool) (g : Graph N) (bound : ℕ) wher
   call_test calls.Merges s x = s x && nat_le 2 (length (g.parents x))
   call_test calls.Common s x = common_test s x
   call_test calls.Gca s x = heads_test (common_test s) x
+  call_test calls.Line s x = line_test s x
 
   -- whether x is in what the call makes of two sets
   abbrev pub pair_test : PairCall → (N → Bool) → (N → Bool) → N → Bool

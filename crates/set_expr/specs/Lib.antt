@@ -1,4 +1,5 @@
 pub mod Expr
+pub mod Line
 pub mod Meaning
 pub mod Spelling
 pub mod Fronts

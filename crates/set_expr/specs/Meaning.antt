@@ -4,6 +4,7 @@ use Rattle.id_groups.specs.Lists.{IsIn, IsFiltered}
 use Rattle.commit_graph.specs.Graph.{Graph, first_ancestor}
 use Rattle.commit_graph.specs.Sets as sets
 use Rattle.commit_graph.specs.Sets.{Commits}
+use Rattle.set_expr.specs.Line.{line}
 use Rattle.set_expr.specs.declared.words.Word.{Word}
 use Rattle.set_expr.specs.declared.words.Word.TheVariants as words
 use Rattle.set_expr.specs.declared.words.Call.{Call}
@@ -30,6 +31,7 @@ made_of g calls.Tips = sets.tips g
 made_of g calls.Merges = sets.merges g
 made_of g calls.Common = sets.common g
 made_of g calls.Gca = sets.gca g
+made_of g calls.Line = line g
 
 -- the set that a call makes of two sets
 abbrev pub made_of_two : {N : Type 0} → Graph N → PairCall → Commits N → Commits N → Commits N

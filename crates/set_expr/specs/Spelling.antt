@@ -27,6 +27,7 @@ call_text calls.Tips = codes "tips"
 call_text calls.Merges = codes "merges"
 call_text calls.Common = codes "common"
 call_text calls.Gca = codes "gca"
+call_text calls.Line = codes "line"
 
 -- the word of a call of two sets
 abbrev pub pair_text : PairCall → List ℕ

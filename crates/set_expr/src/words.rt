@@ -3,7 +3,7 @@
 ghost use Rattle.std.specs.Prelude.{◌≡◌, IfSome, IfNone};
 ghost use Rattle.set_expr.specs.Fronts.{head_text};
 ghost use Rattle.set_expr.specs.Spelling.{word_text, call_text, pair_text};
-ghost use Rattle.set_expr.specs.declared.words.Call.TheVariants.{Parents, Children, Ancestors, Descendants, Heads, Roots, Tips, Merges, Common, Gca};
+ghost use Rattle.set_expr.specs.declared.words.Call.TheVariants.{Parents, Children, Ancestors, Descendants, Heads, Roots, Tips, Merges, Common, Gca, Line};
 
 /// A set that one word names.
 #[derive(Clone, Copy, Debug, PartialEq, Eq)]
@@ -39,6 +39,8 @@ pub enum Call {
     Common,
     /// The heads of what every member reaches.
     Gca,
+    /// What some member reaches by first parents alone, the members included.
+    Line,
 }
 
 /// What is made of two sets.
@@ -88,7 +90,8 @@ pub(crate) fn word_of(text: &[u8]) -> Option<Word>
 /// The call of one set whose word the text is, of those that go along parents.
 fn walk_of(text: &[u8]) -> Option<Call>
     ensures some { IfSome result (λ call. text.now ≡ call_text call) }
-    ensures none { IfNone result (¬ (text.now ≡ call_text Parents) × ¬ (text.now ≡ call_text Children) × ¬ (text.now ≡ call_text Ancestors) × ¬ (text.now ≡ call_text Descendants)) }
+    ensures none { IfNone result (¬ (text.now ≡ call_text Parents) × ¬ (text.now ≡ call_text Children) × ¬ (text.now ≡ call_text Ancestors) × ¬ (text.now ≡ call_text Descendants)
+        × ¬ (text.now ≡ call_text Line)) }
 {
     if text == b"parents".as_slice() {
         Some(Call::Parents)
@@ -98,6 +101,8 @@ fn walk_of(text: &[u8]) -> Option<Call>
         Some(Call::Ancestors)
     } else if text == b"descendants".as_slice() {
         Some(Call::Descendants)
+    } else if text == b"line".as_slice() {
+        Some(Call::Line)
     } else {
         None
     }

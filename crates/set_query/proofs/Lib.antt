@@ -1,3 +1,4 @@
 pub mod Alike
 pub mod Ids
 pub mod PairLemmas
+pub mod UnionLemmas

@@ -16,6 +16,7 @@ ghost use Rattle.set_expr.specs.Whole.{tree_of};
 
 use crate::forms::{made_of, named_set, single, up};
 use crate::pairs::{made_of_pair, paired};
+use crate::unions::{ancestors_of, is_of_ancestors, is_of_names, set_of};
 use id_groups::Id;
 use segment_codec::{SegmentTable, Steps};
 use set_expr::{Expr, Tree};
@@ -124,6 +125,12 @@ fn members_of<T: SegmentTable>(
             made_of(alloc, table, *call, &members, steps)
         }
         Tree::OfTwo(call, first, second) => {
+            if is_of_names(tree) {
+                return set_of(alloc, ids);
+            }
+            if is_of_ancestors(tree) {
+                return ancestors_of(alloc, table, ids, steps);
+            }
             let (pairing, front, back) = paired(*call, first, second);
             let (here, behind) = ids.split_at(front.name_count());
             let one = members_of(alloc, table, front, here, steps)?;

@@ -10,6 +10,7 @@ ghost use Rattle.set_expr.specs.Meaning.{named, made_of as made, made_of_two as 
 
 use ancestor_query::{ancestors, first_ancestor, parents};
 use common_ancestor::{common, gca, only, tips};
+use history_walks::line;
 use id_groups::{FIRST_OTHER, Id, IdSpan};
 use range_query::{children, descendants, heads, merges, range, roots};
 use segment_codec::{SegmentTable, Steps};
@@ -104,6 +105,7 @@ pub(crate) fn made_of<T: SegmentTable>(
         Call::Merges => merges(alloc, table, set, steps),
         Call::Common => common(alloc, table, set, steps),
         Call::Gca => gca(alloc, table, set, steps),
+        Call::Line => line(alloc, table, set, steps),
     }
 }
 

@@ -6,6 +6,7 @@ mod evaluation;
 mod forms;
 mod laws;
 mod pairs;
+mod unions;
 
 pub use evaluation::{Answer, eval};
 pub use laws::{answers_spelled_out, tables_are_closed};

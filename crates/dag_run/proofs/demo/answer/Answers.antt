@@ -5,11 +5,11 @@ use Rattle.dag_run.proofs.demo.answer.Goals as goal
 
 pub returns-clause-ready : goal.returns-clause-ready
 returns-clause-ready g c =
-    let step = c.execute.ensures.step in
-    ready-next c.args.store step.0 step.1 c.execute.result (g.D.Disk.told c.args.log.now) (g.D.Disk.told c.execute.new.reach.0) c.requires.ready c.execute.ensures.limits step.3
+    let step = c.execute.ensures in
+    ready-next c.args.store step.payload step.clock c.execute.result (g.D.Disk.told c.args.log.now) (g.D.Disk.told c.execute.new.reach.0) c.requires.ready step.ends.limits step.leaves
 
 pub returns-clause-leads : goal.returns-clause-leads
 returns-clause-leads g c =
-    let step = c.execute.ensures.step in
-    leads-next _ _ (Rose c.args.replies.now.faults c.execute.new.output.faults) c.args.line.now c.args.store step.0 step.1 c.execute.result c.args.replies.now.taken c.execute.new.output.taken
-    (c.new-mirrors.ensures ∙ ap (map _) c.new.ensures.items) c.requires.ready.0 (step.4 c.args.line.now (refl, c.requires.short))
+    let step = c.execute.ensures in
+    leads-next _ _ (Rose c.args.replies.now.faults c.execute.new.output.faults) c.args.line.now c.args.store step.payload step.clock c.execute.result c.args.replies.now.taken c.execute.new.output.taken
+    (c.new-mirrors.ensures ∙ ap (map _) c.new.ensures.items) c.requires.ready.0 (step.tells c.args.line.now (refl, c.requires.short))

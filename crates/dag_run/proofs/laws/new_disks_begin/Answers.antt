@@ -1,4 +1,4 @@
-use Rattle.std.proofs.Common.{◌≡◌, ℕ, [], sym, subst, inl}
+use Rattle.std.proofs.Common.{◌≡◌, [], sym, subst, inl}
 use Rattle.std.specs.List.{AllByRecursion}
 use Rattle.disk_trait.specs.Images.{fresh_disk}
 use Rattle.disk_trait.proofs.Loss.{image-stable}

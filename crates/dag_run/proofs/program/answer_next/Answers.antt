@@ -40,26 +40,26 @@ returns-in-Err-execute-clause-means g c = λ limits w payloads room first faults
     let stop = c.in-Err-execute.stop in
     let kind = c.in-Ok-Some.kind in
     let old = c.args.lines.now in let new = c.next.new.self in
-    let step = c.in-Err-execute.ensures.step in
+    let step = c.in-Err-execute.ensures in
     let failed : Type 0 = Rose faults (g.O.Sink.faults c.execute.new.output) in
     let here : Type 0 = Rose (g.O.Sink.faults c.args.output.now) (g.O.Sink.faults c.execute.new.output) in
     let e = g.D.Disk.told c.args.reach.disk.now in let f = g.D.Disk.told c.execute.new.reach.0 in
     let j = g.I.Source.left c.args.input.now in let k = g.I.Source.left c.next.new.source in
     let q = g.O.Sink.taken c.args.output.now in let r = g.O.Sink.taken c.execute.new.output in
-    let Q : Told → Told → Type 0 = LineLeaves store step.0 step.1 (Err stop) in
+    let Q : Told → Told → Type 0 = LineLeaves store step.payload step.clock (Err stop) in
     let L : List ℕ → List ℕ → Type 0 = λ x y. NextLine (Ok (Some kind)) old x new y × (IsReadOut old x → IsReadOut new y) in
-    let T : List ℕ → List ℕ → Type 0 = λ x y. (line : List ℕ) → IsLine kind c.text.result.now line → LineReplies _ _ here store line step.0 step.1 (Err stop) x y in
+    let T : List ℕ → List ℕ → Type 0 = λ x y. (line : List ℕ) → IsLine kind c.text.result.now line → LineReplies _ _ here store line step.payload step.clock (Err stop) x y in
     let left = WhereTold-both j k (λ x y. NextLine (Ok (Some kind)) old x new y) (λ x y. IsReadOut old x → IsReadOut new y) L (λ x y a b. (a, b)) (rw c.in-Ok-Some.field-0-is at c.in-Ok-Some.ensures.line) c.in-Ok-Some.ensures.end in
     (WhereTold-map (seen e j q) (seen f k r) (Each Q L T) _
-    (λ y z t before begins h. means-as limits w payloads room _ _ failed (Err stop) _ _ before z step.2
-    (going-stop limits fair w payloads room first failed before begins _ store c.args.reach.changes.now.items old new y z h _ kind step.0 step.1 same t.left.0 t.left.1 here
+    (λ y z t before begins h. means-as limits w payloads room _ _ failed (Err stop) _ _ before z step.noted
+    (going-stop limits fair w payloads room first failed before begins _ store c.args.reach.changes.now.items old new y z h _ kind step.payload step.clock same t.left.0 t.left.1 here
     (rose-since faults (g.O.Sink.faults c.args.output.now) (g.O.Sink.faults c.execute.new.output) le) stop
     (λ l is. t.taken l (subst (λ text. IsLine kind text l) (sym c.text.ensures) is)) t.disk))
-    (seen-each e f j k q r Q L T (goes-told Q e f step.3) left step.4))
+    (seen-each e f j k q r Q L T (goes-told Q e f step.leaves) left step.tells))
 
 pub returns-in-Err-execute-clause-stop : goal.returns-in-Err-execute-clause-stop
 returns-in-Err-execute-clause-stop g c =
-    (line-answers c.in-Err-execute.stop c.in-Err-execute.ensures.stop)
+    (line-answers c.in-Err-execute.stop c.in-Err-execute.ensures.ends.stop)
 
 pub returns-in-Ok-clause-means : goal.returns-in-Ok-clause-means
 returns-in-Ok-clause-means g c = λ limits w payloads room first faults fair same le.
@@ -67,27 +67,27 @@ returns-in-Ok-clause-means g c = λ limits w payloads room first faults fair sam
     let next = c.in-Ok.next in
     let kind = c.in-Ok-Some.kind in
     let old = c.args.lines.now in let new = c.next.new.self in
-    let step = c.in-Ok.ensures.step in
+    let step = c.in-Ok.ensures in
     let here : Type 0 = Rose (g.O.Sink.faults c.args.output.now) (g.O.Sink.faults c.execute.new.output) in
     let e = g.D.Disk.told c.args.reach.disk.now in let f = g.D.Disk.told c.execute.new.reach.0 in
     let j = g.I.Source.left c.args.input.now in let k = g.I.Source.left c.next.new.source in
     let q = g.O.Sink.taken c.args.output.now in let r = g.O.Sink.taken c.execute.new.output in
-    let Q : Told → Told → Type 0 = LineLeaves store step.0 step.1 (Ok next) in
+    let Q : Told → Told → Type 0 = LineLeaves store step.payload step.clock (Ok next) in
     let L : List ℕ → List ℕ → Type 0 = λ x y. NextLine (Ok (Some kind)) old x new y × (IsReadOut old x → IsReadOut new y) in
-    let T : List ℕ → List ℕ → Type 0 = λ x y. (line : List ℕ) → IsLine kind c.text.result.now line → LineReplies _ _ here store line step.0 step.1 (Ok next) x y in
+    let T : List ℕ → List ℕ → Type 0 = λ x y. (line : List ℕ) → IsLine kind c.text.result.now line → LineReplies _ _ here store line step.payload step.clock (Ok next) x y in
     let left = WhereTold-both j k (λ x y. NextLine (Ok (Some kind)) old x new y) (λ x y. IsReadOut old x → IsReadOut new y) L (λ x y a b. (a, b)) (rw c.in-Ok-Some.field-0-is at c.in-Ok-Some.ensures.line) c.in-Ok-Some.ensures.end in
     WhereTold-map (seen e j q) (seen f k r) (Each Q L T) _
-    (λ y z t before begins h. going-as limits w payloads room _ _ next _ _ new before z step.2
-    (going-line limits fair w payloads room _ _ _ before y z begins store c.args.reach.changes.now.items old new kind step.0 step.1 same h t.left.0 t.left.1 next here
+    (λ y z t before begins h. going-as limits w payloads room _ _ next _ _ new before z step.noted
+    (going-line limits fair w payloads room _ _ _ before y z begins store c.args.reach.changes.now.items old new kind step.payload step.clock same h t.left.0 t.left.1 next here
     (λ l is. t.taken l (subst (λ text. IsLine kind text l) (sym c.text.ensures) is)) t.disk))
-    (seen-each e f j k q r Q L T (goes-told Q e f step.3) left step.4)
+    (seen-each e f j k q r Q L T (goes-told Q e f step.leaves) left step.tells)
 
 pub returns-in-Ok-clause-ready : goal.returns-in-Ok-clause-ready
 returns-in-Ok-clause-ready g c =
     let store = c.args.store in
     let next = c.in-Ok.next in
-    let step = c.in-Ok.ensures.step in
-    if_forth (LineLeaves store step.0 step.1 (Ok next)) (IsOnDisk store.log) (IsOnDisk next.log) (g.D.Disk.told c.args.reach.disk.now) (g.D.Disk.told c.execute.new.reach.0) (ready-line store next step.0 step.1) step.3 c.requires.ready
+    let step = c.in-Ok.ensures in
+    if_forth (LineLeaves store step.payload step.clock (Ok next)) (IsOnDisk store.log) (IsOnDisk next.log) (g.D.Disk.told c.args.reach.disk.now) (g.D.Disk.told c.execute.new.reach.0) (ready-line store next step.payload step.clock) step.leaves c.requires.ready
 
 pub returns-in-Ok-None-clause-means : goal.returns-in-Ok-None-clause-means
 returns-in-Ok-None-clause-means g c = λ limits w payloads room first faults fair same le.
@@ -126,4 +126,4 @@ pub returns-in-Err-execute-clause-over : goal.returns-in-Err-execute-clause-over
 returns-in-Err-execute-clause-over g c =
     let old = c.args.lines.now in let new = c.next.new.self in
     WhereTold-map (g.I.Source.left c.args.input.now) (g.I.Source.left c.next.new.source) (λ x y. NextLine (Ok (Some c.in-Ok-Some.kind)) old x new y) _
-    (λ x y h. line-over PlainStore c.in-Err-execute.stop c.in-Err-execute.ensures.stop (is_over old x) (is_over new y)) (rw c.in-Ok-Some.field-0-is at c.in-Ok-Some.ensures.line)
+    (λ x y h. line-over PlainStore c.in-Err-execute.stop c.in-Err-execute.ensures.ends.stop (is_over old x) (is_over new y)) (rw c.in-Ok-Some.field-0-is at c.in-Ok-Some.ensures.line)

@@ -14,21 +14,6 @@ use Rattle.dag_run.proofs.program.run_lines.Goals as goal
 pub returns-clause-known : goal.returns-clause-known
 returns-clause-known g c = rw c.status.ensures (status-known c.run-end.result)
 
-pub returns-clause-means : goal.returns-clause-means
-returns-clause-means g c = λ w payloads.
-    let limits = c.args.limits in
-    let end = c.run-end.result in
-    let cs = c.run-end.new.reach.1.1.0.items in
-    let a = seen (g.D.Disk.told c.args.log.now) (g.I.Source.left c.args.input.now) (g.O.Sink.taken c.args.output.now) in
-    let b = seen (g.D.Disk.told c.run-end.new.reach.0) (g.I.Source.left c.run-end.new.input) (g.O.Sink.taken c.run-end.new.output) in
-    let disk : Type 0 = Rose (g.D.Disk.faults c.args.log.now) (g.D.Disk.faults c.run-end.new.reach.0) in
-    let source : Type 0 = Rose (g.I.Source.faults c.args.input.now) (g.I.Source.faults c.run-end.new.input) in
-    let sink : Type 0 = Rose (g.O.Sink.faults c.args.output.now) (g.O.Sink.faults c.run-end.new.output) in
-    run-means limits w payloads c.args.cache _ _ disk source sink end c.status.result cs c.of.result a b c.status.ensures c.of.ensures c.run-end.ensures.disk c.run-end.ensures.source c.run-end.ensures.sink (c.run-end.ensures.means w payloads)
-
-pub returns-clause-refuses : goal.returns-clause-refuses
-returns-clause-refuses g c = status-refuses c.args.limits.log (g.D.Disk.bytes c.args.log.now) c.run-end.result c.status.result c.status.ensures c.run-end.ensures.refuses
-
 pub returns-clause-unwritten : goal.returns-clause-unwritten
 returns-clause-unwritten g c = λ e. c.run-end.ensures.unwritten (of-log c.run-end.result (sym c.status.ensures ∙ e))
 
@@ -36,28 +21,32 @@ pub returns-clause-quiet : goal.returns-clause-quiet
 returns-clause-quiet g c = λ e. c.run-end.ensures.quiet (of-memory c.run-end.result (sym c.status.ensures ∙ e))
 
 pub returns-clause-disk : goal.returns-clause-disk
-returns-clause-disk g c = λ e. c.run-end.ensures.disk (of-disk c.run-end.result (sym c.status.ensures ∙ e))
+returns-clause-disk g c = λ e. c.run-end.ensures.causes.disk_failed (of-disk c.run-end.result (sym c.status.ensures ∙ e))
 
 pub returns-clause-source : goal.returns-clause-source
-returns-clause-source g c = λ e. c.run-end.ensures.source (of-source c.run-end.result (sym c.status.ensures ∙ e))
+returns-clause-source g c = λ e. c.run-end.ensures.causes.source_failed (of-source c.run-end.result (sym c.status.ensures ∙ e))
 
 pub returns-clause-sink : goal.returns-clause-sink
-returns-clause-sink g c = λ e. c.run-end.ensures.sink (of-sink c.run-end.result (sym c.status.ensures ∙ e))
+returns-clause-sink g c = λ e. c.run-end.ensures.causes.sink_failed (of-sink c.run-end.result (sym c.status.ensures ∙ e))
 
-pub returns-clause-no_log : goal.returns-clause-no_log
-returns-clause-no_log g c =
+pub returns-clause-does : goal.returns-clause-does
+returns-clause-does g c =
     let limits = c.args.limits in
     let end = c.run-end.result in
     let cs = c.run-end.new.reach.1.1.0.items in
     let d = g.D.Disk.told c.args.log.now in let e = g.D.Disk.told c.run-end.new.reach.0 in
     let i = g.I.Source.left c.args.input.now in let j = g.I.Source.left c.run-end.new.input in
     let o = g.O.Sink.taken c.args.output.now in let p = g.O.Sink.taken c.run-end.new.output in
+    let disk : Type 0 = Rose (g.D.Disk.faults c.args.log.now) (g.D.Disk.faults c.run-end.new.reach.0) in
+    let source : Type 0 = Rose (g.I.Source.faults c.args.input.now) (g.I.Source.faults c.run-end.new.input) in
     let sink : Type 0 = Rose (g.O.Sink.faults c.args.output.now) (g.O.Sink.faults c.run-end.new.output) in
-    no-log limits c.status.result d e i j o p _ end c.status.ensures (c.run-end.ensures.means empty_world [])
-    (λ is. let u = c.run-end.ensures.unwritten is in (u.0, subst (λ out. WhereTold o (g.O.Sink.taken out) (λ x y. y ≡ x)) (sym u.2) (same-told o)))
-    (of_told (λ bytes. RunRefuses limits.log bytes end) (g.D.Disk.bytes c.args.log.now) d (g.met.D.Disk.tells c.args.log.now) c.run-end.ensures.refuses)
-
-pub returns-clause-over : goal.returns-clause-over
-returns-clause-over g c =
-    WhereTold-map (g.I.Source.left c.args.input.now) (g.I.Source.left c.run-end.new.input) _ _
-    (λ x y h. status-over c.run-end.result c.status.result c.args.limits.input x c.status.ensures h) c.run-end.ensures.over
+    let causes = c.run-end.ensures.causes in (record {
+      means = λ w payloads.
+          run-means limits w payloads c.args.cache _ _ disk source sink end c.status.result cs c.of.result (seen d i o) (seen e j p) c.status.ensures c.of.ensures
+          causes.disk_failed causes.source_failed causes.sink_failed (c.run-end.ensures.means w payloads);
+      refuses = status-refuses limits.log (g.D.Disk.bytes c.args.log.now) end c.status.result c.status.ensures c.run-end.ensures.refuses;
+      no_log = no-log limits c.status.result d e i j o p _ end c.status.ensures (c.run-end.ensures.means empty_world [])
+          (λ is. let u = c.run-end.ensures.unwritten is in (u.0, subst (λ out. WhereTold o (g.O.Sink.taken out) (λ x y. y ≡ x)) (sym u.2) (same-told o)))
+          (of_told (λ bytes. RunRefuses limits.log bytes end) (g.D.Disk.bytes c.args.log.now) d (g.met.D.Disk.tells c.args.log.now) c.run-end.ensures.refuses);
+      over = WhereTold-map i j _ _ (λ x y h. status-over end c.status.result limits.input x c.status.ensures h) c.run-end.ensures.over;
+    })

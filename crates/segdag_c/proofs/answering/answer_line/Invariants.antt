@@ -1,4 +1,4 @@
 use Rattle.segdag_c.proofs.answering.answer_line.Given as goal
 
-abbrev pub ghost-answer_over : goal.ghost-answer_over
-ghost-answer_over g a = g.disk
+abbrev pub ghost-answer_into : goal.ghost-answer_into
+ghost-answer_into g a = g.disk

@@ -1,9 +1,10 @@
-use Rattle.std.proofs.Common.{sym, ◌∙◌}
-use Rattle.segdag_c.specs.Mirrors.{shown_all}
-use Rattle.segdag_c.proofs.Followed.{held-follows}
+use Rattle.std.proofs.Common.{Some, sym, ◌∙◌, ap}
+use Rattle.segdag_c.proofs.Followed.{more-taken}
 use Rattle.segdag_c.proofs.following.take_more.Goals as goal
 
 pub returns : goal.returns
 returns c =
-    held-follows c.follow-next.result.2 c.args.held.now c.args.bytes.now c.in_ok-more.more.payloads c.in-Some.store c.follow-next.result.0 (shown_all c.take_store.new.held.mirrors.list.items)
-    (sym c.take_store.ensures.store ∙ c.in-Some.is) c.take_store.ensures.mirrors c.in_ok-more.ensures.is_log c.follow-next.ensures.takes c.follow-next.ensures.stands
+    let f = c.follow-next.ensures.follows in
+    let taken = c.take_store.ensures in
+    more-taken c.args.held.now _ c.in-Some.store c.args.bytes.now c.follow-next.result.1 c.follow-next.result.2 c.in_ok-more.more.payloads f.0
+    (sym taken.store ∙ c.in-Some.is) c.in_ok-more.ensures.log.is_log f.1 f.2 (ap Some f.3) f.4 f.5 taken.log taken.mirrors taken.reply taken.names

@@ -13,6 +13,7 @@ use Rattle.set_query.specs.Pairs.{whole_of}
 use Rattle.set_query.proofs.Ids.{member-held, only-of, call-of, set-of}
 use Rattle.set_query.proofs.PairLemmas.{whole-is, front-few, paired-parts, paired-members}
 use Rattle.set_query.proofs.Alike.{on-ok, both, front-is, back-is, same-call, same-top, top-taken}
+use Rattle.set_query.proofs.UnionLemmas.{names-are, reached-are}
 use Rattle.set_query.proofs.evaluation.+members_of.Goals as goal
 
 pub made_of-requires : goal.made_of-requires
@@ -36,6 +37,16 @@ returns-in_ok-members-in-Of-clause-one g t c = λ name x e i ends.
     (c.made_of.ensures.one x (call-of c.in-Of.call calls.Ancestors set (One name) f)
     (only-of (table_graph (g.T.SegmentTable.flats c.args.table.now)) set name c.args.ids.now x c.in_ok-members-in-Of.members one i c.in_ok-members-in-Of.ensures.members)
     ends)
+
+pub returns-then-is_of_names-clause-members : goal.returns-then-is_of_names-clause-members
+returns-then-is_of_names-clause-members g t c =
+    let means = names-are (table_graph (g.T.SegmentTable.flats c.args.table.now)) (tree_in c.args.tree.now) c.args.ids.now (c.is_of_names.ensures c.if-is_of_names.true) c.requires.count in
+    on-ok c.set_of.result _ _ (λ r h x. both (h x) ((means x).1, (means x).0)) c.set_of.ensures.members
+
+pub returns-then-is_of_ancestors-clause-members : goal.returns-then-is_of_ancestors-clause-members
+returns-then-is_of_ancestors-clause-members g t c =
+    let means = reached-are (table_graph (g.T.SegmentTable.flats c.args.table.now)) (tree_in c.args.tree.now) c.args.ids.now (c.is_of_ancestors.ensures c.if-is_of_ancestors.true) c.requires.count in
+    on-ok c.ancestors_of.result _ _ (λ r h x. both (h x) ((means x).1, (means x).0)) c.ancestors_of.ensures.members
 
 pub name_count-requires : goal.name_count-requires
 name_count-requires g t c =

@@ -1,0 +1,11 @@
+pub mod Drops
+pub mod Beside
+pub mod Joining
+pub mod Ordering
+pub mod Late
+pub mod Taking
+pub mod Reading
+pub mod Following
+pub mod Mirrorless
+pub mod Going
+pub mod Serving

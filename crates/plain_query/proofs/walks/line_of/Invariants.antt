@@ -1,0 +1,9 @@
+use Rattle.id_groups.specs.Name.{same_name}
+use Rattle.commit_graph.specs.World.{rows_of}
+use Rattle.commit_graph.specs.Graph.{graph_of}
+use Rattle.plain_query.proofs.Gathering.{AreReached, first}
+use Rattle.plain_query.proofs.walks.line_of.Given as goal
+
+-- the set reaches each member, and each member of the rows gone over has led on to its parents
+abbrev pub invariant-loop-place : goal.invariant-loop-place
+invariant-loop-place l = AreReached first (graph_of same_name l.world) (rows_of l.world) l.set l.place l.members

@@ -1,0 +1,4 @@
+use Rattle.segdag_c.proofs.changing.pull.Given as goal
+
+abbrev pub ghost-change : goal.ghost-change
+ghost-change g a = g.disk
